@@ -40,16 +40,16 @@ use Rattle.refactor_after.proofs.Structs.{field_written, found_struct, struct_ha
 
 -- the members of a path
 
-pub members_there : (r : Revision) (t : TypesAfter) (path : List ℕ) (n : ℕ) → slice_get (package_paths t.graph.now) n ≡ Some path →
+pub members_there : (r : Revision) (t : TypesAfter) (path : List ℕ) (n : ℕ) → slice_get (package_paths t.workspace.now.graph) n ≡ Some path →
     (o : Option (Bor NewMembers)) → option_copied o ≡ slice_get t.members.now n →
     KnowsMembers r t → AreMembersFound r t path o
 members_there r t path n at None e h =
-    let lt : n < length (package_paths t.graph.now) = slice_get_within (package_paths t.graph.now) n path at in
+    let lt : n < length (package_paths t.workspace.now.graph) = slice_get_within (package_paths t.workspace.now.graph) n path at in
     let m = slice_get_some t.members.now n (subst (λ k. n < k) (sym h.size) lt) in
     absurd (none-some m.0 (e ∙ m.1))
 members_there r t path n at (Some m) e h =
     let x = h.each n m.now (sym e) in
-    in_package t.graph.now (known_in t.found.now) n x.inside path (λ p. AreNewMembers r p m.now) x.is_package at x.are_members
+    in_package t.workspace.now.graph (known_in t.workspace.now.findings) n x.inside path (λ p. AreNewMembers r p m.now) x.is_package at x.are_members
 
 -- the first of some ranks
 

@@ -8,21 +8,18 @@ use Rattle.std.specs.Ordering.{nat_cmp}
 use Rattle.std.proofs.lemmas.Bool.{cases_eq, true≢false}
 use Rattle.std.proofs.lemmas.Option.{slice_get_within}
 use Rattle.std.proofs.Math.ListN.{set}
+use Rattle.base_lemmas.proofs.Tests.{none_from_test}
 use Rattle.types_declared.proofs.ByteKeys.{others_stay}
 use Rattle.types_declared.proofs.Mentioning.{get_set_same, get_set_other}
 use Rattle.refs_binding.specs.Exports.{number_named}
 use Rattle.refactor_after.specs.NewNames.{rank_in, rank_of, EntersRank, EntersFirst}
-
-none_there : {X : Type 0} (o : Option X) → is_some o ≡ false → o ≡ None
-none_there None e = refl
-none_there (Some x) e = absurd (true≢false e)
 
 -- a name that has no rank gets one
 pub gets_rank : (old new : BTreeMap (Vec ℕ) ℕ) (key : Vec ℕ) (name : List ℕ) (rank : ℕ) → key.items ≡ name → is_some (number_named old name) ≡ false →
     Updates (λ a b. slice_cmp nat_cmp a.items b.items) old new key (Some rank) →
     EntersRank (number_named old) (number_named new) name rank
 gets_rank old new key name rank e none u = record {
-  here = ap (number_named new) (sym e) ∙ u.1 ∙ ap (λ o. Some (unwrap_or o rank)) (sym (none_there (number_named old name) none));
+  here = ap (number_named new) (sym e) ∙ u.1 ∙ ap (λ o. Some (unwrap_or o rank)) (sym (none_from_test (number_named old name) none));
   elsewhere = λ n ne. others_stay old new key (Some rank) u n (λ same. ne (same ∙ e));
 }
 

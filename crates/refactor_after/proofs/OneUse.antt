@@ -2,6 +2,7 @@
 use Rattle.std.proofs.Common.{ℕ, zero, suc, ◌≡◌, ◌<◌, List, [], length, map, refl, ap, sym, subst, ◌∙◌}
 use Rattle.std.specs.Prelude.{Option, Some, None, Contains, slice_get}
 use Rattle.std.proofs.lemmas.Option.{none-some, same_Some}
+use Rattle.base_lemmas.proofs.Elements.{first_in, later_in}
 use Rattle.base_files.specs.Path.{folder}
 use Rattle.base_files.specs.Workspace.{Workspace}
 use Rattle.base_files.specs.declared.place.Place.{Place}
@@ -20,7 +21,6 @@ use Rattle.go_scope.proofs.PackageRegions.{package_well_formed}
 use Rattle.law_tokens.proofs.HeldBytes.{numbered_files, one_named_begins}
 use Rattle.law_tokens.proofs.OwnPaths.{own_paths, package_sources}
 use Rattle.types_declared.specs.Package.{Package}
-use Rattle.workspace_check.proofs.Members.{first_in, later_in}
 use Rattle.workspace_check.proofs.PackageFiles.{in_folder}
 use Rattle.refs_binding.specs.declared.declaration.Declaration.{Declaration}
 use Rattle.refs_binding.specs.Binding.{BindsByScope}

@@ -20,15 +20,15 @@ use Rattle.refactor_after.specs.NewMembers.{AreNewMembers, AreAllNewMembers}
 
 -- The packages of the workspace before the change.
 abbrev pub known_types : TypesAfter → Package → Type 0
-known_types t = IsPackage t.graph.now (known_in t.found.now)
+known_types t = IsPackage t.workspace.now.graph (known_in t.workspace.now.findings)
 
 -- The members are known under the names that the change gives them.
 abbrev pub KnowsMembers : Revision → TypesAfter → Type 0
-KnowsMembers r t = AreAllNewMembers t.graph.now (known_in t.found.now) r t.members.now
+KnowsMembers r t = AreAllNewMembers t.workspace.now.graph (known_in t.workspace.now.findings) r t.members.now
 
 -- The members of the package at this path, or `None` where there is no such package.
 abbrev pub AreMembersFound : Revision → TypesAfter → List ℕ → Option (Bor NewMembers) → Type 0
-AreMembersFound r t path found = MatchOption found (Contains (package_paths t.graph.now) path → ⊥)
+AreMembersFound r t path found = MatchOption found (Contains (package_paths t.workspace.now.graph) path → ⊥)
     (λ m. InPackage (known_types t) path (λ p. AreNewMembers r p m.now))
 
 -- A rank of which `K` holds, or `None` where it holds of none.

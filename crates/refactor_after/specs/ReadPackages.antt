@@ -6,8 +6,8 @@ use Rattle.refs_binding.specs.Workspaces.{known_in}
 
 -- The workspace of the packages.
 abbrev pub workspace_of : Packages → Workspace
-workspace_of p = p.graph.now
+workspace_of p = p.workspace.now.graph
 
 -- The findings of the packages.
 abbrev pub verdicts_of : Packages → Verdicts
-verdicts_of p = known_in p.found.now
+verdicts_of p = known_in p.workspace.now.findings

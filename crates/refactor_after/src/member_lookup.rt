@@ -8,7 +8,6 @@ ghost use Rattle.base_edits.specs.Revisions.{Revision};
 ghost use Rattle.refs_binding.specs.DeclaringPlaces.{InPackage};
 ghost use Rattle.refs_binding.specs.declared.declaration.Declaration.TheVariants.{Field, Method};
 ghost use Rattle.refs_binding.specs.Steps.{IsDeclarationResult};
-ghost use Rattle.refs_binding.specs.Workspaces.{IsFaultless};
 ghost use Rattle.refactor_after.specs.NamesAfter.{IsMethodAfter};
 ghost use Rattle.refactor_after.specs.MembersAfter.{CountsAfter, FieldCounts, IsFirst, IsFirstMethod, IsMemberAfter, IsMethodIn, MethodCounts};
 ghost use Rattle.refactor_after.specs.MembersFound.{SelectsField, SelectsMethod, IsRankFound, KnowsMembers, known_types};
@@ -91,7 +90,6 @@ fn own_method(types: &TypesAfter<'_>, of: &Symbol, name: &[u8]) -> Option<usize>
 
 /// The rank of the first method of a type definition that has this name, if no field has it.
 fn first_method(types: &TypesAfter<'_>, of: &Symbol, name: &[u8]) -> Option<usize>
-    requires { IsFaultless types.now.graph.now types.now.found.now }
     ensures { (r : Revision) → KnowsMembers r types.now → IsRankFound (λ rank. InPackage (known_types types.now) of.now.package (λ p. IsFirstMethod (known_types types.now) r p of.now.rank name.now rank)) result }
 {
     if types.has_field(of, name) {
@@ -103,7 +101,6 @@ fn first_method(types: &TypesAfter<'_>, of: &Symbol, name: &[u8]) -> Option<usiz
 
 /// The rank of the method of a type definition that a name selects.
 fn method(types: &TypesAfter<'_>, name: Written<'_>, of: &Symbol) -> Option<usize>
-    requires { IsFaultless types.now.graph.now types.now.found.now }
     ensures { (r : Revision) → KnowsMembers r types.now → IsRankFound (IsMethodIn (known_types types.now) r name.entry.own.now name.entry.name.now of.now) result }
 {
     if name.is_seen_from(of) {
@@ -134,7 +131,6 @@ fn method_behind(
     name: Written<'_>,
     before: &GoType,
 ) -> Result<Option<Declaration>, AllocError>
-    requires { IsFaultless types.now.graph.now types.now.found.now }
     ensures { IfOk result (λ found. (r : Revision) → KnowsMembers r types.now → IsDeclarationResult (SelectsMethod (known_types types.now) r name.entry.own.now name.entry.name.now (type_of before.now)) found) }
 {
     match owner(before) {
@@ -150,7 +146,6 @@ pub fn member(
     world: &World<'_>,
     before: &GoType,
 ) -> Result<Option<Declaration>, AllocError>
-    requires { IsFaultless types.now.graph.now types.now.found.now }
     ensures { IfOk result (λ found. (r : Revision) → KnowsMembers r types.now → IsDeclarationResult (IsMemberAfter (known_types types.now) r name.entry.own.now name.entry.name.now (underlying_in world.now) (type_of before.now)) found) }
 {
     match field_behind(types, name, world, before)? {
@@ -171,7 +166,6 @@ fn field_counts(types: &TypesAfter<'_>, symbol: &Symbol) -> bool
 
 /// Whether the method `of` is the first of its new name for its type definition, and no field has that name.
 fn is_first_method(types: &TypesAfter<'_>, of: &Symbol, new: &NewName) -> Result<bool, AllocError>
-    requires { IsFaultless types.now.graph.now types.now.found.now }
     ensures { IfOk result (λ yes. (r : Revision) → KnowsMembers r types.now → IsTrue yes ↔ InPackage (known_types types.now) of.now.package (λ p. IsFirstMethod (known_types types.now) r p new.now.definition new.now.name.items of.now.rank)) }
 {
     let definition = symbol(&of.package, new.definition)?;
@@ -180,7 +174,6 @@ fn is_first_method(types: &TypesAfter<'_>, of: &Symbol, new: &NewName) -> Result
 
 /// Whether the method of a symbol counts under its new name.
 fn method_counts(types: &TypesAfter<'_>, of: &Symbol) -> Result<bool, AllocError>
-    requires { IsFaultless types.now.graph.now types.now.found.now }
     ensures { IfOk result (λ yes. (r : Revision) → KnowsMembers r types.now → IsTrue yes ↔ InPackage (known_types types.now) of.now.package (λ p. MethodCounts (known_types types.now) r p of.now.rank)) }
 {
     match types.members_beside(of) {
@@ -194,7 +187,6 @@ fn method_counts(types: &TypesAfter<'_>, of: &Symbol) -> Result<bool, AllocError
 
 /// Whether a declaration is a field or method that counts under its new name.
 pub fn counts(types: &TypesAfter<'_>, declaration: &Declaration) -> Result<bool, AllocError>
-    requires { IsFaultless types.now.graph.now types.now.found.now }
     ensures { IfOk result (λ yes. (r : Revision) → KnowsMembers r types.now → IsTrue yes ↔ CountsAfter (known_types types.now) r declaration.now) }
 {
     match declaration {

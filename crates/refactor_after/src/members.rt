@@ -160,9 +160,9 @@ fn members_at(
     moves: &Moves<'_>,
     number: usize,
 ) -> Result<NewMembers, AllocError>
-    requires in_range { number < length (package_paths packages.now.graph.now) }
+    requires in_range { number < length (package_paths packages.now.workspace.now.graph) }
     requires read { ArePackages packages.now }
-    ensures { IfOk result (AreNewMembersAt packages.now.graph.now (known_in packages.now.found.now) (revision_of packages.now.graph.now moves.now) number) }
+    ensures { IfOk result (AreNewMembersAt packages.now.workspace.now.graph (known_in packages.now.workspace.now.findings) (revision_of packages.now.workspace.now.graph moves.now) number) }
 {
     let unit = packages.unit(number);
     members_of_unit(alloc, moves, unit)
@@ -175,10 +175,10 @@ pub fn new_members(
     moves: &Moves<'_>,
 ) -> Result<Vec<NewMembers>, AllocError>
     requires { ArePackages packages.now }
-    ensures { IfOk result (λ all. AreAllNewMembers packages.now.graph.now (known_in packages.now.found.now) (revision_of packages.now.graph.now moves.now) all.items) }
+    ensures { IfOk result (λ all. AreAllNewMembers packages.now.workspace.now.graph (known_in packages.now.workspace.now.findings) (revision_of packages.now.workspace.now.graph moves.now) all.items) }
 {
     let mut members = Vec::new(alloc);
-    for number in 0..packages.graph.len() {
+    for number in 0..packages.workspace.len() {
         members.push(members_at(alloc, packages, moves, number)?)?;
     }
     Ok(members)

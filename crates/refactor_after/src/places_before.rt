@@ -171,8 +171,8 @@ fn add_all(
     requires places { AreAllPlaces (workspace_of packages.now) (verdicts_of packages.now) places.now }
     ensures { OnOk result (AddsAll old.old.items old.new.items (HasMovedSpot (IsPackage (workspace_of packages.now) (verdicts_of packages.now)) (moved moves.now))) }
 {
-    for number in 0..packages.graph.len() {
-        let path = path_of(packages.graph, packages.found, number);
+    for number in 0..packages.workspace.len() {
+        let path = path_of(packages.workspace, number);
         add_package(old, moves, path, &places[number])?;
     }
     Ok(())

@@ -7,23 +7,19 @@ ghost use Rattle.types_declared.specs.Laid.{is_exported};
 ghost use Rattle.types_declared.specs.Package.{Package as Checked};
 ghost use Rattle.base_edits.specs.Revisions.{Revision};
 ghost use Rattle.refs_binding.specs.DeclaringPlaces.{InPackage};
-ghost use Rattle.refs_binding.specs.Workspaces.{IsFaultless};
 ghost use Rattle.refactor_after.specs.MembersAfter.{HasFieldAfter, IsFieldIn, IsFirstField};
 ghost use Rattle.refactor_after.specs.MembersFound.{AreMembersFound, IsRankFound, IsStructFound, KnowsMembers, known_types};
 
 use crate::members::NewMembers;
-use refs_binding::own_of;
+use refs_binding::{FaultlessWorkspace, own_of};
 use types_declared::is_exported;
 use types_expr::symbol::Symbol;
 use types_expr::world::{Definition, Underlying};
-use workspace_check::Findings;
-use workspace_graph::Graph;
 
 /// The types of a workspace before a change, with the members of its packages under their new names, by the packages' numbers.
 #[derive(Clone, Copy)]
 pub struct TypesAfter<'a> {
-    pub graph: &'a Graph,
-    pub found: &'a Findings,
+    pub workspace: &'a FaultlessWorkspace<'a>,
     pub members: &'a [NewMembers],
 }
 
@@ -77,7 +73,7 @@ impl TypesAfter<'_> {
     pub fn members_beside(&self, of: &Symbol) -> Option<&NewMembers>
         ensures { (r : Revision) → KnowsMembers r self.now → AreMembersFound r self.now of.now.package result }
     {
-        match self.graph.number_of(of.package.path()) {
+        match self.workspace.number_of(of.package.path()) {
             None => None,
             Some(number) => members_at(self.members, number),
         }
@@ -106,18 +102,16 @@ impl TypesAfter<'_> {
 
     /// The struct that is the underlying type of a type definition.
     fn struct_of<'b>(&'b self, of: &'b Symbol) -> Option<&'b Symbol>
-        requires { IsFaultless self.now.graph.now self.now.found.now }
         ensures { (p : Checked) → known_types self.now p → p.path ≡ of.now.package → IsStructFound p of.now.rank (option_copied result) }
     {
-        match self.graph.number_of(of.package.path()) {
+        match self.workspace.number_of(of.package.path()) {
             None => None,
-            Some(number) => struct_at(own_of(self.graph, self.found, number), of),
+            Some(number) => struct_at(own_of(self.workspace, number), of),
         }
     }
 
     /// Whether the values of a type definition have a field of a name.
     pub fn has_field(&self, of: &Symbol, name: &[u8]) -> bool
-        requires { IsFaultless self.now.graph.now self.now.found.now }
         ensures { (r : Revision) → KnowsMembers r self.now → (p : Checked) → known_types self.now p → p.path ≡ of.now.package → IsTrue result ↔ HasFieldAfter (known_types self.now) r p of.now.rank name.now }
     {
         match self.struct_of(of) {

@@ -7,6 +7,7 @@ use Rattle.std.specs.Ordering.{is_lt, ordering_reverse}
 use Rattle.std.specs.Cmp.{tied_itself}
 use Rattle.std.proofs.lemmas.Bool.{cases_lt, true≢false, false≢true}
 use Rattle.std.proofs.lemmas.Option.{same_Some, none-some, slice_get_within, slice_get_read, get_or_from_slice_get}
+use Rattle.base_lemmas.proofs.Tests.{less_from_test}
 use Rattle.base_files.specs.declared.place.Place.{Place}
 use Rattle.refs_binding.specs.Places.{place_cmp}
 use Rattle.refs_binding.proofs.PlaceOrder.{place_cmp_total, place_cmp_exact}
@@ -38,11 +39,6 @@ not_before z y x h k less = by_answer (place_cmp x y) refl
     by_answer Equal e = h (subst (λ p. place_cmp z p ≡ Less) (place_cmp_exact x y e) less)
     by_answer Greater e = k (place_cmp_total.antisymm y x ∙ ap ordering_reverse e)
 
-pub less_of : (o : Ordering) → is_lt o ≡ true → o ≡ Less
-less_of Less e = refl
-less_of Equal e = absurd (false≢true e)
-less_of Greater e = absurd (false≢true e)
-
 -- the first of a place and the one found before
 pub only_this : (old : Option Place) (place : Place) → old ≡ None → IsEarlier old place place
 only_this old place none = record { one = inl refl; this = itself place; other = λ y some. absurd (none-some y (sym none ∙ some)) }
@@ -51,7 +47,7 @@ pub this_first : (old : Option Place) (place other : Place) → old ≡ Some oth
 this_first old place other is less = record {
   one = inl refl;
   this = itself place;
-  other = λ y some. subst (λ x. IsNotBefore x place) (same_Some other y (sym is ∙ some)) (behind place other (less_of (place_cmp place other) less));
+  other = λ y some. subst (λ x. IsNotBefore x place) (same_Some other y (sym is ∙ some)) (behind place other (less_from_test (place_cmp place other) less));
 }
 
 pub other_first : (old : Option Place) (place other : Place) → old ≡ Some other → is_lt (place_cmp place other) ≡ false → IsEarlier old place other

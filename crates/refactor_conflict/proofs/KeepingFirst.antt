@@ -5,12 +5,12 @@ use Rattle.std.specs.declared.cmp.Ordering.TheVariants.{Less}
 use Rattle.std.specs.Ordering.{is_lt}
 use Rattle.std.proofs.lemmas.Option.{none-some, same_Some}
 use Rattle.std.proofs.lemmas.Result.{on_ok_weaker}
+use Rattle.base_lemmas.proofs.Tests.{less_from_test}
 use Rattle.base_files.specs.declared.place.Place.{Place}
 use Rattle.refs_binding.specs.Places.{place_cmp}
 use Rattle.refs_binding.proofs.PlaceOrder.{place_cmp_total}
 use Rattle.refactor_conflict.specs.Conflicts.{Takes, IsPlaceBefore, HoldsBefore}
 use Rattle.refactor_conflict.specs.declared.conflict.Conflict.{Conflict}
-use Rattle.refactor_conflict.proofs.Firsts.{less_of}
 
 -- The places before the first conflict found so far.
 pub ahead_of_none : (first : Option Conflict) (place : Place) → first ≡ None → IsTrue true ↔ IsPlaceBefore first place
@@ -19,7 +19,7 @@ ahead_of_none first place none = ((λ t. subst (λ o. IsPlaceBefore o place) (sy
 pub ahead_of_some : (first : Option Conflict) (c : Conflict) (place : Place) → first ≡ Some c → (told : Bool) → told ≡ is_lt (place_cmp place c.used) →
     IsTrue told ↔ IsPlaceBefore first place
 ahead_of_some first c place some told is = (
-  (λ t. subst (λ o. IsPlaceBefore o place) (sym some) (less_of (place_cmp place c.used) (sym is ∙ t))),
+  (λ t. subst (λ o. IsPlaceBefore o place) (sym some) (less_from_test (place_cmp place c.used) (sym is ∙ t))),
   (λ h. let less : place_cmp place c.used ≡ Less = subst (λ o. IsPlaceBefore o place) some h in is ∙ ap is_lt less),
 )
 

@@ -6,6 +6,7 @@ use Rattle.std.specs.declared.cmp.Ordering.TheVariants.{Less}
 use Rattle.std.specs.Ordering.{nat_cmp, ordering_then}
 use Rattle.std.proofs.lemmas.List.Elements.{All-contains}
 use Rattle.std.proofs.lemmas.Option.{slice_get_within, get_or_from_slice_get}
+use Rattle.base_lemmas.proofs.Tests.{less_from_test}
 use Rattle.base_files.specs.Workspace.{Workspace, path_cmp}
 use Rattle.base_files.specs.declared.place.Place.{Place}
 use Rattle.go_ast.specs.SourceFile.{SourceFile, FileParts, source_of}
@@ -20,7 +21,7 @@ use Rattle.refactor_after.specs.FilesAfter.{IsAfterPlace}
 use Rattle.refactor_conflict.specs.Conflicts.{AreAfter, IsPlaceBefore, HoldsBefore}
 use Rattle.refactor_conflict.specs.Staying.{StaysIn}
 use Rattle.refactor_conflict.specs.declared.conflict.Conflict.{Conflict}
-use Rattle.refactor_conflict.proofs.Firsts.{behind, less_of}
+use Rattle.refactor_conflict.proofs.Firsts.{behind}
 
 -- An identifier of a file comes after a place, if the path of the file comes after the path of the place.
 later : (place used : Place) → path_cmp used.path place.path ≡ Less → place_cmp place used ≡ Less → ⊥
@@ -41,5 +42,5 @@ module _ (files : List FileParts) (p : Package) (own : p.files ≡ map source_of
       let f = file_there place u begins in
       let lies : IsAfterPlace h.0.used f.0 = All-contains (IsAfterPlace h.0.used) files f.0 h.1.1 f.1.0 in
       let less : path_cmp h.0.used.path place.path ≡ Less =
-      subst (λ (q : List ℕ). path_cmp h.0.used.path q ≡ Less) f.1.1 (less_of (path_cmp h.0.used.path f.0.path) lies) in
+      subst (λ (q : List ℕ). path_cmp h.0.used.path q ≡ Less) f.1.1 (less_from_test (path_cmp h.0.used.path f.0.path) lies) in
       absurd (later place h.0.used less (subst (λ (o : Option Conflict). IsPlaceBefore o place) h.1.0 ahead))

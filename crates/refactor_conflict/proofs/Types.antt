@@ -27,14 +27,15 @@ use Rattle.refactor_conflict.specs.Judging.{KnowsChange, workspace_in, known_ver
 use Rattle.refactor_conflict.specs.declared.judge.Judge.{Judge}
 
 -- A relation that the members of these types fulfil holds of the packages that are known.
-pub by_types : (j : Judge) (t : TypesAfter) → t.graph.now ≡ j.packages.now.graph.now → t.found.now ≡ j.packages.now.found.now →
+pub by_types : (j : Judge) (t : TypesAfter) → t.workspace.now.graph ≡ j.packages.now.workspace.now.graph → t.workspace.now.findings ≡
+    j.packages.now.workspace.now.findings →
     t.members.now ≡ j.members.now → KnowsChange j → (Q : Workspace → Verdicts → Type 0) →
-    (KnowsMembers (revision_in j) t → Q t.graph.now (known_in t.found.now)) → Q (workspace_in j) (known_verdicts j)
+    (KnowsMembers (revision_in j) t → Q t.workspace.now.graph (known_in t.workspace.now.findings)) → Q (workspace_in j) (known_verdicts j)
 by_types j t graph found members knows Q h =
     let P : Workspace → Findings → List NewMembers → Type 0 = λ w f ms. AreAllNewMembers w (known_in f) (revision_in j) ms → Q w (known_in f) in
-    let here : P j.packages.now.graph.now j.packages.now.found.now j.members.now =
-    subst (λ ms. P j.packages.now.graph.now j.packages.now.found.now ms) members
-    (subst (λ f. P j.packages.now.graph.now f t.members.now) found (subst (λ w. P w t.found.now t.members.now) graph h)) in
+    let here : P j.packages.now.workspace.now.graph j.packages.now.workspace.now.findings j.members.now =
+    subst (λ ms. P j.packages.now.workspace.now.graph j.packages.now.workspace.now.findings ms) members
+    (subst (λ f. P j.packages.now.workspace.now.graph f t.members.now) found (subst (λ w. P w t.workspace.now.findings t.members.now) graph h)) in
     here knows.members
 
 abbrev seen_by : List ℕ → List Definition → Definitions → Symbol → Underlying
@@ -48,7 +49,8 @@ seen_underlying w unit own path same imported =
     ap (λ q. seen_by q w.own.now w.imported.now) path ∙ ap (λ l. seen_by unit.path.now l w.imported.now) same ∙ ap (λ d. seen_by unit.path.now own d) imported
 
 -- A member that does not count by these types does not count under its new name.
-pub not_counted : (j : Judge) (t : TypesAfter) → t.graph.now ≡ j.packages.now.graph.now → t.found.now ≡ j.packages.now.found.now →
+pub not_counted : (j : Judge) (t : TypesAfter) → t.workspace.now.graph ≡ j.packages.now.workspace.now.graph → t.workspace.now.findings ≡
+    j.packages.now.workspace.now.findings →
     t.members.now ≡ j.members.now → KnowsChange j → (old : Declaration) {yes : Bool} → yes ≡ false →
     ((r : Revision) → KnowsMembers r t → IsTrue yes ↔ CountsAfter (known_types t) r old) → CountsAfter (known_packages j) (revision_in j) old → ⊥
 not_counted j t graph found members knows old {yes} e h k =
@@ -57,7 +59,8 @@ not_counted j t graph found members knows old {yes} e h k =
     false≢true (sym e ∙ counts.1 k)
 
 -- A member that counts by these types counts under its new name.
-pub counted : (j : Judge) (t : TypesAfter) → t.graph.now ≡ j.packages.now.graph.now → t.found.now ≡ j.packages.now.found.now →
+pub counted : (j : Judge) (t : TypesAfter) → t.workspace.now.graph ≡ j.packages.now.workspace.now.graph → t.workspace.now.findings ≡
+    j.packages.now.workspace.now.findings →
     t.members.now ≡ j.members.now → KnowsChange j → (old : Declaration) {yes : Bool} → yes ≡ true →
     ((r : Revision) → KnowsMembers r t → IsTrue yes ↔ CountsAfter (known_types t) r old) → CountsAfter (known_packages j) (revision_in j) old
 counted j t graph found members knows old {yes} e h =
@@ -66,7 +69,8 @@ counted j t graph found members knows old {yes} e h =
     counts.0 e
 
 -- the member that a name is by these types, by the definitions that a package sees
-pub member_known : (j : Judge) (t : TypesAfter) → t.graph.now ≡ j.packages.now.graph.now → t.found.now ≡ j.packages.now.found.now →
+pub member_known : (j : Judge) (t : TypesAfter) → t.workspace.now.graph ≡ j.packages.now.workspace.now.graph → t.workspace.now.findings ≡
+    j.packages.now.workspace.now.findings →
     t.members.now ≡ j.members.now → KnowsChange j → (path own name : List ℕ) → path ≡ own → (u v : Symbol → Underlying) → u ≡ v →
     (before : PlainType) (found : Option Declaration) →
     ((r : Revision) → KnowsMembers r t → IsDeclarationResult (IsMemberAfter (known_types t) r path name u before) found) →

@@ -57,9 +57,9 @@ fn first_file<'a>(judge: &Judge<'a, '_, '_>, path: &[u8]) -> Option<&'a FileTree
     requires there { Contains (package_paths (workspace_in judge.now)) path.now }
     ensures { MatchOption result (package_files (workspace_in judge.now) path.now ≡ []) (λ f. (first : List ℕ × List ℕ) × ((others : List (List ℕ × List ℕ)) × ((package_files (workspace_in judge.now) path.now ≡ first ∷ others) × (first.0 ≡ f.now.path)))) }
 {
-    match judge.packages.graph.number_of(path) {
+    match judge.packages.workspace.number_of(path) {
         None => None,
-        Some(number) => trees(judge.packages.graph, judge.packages.found, number).first(),
+        Some(number) => trees(judge.packages.workspace, number).first(),
     }
 }
 

@@ -90,7 +90,7 @@ pub fn has_become(
     if are_predeclared(old, e) {
         return Ok(true);
     }
-    match declared_at(judge.packages.graph, judge.places, old) {
+    match declared_at(judge.packages.workspace, judge.places, old) {
         None => Ok(false),
         Some(place) => stands_where(judge, place, e),
     }

@@ -4,7 +4,7 @@ ghost use Rattle.base_files.specs.Packages.{package_paths};
 ghost use Rattle.base_edits.specs.EditSet.{edited};
 ghost use Rattle.base_edits.specs.RevisionsOfEdits.{revision_of};
 ghost use Rattle.refs_binding.specs.Packages.{ArePackages};
-ghost use Rattle.refs_binding.specs.Workspaces.{IsFaultless, known_in};
+ghost use Rattle.refs_binding.specs.Workspaces.{known_in};
 ghost use Rattle.refactor_after.specs.Scopes.{AreAllScopes};
 ghost use Rattle.refactor_conflict.specs.Conflicts.{AreAfter, IsConflict, FirstLost, IsFirstConflict, Takes, HoldsBefore};
 ghost use Rattle.refactor_after.specs.ReadPackages.{workspace_of, verdicts_of};
@@ -21,12 +21,11 @@ use refactor_after::{
     NewMembers, PackageScopes, are_after_place, clause_names, new_members, old_places,
     scope_bindings, scoped_packages,
 };
-use refs_binding::{BoundIdentifier, Packages, all_seen};
+use refs_binding::{BoundIdentifier, FaultlessWorkspace, Packages, all_seen};
 use refs_index::exports::exports;
 use refs_places::declared_places::{DeclaredPlaces, declared_places};
 use std::alloc::{AllocError, Global};
 use std::collections::BTreeMap;
-use workspace_check::Findings;
 use workspace_graph::Graph;
 
 /// Whether a conflict is found and all these files come after its file, so that none of their identifiers can be an earlier one.
@@ -65,7 +64,7 @@ fn first_judged(alloc: Global, judge: &Judge<'_, '_, '_>) -> Result<Option<Confl
     ensures stays { IfOk result (HoldsBefore (StaysAt (workspace_in judge.now) (known_verdicts judge.now) (revision_in judge.now))) }
 {
     let mut first = None;
-    for number in 0..judge.packages.graph.len() {
+    for number in 0..judge.packages.workspace.len() {
         judge_package(alloc, &mut first, judge, number)?;
     }
     Ok(first)
@@ -197,19 +196,17 @@ fn first_read(
 /// The first identifier of a workspace without faults that the edits lose or capture. Where they lose and capture none, the first
 /// identifier is reported as lost. `None` where the workspace has no identifier.
 ///
-/// `after` is the workspace that the edits make of `graph`.
+/// `after` is the workspace that the edits make of `workspace`.
 pub fn first_conflict(
     alloc: Global,
-    graph: &Graph,
-    found: &Findings,
+    workspace: &FaultlessWorkspace<'_>,
     edits: &EditSet,
     after: &Graph,
 ) -> Result<Option<Conflict>, AllocError>
-    requires sound { IsFaultless graph.now found.now }
-    requires after { after.now ≡ edited edits.now graph.now }
-    ensures { IfOk result (IsFirstConflict graph.now (known_in found.now) (revision_of graph.now edits.now)) }
+    requires { after.now ≡ edited edits.now workspace.now.graph }
+    ensures { IfOk result (IsFirstConflict workspace.now.graph (known_in workspace.now.findings) (revision_of workspace.now.graph edits.now)) }
 {
-    let seen = all_seen(alloc, graph, found)?;
-    let packages = Packages::of(alloc, graph, found, &seen)?;
+    let seen = all_seen(alloc, workspace)?;
+    let packages = Packages::of(alloc, workspace, &seen)?;
     first_read(alloc, &packages, edits, after)
 }

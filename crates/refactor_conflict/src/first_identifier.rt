@@ -10,7 +10,7 @@ ghost use Rattle.refactor_after.specs.ReadPackages.{workspace_of, verdicts_of};
 use crate::first_kept::compare;
 use base_files::Place;
 use refs_binding::Packages;
-use refs_index::FaultlessWorkspace;
+use refs_index::WorkspaceIndex;
 use std::alloc::{AllocError, Global};
 
 /// The earlier one of a place and the place that was found before, if one was.
@@ -45,7 +45,7 @@ pub fn first_identifier(alloc: Global, packages: &Packages<'_>) -> Result<Option
     requires { ArePackages packages.now }
     ensures { IfOk result (IsFirstPlace (IsIdentifierAt (workspace_of packages.now) (verdicts_of packages.now))) }
 {
-    let sound = FaultlessWorkspace::of(alloc, packages)?;
+    let sound = WorkspaceIndex::of(alloc, packages)?;
     let places = sound.identifier_places(alloc)?;
     match first_of(&places) {
         None => Ok(None),

@@ -104,7 +104,7 @@ fn capturer(judge: &Judge<'_, '_, '_>, declaration: &Declaration) -> Result<Capt
     requires { KnowsChange judge.now }
     ensures { IfOk result (IsCapturer (known_packages judge.now) declaration.now) }
 {
-    match declared_at(judge.packages.graph, judge.places, declaration) {
+    match declared_at(judge.packages.workspace, judge.places, declaration) {
         None => Ok(Capturer::Universe),
         Some(place) => Ok(Capturer::At(Place {
             path: place.path.clone()?,

@@ -27,13 +27,12 @@ pub struct Judge<'a, 'm, 's> {
 impl<'a> Judge<'a, '_, '_> {
     /// The types of the workspace before the change, with their members under the new names.
     pub fn types(&self) -> TypesAfter<'a>
-        ensures graph { result.graph.now ≡ self.now.packages.now.graph.now }
-        ensures found { result.found.now ≡ self.now.packages.now.found.now }
+        ensures graph { result.workspace.now.graph ≡ self.now.packages.now.workspace.now.graph }
+        ensures found { result.workspace.now.findings ≡ self.now.packages.now.workspace.now.findings }
         ensures members { result.members.now ≡ self.now.members.now }
     {
         TypesAfter {
-            graph: self.packages.graph,
-            found: self.packages.found,
+            workspace: self.packages.workspace,
             members: self.members,
         }
     }

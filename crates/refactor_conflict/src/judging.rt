@@ -187,13 +187,7 @@ fn judge_behind(
         OnOk result (HoldsBefore (IfBegins p of.now.u (StaysByPackage (workspace_in judge.now) (known_verdicts judge.now) (revision_in judge.now) p of.now.u)) first.new) }
 {
     let name = of.unit.table.name(of.u);
-    match exported(
-        judge.packages.graph,
-        judge.packages.found,
-        judge.exports,
-        of.behind,
-        name,
-    )? {
+    match exported(judge.packages.workspace, judge.exports, of.behind, name)? {
         None => Ok(()),
         Some(old) => judge_exported(alloc, first, judge, of, &old),
     }
@@ -348,8 +342,8 @@ fn judge_members(
     ensures stays { OnOk result (HoldsBefore (MembersStayIn (workspace_in judge.now) (known_verdicts judge.now) (revision_in judge.now) (package_of unit.entry)) first.new) }
 {
     unit.table.is_well_formed();
-    let own = own_of(judge.packages.graph, judge.packages.found, number);
-    let members = members_of(judge.packages.graph, judge.packages.found, number);
+    let own = own_of(judge.packages.workspace, number);
+    let members = members_of(judge.packages.workspace, number);
     let of = Owned { unit, index, own };
     for file in 0..members.len() {
         judge_file(first, judge, &of, file, &members[file])?;

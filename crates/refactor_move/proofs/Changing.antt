@@ -9,13 +9,13 @@ use Rattle.std.specs.List.Sorted.{IsStrictlySortedBy}
 use Rattle.std.specs.declared.cmp.Ordering.TheVariants.{Less}
 use Rattle.std.proofs.lemmas.List.{append_assoc, append-nil}
 use Rattle.std.proofs.lemmas.List.Elements.{Contains-append_right}
+use Rattle.base_lemmas.proofs.Elements.{nothing_in, first_in, later_in, first_or_later}
 use Rattle.base_files.specs.Workspace.{Workspace, path_cmp}
 use Rattle.base_files.specs.declared.refusal.Refusal.{Refusal}
 use Rattle.base_files.specs.declared.refusal.Refusal.TheVariants.{Memory, TooLarge}
 use Rattle.base_edits.specs.EditSet.{paths_of, change_in}
 use Rattle.base_edits.specs.declared.change.FileChange.{FileChange}
 use Rattle.base_edits.specs.declared.edit.Edit.{Edit}
-use Rattle.base_edits.proofs.Held.{nothing_in, first_in, later_in, first_or_later}
 use Rattle.base_edits.proofs.Changes.{change_found, change_held}
 use Rattle.base_edits.proofs.Entries.{none_from}
 use Rattle.base_edits.proofs.Searched.{one_way_sorted}

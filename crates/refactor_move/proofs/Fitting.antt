@@ -7,6 +7,7 @@ use Rattle.std.specs.FinMap.{entries, get}
 use Rattle.std.specs.List.{All}
 use Rattle.std.proofs.lemmas.List.Elements.{All-nil, Contains-get_or}
 use Rattle.std.proofs.lemmas.Option.{same_Some}
+use Rattle.base_lemmas.proofs.Elements.{nothing_in}
 use Rattle.base_files.specs.Packages.{is_go, package_paths}
 use Rattle.base_files.specs.Workspace.{Workspace}
 use Rattle.workspace_check.specs.declared.findings.Findings.{Findings}
@@ -16,7 +17,6 @@ use Rattle.base_edits.specs.Fits.{IsEditSet, Fits, HasSpans, path_by_change, pat
 use Rattle.base_edits.specs.Moved.{edits_by}
 use Rattle.base_edits.specs.declared.change.FileChange.{FileChange}
 use Rattle.base_edits.specs.declared.edit.Edit.{Edit}
-use Rattle.base_edits.proofs.Held.{nothing_in}
 use Rattle.base_edits.proofs.Entries.{entry_of, get_entry, value_of}
 use Rattle.refs_binding.specs.Workspaces.{IsFaultless, known_in}
 use Rattle.refactor_move.specs.declared.moved.Moved.{Moved}

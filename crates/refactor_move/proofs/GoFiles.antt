@@ -5,6 +5,7 @@ use Rattle.std.specs.FinMap.{entries, get}
 use Rattle.std.specs.Cmp.Lexicographic.{pointwise, bytes_decides}
 use Rattle.std.proofs.lemmas.Bool.{and_from}
 use Rattle.std.proofs.lemmas.Option.{same_Some, slice_get_within}
+use Rattle.base_lemmas.proofs.Elements.{nothing_in, first_or_later}
 use Rattle.base_files.specs.Packages.{is_go, is_of_package, package_paths, package_files}
 use Rattle.base_files.specs.Path.{folder}
 use Rattle.base_files.specs.Workspace.{Workspace}
@@ -16,7 +17,6 @@ use Rattle.workspace_check.specs.declared.findings.Findings.{Findings}
 use Rattle.workspace_check.specs.Verdicts.{Verdicts}
 use Rattle.workspace_check.proofs.Members.{passed}
 use Rattle.workspace_check.proofs.PackageFiles.{at_rank}
-use Rattle.base_edits.proofs.Held.{nothing_in, first_or_later}
 use Rattle.base_edits.proofs.Entries.{entry_of}
 use Rattle.refs_binding.specs.Uses.{IsPackage}
 use Rattle.refs_binding.specs.Workspaces.{IsFaultless, IsPackageAt, known_in}

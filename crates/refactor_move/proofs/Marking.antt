@@ -3,14 +3,15 @@ use Rattle.std.proofs.Common.{ℕ, ◌≡◌, ◌<◌, ◌+◌, inl, inr, Bool, 
 use Rattle.std.proofs.Common.{◌∙◌, arith}
 use Rattle.std.specs.Prelude.{Contains}
 use Rattle.std.proofs.lemmas.List.Elements.{Contains-get_or}
+use Rattle.base_lemmas.proofs.Elements.{nothing_in}
 use Rattle.go_ast.specs.SourceFile.{SourceFile}
 use Rattle.workspace_graph.specs.FileImports.{import_literals, HasValue, ListsImports}
 use Rattle.workspace_graph.specs.declared.file_imports.FileImport.{FileImport}
-use Rattle.workspace_graph.proofs.Collected.{none_held, one_more, no_import, zip_at, zip_length}
+use Rattle.workspace_graph.proofs.Collected.{one_more, no_import, zip_at, zip_length}
 use Rattle.refactor_move.specs.Steps.{NewMarks, IsLiteralAmong, AreMarksOf}
 
 pub none_marked : (imports : List FileImport) (marks : List Bool) → NewMarks marks marks (IsLiteralAmong (take 0 imports))
-none_marked imports marks = record { size = refl; each = λ i lt. ((λ t. inl t), (λ x. elim x [ inl t ↦ t | inr h ↦ absurd (none_held h.0 h.1) ])) }
+none_marked imports marks = record { size = refl; each = λ i lt. ((λ t. inl t), (λ x. elim x [ inl t ↦ t | inr h ↦ absurd (nothing_in h.0 h.1) ])) }
 
 pub next_marked : (imports : List FileImport) (k : ℕ) (item : FileImport) (first old new : List Bool) → k < length imports → item ≡ get_or imports k item →
     NewMarks first old (IsLiteralAmong (take k imports)) → NewMarks old new (λ i. i ≡ item.literal) → NewMarks first new (IsLiteralAmong (take (k + 1) imports))

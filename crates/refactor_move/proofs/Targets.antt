@@ -7,15 +7,14 @@ use Rattle.std.specs.Cmp.{tied_itself}
 use Rattle.std.specs.Cmp.Lexicographic.{pointwise, bytes_decides}
 use Rattle.std.specs.Ordering.{is_lt}
 use Rattle.std.specs.declared.cmp.Ordering.TheVariants.{Less}
-use Rattle.std.proofs.lemmas.Bool.{true≢false}
+use Rattle.std.proofs.lemmas.Bool.{true≢false, false_from_ne_true}
 use Rattle.std.proofs.lemmas.List.{append-nil}
+use Rattle.base_lemmas.proofs.Elements.{first_in, later_in}
 use Rattle.base_files.specs.Workspace.{path_cmp}
 use Rattle.base_files.proofs.WorkspaceLaws.{path_cmp_total}
 use Rattle.base_edits.specs.EditSet.{paths_of}
 use Rattle.base_edits.specs.Fits.{new_path}
 use Rattle.base_edits.specs.declared.change.FileChange.{FileChange}
-use Rattle.base_edits.proofs.Held.{first_in, later_in}
-use Rattle.base_edits.proofs.Entries.{not_true}
 use Rattle.refactor_move.specs.declared.moved.Moved.{Moved}
 use Rattle.refactor_move.specs.Paths.{HasMoved}
 use Rattle.refactor_move.specs.Changes.{MovesOrEdits}
@@ -42,7 +41,7 @@ apart_from m path new moves (c ∷ cs) all below =
     elim (target c) as (λ o. target c ≡ o → AllByRecursion (λ y. pointwise ◌==◌ new y ≡ false) (cons_option o (filter_map target cs))) [
       | None ↦ λ e. rest
       | Some y ↦ λ e. (
-        not_true (pointwise ◌==◌ new y) (λ tied.
+        false_from_ne_true (pointwise ◌==◌ new y) (λ tied.
             let same : new ≡ y = (bytes_decides new y).0 tied in
             less_apart path c.path below.0 (one_source m.from m.to path c.path y (subst (HasMoved m.from m.to path) same moves) (moves_to m c y (all c
             (first_in c cs)) e))),

@@ -3,7 +3,7 @@ ghost use Rattle.std.specs.Prelude.{◌≡◌, ◌<◌, ◌↔◌, IsTrue, IfOk,
 ghost use Rattle.go_ast.specs.SourceFile.{source_of};
 ghost use Rattle.types_declared.specs.Files.{package_name};
 ghost use Rattle.refs_binding.specs.Uses.{IsPackage};
-ghost use Rattle.refs_binding.specs.Workspaces.{IsFaultless, known_in};
+ghost use Rattle.refs_binding.specs.Workspaces.{known_in};
 ghost use Rattle.refs_binding.specs.DeclaringPlaces.{InPackage};
 ghost use Rattle.refactor_rename.specs.NewName.{IsNewName, IsReserved};
 ghost use Rattle.refactor_move.specs.Paths.{last_of};
@@ -13,11 +13,9 @@ ghost use Rattle.refactor_move.specs.Steps.{MayFollow};
 use base_files::{FileText, Path};
 use go_ast::FileTree;
 use refactor_rename::is_new_name;
-use refs_binding::trees;
+use refs_binding::{FaultlessWorkspace, trees};
 use std::alloc::{AllocError, Global};
 use types_declared::clause_name;
-use workspace_check::Findings;
-use workspace_graph::Graph;
 
 /// The last element of a path.
 fn last_of(path: &str) -> &str
@@ -61,38 +59,35 @@ fn is_called(files: &[FileTree], name: &str) -> bool
 }
 
 /// Whether the name of the package at a path is the last element of that path.
-fn is_called_so(graph: &Graph, found: &Findings, from: &Path) -> bool
-    requires { IsFaultless graph.now found.now }
-    ensures { IsTrue result ↔ InPackage (IsPackage graph.now (known_in found.now)) from.now (λ p. package_name p.files ≡ last_of from.now) }
+fn is_called_so(workspace: &FaultlessWorkspace<'_>, from: &Path) -> bool
+    ensures { IsTrue result ↔ InPackage (IsPackage workspace.now.graph (known_in workspace.now.findings)) from.now (λ p. package_name p.files ≡ last_of from.now) }
 {
-    match graph.number_of(from.as_str().as_bytes()) {
+    workspace.has_no_faults();
+    match workspace.number_of(from.as_str().as_bytes()) {
         None => false,
-        Some(number) => is_called(trees(graph, found, number), last_of(from.as_str())),
+        Some(number) => is_called(trees(workspace, number), last_of(from.as_str())),
     }
 }
 
 /// Whether the name of a package follows its path.
-fn follows(graph: &Graph, found: &Findings, from: &Path, to: &Path) -> bool
-    requires { IsFaultless graph.now found.now }
-    ensures { IsTrue result ↔ Follows (IsPackage graph.now (known_in found.now)) from.now to.now }
+fn follows(workspace: &FaultlessWorkspace<'_>, from: &Path, to: &Path) -> bool
+    ensures { IsTrue result ↔ Follows (IsPackage workspace.now.graph (known_in workspace.now.findings)) from.now to.now }
 {
     let last = last_of(from.as_str());
     let name = last_of(to.as_str());
-    may_follow(last, name) && is_called_so(graph, found, from)
+    may_follow(last, name) && is_called_so(workspace, from)
 }
 
 /// The new name of a package whose path changes, or `None` where it keeps its name.
 pub(crate) fn name_after(
     alloc: Global,
-    graph: &Graph,
-    found: &Findings,
+    workspace: &FaultlessWorkspace<'_>,
     from: &Path,
     to: &Path,
 ) -> Result<Option<FileText>, AllocError>
-    requires { IsFaultless graph.now found.now }
-    ensures { IfOk result (IsFollowingName (IsPackage graph.now (known_in found.now)) from.now to.now) }
+    ensures { IfOk result (IsFollowingName (IsPackage workspace.now.graph (known_in workspace.now.findings)) from.now to.now) }
 {
-    if follows(graph, found, from, to) {
+    if follows(workspace, from, to) {
         let name = Vec::from_slice(alloc, last_of(to.as_str()).as_bytes())?;
         Ok(Some(FileText::new(alloc, name)?))
     } else {

@@ -7,7 +7,7 @@ ghost use Rattle.go_ast.specs.SourceFile.{source_of};
 ghost use Rattle.types_info.specs.PackageOf.{package_in};
 ghost use Rattle.types_declared.specs.ExportTablesView.{export_data_in};
 ghost use Rattle.types_declared.specs.PackageView.{package_of, IsIndexOf};
-ghost use Rattle.refs_binding.specs.Workspaces.{IsFaultless, known_in};
+ghost use Rattle.refs_binding.specs.Workspaces.{known_in};
 ghost use Rattle.refactor_move.specs.FileEdits.{AreFileEdits};
 ghost use Rattle.refactor_move.specs.Steps.{AddsEdits, AreEditsIn, HasFileIn, IsFileAt, AreEditsAt, KnowsEdits};
 
@@ -17,13 +17,11 @@ use base_edits::Edits;
 use base_files::Path;
 use go_ast::FileTree;
 use go_scope::table::ScopeTable;
-use refs_binding::{laid_table, path_of, trees};
+use refs_binding::{FaultlessWorkspace, laid_table, path_of, seen_by, trees};
 use std::alloc::{AllocError, Global};
 use std::collections::BTreeMap;
 use types_declared::{ExportTable, Index, Package};
 use types_expr::symbol::SharedPath;
-use workspace_check::{Findings, seen};
-use workspace_graph::Graph;
 
 /// Adds the edits of a file.
 fn insert(
@@ -120,19 +118,17 @@ fn add_package_by(
 fn add_package(
     alloc: Global,
     edits: &mut BTreeMap<Path, Edits>,
-    graph: &Graph,
-    found: &Findings,
+    workspace: &FaultlessWorkspace<'_>,
     number: usize,
     moved: &Moved,
 ) -> Result<(), AllocError>
-    requires in_range { number < length (package_paths graph.now) }
-    requires sound { IsFaultless graph.now found.now }
-    ensures { OnOk result (KnowsEdits graph.now (known_in found.now) moved.now number edits.old → KnowsEdits graph.now (known_in found.now) moved.now (number + 1) edits.new) }
+    requires { number < length (package_paths workspace.now.graph) }
+    ensures { OnOk result (KnowsEdits workspace.now.graph (known_in workspace.now.findings) moved.now number edits.old → KnowsEdits workspace.now.graph (known_in workspace.now.findings) moved.now (number + 1) edits.new) }
 {
-    let files = trees(graph, found, number);
-    let seen = seen(alloc, graph, number, &found.export_table)?;
+    let files = trees(workspace, number);
+    let seen = seen_by(alloc, workspace, number)?;
     let table = laid_table(alloc, files, &seen)?;
-    let path = path_of(graph, found, number);
+    let path = path_of(workspace, number);
     let of = PackageFiles { path, files };
     add_package_by(alloc, edits, &of, &table, &seen, moved)
 }
@@ -140,16 +136,14 @@ fn add_package(
 /// The edits of all Go files of a workspace without faults.
 pub(crate) fn all_edits(
     alloc: Global,
-    graph: &Graph,
-    found: &Findings,
+    workspace: &FaultlessWorkspace<'_>,
     moved: &Moved,
 ) -> Result<BTreeMap<Path, Edits>, AllocError>
-    requires { IsFaultless graph.now found.now }
-    ensures { IfOk result (KnowsEdits graph.now (known_in found.now) moved.now (length (package_paths graph.now))) }
+    ensures { IfOk result (KnowsEdits workspace.now.graph (known_in workspace.now.findings) moved.now (length (package_paths workspace.now.graph))) }
 {
     let mut edits = BTreeMap::new(alloc);
-    for number in 0..graph.len() {
-        add_package(alloc, &mut edits, graph, found, number, moved)?;
+    for number in 0..workspace.len() {
+        add_package(alloc, &mut edits, workspace, number, moved)?;
     }
     Ok(edits)
 }

@@ -1,4 +1,5 @@
 -- The lemmas of this crate.
+pub mod Proposed
 pub mod Planned
 pub mod Keeping
 pub mod MovePlanned

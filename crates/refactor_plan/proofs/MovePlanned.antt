@@ -1,6 +1,6 @@
 -- The answers of the steps of planning a move, as cases of `PlansMove`.
 use Rattle.std.proofs.Common.{◌≡◌, ℕ, inl, inr, List, [], refl, sym, subst, ◌∙◌}
-use Rattle.std.specs.Prelude.{Option, Some, None, Result, Ok, Err, Contains}
+use Rattle.std.specs.Prelude.{Result, Ok, Err, Contains}
 use Rattle.base_files.specs.Packages.{package_paths}
 use Rattle.base_files.specs.Path.{IsPath}
 use Rattle.base_files.specs.PathRead.{ReadsPath}
@@ -12,59 +12,27 @@ use Rattle.workspace_check.specs.Verdicts.{Verdicts, AreVerdicts}
 use Rattle.workspace_check.specs.FaultLists.{ListsFaults}
 use Rattle.refs_binding.specs.Workspaces.{RefusesFaults}
 use Rattle.base_edits.specs.RevisionsOfEdits.{revision_of}
-use Rattle.refactor_preserve.specs.Planned.{KeepsLimits}
-use Rattle.refactor_preserve.specs.Preserved.{Preserves}
-use Rattle.refactor_conflict.specs.Refusals.{IsReportedOr}
-use Rattle.refactor_conflict.specs.ConflictRefusal.{refusal_for}
-use Rattle.refactor_conflict.specs.declared.conflict.Capturer.{Capturer}
-use Rattle.refactor_conflict.specs.declared.conflict.Capturer.TheVariants.{Universe, At}
+use Rattle.refactor_conflict.specs.Refusals.{ReportsConflict}
 use Rattle.base_edits.specs.EditSet.{FileChanges}
 use Rattle.base_edits.specs.Fits.{Fits}
-use Rattle.workspace_snapshot.specs.Fits.{FitsLimits}
 use Rattle.workspace_snapshot.specs.declared.snapshot.Snapshot.{Snapshot}
 use Rattle.workspace_snapshot.specs.declared.change.Change.{Change}
 use Rattle.base_files.specs.Workspace.{Workspace}
 use Rattle.refactor_move.specs.Paths.{IsUnder}
 use Rattle.refactor_move.specs.MoveEdits.{AreMoveEdits, HasNoNewPath, IsFree, HasOnlyMoved, PlansMoveEdits}
-use Rattle.refactor_plan.specs.MovePlan.{NamesPackage, HasOtherTarget, HasOutsideTarget, IsMovable, MovesPackage, OnlyRenamesPackage, PlansMove}
-use Rattle.refactor_plan.specs.MoveSteps.{moving_by, ArePaths, RefusesTarget, RefusesConflict, RefusesLength, PlansMoveBy, PlansMoveTo}
+use Rattle.workspace_snapshot.specs.declared.change.ChangeKind.TheVariants.{Move}
+use Rattle.refactor_plan.specs.MovePlan.{NamesPackage, HasOtherTarget, HasOutsideTarget, IsMovable, MovesPackage, OnlyRenamesPackage, ReportsMoveConflict, PlansMove}
+use Rattle.refactor_plan.specs.Proposals.{RefusesConflict, PlansChange}
+use Rattle.refactor_plan.specs.MoveSteps.{package_place, ArePaths, RefusesTarget, RefusesLength, PlansMoveTo}
 
--- The refusal that reports a conflict.
+-- The refusal of a conflict of the name alone.
 
-pub told_conflict : (w : Workspace) (from : List ℕ) (known : Verdicts) → AreVerdicts w known → (s : FileChanges) → (Preserves w (revision_of w s) → ⊥) →
-    (by : Option Capturer) (used : Place) → IsReportedOr w known (revision_of w s) (record { path = from; offset = 0 }) (record { used = used; by = by }) →
-    RefusesConflict w from s (Err (refusal_for by used))
-told_conflict w from known right s not None used is =
-    (not, record { known = known; right = right; tells = record { conflict = record { used = used; by = None }; is_told = is; tells = refl } })
-told_conflict w from known right s not (Some Universe) used is =
-    (not, record { known = known; right = right; tells = record { conflict = record { used = used; by = Some Universe }; is_told = is; tells = refl } })
-told_conflict w from known right s not (Some (At place)) used is =
-    (not, record { known = known; right = right; tells = record { conflict = record { used = used; by = Some (At place) }; is_told = is; tells = refl } })
-
-pub conflict_planned : (snapshot : Snapshot) (from : List ℕ) (s : FileChanges) (r : Refusal) → RefusesConflict snapshot.files from s (Err r) →
-    PlansMoveBy snapshot from s (Err r)
-conflict_planned snapshot from s (Captured a b) h = h
-conflict_planned snapshot from s (Lost a) h = h
-conflict_planned snapshot from s Memory h = h
-conflict_planned snapshot from s _ h = absurd h
-
-pub conflict_of_length : (w : Workspace) (from : List ℕ) (s : FileChanges) (r : Refusal) → RefusesConflict w from s (Err r) → RefusesLength w from s (Err r)
-conflict_of_length w from s (Captured a b) h = h
-conflict_of_length w from s (Lost a) h = h
-conflict_of_length w from s Memory h = h
-conflict_of_length w from s _ h = absurd h
-
--- a change that keeps the limits, or does not
-
-kept_refused : (snapshot : Snapshot) (from : List ℕ) (s : FileChanges) (change : Change) → change ≡ moving_by snapshot s →
-    Preserves snapshot.files (revision_of snapshot.files s) → (r : Refusal) → KeepsLimits snapshot.limits change (Err r) → PlansMoveBy snapshot from s (Err r)
-kept_refused snapshot from s change is kept TooLarge h = (kept, λ fits. h (subst (λ (c : Change). FitsLimits snapshot.limits c.files) (sym is) fits))
-kept_refused snapshot from s change is kept _ h = absurd h
-
-pub kept_planned : (snapshot : Snapshot) (from : List ℕ) (s : FileChanges) (change : Change) → change ≡ moving_by snapshot s →
-    Preserves snapshot.files (revision_of snapshot.files s) → (r : Result Change Refusal) → KeepsLimits snapshot.limits change r → PlansMoveBy snapshot from s r
-kept_planned snapshot from s change is kept (Ok same) h = (kept, subst (λ (c : Change). FitsLimits snapshot.limits c.files) is h.1, h.0 ∙ is)
-kept_planned snapshot from s change is kept (Err r) h = kept_refused snapshot from s change is kept r h
+pub conflict_of_length : (w : Workspace) (known : Verdicts) (place : Place) (s : FileChanges) (r : Refusal) → RefusesConflict w known place s (Err r) →
+    RefusesLength w known place s (Err r)
+conflict_of_length w known place s (Captured a b) h = h
+conflict_of_length w known place s (Lost a) h = h
+conflict_of_length w known place s Memory h = h
+conflict_of_length w known place s _ h = absurd h
 
 -- the edits, and what they make
 
@@ -87,14 +55,18 @@ module _ (snapshot : Snapshot) (from to : List ℕ) (sound : ListsFaults snapsho
   naming : OnlyRenamesPackage snapshot.files from to s
   naming = record { known = known; right = right; edits = are }
 
-  length_refused : (r : Refusal) → RefusesLength snapshot.files from s (Err r) → PlansMoveTo snapshot from to (Err r)
+  reported : (r : Refusal) → ReportsConflict snapshot.files known (revision_of snapshot.files s) (package_place from) r → ReportsMoveConflict snapshot.files from s r
+  reported r h = record { known = known; right = right; tells = h }
+
+  length_refused : (r : Refusal) → RefusesLength snapshot.files known (package_place from) s (Err r) → PlansMoveTo snapshot from to (Err r)
   length_refused TooLarge h = (sound, inl (record { no_path = no_path; changes = s; naming = naming; preserves = h }))
-  length_refused (Captured a b) h = (sound, inr (record { no_path = no_path; changes = s; naming = naming; not_preserved = h.0; told = h.1 }))
-  length_refused (Lost a) h = (sound, inr (record { no_path = no_path; changes = s; naming = naming; not_preserved = h.0; told = h.1 }))
+  length_refused (Captured a b) h =
+      (sound, inr (record { no_path = no_path; changes = s; naming = naming; not_preserved = h.0; told = reported (Captured a b) h.1 }))
+  length_refused (Lost a) h = (sound, inr (record { no_path = no_path; changes = s; naming = naming; not_preserved = h.0; told = reported (Lost a) h.1 }))
   length_refused Memory h = h
   length_refused _ h = absurd h
 
-  pub name_planned : (r : Result Change Refusal) → RefusesLength snapshot.files from s r → PlansMoveTo snapshot from to r
+  pub name_planned : (r : Result Change Refusal) → RefusesLength snapshot.files known (package_place from) s r → PlansMoveTo snapshot from to r
   name_planned (Err r) h = length_refused r h
   name_planned (Ok change) h = absurd h
 
@@ -103,14 +75,18 @@ module _ (snapshot : Snapshot) (from to : List ℕ) (sound : ListsFaults snapsho
   moving : MovesPackage snapshot.files from to s
   moving = record { known = known; right = right; edits = are }
 
-  edits_refused : (r : Refusal) → PlansMoveBy snapshot from s (Err r) → PlansMoveTo snapshot from to (Err r)
+  moved_reported : (r : Refusal) → ReportsConflict snapshot.files known (revision_of snapshot.files s) (package_place from) r →
+      ReportsMoveConflict snapshot.files from s r
+  moved_reported r h = record { known = known; right = right; tells = h }
+
+  edits_refused : (r : Refusal) → PlansChange snapshot known (package_place from) Move s (Err r) → PlansMoveTo snapshot from to (Err r)
   edits_refused TooLarge h = (sound, inr (record { changes = s; moving = moving; preserves = h.0; too_large = h.1 }))
-  edits_refused (Captured a b) h = (sound, inl (record { changes = s; moving = moving; not_preserved = h.0; told = h.1 }))
-  edits_refused (Lost a) h = (sound, inl (record { changes = s; moving = moving; not_preserved = h.0; told = h.1 }))
+  edits_refused (Captured a b) h = (sound, inl (record { changes = s; moving = moving; not_preserved = h.0; told = moved_reported (Captured a b) h.1 }))
+  edits_refused (Lost a) h = (sound, inl (record { changes = s; moving = moving; not_preserved = h.0; told = moved_reported (Lost a) h.1 }))
   edits_refused Memory h = h
   edits_refused _ h = absurd h
 
-  pub edits_planned : (r : Result Change Refusal) → PlansMoveBy snapshot from s r → PlansMoveTo snapshot from to r
+  pub edits_planned : (r : Result Change Refusal) → PlansChange snapshot known (package_place from) Move s r → PlansMoveTo snapshot from to r
   edits_planned (Err r) h = edits_refused r h
   edits_planned (Ok change) h =
       subst (λ (c : Change). PlansMoveTo snapshot from to (Ok c)) (sym h.2)

@@ -1,7 +1,6 @@
 -- Refusals of the steps of planning a rename, in the words of the plan.
-use Rattle.std.proofs.Common.{ℕ, ◌≡◌, inl, inr, List, [], None, sym, subst, refl, ◌∙◌}
-use Rattle.std.specs.Prelude.{Option, Some, Result, Ok, Err}
-use Rattle.base_files.specs.declared.place.Place.{Place}
+use Rattle.std.proofs.Common.{ℕ, inl, inr, List, [], sym, subst, refl}
+use Rattle.std.specs.Prelude.{Result, Ok, Err}
 use Rattle.base_files.specs.declared.refusal.Refusal.{Refusal}
 use Rattle.base_files.specs.declared.refusal.Refusal.TheVariants as refusal
 use Rattle.workspace_check.specs.declared.findings.Findings.{Findings}
@@ -10,46 +9,17 @@ use Rattle.workspace_check.specs.FaultLists.{ListsFaults}
 use Rattle.refs_binding.specs.declared.declaration.Declaration.{Declaration}
 use Rattle.refs_binding.specs.Uses.{IsPackage, IsFile, HasDeclaration}
 use Rattle.refs_binding.specs.Workspaces.{FindsDeclaration, RefusesFaults}
-use Rattle.base_edits.specs.RevisionsOfEdits.{revision_of}
-use Rattle.refactor_preserve.specs.Planned.{KeepsLimits}
-use Rattle.refactor_preserve.specs.Preserved.{Preserves}
-use Rattle.refactor_conflict.specs.declared.conflict.Capturer.{Capturer}
-use Rattle.refactor_conflict.specs.declared.conflict.Capturer.TheVariants.{Universe, At}
 use Rattle.base_edits.specs.EditSet.{FileChanges}
 use Rattle.base_edits.specs.Fits.{Fits}
-use Rattle.workspace_snapshot.specs.Fits.{FitsLimits}
 use Rattle.workspace_snapshot.specs.declared.snapshot.Snapshot.{Snapshot}
 use Rattle.workspace_snapshot.specs.declared.change.Change.{Change}
 use Rattle.refactor_rename.specs.NewName.{IsNewName}
 use Rattle.refactor_rename.specs.Naming.{IsFixed, IsReservedFor, RefusesName}
 use Rattle.refactor_rename.specs.RenameEdits.{AreRenameEdits}
 use Rattle.refactor_plan.specs.Plan.{IsValidRename, ResolvesIdentifier, IsRenamable, IsLegalName, RenamesIdentifier, PlansRename}
-use Rattle.refactor_conflict.specs.Refusals.{IsReportedOr}
-use Rattle.refactor_conflict.specs.ConflictRefusal.{refusal_for}
-use Rattle.refactor_plan.specs.Steps.{renaming_by, PlansRenameBy, PlansDeclaration, PlansAtByte}
-
--- The refusal that reports a conflict.
-
-pub told_conflict : (snapshot : Snapshot) (known : Verdicts) (asked : Place) (s : FileChanges) → (Preserves snapshot.files (revision_of snapshot.files s) → ⊥) →
-    (by : Option Capturer) (used : Place) → IsReportedOr snapshot.files known (revision_of snapshot.files s) asked (record { used = used; by = by }) →
-    PlansRenameBy snapshot known asked s (Err (refusal_for by used))
-told_conflict snapshot known asked s not None used is = (not, record { conflict = record { used = used; by = None }; is_told = is; tells = refl })
-told_conflict snapshot known asked s not (Some Universe) used is =
-    (not, record { conflict = record { used = used; by = Some Universe }; is_told = is; tells = refl })
-told_conflict snapshot known asked s not (Some (At place)) used is =
-    (not, record { conflict = record { used = used; by = Some (At place) }; is_told = is; tells = refl })
-
--- a change that keeps the limits, or does not
-
-module _ (snapshot : Snapshot) (known : Verdicts) (asked : Place) (s : FileChanges) (change : Change) (is : change ≡ renaming_by snapshot s)
-    (kept : Preserves snapshot.files (revision_of snapshot.files s)) where
-  kept_refused : (r : Refusal) → KeepsLimits snapshot.limits change (Err r) → PlansRenameBy snapshot known asked s (Err r)
-  kept_refused refusal.TooLarge h = (kept, λ fits. h (subst (λ (c : Change). FitsLimits snapshot.limits c.files) (sym is) fits))
-  kept_refused _ h = absurd h
-
-  pub kept_planned : (r : Result Change Refusal) → KeepsLimits snapshot.limits change r → PlansRenameBy snapshot known asked s r
-  kept_planned (Ok same) h = (kept, subst (λ (c : Change). FitsLimits snapshot.limits c.files) is h.1, h.0 ∙ is)
-  kept_planned (Err r) h = kept_refused r h
+use Rattle.workspace_snapshot.specs.declared.change.ChangeKind.TheVariants.{Rename}
+use Rattle.refactor_plan.specs.Proposals.{PlansChange}
+use Rattle.refactor_plan.specs.Steps.{PlansDeclaration, PlansAtByte}
 
 -- The declaration of the identifier at the byte.
 
@@ -127,7 +97,7 @@ module _ (snapshot : Snapshot) (path : List ℕ) (offset : ℕ) (name : List ℕ
       renaming s are = record { may = may_be ok.0 ok.1; other = ok.2; edits = are }
 
       edits_refused : (s : FileChanges) → RenamesIdentifier snapshot.files path offset name s → (r : Refusal) →
-          PlansRenameBy snapshot known (record { path = path; offset = offset }) s (Err r) → PlansAtByte snapshot path offset name (Err r)
+          PlansChange snapshot known (record { path = path; offset = offset }) Rename s (Err r) → PlansAtByte snapshot path offset name (Err r)
       edits_refused s is refusal.Memory h = h
       edits_refused s is refusal.BadCommand h = absurd h
       edits_refused s is refusal.BadPath h = absurd h
@@ -157,7 +127,7 @@ module _ (snapshot : Snapshot) (path : List ℕ) (offset : ℕ) (name : List ℕ
       edits_refused s is refusal.BodyShort h = absurd h
 
       edits_planned : (s : FileChanges) → AreRenameEdits snapshot.files known d name s → Fits s snapshot.files → (r : Result Change Refusal) →
-          PlansRenameBy snapshot known (record { path = path; offset = offset }) s r → PlansAtByte snapshot path offset name r
+          PlansChange snapshot known (record { path = path; offset = offset }) Rename s r → PlansAtByte snapshot path offset name r
       edits_planned s are fit (Err r) h = edits_refused s (renaming s are) r h
       edits_planned s are fit (Ok change) h =
           subst (λ (c : Change). PlansAtByte snapshot path offset name (Ok c)) (sym h.2)

@@ -2,8 +2,8 @@
 use Rattle.std.proofs.Common.{ℕ, ◌≡◌, List, [], ◌∷◌, sym, subst, ⊎_elim}
 use Rattle.std.specs.Prelude.{Contains}
 use Rattle.std.specs.FinMap.{entries, get}
+use Rattle.base_lemmas.proofs.Elements.{nothing_in, first_in, later_in, first_or_later}
 use Rattle.base_files.specs.Workspace.{Workspace}
-use Rattle.base_edits.proofs.Held.{nothing_in, first_in, later_in, first_or_later}
 use Rattle.base_edits.proofs.Entries.{entry_of, get_entry, value_of, some_is}
 use Rattle.refactor_move.specs.Paths.{IsUnder}
 use Rattle.refactor_move.specs.MoveEdits.{IsFree}

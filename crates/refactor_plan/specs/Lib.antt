@@ -1,5 +1,6 @@
 -- The definitions of this crate.
 pub mod Plan
+pub mod Proposals
 pub mod Steps
 pub mod Laws
 pub mod Requests

@@ -7,44 +7,20 @@ use Rattle.workspace_check.specs.Verdicts.{Verdicts}
 use Rattle.workspace_check.specs.FaultLists.{ListsFaults}
 use Rattle.refs_binding.specs.declared.declaration.Declaration.{Declaration}
 use Rattle.refs_binding.specs.Uses.{HasNoIdentifier, HasNoDeclaration, HasFirstFault}
-use Rattle.base_edits.specs.RevisionsOfEdits.{revision_of}
-use Rattle.refactor_preserve.specs.Preserved.{Preserves}
-use Rattle.refactor_conflict.specs.Refusals.{ReportsConflict}
-use Rattle.base_edits.specs.EditSet.{FileChanges, edited}
+use Rattle.base_edits.specs.EditSet.{FileChanges}
 use Rattle.base_edits.specs.Fits.{Fits}
-use Rattle.workspace_snapshot.specs.Fits.{FitsLimits}
 use Rattle.workspace_snapshot.specs.declared.snapshot.Snapshot.{Snapshot}
 use Rattle.workspace_snapshot.specs.declared.change.Change.{Change}
 use Rattle.workspace_snapshot.specs.declared.change.ChangeKind.TheVariants.{Rename}
 use Rattle.refactor_rename.specs.RenameEdits.{AreRenameEdits}
+use Rattle.refactor_plan.specs.Proposals.{PlansChange}
 use Rattle.refactor_plan.specs.Plan.{ResolvesToFixed, ResolvesToReserved, ResolvesToNamesake, HasConflict, IsRenameTooLarge, IsRenamed}
-
--- The change of kind `Rename` that has these edits of the snapshot's files.
-abbrev pub renaming_by : Snapshot → FileChanges → Change
-renaming_by snapshot s = record { base = snapshot.files; kind = Rename; edits = s; files = edited s snapshot.files }
-
--- These edits do not preserve bindings, and the refusal names their first conflict, or the place `asked` where no identifier is in
--- conflict.
-abbrev pub IsRenameConflict : Snapshot → Verdicts → Place → FileChanges → Refusal → Type 0
-IsRenameConflict snapshot known asked s refusal =
-    (¬ (Preserves snapshot.files (revision_of snapshot.files s))) × ReportsConflict snapshot.files known (revision_of snapshot.files s) asked refusal
-
--- The change that these edits make of the snapshot, or a refusal where they do not preserve bindings or exceed a limit.
-abbrev pub PlansRenameBy : Snapshot → Verdicts → Place → FileChanges → Result Change Refusal → Type 0
-PlansRenameBy snapshot known asked s (Ok change) =
-    Preserves snapshot.files (revision_of snapshot.files s) × FitsLimits snapshot.limits (edited s snapshot.files) × (change ≡ renaming_by snapshot s)
-PlansRenameBy snapshot known asked s (Err (Captured used by)) = IsRenameConflict snapshot known asked s (Captured used by)
-PlansRenameBy snapshot known asked s (Err (Lost used)) = IsRenameConflict snapshot known asked s (Lost used)
-PlansRenameBy snapshot known asked s (Err TooLarge) = Preserves snapshot.files (revision_of snapshot.files s) ×
-    ¬ (FitsLimits snapshot.limits (edited s snapshot.files))
-PlansRenameBy snapshot known asked s (Err Memory) = ⊤
-PlansRenameBy snapshot known asked s (Err refusal) = ⊥
 
 -- What planning answers for the edits that give the declaration `d` the name `name`, or `Memory` where there was no memory for them.
 abbrev pub PlansDeclaration : Snapshot → Verdicts → Place → Declaration → List ℕ → Result Change Refusal → Type 0
 PlansDeclaration snapshot known asked d name result =
     (result ≡ Err Memory) ⊎ ((s : FileChanges) × (AreRenameEdits snapshot.files known d name s ×
-    (Fits s snapshot.files × PlansRenameBy snapshot known asked s result)))
+    (Fits s snapshot.files × PlansChange snapshot known asked Rename s result)))
 
 -- What planning a rename answers where the arguments have their forms and the file exists.
 abbrev pub PlansAtByte : Snapshot → List ℕ → ℕ → List ℕ → Result Change Refusal → Type 0

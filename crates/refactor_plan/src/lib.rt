@@ -10,6 +10,7 @@ pub mod exports;
 pub mod laws;
 mod move_plan;
 mod plan;
+mod proposal;
 pub mod restored;
 mod targets;
 

@@ -1,118 +1,26 @@
 //! Plans a move: the change that moves a package to another path.
 ghost use Rattle.std.specs.Prelude.{◌≡◌, IfOk};
 ghost use Rattle.base_files.specs.Path.{IsPath};
-ghost use Rattle.base_edits.specs.EditSet.{edited};
 ghost use Rattle.base_edits.specs.Fits.{Fits};
 ghost use Rattle.workspace_check.specs.Found.{IsFound, KnowsVerdicts};
 ghost use Rattle.refs_binding.specs.Workspaces.{IsFaultless, known_in};
-ghost use Rattle.base_edits.specs.RevisionsOfEdits.{revision_of};
 ghost use Rattle.refactor_preserve.specs.Planned.{change_in};
-ghost use Rattle.refactor_preserve.specs.Preserved.{Preserves};
-ghost use Rattle.refactor_conflict.specs.Refusals.{IsReportedOr};
 ghost use Rattle.refactor_move.specs.MoveEdits.{HasNoNewPath, IsFree};
+ghost use Rattle.workspace_snapshot.specs.declared.change.ChangeKind.TheVariants.{Move};
 ghost use Rattle.refactor_plan.specs.MovePlan.{PlansMove};
-ghost use Rattle.refactor_plan.specs.MoveSteps.{moving_by, ArePaths, RefusesConflict, RefusesLength, PlansMoveBy, PlansMoveTo};
+ghost use Rattle.refactor_plan.specs.Proposals.{PlansChange};
+ghost use Rattle.refactor_plan.specs.MoveSteps.{package_place, ArePaths, RefusesLength, PlansMoveTo};
 
+use crate::proposal::{Proposal, plan_change, refuse_conflict};
 use crate::targets::refuse_target;
 use base_edits::EditSet;
-use base_files::{Path, Place, Refusal};
-use refactor_conflict::{Conflict, first_conflict, told};
+use base_files::{Path, Refusal};
 use refactor_move::move_edits;
-use refactor_preserve::{Planned, preserves, within_limits};
-use refs_binding::refuse_faults;
-use std::alloc::{AllocError, Global};
-use workspace_check::{Found, Known};
-use workspace_snapshot::{Change, ChangeKind, MadeChange, Snapshot};
-
-/// The first conflict of a change that does not preserve bindings. Where there is no identifier to name, the package `from` is lost, at
-/// offset 0.
-fn conflict_of(
-    alloc: Global,
-    snapshot: &Snapshot,
-    found: &Found,
-    from: &Path,
-    change: &Change,
-) -> Result<Conflict, AllocError>
-    requires sound { IsFaultless snapshot.now.files found.now.findings }
-    requires after { change.now.files ≡ edited change.now.edits snapshot.now.files }
-    ensures { IfOk result (IsReportedOr snapshot.now.files (known_in found.now.findings) (revision_of snapshot.now.files change.now.edits) (record { path = from.now; offset = 0 })) }
-{
-    match first_conflict(
-        alloc,
-        &snapshot.files,
-        &found.findings,
-        &change.edits,
-        &change.files,
-    )? {
-        Some(conflict) => Ok(conflict),
-        None => Ok(Conflict {
-            used: Place {
-                path: from.clone()?,
-                offset: 0,
-            },
-            by: None,
-        }),
-    }
-}
-
-/// The refusal that names the first conflict of a change that does not preserve bindings.
-fn refusal_of(
-    alloc: Global,
-    snapshot: &Snapshot,
-    found: &Found,
-    from: &Path,
-    change: &Change,
-) -> Refusal
-    requires sound { IsFaultless snapshot.now.files found.now.findings }
-    requires after { change.now.files ≡ edited change.now.edits snapshot.now.files }
-    requires not_preserved { ¬ (Preserves snapshot.now.files (revision_of snapshot.now.files change.now.edits)) }
-    ensures { RefusesConflict snapshot.now.files from.now change.now.edits (Err result) }
-{
-    match conflict_of(alloc, snapshot, found, from, change) {
-        Ok(conflict) => told(conflict),
-        Err(_) => Refusal::Memory,
-    }
-}
-
-/// The findings of the workspace after a change that preserves bindings, or the refusal that names its first conflict.
-fn refuse_conflict(
-    alloc: Global,
-    snapshot: &Snapshot,
-    found: &Found,
-    from: &Path,
-    change: &MadeChange,
-) -> Result<Known, Refusal>
-    requires sound { IsFaultless snapshot.now.files found.now.findings }
-    requires known { KnowsVerdicts snapshot.now.files found.now.known }
-    requires base { change.now.base ≡ snapshot.now.files }
-    requires after { change.now.files ≡ edited change.now.edits snapshot.now.files }
-    ensures { RefusesConflict snapshot.now.files from.now change.now.edits result }
-{
-    match preserves(alloc, &snapshot.files, found, change)? {
-        Some(known) => Ok(known),
-        None => Err(refusal_of(alloc, snapshot, found, from, change.get())),
-    }
-}
-
-/// Plans a given change: refuses it where it does not preserve bindings or exceeds a limit.
-fn plan_change(
-    alloc: Global,
-    snapshot: &Snapshot,
-    found: &Found,
-    from: &Path,
-    change: MadeChange,
-) -> Result<Planned, Refusal>
-    requires sound { IsFaultless snapshot.now.files found.now.findings }
-    requires known { KnowsVerdicts snapshot.now.files found.now.known }
-    requires is_change { change ≡ moving_by snapshot.now change.edits }
-    ensures planned { PlansMoveBy snapshot.now from.now change.edits (change_in result) }
-    ensures known { IfOk result (λ p. KnowsVerdicts p.change.files p.known) }
-{
-    match refuse_conflict(alloc, snapshot, found, from, &change) {
-        Err(refusal) => Err(refusal),
-        Ok(known) => within_limits(&snapshot.limits, change, known),
-    }
-}
+use refactor_preserve::Planned;
+use refs_binding::{FaultlessWorkspace, refuse_faults};
+use std::alloc::Global;
+use workspace_check::Found;
+use workspace_snapshot::{ChangeKind, MadeChange, Snapshot};
 
 /// Plans the change by an edit set: refuses it where it does not preserve bindings or exceeds a limit.
 fn plan_edits(
@@ -125,11 +33,17 @@ fn plan_edits(
     requires sound { IsFaultless snapshot.now.files found.now.findings }
     requires known { KnowsVerdicts snapshot.now.files found.now.known }
     requires fits { Fits edits snapshot.now.files }
-    ensures planned { PlansMoveBy snapshot.now from.now edits (change_in result) }
+    ensures planned { PlansChange snapshot.now (known_in found.now.findings) (package_place from.now) Move edits (change_in result) }
     ensures known { IfOk result (λ p. KnowsVerdicts p.change.files p.known) }
 {
     let change = MadeChange::of(alloc, snapshot, ChangeKind::Move, edits)?;
-    plan_change(alloc, snapshot, found, from, change)
+    let proposal = Proposal {
+        snapshot,
+        found,
+        path: from,
+        offset: 0,
+    };
+    plan_change(alloc, &proposal, change)
 }
 
 /// Why a move that would give a file too long a path is refused, by the edits of the package's name alone: their first conflict, or
@@ -144,11 +58,17 @@ fn refuse_length(
     requires sound { IsFaultless snapshot.now.files found.now.findings }
     requires known { KnowsVerdicts snapshot.now.files found.now.known }
     requires fits { Fits edits snapshot.now.files }
-    ensures planned { RefusesLength snapshot.now.files from.now edits (change_in result) }
+    ensures planned { RefusesLength snapshot.now.files (known_in found.now.findings) (package_place from.now) edits (change_in result) }
     ensures known { IfOk result (λ p. KnowsVerdicts p.change.files p.known) }
 {
     let change = MadeChange::of(alloc, snapshot, ChangeKind::Move, edits)?;
-    match refuse_conflict(alloc, snapshot, found, from, &change) {
+    let proposal = Proposal {
+        snapshot,
+        found,
+        path: from,
+        offset: 0,
+    };
+    match refuse_conflict(alloc, &proposal, &change) {
         Err(refusal) => Err(refusal),
         Ok(_known) => Err(Refusal::TooLarge),
     }
@@ -168,7 +88,11 @@ fn refuse_long(
     ensures planned { PlansMoveTo snapshot.now from.now to.now (change_in result) }
     ensures known { IfOk result (λ p. KnowsVerdicts p.change.files p.known) }
 {
-    match move_edits(alloc, &snapshot.files, &found.findings, from, from, to) {
+    let workspace = FaultlessWorkspace {
+        graph: &snapshot.files,
+        findings: &found.findings,
+    };
+    match move_edits(alloc, &workspace, from, from, to) {
         Err(refusal) => Err(refusal),
         Ok(edits) => refuse_length(alloc, snapshot, found, from, edits),
     }
@@ -188,7 +112,11 @@ fn plan_found(
     ensures planned { PlansMoveTo snapshot.now from.now to.now (change_in result) }
     ensures known { IfOk result (λ p. KnowsVerdicts p.change.files p.known) }
 {
-    match move_edits(alloc, &snapshot.files, &found.findings, from, to, to) {
+    let workspace = FaultlessWorkspace {
+        graph: &snapshot.files,
+        findings: &found.findings,
+    };
+    match move_edits(alloc, &workspace, from, to, to) {
         Err(Refusal::Memory) => Err(Refusal::Memory),
         Err(_) => refuse_long(alloc, snapshot, found, from, to),
         Ok(edits) => plan_edits(alloc, snapshot, found, from, edits),
@@ -210,7 +138,7 @@ fn plan_in(
 {
     match refuse_faults(alloc, &snapshot.files, &found.findings) {
         Err(refusal) => Err(refusal),
-        Ok(()) => plan_found(alloc, snapshot, found, from, to),
+        Ok(_) => plan_found(alloc, snapshot, found, from, to),
     }
 }
 

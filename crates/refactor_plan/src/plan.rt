@@ -1,26 +1,22 @@
 //! Plans a rename: the change that gives the declaration of the identifier at a byte another name.
-ghost use Rattle.std.specs.Prelude.{◌≡◌, None, IfOk};
-ghost use Rattle.base_edits.specs.EditSet.{edited};
+ghost use Rattle.std.specs.Prelude.{IfOk};
 ghost use Rattle.workspace_check.specs.Found.{IsFound, KnowsVerdicts};
 ghost use Rattle.refs_binding.specs.Uses.{HasDeclaration};
 ghost use Rattle.refs_binding.specs.Workspaces.{IsFaultless, known_in};
-ghost use Rattle.base_edits.specs.RevisionsOfEdits.{revision_of};
 ghost use Rattle.refactor_preserve.specs.Planned.{change_in};
-ghost use Rattle.refactor_preserve.specs.Preserved.{Preserves};
-ghost use Rattle.refactor_conflict.specs.Refusals.{IsReportedOr};
 ghost use Rattle.refactor_plan.specs.Plan.{PlansRename};
 ghost use Rattle.refactor_plan.specs.Requests.{byte_place};
-ghost use Rattle.refactor_plan.specs.Steps.{renaming_by, PlansRenameBy, PlansDeclaration, PlansAtByte};
+ghost use Rattle.refactor_plan.specs.Steps.{PlansDeclaration, PlansAtByte};
 
-use base_files::{Path, Place, Refusal};
-use refactor_conflict::{Conflict, first_conflict, told};
-use refactor_preserve::{Planned, preserves, within_limits};
+use crate::proposal::{Proposal, plan_change};
+use base_files::{Path, Refusal};
+use refactor_preserve::Planned;
 use refactor_rename::{is_new_name, refuse_name, rename_edits};
-use refs_binding::{Declaration, refuse_faults};
+use refs_binding::{Declaration, FaultlessWorkspace, refuse_faults};
 use refs_lookup::declaration_at;
-use std::alloc::{AllocError, Global};
+use std::alloc::Global;
 use workspace_check::Found;
-use workspace_snapshot::{Change, ChangeKind, MadeChange, Snapshot};
+use workspace_snapshot::{ChangeKind, MadeChange, Snapshot};
 
 /// The arguments of a rename: the path of a file, a byte offset in it, and the new name.
 #[derive(Clone, Copy)]
@@ -28,82 +24,6 @@ struct RenameRequest<'a> {
     path: &'a Path,
     offset: usize,
     name: &'a [u8],
-}
-
-/// The conflict that names the byte of the rename as lost.
-fn requested_lost(asked: &RenameRequest<'_>) -> Result<Conflict, AllocError>
-    ensures { IfOk result (λ c. c ≡ record { used = byte_place asked.now; by = None }) }
-{
-    Ok(Conflict {
-        used: Place {
-            path: asked.path.clone()?,
-            offset: asked.offset,
-        },
-        by: None,
-    })
-}
-
-/// The first conflict of a change that does not preserve bindings. Where there is no identifier to name, the byte of the rename is lost.
-fn conflict_of(
-    alloc: Global,
-    snapshot: &Snapshot,
-    found: &Found,
-    asked: &RenameRequest<'_>,
-    change: &Change,
-) -> Result<Conflict, AllocError>
-    requires sound { IsFaultless snapshot.now.files found.now.findings }
-    requires after { change.now.files ≡ edited change.now.edits snapshot.now.files }
-    ensures { IfOk result (IsReportedOr snapshot.now.files (known_in found.now.findings) (revision_of snapshot.now.files change.now.edits) (byte_place asked.now)) }
-{
-    match first_conflict(
-        alloc,
-        &snapshot.files,
-        &found.findings,
-        &change.edits,
-        &change.files,
-    )? {
-        Some(conflict) => Ok(conflict),
-        None => requested_lost(asked),
-    }
-}
-
-/// The refusal that names the first conflict of a change that does not preserve bindings.
-fn refusal_of(
-    alloc: Global,
-    snapshot: &Snapshot,
-    found: &Found,
-    asked: &RenameRequest<'_>,
-    change: &Change,
-) -> Refusal
-    requires sound { IsFaultless snapshot.now.files found.now.findings }
-    requires after { change.now.files ≡ edited change.now.edits snapshot.now.files }
-    requires not_preserved { ¬ (Preserves snapshot.now.files (revision_of snapshot.now.files change.now.edits)) }
-    ensures { PlansRenameBy snapshot.now (known_in found.now.findings) (byte_place asked.now) change.now.edits (Err result) }
-{
-    match conflict_of(alloc, snapshot, found, asked, change) {
-        Ok(conflict) => told(conflict),
-        Err(_) => Refusal::Memory,
-    }
-}
-
-/// Plans a given change: refuses it where it does not preserve bindings or exceeds a limit.
-fn plan_change(
-    alloc: Global,
-    snapshot: &Snapshot,
-    found: &Found,
-    asked: &RenameRequest<'_>,
-    change: MadeChange,
-) -> Result<Planned, Refusal>
-    requires sound { IsFaultless snapshot.now.files found.now.findings }
-    requires known { KnowsVerdicts snapshot.now.files found.now.known }
-    requires is_change { change ≡ renaming_by snapshot.now change.edits }
-    ensures planned { PlansRenameBy snapshot.now (known_in found.now.findings) (byte_place asked.now) change.edits (change_in result) }
-    ensures known { IfOk result (λ p. KnowsVerdicts p.change.files p.known) }
-{
-    match preserves(alloc, &snapshot.files, found, &change)? {
-        Some(known) => within_limits(&snapshot.limits, change, known),
-        None => Err(refusal_of(alloc, snapshot, found, asked, change.get())),
-    }
 }
 
 /// Plans the change that gives a declaration the new name.
@@ -119,15 +39,19 @@ fn plan_declaration(
     ensures planned { PlansDeclaration snapshot.now (known_in found.now.findings) (byte_place asked.now) declaration.now asked.now.name.now (change_in result) }
     ensures known { IfOk result (λ p. KnowsVerdicts p.change.files p.known) }
 {
-    let edits = rename_edits(
-        alloc,
-        &snapshot.files,
-        &found.findings,
-        declaration,
-        asked.name,
-    )?;
+    let workspace = FaultlessWorkspace {
+        graph: &snapshot.files,
+        findings: &found.findings,
+    };
+    let edits = rename_edits(alloc, &workspace, declaration, asked.name)?;
     let change = MadeChange::of(alloc, snapshot, ChangeKind::Rename, edits)?;
-    plan_change(alloc, snapshot, found, asked, change)
+    let proposal = Proposal {
+        snapshot,
+        found,
+        path: asked.path,
+        offset: asked.offset,
+    };
+    plan_change(alloc, &proposal, change)
 }
 
 /// Plans the rename of a declaration, or refuses it where the declaration is fixed or the name is not legal for it.
@@ -144,13 +68,11 @@ fn plan_named(
     ensures planned { PlansAtByte snapshot.now asked.now.path.now asked.now.offset asked.now.name.now (change_in result) }
     ensures known { IfOk result (λ p. KnowsVerdicts p.change.files p.known) }
 {
-    match refuse_name(
-        alloc,
-        &snapshot.files,
-        &found.findings,
-        declaration,
-        asked.name,
-    ) {
+    let workspace = FaultlessWorkspace {
+        graph: &snapshot.files,
+        findings: &found.findings,
+    };
+    match refuse_name(alloc, &workspace, declaration, asked.name) {
         Err(refusal) => Err(refusal),
         Ok(()) => plan_declaration(alloc, snapshot, found, declaration, asked),
     }
@@ -168,13 +90,11 @@ fn plan_found(
     ensures planned { PlansAtByte snapshot.now asked.now.path.now asked.now.offset asked.now.name.now (change_in result) }
     ensures known { IfOk result (λ p. KnowsVerdicts p.change.files p.known) }
 {
-    match declaration_at(
-        alloc,
-        &snapshot.files,
-        &found.findings,
-        asked.path,
-        asked.offset,
-    ) {
+    let workspace = FaultlessWorkspace {
+        graph: &snapshot.files,
+        findings: &found.findings,
+    };
+    match declaration_at(alloc, &workspace, asked.path, asked.offset) {
         Err(refusal) => Err(refusal),
         Ok(declaration) => plan_named(alloc, snapshot, found, &declaration, asked),
     }
@@ -193,7 +113,7 @@ fn plan_in(
 {
     match refuse_faults(alloc, &snapshot.files, &found.findings) {
         Err(refusal) => Err(refusal),
-        Ok(()) => plan_found(alloc, snapshot, found, asked),
+        Ok(_) => plan_found(alloc, snapshot, found, asked),
     }
 }
 

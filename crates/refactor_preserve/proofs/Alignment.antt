@@ -138,15 +138,15 @@ one_number_safe c k is h = record {
 
 -- the package of a number is the one that was asked
 pub safe_number : (c : Compared) (n : ℕ) (p : Package) →
-    IsPackageAt c.before.now.packages.now.graph.now (known_in c.before.now.packages.now.found.now) n p → IsSafeIn c p → IsSafeNumber c n
+    IsPackageAt c.before.now.packages.now.workspace.now.graph (known_in c.before.now.packages.now.workspace.now.findings) n p → IsSafeIn c p → IsSafeNumber c n
 safe_number c n p is h q also =
-    subst (IsSafeIn c) (one_at c.before.now.packages.now.graph.now (known_in c.before.now.packages.now.found.now) n p q is also) h
+    subst (IsSafeIn c) (one_at c.before.now.packages.now.workspace.now.graph (known_in c.before.now.packages.now.workspace.now.findings) n p q is also) h
 
-pub all_numbers_safe : (c : Compared) (count : ℕ) → length (package_paths c.before.now.packages.now.graph.now) ≡ count → AreNumbersSafe c count →
+pub all_numbers_safe : (c : Compared) (count : ℕ) → length (package_paths c.before.now.packages.now.workspace.now.graph) ≡ count → AreNumbersSafe c count →
     AreSafe c
 all_numbers_safe c count end h p is =
-    let w = c.before.now.packages.now.graph.now in
-    let known = known_in c.before.now.packages.now.found.now in
+    let w = c.before.now.packages.now.workspace.now.graph in
+    let known = known_in c.before.now.packages.now.workspace.now.findings in
     let k = numbered w known p is in
     let within : k.0 < length (package_paths w) = number_within w known k.0 p k.1 in
     h.each k.0 (omega arith) p k.1

@@ -56,22 +56,27 @@ lost_here before then moved b to here same within each none kept =
       holds = kept.holds;
     })
 
-module _ (before then : MarkedPackages) (s : FileChanges) (right : AreVerdicts before.graph.now (known_in before.found.now))
-    (also : AreVerdicts then.graph.now (known_in then.found.now))
-    (are : AreAffected before.graph.now before.graph.now then.graph.now s before.marks.now) (same : then.graph.now ≡ edited s before.graph.now) where
+module _ (before then : MarkedPackages) (s : FileChanges) (right : AreVerdicts before.workspace.now.graph (known_in before.workspace.now.findings))
+    (also : AreVerdicts then.workspace.now.graph (known_in then.workspace.now.findings))
+    (are : AreAffected before.workspace.now.graph before.workspace.now.graph then.workspace.now.graph s before.marks.now)
+    (same : then.workspace.now.graph ≡ edited s before.workspace.now.graph) where
   abbrev revision_to : Workspace → Revision
   revision_to x = record { after = x; moved = moved s; called = new_name_at s }
 
   lost_by_marked : (b : BoundIdentifier) → IsBoundMarked before b → (IsKept (view_among before) (view_among then) (moved s) b → ⊥) →
-      KeepsBindings before.graph.now (known_in before.found.now) (revision_of before.graph.now s) (known_in then.found.now) → ⊥
+      KeepsBindings before.workspace.now.graph (known_in before.workspace.now.findings) (revision_of before.workspace.now.graph s)
+      (known_in then.workspace.now.findings) → ⊥
   lost_by_marked b is lost kept =
-      let here : KeepsBindings before.graph.now (known_in before.found.now) (revision_to then.graph.now) (known_in then.found.now) =
-      subst (λ x. KeepsBindings before.graph.now (known_in before.found.now) (revision_to x) (known_in then.found.now)) (sym same) kept in
+      let here : KeepsBindings before.workspace.now.graph (known_in before.workspace.now.findings) (revision_to then.workspace.now.graph)
+      (known_in then.workspace.now.findings) =
+      subst (λ x. KeepsBindings before.workspace.now.graph (known_in before.workspace.now.findings) (revision_to x)
+      (known_in then.workspace.now.findings)) (sym same) kept in
       lost (here.keeps (bound_place b) b.declaration (among_use before b is))
 
   -- what the marked packages tell of all
   pub told_by_marked : (answer : Answer) → AnswersForMarked before then (moved s) answer →
-      AnswersFor answer (KeepsBindings before.graph.now (known_in before.found.now) (revision_of before.graph.now s) (known_in then.found.now))
+      AnswersFor answer (KeepsBindings before.workspace.now.graph (known_in before.workspace.now.findings) (revision_of before.workspace.now.graph s)
+      (known_in then.workspace.now.findings))
   told_by_marked Yes h = kept_by_marked before then s right also are same h.0 h.1
   told_by_marked No h = lost_by_marked h.0 h.1.0 h.1.1
   told_by_marked Unknown h = h

@@ -44,7 +44,8 @@ use Rattle.refactor_preserve.proofs.Every.{spot_at}
 use Rattle.refactor_preserve.proofs.Unaffected.{Becoming, unaffected_becomes, unaffected_keeps, unaffected_adds}
 
 -- a bound identifier of a marked package is one of the workspace, and begins in the folder of the package
-pub among_use : (s : MarkedPackages) (b : BoundIdentifier) → IsBoundMarked s b → IsUseOf s.graph.now (known_in s.found.now) b.declaration (bound_place b)
+pub among_use : (s : MarkedPackages) (b : BoundIdentifier) → IsBoundMarked s b → IsUseOf s.workspace.now.graph (known_in s.workspace.now.findings)
+    b.declaration (bound_place b)
 among_use s b h = record {
   used_in = h.bound.used_in;
   is_package = h.bound.is_package.is_package;
@@ -54,10 +55,10 @@ among_use s b h = record {
 }
 
 -- and the other way round
-pub use_among : (s : MarkedPackages) (d : Declaration) (place : Place) (n : ℕ) → slice_get (package_paths s.graph.now) n ≡ Some (folder place.path) →
-    IsMarked s.marks.now n → IsUseOf s.graph.now (known_in s.found.now) d place → IsBoundMarked s (spot_at d place)
+pub use_among : (s : MarkedPackages) (d : Declaration) (place : Place) (n : ℕ) → slice_get (package_paths s.workspace.now.graph) n ≡ Some (folder place.path) →
+    IsMarked s.marks.now n → IsUseOf s.workspace.now.graph (known_in s.workspace.now.findings) d place → IsBoundMarked s (spot_at d place)
 use_among s d place n at marked h =
-    let own = begins_in_folder s.graph.now (known_in s.found.now) h.used_in h.is_package place.path place.offset h.user h.begins in
+    let own = begins_in_folder s.workspace.now.graph (known_in s.workspace.now.findings) h.used_in h.is_package place.path place.offset h.user h.begins in
     record {
       number = n;
       is_of = marked;
@@ -89,58 +90,65 @@ bound_as : (w : Workspace) (known : Verdicts) (place : Place) (P Q : Declaration
     ((d : Declaration) → IsUseOf w known d place → P d → Q d) → IsBoundToOne w known place P → IsBoundToOne w known place Q
 bound_as w known place P Q to h = record { declaration = h.declaration; is_use = h.is_use; holds = to h.declaration h.is_use h.holds }
 
-module _ (before then : MarkedPackages) (s : FileChanges) (right : AreVerdicts before.graph.now (known_in before.found.now))
-    (also : AreVerdicts then.graph.now (known_in then.found.now))
-    (are : AreAffected before.graph.now before.graph.now then.graph.now s before.marks.now) where
+module _ (before then : MarkedPackages) (s : FileChanges) (right : AreVerdicts before.workspace.now.graph (known_in before.workspace.now.findings))
+    (also : AreVerdicts then.workspace.now.graph (known_in then.workspace.now.findings))
+    (are : AreAffected before.workspace.now.graph before.workspace.now.graph then.workspace.now.graph s before.marks.now) where
   abbrev Becomes : Declaration → Declaration → Type 0
-  Becomes d e = Becoming before.graph.now then.graph.now s (known_in before.found.now) (known_in then.found.now) right also d e
+  Becomes d e = Becoming before.workspace.now.graph then.workspace.now.graph s (known_in before.workspace.now.findings)
+      (known_in then.workspace.now.findings) right also d e
 
-  becomes : (d e : Declaration) (place : Place) → IsUseOf before.graph.now (known_in before.found.now) d place →
+  becomes : (d e : Declaration) (place : Place) → IsUseOf before.workspace.now.graph (known_in before.workspace.now.findings) d place →
       BecomesAmong before then (moved s) d e → Becomes d e
   becomes d e place is (inl h) = h
   becomes d e place is (inr h) =
       let o = h.1 in
       let free = are.unaffected o.number o.path o.has_number o.unmarked in
       subst (Becomes d) h.0
-      (unaffected_becomes before.graph.now then.graph.now s (known_in before.found.now) (known_in then.found.now) right also o.path free d o.of_path place is)
+      (unaffected_becomes before.workspace.now.graph then.workspace.now.graph s (known_in before.workspace.now.findings)
+      (known_in then.workspace.now.findings) right also o.path free d o.of_path place is)
 
-  keeps_use : (n : ℕ) (place : Place) (d : Declaration) → slice_get (package_paths before.graph.now) n ≡ Some (folder place.path) →
+  keeps_use : (n : ℕ) (place : Place) (d : Declaration) → slice_get (package_paths before.workspace.now.graph) n ≡ Some (folder place.path) →
       (mark : Bool) → get_or before.marks.now n false ≡ mark → KeepsMarked before then (moved s) →
-      IsUseOf before.graph.now (known_in before.found.now) d place → IsBoundToOne then.graph.now (known_in then.found.now) (moved s place) (Becomes d)
+      IsUseOf before.workspace.now.graph (known_in before.workspace.now.findings) d place → IsBoundToOne then.workspace.now.graph
+      (known_in then.workspace.now.findings) (moved s place) (Becomes d)
   keeps_use n place d at true marked keeps is =
-      bound_as then.graph.now (known_in then.found.now) (moved s place) (λ e. BecomesAmong before then (moved s) d e) (Becomes d)
+      bound_as then.workspace.now.graph (known_in then.workspace.now.findings) (moved s place) (λ e. BecomesAmong before then (moved s) d e) (Becomes d)
       (λ e there b. becomes d e place is b) (keeps (spot_at d place) (use_among before d place n at marked is))
   keeps_use n place d at false unmarked keeps is =
-      unaffected_keeps before.graph.now then.graph.now s (known_in before.found.now) (known_in then.found.now) right also place d
+      unaffected_keeps before.workspace.now.graph then.workspace.now.graph s (known_in before.workspace.now.findings)
+      (known_in then.workspace.now.findings) right also place d
       (are.unaffected n (folder place.path) at (λ t. true≢false (sym t ∙ unmarked))) is
 
-  adds_use : (n : ℕ) (place : Place) (e : Declaration) → slice_get (package_paths before.graph.now) n ≡ Some (folder place.path) →
+  adds_use : (n : ℕ) (place : Place) (e : Declaration) → slice_get (package_paths before.workspace.now.graph) n ≡ Some (folder place.path) →
       (mark : Bool) → get_or before.marks.now n false ≡ mark → AddsMarked before then (moved s) →
-      IsIdentifierAt before.graph.now (known_in before.found.now) place →
-      IsUseOf then.graph.now (known_in then.found.now) e (moved s place) →
-      IsBoundToOne before.graph.now (known_in before.found.now) place (λ d. Becomes d e)
+      IsIdentifierAt before.workspace.now.graph (known_in before.workspace.now.findings) place →
+      IsUseOf then.workspace.now.graph (known_in then.workspace.now.findings) e (moved s place) →
+      IsBoundToOne before.workspace.now.graph (known_in before.workspace.now.findings) place (λ d. Becomes d e)
   adds_use n place e at true marked adds i is =
-      bound_as before.graph.now (known_in before.found.now) place (λ d. BecomesAmong before then (moved s) d e) (λ d. Becomes d e)
+      bound_as before.workspace.now.graph (known_in before.workspace.now.findings) place (λ d. BecomesAmong before then (moved s) d e) (λ d. Becomes d e)
       (λ d here b. becomes d e place here b)
-      (adds place (identifier_among before.graph.now (known_in before.found.now) before.marks.now place n at marked i) e is)
+      (adds place (identifier_among before.workspace.now.graph (known_in before.workspace.now.findings) before.marks.now place n at marked i) e is)
   adds_use n place e at false unmarked adds i is =
-      unaffected_adds before.graph.now then.graph.now s (known_in before.found.now) (known_in then.found.now) right also place e
+      unaffected_adds before.workspace.now.graph then.workspace.now.graph s (known_in before.workspace.now.findings)
+      (known_in then.workspace.now.findings) right also place e
       (are.unaffected n (folder place.path) at (λ t. true≢false (sym t ∙ unmarked))) i is
 
-  identifier_folder : (place : Place) → IsIdentifierAt before.graph.now (known_in before.found.now) place →
-      (n : ℕ) × (slice_get (package_paths before.graph.now) n ≡ Some (folder place.path))
+  identifier_folder : (place : Place) → IsIdentifierAt before.workspace.now.graph (known_in before.workspace.now.findings) place →
+      (n : ℕ) × (slice_get (package_paths before.workspace.now.graph) n ≡ Some (folder place.path))
   identifier_folder place i =
-      let own = begins_in_folder before.graph.now (known_in before.found.now) i.used_in i.is_package place.path place.offset i.user i.begins in
-      number before.graph.now (folder place.path) (subst (Contains (package_paths before.graph.now)) own i.is_package.of_workspace)
+      let own = begins_in_folder before.workspace.now.graph (known_in before.workspace.now.findings) i.used_in i.is_package place.path place.offset
+      i.user i.begins in
+      number before.workspace.now.graph (folder place.path) (subst (Contains (package_paths before.workspace.now.graph)) own i.is_package.of_workspace)
 
   abbrev revision_to : Workspace → Revision
   revision_to x = record { after = x; moved = moved s; called = new_name_at s }
 
   all_kept : KeepsMarked before then (moved s) → AddsMarked before then (moved s) →
-      KeepsBindings before.graph.now (known_in before.found.now) (revision_to then.graph.now) (known_in then.found.now)
+      KeepsBindings before.workspace.now.graph (known_in before.workspace.now.findings) (revision_to then.workspace.now.graph)
+      (known_in then.workspace.now.findings)
   all_kept keeps adds = record {
     keeps = λ place d is.
-        let i : IsIdentifierAt before.graph.now (known_in before.found.now) place =
+        let i : IsIdentifierAt before.workspace.now.graph (known_in before.workspace.now.findings) place =
         record { used_in = is.used_in; is_package = is.is_package; user = is.user; begins = is.begins } in
         let n = identifier_folder place i in
         keeps_use n.0 place d n.1 (get_or before.marks.now n.0 false) refl keeps is;
@@ -150,14 +158,16 @@ module _ (before then : MarkedPackages) (s : FileChanges) (right : AreVerdicts b
   }
 
   -- where each identifier of the marked packages is kept, and none is bound to more, all bindings are kept
-  pub kept_by_marked : then.graph.now ≡ edited s before.graph.now → KeepsMarked before then (moved s) → AddsMarked before then (moved s) →
-      KeepsBindings before.graph.now (known_in before.found.now) (revision_of before.graph.now s) (known_in then.found.now)
+  pub kept_by_marked : then.workspace.now.graph ≡ edited s before.workspace.now.graph → KeepsMarked before then (moved s) → AddsMarked before then (moved s) →
+      KeepsBindings before.workspace.now.graph (known_in before.workspace.now.findings) (revision_of before.workspace.now.graph s)
+      (known_in then.workspace.now.findings)
   kept_by_marked same keeps adds =
-      subst (λ x. KeepsBindings before.graph.now (known_in before.found.now) (revision_to x) (known_in then.found.now)) same (all_kept keeps adds)
+      subst (λ x. KeepsBindings before.workspace.now.graph (known_in before.workspace.now.findings) (revision_to x)
+      (known_in then.workspace.now.findings)) same (all_kept keeps adds)
 
 -- the package of the folder of a place is marked
 abbrev pub IsMarkedFolder : MarkedPackages → Place → Type 0
-IsMarkedFolder s place = (n : ℕ) × (slice_get (package_paths s.graph.now) n ≡ Some (folder place.path)) × IsMarked s.marks.now n
+IsMarkedFolder s place = (n : ℕ) × (slice_get (package_paths s.workspace.now.graph) n ≡ Some (folder place.path)) × IsMarked s.marks.now n
 
 -- those that begin at a place
 pub bound_among : (s : MarkedPackages) (place : Place) (P : Declaration → Type 0) (here : List BoundIdentifier) →
@@ -166,7 +176,7 @@ bound_among s place P here each h =
     let is = (each h.one).0 h.listed in
     record {
       declaration = h.one.declaration;
-      is_use = subst (IsUseOf s.graph.now (known_in s.found.now) h.one.declaration) is.1 (among_use s h.one is.0);
+      is_use = subst (IsUseOf s.workspace.now.graph (known_in s.workspace.now.findings) h.one.declaration) is.1 (among_use s h.one is.0);
       holds = h.holds;
     }
 

@@ -7,6 +7,7 @@ use Rattle.std.specs.List.{Contains}
 use Rattle.std.proofs.lemmas.Bool.{cases_lt, true≢false, false≢true}
 use Rattle.std.proofs.lemmas.List.{get_or_append_left, get_or_push, length_push, map_push, take_more}
 use Rattle.std.proofs.lemmas.Option.{same_Some, slice_get_within}
+use Rattle.base_lemmas.proofs.Elements.{nothing_in, first_in, later_in, first_or_later}
 use Rattle.base_files.specs.Packages.{package_paths}
 use Rattle.base_files.specs.Path.{folder}
 use Rattle.base_files.specs.Workspace.{Workspace}
@@ -18,7 +19,6 @@ use Rattle.workspace_graph.specs.Packages.{IsInClosure}
 use Rattle.workspace_graph.specs.Search.{IsMarked}
 use Rattle.workspace_check.specs.Closures.{HasSameClosure}
 use Rattle.workspace_check.proofs.Local.{same_back}
-use Rattle.workspace_check.proofs.Members.{first_in, later_in, first_or_later, nothing_in}
 use Rattle.workspace_check.proofs.PackageFiles.{mapped}
 use Rattle.build_carry.specs.Changes.{MarkClosures, MarkFolders}
 use Rattle.build_carry.proofs.ChangedFolders.{marks_skip, marks_more}

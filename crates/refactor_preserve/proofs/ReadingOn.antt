@@ -7,10 +7,10 @@ use Rattle.std.proofs.Math.ListN.{set}
 use Rattle.std.proofs.lemmas.Bool.{cases_eq}
 use Rattle.std.proofs.lemmas.List.{length-set}
 use Rattle.std.proofs.lemmas.Option.{same_Some, slice_get_within}
+use Rattle.base_lemmas.proofs.Elements.{nothing_in}
 use Rattle.base_files.specs.Packages.{package_paths}
 use Rattle.workspace_graph.specs.Search.{IsMarked}
 use Rattle.types_declared.proofs.Mentioning.{get_set_same, get_set_other}
-use Rattle.workspace_check.proofs.Members.{nothing_in}
 use Rattle.refs_index.specs.KnownExports.{AreSomeExports}
 use Rattle.refs_binding.specs.Bindings.{AddsAll, IsBoundAt, IsBoundAmong}
 use Rattle.refs_binding.specs.Exports.{AreExportsByNameAt}
@@ -60,12 +60,12 @@ told_by_more Q some more n still own cases a b c h k =
 -- nothing was read
 
 pub nothing_read : (wanted : ToRead) (s : ReadState) →
-    HoldsOfEach (λ n held. held ≡ None) (length (package_paths wanted.graph.now)) s.places.items →
-    HoldsOfEach (λ n held. held ≡ None) (length (package_paths wanted.graph.now)) s.numbers.items →
+    HoldsOfEach (λ n held. held ≡ None) (length (package_paths wanted.workspace.now.graph)) s.places.items →
+    HoldsOfEach (λ n held. held ≡ None) (length (package_paths wanted.workspace.now.graph)) s.numbers.items →
     s.gathered.bound.items ≡ [] → s.gathered.identifiers.items ≡ [] → IsReadState wanted [] s
 nothing_read wanted s places numbers bound identifiers =
-    let w = wanted.graph.now in
-    let known = known_in wanted.found.now in
+    let w = wanted.workspace.now.graph in
+    let known = known_in wanted.workspace.now.findings in
     let marks = wanted.marks.now in
     record {
       places = record {
@@ -87,12 +87,13 @@ held_still : (wanted : ToRead) (some more : List ℕ) (m : ℕ) (held : Option D
 held_still wanted some more m None back h = λ in_more marked. h (back in_more marked) marked
 held_still wanted some more m (Some places) back h = h
 
-one_read : (wanted : ToRead) (some more : List ℕ) (n : ℕ) → n < length (package_paths wanted.graph.now) → ((m : ℕ) → Contains some m → Contains more m) →
+one_read : (wanted : ToRead) (some more : List ℕ) (n : ℕ) → n < length (package_paths wanted.workspace.now.graph) →
+    ((m : ℕ) → Contains some m → Contains more m) →
     Contains more n → ((m : ℕ) → Contains more m → Contains some m ⊎ (n ≡ m)) →
     (old new : ReadState) → IsReadState wanted some old → IsMarked wanted.marks.now n → ReadsOne wanted n old new → IsReadState wanted more new
 one_read wanted some more n lt still own cases old new h marked r =
-    let w = wanted.graph.now in
-    let known = known_in wanted.found.now in
+    let w = wanted.workspace.now.graph in
+    let known = known_in wanted.workspace.now.findings in
     let marks = wanted.marks.now in
     let count = length (package_paths w) in
     record {
@@ -126,8 +127,8 @@ one_passed : (wanted : ToRead) (some more : List ℕ) (n : ℕ) → ((m : ℕ) �
     Contains more n → ((m : ℕ) → Contains more m → Contains some m ⊎ (n ≡ m)) →
     (old : ReadState) → IsReadState wanted some old → (IsMarked wanted.marks.now n → ⊥) → IsReadState wanted more old
 one_passed wanted some more n still own cases old h unmarked =
-    let w = wanted.graph.now in
-    let known = known_in wanted.found.now in
+    let w = wanted.workspace.now.graph in
+    let known = known_in wanted.workspace.now.findings in
     let marks = wanted.marks.now in
     record {
       places = record {
@@ -144,7 +145,8 @@ one_passed wanted some more n still own cases old h unmarked =
           (all_none old.gathered.identifiers.items (λ place. IsMarked marks n × BeginsInPackageAt w known n place) (λ place x. unmarked x.0));
     }
 
-pub next_read : (wanted : ToRead) (some more : List ℕ) (n : ℕ) → n < length (package_paths wanted.graph.now) → ((m : ℕ) → Contains some m → Contains more m) →
+pub next_read : (wanted : ToRead) (some more : List ℕ) (n : ℕ) → n < length (package_paths wanted.workspace.now.graph) →
+    ((m : ℕ) → Contains some m → Contains more m) →
     Contains more n → ((m : ℕ) → Contains more m → Contains some m ⊎ (n ≡ m)) →
     (old new : ReadState) → IsReadState wanted some old → ReadsIfMarked wanted n old new → IsReadState wanted more new
 next_read wanted some more n lt still own cases old new h may = elim may [
@@ -155,34 +157,34 @@ next_read wanted some more n lt still own cases old new h may = elim may [
 -- all were passed
 
 all_held : (wanted : ToRead) (order : List ℕ) (n : ℕ) (held : Option DeclaredPlaces) → Contains order n → IsHeldOfSome wanted order n held →
-    MatchOption held (IsMarked wanted.marks.now n → ⊥) (λ places. AreDeclaredAt wanted.graph.now (known_in wanted.found.now) n places)
+    MatchOption held (IsMarked wanted.marks.now n → ⊥) (λ places. AreDeclaredAt wanted.workspace.now.graph (known_in wanted.workspace.now.findings) n places)
 all_held wanted order n None in_order h = h in_order
 all_held wanted order n (Some places) in_order h = h
 
-pub places_held : (wanted : ToRead) (order : List ℕ) (s : ReadState) → HoldsAllNumbers wanted.graph.now order → IsReadState wanted order s →
-    AreHeldOf wanted.graph.now (known_in wanted.found.now) wanted.marks.now s.places.items
+pub places_held : (wanted : ToRead) (order : List ℕ) (s : ReadState) → HoldsAllNumbers wanted.workspace.now.graph order → IsReadState wanted order s →
+    AreHeldOf wanted.workspace.now.graph (known_in wanted.workspace.now.findings) wanted.marks.now s.places.items
 places_held wanted order s all h = record {
   size = h.places.size;
   each = λ n held at. all_held wanted order n held
       ((all n).1 (subst (λ k. n < k) h.places.size (slice_get_within s.places.items n held at))) (h.places.each n held at);
 }
 
-pub bound_read : (wanted : ToRead) (order : List ℕ) (s : ReadState) → HoldsAllNumbers wanted.graph.now order → IsReadState wanted order s →
-    AddsAll [] s.gathered.bound.items (IsBoundAmong wanted.graph.now (known_in wanted.found.now) (IsMarked wanted.marks.now))
+pub bound_read : (wanted : ToRead) (order : List ℕ) (s : ReadState) → HoldsAllNumbers wanted.workspace.now.graph order → IsReadState wanted order s →
+    AddsAll [] s.gathered.bound.items (IsBoundAmong wanted.workspace.now.graph (known_in wanted.workspace.now.findings) (IsMarked wanted.marks.now))
 bound_read wanted order s all h =
-    let w = wanted.graph.now in
-    let known = known_in wanted.found.now in
+    let w = wanted.workspace.now.graph in
+    let known = known_in wanted.workspace.now.findings in
     let marks = wanted.marks.now in
     all_as [] s.gathered.bound.items (OfSome order (λ n b. IsMarked marks n × IsBoundAt w known n b)) (IsBoundAmong w known (IsMarked marks))
     (λ b x. record { number = x.0; is_of = x.1.1.0; bound = x.1.1.1 })
     (λ b x. let r = bound_in_range w known (IsMarked marks) b x in (r.0, ((all r.0).1 r.1, r.2))) h.bound
 
-pub identifiers_read : (wanted : ToRead) (order : List ℕ) (s : ReadState) → HoldsAllNumbers wanted.graph.now order → IsReadState wanted order s →
+pub identifiers_read : (wanted : ToRead) (order : List ℕ) (s : ReadState) → HoldsAllNumbers wanted.workspace.now.graph order → IsReadState wanted order s →
     IsTrue wanted.identifiers →
-    AddsAll [] s.gathered.identifiers.items (IsIdentifierAmong wanted.graph.now (known_in wanted.found.now) wanted.marks.now)
+    AddsAll [] s.gathered.identifiers.items (IsIdentifierAmong wanted.workspace.now.graph (known_in wanted.workspace.now.findings) wanted.marks.now)
 identifiers_read wanted order s all h t =
-    let w = wanted.graph.now in
-    let known = known_in wanted.found.now in
+    let w = wanted.workspace.now.graph in
+    let known = known_in wanted.workspace.now.findings in
     let marks = wanted.marks.now in
     all_as [] s.gathered.identifiers.items (OfSome order (λ n place. IsMarked marks n × BeginsInPackageAt w known n place)) (IsIdentifierAmong w known marks)
     (λ place x. record { number = x.0; marked = x.1.1.0; begins = x.1.1.1 })

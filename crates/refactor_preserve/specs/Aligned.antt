@@ -74,8 +74,9 @@ IsSafeIn c p = (u : ℕ) → IsSafeAt c p u
 
 -- Each identifier of package number `n` is bound before the change, or no bound identifier begins at the place to which it is moved.
 abbrev pub IsSafeNumber : Compared → ℕ → Type 0
-IsSafeNumber c n = (p : Package) → IsPackageAt c.before.now.packages.now.graph.now (known_in c.before.now.packages.now.found.now) n p → IsSafeIn c p
+IsSafeNumber c n = (p : Package) → IsPackageAt c.before.now.packages.now.workspace.now.graph
+    (known_in c.before.now.packages.now.workspace.now.findings) n p → IsSafeIn c p
 
 -- Each identifier of the workspace is bound before the change, or no bound identifier begins at the place to which it is moved.
 abbrev pub AreSafe : Compared → Type 0
-AreSafe c = (p : Package) → IsPackage c.before.now.packages.now.graph.now (known_in c.before.now.packages.now.found.now) p → IsSafeIn c p
+AreSafe c = (p : Package) → IsPackage c.before.now.packages.now.workspace.now.graph (known_in c.before.now.packages.now.workspace.now.findings) p → IsSafeIn c p

@@ -12,7 +12,7 @@ use Rattle.refs_binding.specs.declared.declaration.Declaration.{Declaration}
 use Rattle.refs_binding.specs.Bindings.{IsBoundAmong, AreBindingsAmong, bound_place}
 use Rattle.refs_binding.specs.Packages.{HoldsOfEach}
 use Rattle.refs_binding.specs.Uses.{IsUseOf}
-use Rattle.refs_binding.specs.Workspaces.{IsFaultless, known_in}
+use Rattle.refs_binding.specs.Workspaces.{known_in}
 use Rattle.refactor_preserve.specs.declared.among.KnownBefore.{KnownBefore}
 use Rattle.refactor_preserve.specs.declared.among.MarkedPackages.{MarkedPackages}
 use Rattle.refs_places.specs.declared.declared_places.DeclaredPlaces.{DeclaredPlaces}
@@ -33,23 +33,22 @@ IsHeldOf w known marks n held = MatchOption held (IsMarked marks n → ⊥) (λ 
 abbrev pub AreHeldOf : Workspace → Verdicts → List Bool → List (Option DeclaredPlaces) → Type 0
 AreHeldOf w known marks all = HoldsOfEach (IsHeldOf w known marks) (length (package_paths w)) all
 
--- The workspace has no fault. `all` has the places of the declarations of marked packages, and `bound` the bindings of their identifiers.
+-- `all` has the places of the declarations of marked packages, and `bound` the bindings of their identifiers.
 pub record HoldsMarked (w : Workspace) (found : Findings) (marks : List Bool) (all : List (Option DeclaredPlaces)) (bound : List BoundIdentifier) : Type 0 where
-  pub sound : IsFaultless w found
   pub declared : AreHeldOf w (known_in found) marks all
   pub bindings : AreBindingsAmong w (known_in found) (IsMarked marks) bound
 
 -- The marked packages are held with the places of their declarations and the bindings of their identifiers.
 abbrev pub AreHeld : MarkedPackages → Type 0
-AreHeld s = HoldsMarked s.graph.now s.found.now s.marks.now s.places.items s.bindings
+AreHeld s = HoldsMarked s.workspace.now.graph s.workspace.now.findings s.marks.now s.places.items s.bindings
 
 -- The workspace of the marked packages, with its findings.
 abbrev pub view_among : MarkedPackages → FaultlessView
-view_among s = record { workspace = s.graph.now; known = known_in s.found.now }
+view_among s = record { workspace = s.workspace.now.graph; known = known_in s.workspace.now.findings }
 
 -- An identifier of a marked package is bound to the declaration of `b` and begins at its place.
 abbrev pub IsBoundMarked : MarkedPackages → BoundIdentifier → Type 0
-IsBoundMarked s b = IsBoundAmong s.graph.now (known_in s.found.now) (IsMarked s.marks.now) b
+IsBoundMarked s b = IsBoundAmong s.workspace.now.graph (known_in s.workspace.now.findings) (IsMarked s.marks.now) b
 
 -- An identifier of a marked package is bound to the declaration of `b` and begins at `place`, which is the place of `b`.
 abbrev pub IsBoundThere : MarkedPackages → Place → BoundIdentifier → Type 0
@@ -68,7 +67,7 @@ AreIdentifiersAmong w known marks places = (place : Place) → Contains places p
 -- The marked packages before a change, with the places at which their identifiers begin.
 pub record IsKnownBefore (k : KnownBefore) : Type 0 where
   pub packages : AreHeld k.packages
-  pub identifiers : AreIdentifiersAmong k.packages.graph.now (known_in k.packages.found.now) k.packages.marks.now k.identifiers.items
+  pub identifiers : AreIdentifiersAmong k.packages.workspace.now.graph (known_in k.packages.workspace.now.findings) k.packages.marks.now k.identifiers.items
 
 -- Both places are known, and the first is moved to the second.
 pub record BothGo (moved : Place → Place) (old new : Option Place) : Type 0 where
@@ -78,7 +77,8 @@ pub record BothGo (moved : Place → Place) (old new : Option Place) : Type 0 wh
 
 -- The declaration `d` has become `e`, or `d` is `e` and its package is not marked.
 abbrev pub BecomesAmong : MarkedPackages → MarkedPackages → (Place → Place) → Declaration → Declaration → Type 0
-BecomesAmong before then moved d e = Becomes (view_among before) (view_among then) moved d e ⊎ ((d ≡ e) × IsOutside before.graph.now before.marks.now d)
+BecomesAmong before then moved d e = Becomes (view_among before) (view_among then) moved d e ⊎
+    ((d ≡ e) × IsOutside before.workspace.now.graph before.marks.now d)
 
 -- The bound identifier is bound after the change to what its declaration has become, as the marked packages show it.
 abbrev pub IsKeptAmong : MarkedPackages → MarkedPackages → (Place → Place) → BoundIdentifier → Type 0
@@ -91,7 +91,7 @@ AllCorrespondAmong before then moved old new = (b : BoundIdentifier) → Contain
 -- After the change, the identifier at the place is bound only to what its declarations have become, as the marked packages show it.
 abbrev pub AddsNoneAmong : MarkedPackages → MarkedPackages → (Place → Place) → Place → Type 0
 AddsNoneAmong before then moved place =
-    (e : Declaration) → IsUseOf then.graph.now (known_in then.found.now) e (moved place) →
+    (e : Declaration) → IsUseOf then.workspace.now.graph (known_in then.workspace.now.findings) e (moved place) →
     IsBoundBy (view_among before) place (λ d. BecomesAmong before then moved d e)
 
 -- Each bound identifier of the marked packages stays bound.
@@ -101,7 +101,8 @@ KeepsMarked before then moved = (b : BoundIdentifier) → IsBoundMarked before b
 -- After the change, each identifier of the marked packages is bound only to what its declarations have become.
 abbrev pub AddsMarked : MarkedPackages → MarkedPackages → (Place → Place) → Type 0
 AddsMarked before then moved =
-    (place : Place) → IsIdentifierAmong before.graph.now (known_in before.found.now) before.marks.now place → AddsNoneAmong before then moved place
+    (place : Place) → IsIdentifierAmong before.workspace.now.graph (known_in before.workspace.now.findings) before.marks.now place → AddsNoneAmong
+    before then moved place
 
 -- The meaning of an answer about the marked packages. Yes: each of their identifiers stays bound, and is bound to nothing more. No: one of
 -- them does not stay bound. Unknown: nothing.

@@ -25,28 +25,30 @@ OfSome numbers Q x = (n : ℕ) × (Contains numbers n × Q n x)
 -- The places of the declarations of the package with the number `n`, if it is marked and among these numbers.
 abbrev pub IsHeldOfSome : ToRead → List ℕ → ℕ → Option DeclaredPlaces → Type 0
 IsHeldOfSome wanted numbers n held =
-    MatchOption held (Contains numbers n → IsMarked wanted.marks.now n → ⊥) (λ places. AreDeclaredAt wanted.graph.now (known_in wanted.found.now) n places)
+    MatchOption held (Contains numbers n → IsMarked wanted.marks.now n → ⊥)
+    (λ places. AreDeclaredAt wanted.workspace.now.graph (known_in wanted.workspace.now.findings) n places)
 
 -- The marked packages among these numbers are read, and the exports that are known are right.
 pub record IsReadState (wanted : ToRead) (numbers : List ℕ) (s : ReadState) : Type 0 where
-  pub places : HoldsOfEach (IsHeldOfSome wanted numbers) (length (package_paths wanted.graph.now)) s.places.items
-  pub exports : AreSomeExports wanted.graph.now (known_in wanted.found.now) s.numbers.items
+  pub places : HoldsOfEach (IsHeldOfSome wanted numbers) (length (package_paths wanted.workspace.now.graph)) s.places.items
+  pub exports : AreSomeExports wanted.workspace.now.graph (known_in wanted.workspace.now.findings) s.numbers.items
   pub bound : AddsAll [] s.gathered.bound.items
-      (OfSome numbers (λ n b. IsMarked wanted.marks.now n × IsBoundAt wanted.graph.now (known_in wanted.found.now) n b))
+      (OfSome numbers (λ n b. IsMarked wanted.marks.now n × IsBoundAt wanted.workspace.now.graph (known_in wanted.workspace.now.findings) n b))
   pub identifiers : IsTrue wanted.identifiers →
       AddsAll [] s.gathered.identifiers.items
-      (OfSome numbers (λ n place. IsMarked wanted.marks.now n × BeginsInPackageAt wanted.graph.now (known_in wanted.found.now) n place))
+      (OfSome numbers (λ n place. IsMarked wanted.marks.now n × BeginsInPackageAt wanted.workspace.now.graph (known_in wanted.workspace.now.findings) n place))
 
 -- The package with the number `n` is read: the places of its declarations, its bindings and, where they are wanted, the places of its
 -- identifiers.
 pub record ReadsOne (wanted : ToRead) (n : ℕ) (old new : ReadState) : Type 0 where
   pub held : DeclaredPlaces
   pub is_set : new.places.items ≡ set old.places.items n (Some held)
-  pub declared : AreDeclaredAt wanted.graph.now (known_in wanted.found.now) n held
-  pub exports : AreSomeExports wanted.graph.now (known_in wanted.found.now) new.numbers.items
-  pub bound : AddsAll old.gathered.bound.items new.gathered.bound.items (IsBoundAt wanted.graph.now (known_in wanted.found.now) n)
+  pub declared : AreDeclaredAt wanted.workspace.now.graph (known_in wanted.workspace.now.findings) n held
+  pub exports : AreSomeExports wanted.workspace.now.graph (known_in wanted.workspace.now.findings) new.numbers.items
+  pub bound : AddsAll old.gathered.bound.items new.gathered.bound.items (IsBoundAt wanted.workspace.now.graph (known_in wanted.workspace.now.findings) n)
   pub identifiers : IsTrue wanted.identifiers →
-      AddsAll old.gathered.identifiers.items new.gathered.identifiers.items (BeginsInPackageAt wanted.graph.now (known_in wanted.found.now) n)
+      AddsAll old.gathered.identifiers.items new.gathered.identifiers.items
+      (BeginsInPackageAt wanted.workspace.now.graph (known_in wanted.workspace.now.findings) n)
 
 -- The package with the number `n` is read if it is marked. Otherwise nothing changes.
 abbrev pub ReadsIfMarked : ToRead → ℕ → (old new : ReadState) → Type 0

@@ -11,14 +11,14 @@ use crate::search_starts::SearchStarts;
 use base_edits::Moves;
 use base_files::Place;
 use refs_binding::{BoundIdentifier, Declaration};
-use refs_index::{FaultlessWorkspace, corresponds};
+use refs_index::{WorkspaceIndex, corresponds};
 use std::alloc::{AllocError, Global};
 
 /// Whether the declaration of one of these bound identifiers has become `e`.
 fn some_corresponds(
     moves: &Moves<'_>,
-    before: &FaultlessWorkspace<'_>,
-    then: &FaultlessWorkspace<'_>,
+    before: &WorkspaceIndex<'_>,
+    then: &WorkspaceIndex<'_>,
     bound: &[BoundIdentifier],
     e: &Declaration,
 ) -> Result<bool, AllocError>
@@ -37,8 +37,8 @@ fn some_corresponds(
 /// Whether each of the new bound identifiers is bound to what the declaration of one of the old ones has become.
 fn all_correspond(
     moves: &Moves<'_>,
-    before: &FaultlessWorkspace<'_>,
-    then: &FaultlessWorkspace<'_>,
+    before: &WorkspaceIndex<'_>,
+    then: &WorkspaceIndex<'_>,
     old: &[BoundIdentifier],
     new: &[BoundIdentifier],
 ) -> Result<bool, AllocError>
@@ -57,8 +57,8 @@ fn all_correspond(
 /// Whether the identifier at a place is bound after the change only to what its declarations have become.
 fn adds_none(
     moves: &Moves<'_>,
-    before: &FaultlessWorkspace<'_>,
-    then: &FaultlessWorkspace<'_>,
+    before: &WorkspaceIndex<'_>,
+    then: &WorkspaceIndex<'_>,
     near: &mut SearchStarts,
     place: &Place,
 ) -> Result<bool, AllocError>
@@ -79,8 +79,8 @@ fn adds_none(
 /// Whether the identifiers at all these places are bound after the change only to what their declarations have become.
 fn add_none(
     moves: &Moves<'_>,
-    before: &FaultlessWorkspace<'_>,
-    then: &FaultlessWorkspace<'_>,
+    before: &WorkspaceIndex<'_>,
+    then: &WorkspaceIndex<'_>,
     places: &[Place],
 ) -> Result<bool, AllocError>
     requires before { HasWorkspaceIndex before.now }
@@ -100,8 +100,8 @@ fn add_none(
 pub fn adds_nowhere(
     alloc: Global,
     moves: &Moves<'_>,
-    before: &FaultlessWorkspace<'_>,
-    then: &FaultlessWorkspace<'_>,
+    before: &WorkspaceIndex<'_>,
+    then: &WorkspaceIndex<'_>,
 ) -> Result<bool, AllocError>
     requires before { HasWorkspaceIndex before.now }
     requires then { HasWorkspaceIndex then.now }

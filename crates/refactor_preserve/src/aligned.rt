@@ -16,7 +16,7 @@ use base_edits::{FileMoves, Moves};
 use base_files::Place;
 use refs_binding::bindings::find;
 use refs_binding::{BoundIdentifier, Declaration};
-use refs_index::{FaultlessWorkspace, are_predeclared};
+use refs_index::{WorkspaceIndex, are_predeclared};
 use refs_places::bound_here::is_bound;
 use refs_places::{NameStart, start};
 use std::alloc::AllocError;
@@ -26,8 +26,8 @@ use types_declared::Package;
 #[derive(Clone, Copy)]
 pub struct Compared<'a, 'm, 'b, 't> {
     pub moves: &'a Moves<'m>,
-    pub before: &'a FaultlessWorkspace<'b>,
-    pub then: &'a FaultlessWorkspace<'t>,
+    pub before: &'a WorkspaceIndex<'b>,
+    pub then: &'a WorkspaceIndex<'t>,
 }
 
 /// Whether the declaration `d` has become `e`. `file` are the moves of a file, often that of `d`, in which case they need not be looked up.
@@ -299,7 +299,7 @@ fn is_safe_package(
     number: usize,
 ) -> Result<bool, AllocError>
     requires both { AreCompared both.now }
-    requires in_range { number < length (package_paths both.now.before.now.packages.now.graph.now) }
+    requires in_range { number < length (package_paths both.now.before.now.packages.now.workspace.now.graph) }
     ensures { IfOk result (λ yes. IsTrue yes → IsSafeNumber both.now number) }
 {
     let unit = both.before.packages.unit(number);
@@ -312,7 +312,7 @@ fn are_safe(both: &Compared<'_, '_, '_, '_>) -> Result<bool, AllocError>
     ensures { IfOk result (λ yes. IsTrue yes → AreSafe both.now) }
 {
     let mut near = 0;
-    for number in 0..both.before.packages.graph.len() {
+    for number in 0..both.before.packages.workspace.len() {
         if !is_safe_package(both, &mut near, number)? {
             return Ok(false);
         }

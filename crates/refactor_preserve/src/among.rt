@@ -4,7 +4,7 @@ ghost use Rattle.base_files.specs.Packages.{package_paths};
 ghost use Rattle.base_files.specs.Path.{folder};
 ghost use Rattle.workspace_graph.specs.Search.{IsMarked};
 ghost use Rattle.refs_binding.specs.declared.bound_identifier.BoundIdentifier.{BoundIdentifier as Bound};
-ghost use Rattle.refs_binding.specs.Workspaces.{IsFaultless, known_in};
+ghost use Rattle.refs_binding.specs.Workspaces.{known_in};
 ghost use Rattle.refs_binding.specs.DeclaringPlaces.{IsDeclaredAt};
 ghost use Rattle.refactor_preserve.specs.Among.{AreHeld, AreIdentifiersAmong, IsBoundMarked, IsBoundThere, IsKnownBefore, view_among};
 ghost use Rattle.refs_places.specs.Outside.{IsOutside, declaring_path};
@@ -12,21 +12,19 @@ ghost use Rattle.refs_index.specs.FaultlessViews.{view_packages};
 
 use crate::reading_order::{HeldPackages, read_marked};
 use base_files::{Path, Place};
-use refs_binding::{BoundIdentifier, Declaration};
+use refs_binding::{BoundIdentifier, Declaration, FaultlessWorkspace};
 use refs_index::{Bindings, is_same};
 use refs_places::bound_here::bound_here;
 use refs_places::declared_places::{DeclaredPlaces, package_path};
 use std::alloc::{AllocError, Global};
 use types_expr::symbol::SharedPath;
-use workspace_check::{Findings, is_marked};
-use workspace_graph::Graph;
+use workspace_check::is_marked;
 
 /// The marked packages of a workspace without faults: the places of their declarations, by the packages' numbers, and the bindings of their
 /// identifiers.
 #[derive(Drop)]
 pub struct MarkedPackages<'a> {
-    graph: &'a Graph,
-    found: &'a Findings,
+    pub(crate) workspace: &'a FaultlessWorkspace<'a>,
     marks: &'a [bool],
     places: Vec<Option<DeclaredPlaces>>,
     bindings: Bindings,
@@ -36,13 +34,11 @@ impl<'a> MarkedPackages<'a> {
     /// Reads the marked packages.
     pub fn of(
         alloc: Global,
-        graph: &'a Graph,
-        found: &'a Findings,
+        workspace: &'a FaultlessWorkspace<'a>,
         marks: &'a [bool],
     ) -> Result<MarkedPackages<'a>, AllocError>
-        requires { IsFaultless graph.now found.now }
-        ensures graph { IfOk result (λ marked. marked.graph.now ≡ graph.now) }
-        ensures found { IfOk result (λ marked. marked.found.now ≡ found.now) }
+        ensures graph { IfOk result (λ marked. marked.workspace.now.graph ≡ workspace.now.graph) }
+        ensures found { IfOk result (λ marked. marked.workspace.now.findings ≡ workspace.now.findings) }
         ensures marks { IfOk result (λ marked. marked.marks.now ≡ marks.now) }
         ensures held { IfOk result (λ marked. AreHeld marked) }
     {
@@ -50,11 +46,10 @@ impl<'a> MarkedPackages<'a> {
             places,
             bindings,
             identifiers,
-        } = read_marked(alloc, graph, found, marks, false)?;
+        } = read_marked(alloc, workspace, marks, false)?;
         drop(identifiers);
         Ok(MarkedPackages {
-            graph,
-            found,
+            workspace,
             marks,
             places,
             bindings,
@@ -78,7 +73,7 @@ impl<'a> MarkedPackages<'a> {
         requires path { declaring_path declaration.now ≡ Some path.now }
         ensures { IfSome result (λ place. IsDeclaredAt (view_packages (view_among self.now)) declaration.now place.now) }
     {
-        match self.graph.number_of(path.path()) {
+        match self.workspace.number_of(path.path()) {
             None => None,
             Some(number) => match self.places.get(number) {
                 Some(Some(places)) => places.at(declaration),
@@ -89,16 +84,16 @@ impl<'a> MarkedPackages<'a> {
 
     /// Whether two declarations are equal and belong to a package that is not marked.
     pub fn leaves(&self, d: &Declaration, e: &Declaration) -> bool
-        ensures { IsTrue result → ((d.now ≡ e.now) × IsOutside self.now.graph.now self.now.marks.now d.now) }
+        ensures { IsTrue result → ((d.now ≡ e.now) × IsOutside self.now.workspace.now.graph self.now.marks.now d.now) }
     {
-        is_same(d, e) && is_outside(self.graph, self.marks, d)
+        is_same(d, e) && is_outside(self.workspace, self.marks, d)
     }
 
     /// Whether the package in whose folder the file lies is marked.
     pub fn holds(&self, path: &Path) -> bool
-        ensures { IsTrue result → ((n : ℕ) × (slice_get (package_paths self.now.graph.now) n ≡ Some (folder path.now)) × IsMarked self.now.marks.now n) }
+        ensures { IsTrue result → ((n : ℕ) × (slice_get (package_paths self.now.workspace.now.graph) n ≡ Some (folder path.now)) × IsMarked self.now.marks.now n) }
     {
-        match self.graph.number_of(path.folder()) {
+        match self.workspace.number_of(path.folder()) {
             None => false,
             Some(number) => is_marked(self.marks, number),
         }
@@ -132,13 +127,11 @@ impl<'a> KnownBefore<'a> {
     /// Reads the marked packages, with the places of their identifiers.
     pub fn of(
         alloc: Global,
-        graph: &'a Graph,
-        found: &'a Findings,
+        workspace: &'a FaultlessWorkspace<'a>,
         marks: &'a [bool],
     ) -> Result<KnownBefore<'a>, AllocError>
-        requires { IsFaultless graph.now found.now }
-        ensures graph { IfOk result (λ known. known.packages.graph.now ≡ graph.now) }
-        ensures found { IfOk result (λ known. known.packages.found.now ≡ found.now) }
+        ensures graph { IfOk result (λ known. known.packages.workspace.now.graph ≡ workspace.now.graph) }
+        ensures found { IfOk result (λ known. known.packages.workspace.now.findings ≡ workspace.now.findings) }
         ensures marks { IfOk result (λ known. known.packages.marks.now ≡ marks.now) }
         ensures held { IfOk result (λ known. IsKnownBefore known) }
     {
@@ -146,10 +139,9 @@ impl<'a> KnownBefore<'a> {
             places,
             bindings,
             identifiers,
-        } = read_marked(alloc, graph, found, marks, true)?;
+        } = read_marked(alloc, workspace, marks, true)?;
         let packages = MarkedPackages {
-            graph,
-            found,
+            workspace,
             marks,
             places,
             bindings,
@@ -163,19 +155,19 @@ impl<'a> KnownBefore<'a> {
     /// The places of the identifiers that are no literals.
     pub fn identifier_places(&self) -> &[Place]
         requires { IsKnownBefore self.now }
-        ensures { let s = self.now.packages in AreIdentifiersAmong s.graph.now (known_in s.found.now) s.marks.now result.now }
+        ensures { let s = self.now.packages in AreIdentifiersAmong s.workspace.now.graph (known_in s.workspace.now.findings) s.marks.now result.now }
     {
         &self.identifiers
     }
 }
 
 /// Whether the package of a declaration is in the workspace and not marked.
-fn is_outside(graph: &Graph, marks: &[bool], declaration: &Declaration) -> bool
-    ensures { IsTrue result → IsOutside graph.now marks.now declaration.now }
+fn is_outside(workspace: &FaultlessWorkspace<'_>, marks: &[bool], declaration: &Declaration) -> bool
+    ensures { IsTrue result → IsOutside workspace.now.graph marks.now declaration.now }
 {
     match package_path(declaration) {
         None => false,
-        Some(path) => match graph.number_of(path.path()) {
+        Some(path) => match workspace.number_of(path.path()) {
             None => false,
             Some(number) => !is_marked(marks, number),
         },

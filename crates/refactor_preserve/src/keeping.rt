@@ -8,14 +8,14 @@ ghost use Rattle.refs_index.specs.Becoming.{Becomes};
 
 use base_edits::Moves;
 use refs_binding::{BoundIdentifier, Declaration};
-use refs_index::{FaultlessWorkspace, corresponds};
+use refs_index::{WorkspaceIndex, corresponds};
 use std::alloc::AllocError;
 
 /// Whether one of these bound identifiers is bound to what the declaration `d` has become.
 fn some_became(
     moves: &Moves<'_>,
-    before: &FaultlessWorkspace<'_>,
-    then: &FaultlessWorkspace<'_>,
+    before: &WorkspaceIndex<'_>,
+    then: &WorkspaceIndex<'_>,
     d: &Declaration,
     bound: &[BoundIdentifier],
 ) -> Result<bool, AllocError>
@@ -34,8 +34,8 @@ fn some_became(
 /// Whether a bound identifier is bound after the change to what its declaration has become. The search begins at the number `near`.
 fn is_kept(
     moves: &Moves<'_>,
-    before: &FaultlessWorkspace<'_>,
-    then: &FaultlessWorkspace<'_>,
+    before: &WorkspaceIndex<'_>,
+    then: &WorkspaceIndex<'_>,
     near: &mut usize,
     bound: &BoundIdentifier,
 ) -> Result<bool, AllocError>
@@ -56,8 +56,8 @@ fn is_kept(
 /// Whether each bound identifier is bound after the change to what its declaration has become.
 pub fn are_kept(
     moves: &Moves<'_>,
-    before: &FaultlessWorkspace<'_>,
-    then: &FaultlessWorkspace<'_>,
+    before: &WorkspaceIndex<'_>,
+    then: &WorkspaceIndex<'_>,
 ) -> Result<bool, AllocError>
     requires before { HasWorkspaceIndex before.now }
     requires then { HasWorkspaceIndex then.now }

@@ -21,7 +21,7 @@ use crate::lost::is_lost;
 use crate::marking::affected_by;
 use base_edits::{EditSet, Moves};
 use base_files::Place;
-use refs_binding::{BoundIdentifier, Declaration};
+use refs_binding::{BoundIdentifier, Declaration, FaultlessWorkspace};
 use refs_index::{are_predeclared, goes_to};
 use std::alloc::{AllocError, Global};
 use workspace_check::Findings;
@@ -278,10 +278,12 @@ fn keeps_marked(
 ) -> Result<Answer, AllocError>
     requires before { IsKnownBefore before.now }
     requires then { AreHeld then.now }
-    requires edited { then.now.graph.now ≡ edited edits.now before.now.packages.graph.now }
-    requires affected { AreAffected before.now.packages.graph.now before.now.packages.graph.now then.now.graph.now edits.now before.now.packages.marks.now }
-    ensures { IfOk result (λ answer. AnswersFor answer (KeepsBindings before.now.packages.graph.now (known_in before.now.packages.found.now) (revision_of before.now.packages.graph.now edits.now) (known_in then.now.found.now))) }
+    requires edited { then.now.workspace.now.graph ≡ edited edits.now before.now.packages.workspace.now.graph }
+    requires affected { AreAffected before.now.packages.workspace.now.graph before.now.packages.workspace.now.graph then.now.workspace.now.graph edits.now before.now.packages.marks.now }
+    ensures { IfOk result (λ answer. AnswersFor answer (KeepsBindings before.now.packages.workspace.now.graph (known_in before.now.packages.workspace.now.findings) (revision_of before.now.packages.workspace.now.graph edits.now) (known_in then.now.workspace.now.findings))) }
 {
+    before.packages.workspace.has_no_faults();
+    then.workspace.has_no_faults();
     let moves = Moves::of(alloc, edits)?;
     tell_marked(&moves, before, then)
 }
@@ -305,7 +307,15 @@ pub fn keeps_among(
     if affected.before.iter().all(|mark| *mark) {
         return Ok(Answer::Unknown);
     }
-    let before = KnownBefore::of(alloc, graph, found, &affected.before)?;
-    let then = MarkedPackages::of(alloc, change.after, found_after, &affected.then)?;
+    let workspace = FaultlessWorkspace {
+        graph,
+        findings: found,
+    };
+    let workspace_after = FaultlessWorkspace {
+        graph: change.after,
+        findings: found_after,
+    };
+    let before = KnownBefore::of(alloc, &workspace, &affected.before)?;
+    let then = MarkedPackages::of(alloc, &workspace_after, &affected.then)?;
     keeps_marked(alloc, &before, change.edits, &then)
 }

@@ -9,15 +9,15 @@ use crate::adding::adds_nowhere;
 use crate::aligned::{Compared, keep_order};
 use crate::keeping::are_kept;
 use base_edits::Moves;
-use refs_index::FaultlessWorkspace;
+use refs_index::WorkspaceIndex;
 use std::alloc::{AllocError, Global};
 
 /// Whether each identifier stays bound to what its declaration becomes and is bound to nothing more, by a search for each.
 fn keeps_each(
     alloc: Global,
     moves: &Moves<'_>,
-    before: &FaultlessWorkspace<'_>,
-    then: &FaultlessWorkspace<'_>,
+    before: &WorkspaceIndex<'_>,
+    then: &WorkspaceIndex<'_>,
 ) -> Result<bool, AllocError>
     requires before { HasWorkspaceIndex before.now }
     requires then { HasWorkspaceIndex then.now }
@@ -36,8 +36,8 @@ fn keeps_each(
 pub fn keeps(
     alloc: Global,
     moves: &Moves<'_>,
-    before: &FaultlessWorkspace<'_>,
-    then: &FaultlessWorkspace<'_>,
+    before: &WorkspaceIndex<'_>,
+    then: &WorkspaceIndex<'_>,
 ) -> Result<bool, AllocError>
     requires before { HasWorkspaceIndex before.now }
     requires then { HasWorkspaceIndex then.now }

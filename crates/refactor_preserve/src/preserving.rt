@@ -16,8 +16,8 @@ use crate::keeps_among::keeps_among;
 use base_edits::{EditSet, Moves};
 use base_files::Refusal;
 use build_carry::{known_after, marks_of};
-use refs_binding::{Packages, all_seen, refuse_faults};
-use refs_index::FaultlessWorkspace;
+use refs_binding::{FaultlessWorkspace, Packages, all_seen, refuse_faults};
+use refs_index::WorkspaceIndex;
 use std::alloc::{AllocError, Global};
 use workspace_check::{Findings, Found, Known, verdicts};
 use workspace_graph::Graph;
@@ -33,12 +33,12 @@ fn keeps_read(
 ) -> Result<bool, AllocError>
     requires before { ArePackages before.now }
     requires after { ArePackages after.now }
-    requires edited { after.now.graph.now ≡ edited edits.now before.now.graph.now }
-    ensures { IfOk result (λ kept. IsTrue kept ↔ KeepsBindings before.now.graph.now (known_in before.now.found.now) (revision_of before.now.graph.now edits.now) (known_in after.now.found.now)) }
+    requires edited { after.now.workspace.now.graph ≡ edited edits.now before.now.workspace.now.graph }
+    ensures { IfOk result (λ kept. IsTrue kept ↔ KeepsBindings before.now.workspace.now.graph (known_in before.now.workspace.now.findings) (revision_of before.now.workspace.now.graph edits.now) (known_in after.now.workspace.now.findings)) }
 {
     let moves = Moves::of(alloc, edits)?;
-    let before = FaultlessWorkspace::of(alloc, before)?;
-    let then = FaultlessWorkspace::of(alloc, after)?;
+    let before = WorkspaceIndex::of(alloc, before)?;
+    let then = WorkspaceIndex::of(alloc, after)?;
     keeps(alloc, &moves, &before, &then)
 }
 
@@ -56,10 +56,18 @@ fn keeps_all_bindings(
     requires sound_after { IsFaultless after.now found_after.now }
     ensures { IfOk result (λ kept. IsTrue kept ↔ KeepsBindings graph.now (known_in found.now) (revision_of graph.now edits.now) (known_in found_after.now)) }
 {
-    let seen = all_seen(alloc, graph, found)?;
-    let before = Packages::of(alloc, graph, found, &seen)?;
-    let seen_after = all_seen(alloc, after, found_after)?;
-    let then = Packages::of(alloc, after, found_after, &seen_after)?;
+    let workspace = FaultlessWorkspace {
+        graph,
+        findings: found,
+    };
+    let workspace_after = FaultlessWorkspace {
+        graph: after,
+        findings: found_after,
+    };
+    let seen = all_seen(alloc, &workspace)?;
+    let before = Packages::of(alloc, &workspace, &seen)?;
+    let seen_after = all_seen(alloc, &workspace_after)?;
+    let then = Packages::of(alloc, &workspace_after, &seen_after)?;
     keeps_read(alloc, &before, edits, &then)
 }
 
@@ -97,7 +105,7 @@ fn is_sound(alloc: Global, graph: &Graph, found: &Findings) -> Result<bool, Allo
     ensures { IfOk result (λ sound. MatchBool sound (IsFaultless graph.now found.now) (ListsFaults graph.now [] → ⊥)) }
 {
     match refuse_faults(alloc, graph, found) {
-        Ok(()) => Ok(true),
+        Ok(_) => Ok(true),
         Err(Refusal::Memory) => Err(AllocError),
         Err(_) => Ok(false),
     }

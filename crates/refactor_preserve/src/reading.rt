@@ -6,21 +6,21 @@ ghost use Rattle.refs_index.specs.KnownExports.{KnowsExports};
 ghost use Rattle.refs_binding.specs.Bindings.{AddsAll, IsBoundAt};
 ghost use Rattle.refs_binding.specs.Exports.{AreExportsByNameAt};
 ghost use Rattle.refs_binding.specs.Packages.{IsTableAs};
-ghost use Rattle.refs_binding.specs.Workspaces.{IsFaultless, known_in};
+ghost use Rattle.refs_binding.specs.Workspaces.{known_in};
 ghost use Rattle.refs_places.specs.DeclaredPlaces.{AreDeclaredAt};
 ghost use Rattle.refs_places.specs.Identified.{BeginsInPackageAt};
 
 use base_files::Place;
 use go_scope::table::ScopeTable;
 use refs_binding::exports::numbers_by;
-use refs_binding::{BoundIdentifier, path_of, read_table};
+use refs_binding::{BoundIdentifier, FaultlessWorkspace, path_of, read_table, seen_by};
 use refs_index::{KnownExports, bind_laid};
 use refs_places::declared_places::{DeclaredPlaces, package_places};
 use refs_places::identifier_places::add_unit;
 use std::alloc::{AllocError, Global};
 use std::collections::BTreeMap;
 use types_declared::{ExportTable, Package};
-use workspace_check::{Findings, is_marked, seen};
+use workspace_check::is_marked;
 use workspace_graph::Graph;
 
 /// What to read: the marked packages, by the exports of the packages that they import, and whether the places of their identifiers are
@@ -49,18 +49,16 @@ pub struct ReadPackage {
 /// The places of the declarations of the package of a number, by its scope table and the export data that it sees.
 fn places_laid(
     alloc: Global,
-    graph: &Graph,
-    found: &Findings,
+    workspace: &FaultlessWorkspace<'_>,
     seen: &ExportTable,
     table: &ScopeTable<'_>,
     number: usize,
 ) -> Result<DeclaredPlaces, AllocError>
-    requires in_range { number < length (package_paths graph.now) }
-    requires sound { IsFaultless graph.now found.now }
-    requires table { IsTableAs graph.now (known_in found.now) number table.now seen.now }
-    ensures { IfOk result (AreDeclaredAt graph.now (known_in found.now) number) }
+    requires in_range { number < length (package_paths workspace.now.graph) }
+    requires table { IsTableAs workspace.now.graph (known_in workspace.now.findings) number table.now seen.now }
+    ensures { IfOk result (AreDeclaredAt workspace.now.graph (known_in workspace.now.findings) number) }
 {
-    let path = path_of(graph, found, number);
+    let path = path_of(workspace, number);
     let files = table.files();
     let unit = Package {
         path,
@@ -74,18 +72,16 @@ fn places_laid(
 /// Appends the places of the identifiers of the package of a number, by its scope table and the export data that it sees.
 fn add_laid(
     places: &mut Vec<Place>,
-    graph: &Graph,
-    found: &Findings,
+    workspace: &FaultlessWorkspace<'_>,
     seen: &ExportTable,
     table: &ScopeTable<'_>,
     number: usize,
 ) -> Result<(), AllocError>
-    requires in_range { number < length (package_paths graph.now) }
-    requires sound { IsFaultless graph.now found.now }
-    requires table { IsTableAs graph.now (known_in found.now) number table.now seen.now }
-    ensures { OnOk result (AddsAll places.old.items places.new.items (BeginsInPackageAt graph.now (known_in found.now) number)) }
+    requires in_range { number < length (package_paths workspace.now.graph) }
+    requires table { IsTableAs workspace.now.graph (known_in workspace.now.findings) number table.now seen.now }
+    ensures { OnOk result (AddsAll places.old.items places.new.items (BeginsInPackageAt workspace.now.graph (known_in workspace.now.findings) number)) }
 {
-    let path = path_of(graph, found, number);
+    let path = path_of(workspace, number);
     let files = table.files();
     let unit = Package {
         path,
@@ -104,16 +100,14 @@ fn add_wanted(
     table: &ScopeTable<'_>,
     number: usize,
 ) -> Result<(), AllocError>
-    requires in_range { number < length (package_paths reading.now.exports.now.graph.now) }
+    requires in_range { number < length (package_paths reading.now.exports.now.workspace.now.graph) }
     requires exports { KnowsExports reading.now.exports.now }
-    requires table { let e = reading.now.exports.now in IsTableAs e.graph.now (known_in e.found.now) number table.now seen.now }
+    requires table { let e = reading.now.exports.now in IsTableAs e.workspace.now.graph (known_in e.workspace.now.findings) number table.now seen.now }
     ensures { let e = reading.now.exports.now in
-        OnOk result (IsTrue reading.now.identifiers → AddsAll places.old.items places.new.items (BeginsInPackageAt e.graph.now (known_in e.found.now) number)) }
+        OnOk result (IsTrue reading.now.identifiers → AddsAll places.old.items places.new.items (BeginsInPackageAt e.workspace.now.graph (known_in e.workspace.now.findings) number)) }
 {
     if reading.identifiers {
-        let graph = reading.exports.graph;
-        let found = reading.exports.found;
-        add_laid(places, graph, found, seen, table, number)
+        add_laid(places, reading.exports.workspace, seen, table, number)
     } else {
         Ok(())
     }
@@ -129,19 +123,19 @@ fn gather_laid(
     table: &ScopeTable<'_>,
     number: usize,
 ) -> Result<DeclaredPlaces, AllocError>
-    requires in_range { number < length (package_paths reading.now.exports.now.graph.now) }
+    requires in_range { number < length (package_paths reading.now.exports.now.workspace.now.graph) }
     requires exports { KnowsExports reading.now.exports.now }
-    requires table { let e = reading.now.exports.now in IsTableAs e.graph.now (known_in e.found.now) number table.now seen.now }
-    ensures places { let e = reading.now.exports.now in IfOk result (AreDeclaredAt e.graph.now (known_in e.found.now) number) }
+    requires table { let e = reading.now.exports.now in IsTableAs e.workspace.now.graph (known_in e.workspace.now.findings) number table.now seen.now }
+    ensures places { let e = reading.now.exports.now in IfOk result (AreDeclaredAt e.workspace.now.graph (known_in e.workspace.now.findings) number) }
     ensures bound { let e = reading.now.exports.now in
-        OnOk result (AddsAll gathered.old.bound.items gathered.new.bound.items (IsBoundAt e.graph.now (known_in e.found.now) number)) }
+        OnOk result (AddsAll gathered.old.bound.items gathered.new.bound.items (IsBoundAt e.workspace.now.graph (known_in e.workspace.now.findings) number)) }
     ensures identifiers { let e = reading.now.exports.now in
-        OnOk result (IsTrue reading.now.identifiers → AddsAll gathered.old.identifiers.items gathered.new.identifiers.items (BeginsInPackageAt e.graph.now (known_in e.found.now) number)) }
+        OnOk result (IsTrue reading.now.identifiers → AddsAll gathered.old.identifiers.items gathered.new.identifiers.items (BeginsInPackageAt e.workspace.now.graph (known_in e.workspace.now.findings) number)) }
 {
     let exports = reading.exports;
     bind_laid(alloc, &mut gathered.bound, exports, seen, table, number)?;
     add_wanted(&mut gathered.identifiers, reading, seen, table, number)?;
-    places_laid(alloc, exports.graph, exports.found, seen, table, number)
+    places_laid(alloc, exports.workspace, seen, table, number)
 }
 
 /// Whether a marked package imports the package of a number. Only speed depends on it.
@@ -159,18 +153,16 @@ fn is_imported(graph: &Graph, marks: &[bool], number: usize) -> bool
 /// The exports of the package of a number, by its scope table and the export data that it sees.
 fn numbers_laid(
     alloc: Global,
-    graph: &Graph,
-    found: &Findings,
+    workspace: &FaultlessWorkspace<'_>,
     seen: &ExportTable,
     table: &ScopeTable<'_>,
     number: usize,
 ) -> Result<BTreeMap<Vec<u8>, usize>, AllocError>
-    requires in_range { number < length (package_paths graph.now) }
-    requires sound { IsFaultless graph.now found.now }
-    requires table { IsTableAs graph.now (known_in found.now) number table.now seen.now }
-    ensures { IfOk result (AreExportsByNameAt graph.now (known_in found.now) number) }
+    requires in_range { number < length (package_paths workspace.now.graph) }
+    requires table { IsTableAs workspace.now.graph (known_in workspace.now.findings) number table.now seen.now }
+    ensures { IfOk result (AreExportsByNameAt workspace.now.graph (known_in workspace.now.findings) number) }
 {
-    let path = path_of(graph, found, number);
+    let path = path_of(workspace, number);
     let files = table.files();
     numbers_by(alloc, path, files, table, seen)
 }
@@ -183,15 +175,14 @@ fn imported_numbers(
     table: &ScopeTable<'_>,
     number: usize,
 ) -> Result<Option<BTreeMap<Vec<u8>, usize>>, AllocError>
-    requires in_range { number < length (package_paths reading.now.exports.now.graph.now) }
+    requires in_range { number < length (package_paths reading.now.exports.now.workspace.now.graph) }
     requires exports { KnowsExports reading.now.exports.now }
-    requires table { let e = reading.now.exports.now in IsTableAs e.graph.now (known_in e.found.now) number table.now seen.now }
-    ensures { let e = reading.now.exports.now in IfOk result (λ numbers. IfSome numbers (AreExportsByNameAt e.graph.now (known_in e.found.now) number)) }
+    requires table { let e = reading.now.exports.now in IsTableAs e.workspace.now.graph (known_in e.workspace.now.findings) number table.now seen.now }
+    ensures { let e = reading.now.exports.now in IfOk result (λ numbers. IfSome numbers (AreExportsByNameAt e.workspace.now.graph (known_in e.workspace.now.findings) number)) }
 {
-    let graph = reading.exports.graph;
-    let found = reading.exports.found;
-    if is_imported(graph, reading.marks, number) {
-        let numbers = numbers_laid(alloc, graph, found, seen, table, number)?;
+    let workspace = reading.exports.workspace;
+    if is_imported(workspace.graph, reading.marks, number) {
+        let numbers = numbers_laid(alloc, workspace, seen, table, number)?;
         return Ok(Some(numbers));
     }
     Ok(None)
@@ -206,15 +197,15 @@ fn read_laid(
     table: &ScopeTable<'_>,
     number: usize,
 ) -> Result<ReadPackage, AllocError>
-    requires in_range { number < length (package_paths reading.now.exports.now.graph.now) }
+    requires in_range { number < length (package_paths reading.now.exports.now.workspace.now.graph) }
     requires exports { KnowsExports reading.now.exports.now }
-    requires table { let e = reading.now.exports.now in IsTableAs e.graph.now (known_in e.found.now) number table.now seen.now }
-    ensures places { let e = reading.now.exports.now in IfOk result (λ read. AreDeclaredAt e.graph.now (known_in e.found.now) number read.places) }
-    ensures numbers { let e = reading.now.exports.now in IfOk result (λ read. IfSome read.numbers (AreExportsByNameAt e.graph.now (known_in e.found.now) number)) }
+    requires table { let e = reading.now.exports.now in IsTableAs e.workspace.now.graph (known_in e.workspace.now.findings) number table.now seen.now }
+    ensures places { let e = reading.now.exports.now in IfOk result (λ read. AreDeclaredAt e.workspace.now.graph (known_in e.workspace.now.findings) number read.places) }
+    ensures numbers { let e = reading.now.exports.now in IfOk result (λ read. IfSome read.numbers (AreExportsByNameAt e.workspace.now.graph (known_in e.workspace.now.findings) number)) }
     ensures bound { let e = reading.now.exports.now in
-        OnOk result (AddsAll gathered.old.bound.items gathered.new.bound.items (IsBoundAt e.graph.now (known_in e.found.now) number)) }
+        OnOk result (AddsAll gathered.old.bound.items gathered.new.bound.items (IsBoundAt e.workspace.now.graph (known_in e.workspace.now.findings) number)) }
     ensures identifiers { let e = reading.now.exports.now in
-        OnOk result (IsTrue reading.now.identifiers → AddsAll gathered.old.identifiers.items gathered.new.identifiers.items (BeginsInPackageAt e.graph.now (known_in e.found.now) number)) }
+        OnOk result (IsTrue reading.now.identifiers → AddsAll gathered.old.identifiers.items gathered.new.identifiers.items (BeginsInPackageAt e.workspace.now.graph (known_in e.workspace.now.findings) number)) }
 {
     let numbers = imported_numbers(alloc, reading, seen, table, number)?;
     let places = gather_laid(alloc, gathered, reading, seen, table, number)?;
@@ -228,18 +219,17 @@ pub(crate) fn gather_read(
     reading: &ReadRequest<'_>,
     number: usize,
 ) -> Result<ReadPackage, AllocError>
-    requires in_range { number < length (package_paths reading.now.exports.now.graph.now) }
+    requires in_range { number < length (package_paths reading.now.exports.now.workspace.now.graph) }
     requires exports { KnowsExports reading.now.exports.now }
-    ensures places { let e = reading.now.exports.now in IfOk result (λ read. AreDeclaredAt e.graph.now (known_in e.found.now) number read.places) }
-    ensures numbers { let e = reading.now.exports.now in IfOk result (λ read. IfSome read.numbers (AreExportsByNameAt e.graph.now (known_in e.found.now) number)) }
+    ensures places { let e = reading.now.exports.now in IfOk result (λ read. AreDeclaredAt e.workspace.now.graph (known_in e.workspace.now.findings) number read.places) }
+    ensures numbers { let e = reading.now.exports.now in IfOk result (λ read. IfSome read.numbers (AreExportsByNameAt e.workspace.now.graph (known_in e.workspace.now.findings) number)) }
     ensures bound { let e = reading.now.exports.now in
-        OnOk result (AddsAll gathered.old.bound.items gathered.new.bound.items (IsBoundAt e.graph.now (known_in e.found.now) number)) }
+        OnOk result (AddsAll gathered.old.bound.items gathered.new.bound.items (IsBoundAt e.workspace.now.graph (known_in e.workspace.now.findings) number)) }
     ensures identifiers { let e = reading.now.exports.now in
-        OnOk result (IsTrue reading.now.identifiers → AddsAll gathered.old.identifiers.items gathered.new.identifiers.items (BeginsInPackageAt e.graph.now (known_in e.found.now) number)) }
+        OnOk result (IsTrue reading.now.identifiers → AddsAll gathered.old.identifiers.items gathered.new.identifiers.items (BeginsInPackageAt e.workspace.now.graph (known_in e.workspace.now.findings) number)) }
 {
-    let graph = reading.exports.graph;
-    let found = reading.exports.found;
-    let seen = seen(alloc, graph, number, &found.export_table)?;
-    let table = read_table(alloc, graph, found, &seen, number)?;
+    let workspace = reading.exports.workspace;
+    let seen = seen_by(alloc, workspace, number)?;
+    let table = read_table(alloc, workspace, &seen, number)?;
     read_laid(alloc, gathered, reading, &seen, &table, number)
 }

@@ -7,7 +7,7 @@ ghost use Rattle.refs_index.specs.KnownExports.{AreSomeExports};
 ghost use Rattle.refs_binding.specs.Bindings.{AddsAll, IsBoundAt};
 ghost use Rattle.refs_binding.specs.Exports.{AreExportsByNameAt};
 ghost use Rattle.refs_binding.specs.Packages.{HoldsOfEach};
-ghost use Rattle.refs_binding.specs.Workspaces.{IsFaultless, known_in};
+ghost use Rattle.refs_binding.specs.Workspaces.{known_in};
 ghost use Rattle.refactor_preserve.specs.Among.{AreIdentifiersAmong, HoldsMarked};
 ghost use Rattle.refactor_preserve.specs.ReadStates.{HoldsAllNumbers, IsReadState, ReadsIfMarked, ReadsOne};
 ghost use Rattle.refs_places.specs.DeclaredPlaces.{AreDeclaredAt};
@@ -15,12 +15,13 @@ ghost use Rattle.refs_places.specs.Identified.{BeginsInPackageAt};
 
 use crate::reading::{GatheredBindings, ReadPackage, ReadRequest, gather_read};
 use base_files::Place;
+use refs_binding::FaultlessWorkspace;
 use refs_index::exports::numbers_at;
 use refs_index::{Bindings, KnownExports};
 use refs_places::declared_places::DeclaredPlaces;
 use std::alloc::{AllocError, Global};
 use std::collections::BTreeMap;
-use workspace_check::{Findings, is_marked};
+use workspace_check::is_marked;
 use workspace_graph::Graph;
 
 /// The marked packages: the places of their declarations, by the packages' numbers, the bindings of their identifiers and, where wanted,
@@ -35,8 +36,7 @@ pub struct HeldPackages {
 /// What to read of a workspace: the marked packages, and whether the places of their identifiers are wanted.
 #[derive(Clone, Copy)]
 pub struct ToRead<'a> {
-    pub graph: &'a Graph,
-    pub found: &'a Findings,
+    pub workspace: &'a FaultlessWorkspace<'a>,
     pub marks: &'a [bool],
     pub identifiers: bool,
 }
@@ -66,8 +66,8 @@ impl ReadState {
     fn new(alloc: Global, wanted: &ToRead<'_>) -> Result<ReadState, AllocError>
         ensures { IfOk result (IsReadState wanted.now []) }
     {
-        let places = nothing(alloc, wanted.graph.len())?;
-        let numbers = nothing(alloc, wanted.graph.len())?;
+        let places = nothing(alloc, wanted.workspace.len())?;
+        let numbers = nothing(alloc, wanted.workspace.len())?;
         let gathered = GatheredBindings {
             bound: Vec::new(alloc),
             identifiers: Vec::new(alloc),
@@ -87,13 +87,12 @@ fn know_one(
     numbers: &mut Vec<Option<BTreeMap<Vec<u8>, usize>>>,
     number: usize,
 ) -> Result<(), AllocError>
-    requires in_range { number < length (package_paths wanted.now.graph.now) }
-    requires sound { IsFaultless wanted.now.graph.now wanted.now.found.now }
-    requires numbers { AreSomeExports wanted.now.graph.now (known_in wanted.now.found.now) numbers.old.items }
-    ensures { OnOk result (AreSomeExports wanted.now.graph.now (known_in wanted.now.found.now) numbers.new.items) }
+    requires in_range { number < length (package_paths wanted.now.workspace.now.graph) }
+    requires numbers { AreSomeExports wanted.now.workspace.now.graph (known_in wanted.now.workspace.now.findings) numbers.old.items }
+    ensures { OnOk result (AreSomeExports wanted.now.workspace.now.graph (known_in wanted.now.workspace.now.findings) numbers.new.items) }
 {
     if numbers[number].is_none() {
-        let exports = numbers_at(alloc, wanted.graph, wanted.found, number)?;
+        let exports = numbers_at(alloc, wanted.workspace, number)?;
         numbers[number] = Some(exports);
     }
     Ok(())
@@ -106,12 +105,11 @@ fn know_imports(
     numbers: &mut Vec<Option<BTreeMap<Vec<u8>, usize>>>,
     number: usize,
 ) -> Result<(), AllocError>
-    requires in_range { number < length (package_paths wanted.now.graph.now) }
-    requires sound { IsFaultless wanted.now.graph.now wanted.now.found.now }
-    requires numbers { AreSomeExports wanted.now.graph.now (known_in wanted.now.found.now) numbers.old.items }
-    ensures { OnOk result (AreSomeExports wanted.now.graph.now (known_in wanted.now.found.now) numbers.new.items) }
+    requires in_range { number < length (package_paths wanted.now.workspace.now.graph) }
+    requires numbers { AreSomeExports wanted.now.workspace.now.graph (known_in wanted.now.workspace.now.findings) numbers.old.items }
+    ensures { OnOk result (AreSomeExports wanted.now.workspace.now.graph (known_in wanted.now.workspace.now.findings) numbers.new.items) }
 {
-    for import in wanted.graph.imports(number) {
+    for import in wanted.workspace.imports(number) {
         know_one(alloc, wanted, numbers, *import)?;
     }
     Ok(())
@@ -125,18 +123,16 @@ fn read_known(
     numbers: &[Option<BTreeMap<Vec<u8>, usize>>],
     number: usize,
 ) -> Result<ReadPackage, AllocError>
-    requires in_range { number < length (package_paths wanted.now.graph.now) }
-    requires sound { IsFaultless wanted.now.graph.now wanted.now.found.now }
-    requires numbers { AreSomeExports wanted.now.graph.now (known_in wanted.now.found.now) numbers.now }
-    ensures places { IfOk result (λ read. AreDeclaredAt wanted.now.graph.now (known_in wanted.now.found.now) number read.places) }
-    ensures numbers { IfOk result (λ read. IfSome read.numbers (AreExportsByNameAt wanted.now.graph.now (known_in wanted.now.found.now) number)) }
-    ensures bound { OnOk result (AddsAll gathered.old.bound.items gathered.new.bound.items (IsBoundAt wanted.now.graph.now (known_in wanted.now.found.now) number)) }
+    requires in_range { number < length (package_paths wanted.now.workspace.now.graph) }
+    requires numbers { AreSomeExports wanted.now.workspace.now.graph (known_in wanted.now.workspace.now.findings) numbers.now }
+    ensures places { IfOk result (λ read. AreDeclaredAt wanted.now.workspace.now.graph (known_in wanted.now.workspace.now.findings) number read.places) }
+    ensures numbers { IfOk result (λ read. IfSome read.numbers (AreExportsByNameAt wanted.now.workspace.now.graph (known_in wanted.now.workspace.now.findings) number)) }
+    ensures bound { OnOk result (AddsAll gathered.old.bound.items gathered.new.bound.items (IsBoundAt wanted.now.workspace.now.graph (known_in wanted.now.workspace.now.findings) number)) }
     ensures identifiers { OnOk result (IsTrue wanted.now.identifiers →
-        AddsAll gathered.old.identifiers.items gathered.new.identifiers.items (BeginsInPackageAt wanted.now.graph.now (known_in wanted.now.found.now) number)) }
+        AddsAll gathered.old.identifiers.items gathered.new.identifiers.items (BeginsInPackageAt wanted.now.workspace.now.graph (known_in wanted.now.workspace.now.findings) number)) }
 {
     let exports = KnownExports {
-        graph: wanted.graph,
-        found: wanted.found,
+        workspace: wanted.workspace,
         numbers,
     };
     let reading = ReadRequest {
@@ -154,10 +150,9 @@ fn read_one(
     so_far: &mut ReadState,
     number: usize,
 ) -> Result<(), AllocError>
-    requires in_range { number < length (package_paths wanted.now.graph.now) }
-    requires sound { IsFaultless wanted.now.graph.now wanted.now.found.now }
-    requires size { length so_far.old.places.items ≡ length (package_paths wanted.now.graph.now) }
-    requires numbers { AreSomeExports wanted.now.graph.now (known_in wanted.now.found.now) so_far.old.numbers.items }
+    requires in_range { number < length (package_paths wanted.now.workspace.now.graph) }
+    requires size { length so_far.old.places.items ≡ length (package_paths wanted.now.workspace.now.graph) }
+    requires numbers { AreSomeExports wanted.now.workspace.now.graph (known_in wanted.now.workspace.now.findings) so_far.old.numbers.items }
     ensures { OnOk result (ReadsOne wanted.now number so_far.old so_far.new) }
 {
     know_imports(alloc, wanted, &mut so_far.numbers, number)?;
@@ -174,10 +169,9 @@ fn read_if_marked(
     so_far: &mut ReadState,
     number: usize,
 ) -> Result<(), AllocError>
-    requires in_range { number < length (package_paths wanted.now.graph.now) }
-    requires sound { IsFaultless wanted.now.graph.now wanted.now.found.now }
-    requires size { length so_far.old.places.items ≡ length (package_paths wanted.now.graph.now) }
-    requires numbers { AreSomeExports wanted.now.graph.now (known_in wanted.now.found.now) so_far.old.numbers.items }
+    requires in_range { number < length (package_paths wanted.now.workspace.now.graph) }
+    requires size { length so_far.old.places.items ≡ length (package_paths wanted.now.workspace.now.graph) }
+    requires numbers { AreSomeExports wanted.now.workspace.now.graph (known_in wanted.now.workspace.now.findings) so_far.old.numbers.items }
     ensures { OnOk result (ReadsIfMarked wanted.now number so_far.old so_far.new) }
 {
     if is_marked(wanted.marks, number) {
@@ -193,8 +187,7 @@ fn read_ordered(
     wanted: &ToRead<'_>,
     order: &[usize],
 ) -> Result<ReadState, AllocError>
-    requires sound { IsFaultless wanted.now.graph.now wanted.now.found.now }
-    requires order { HoldsAllNumbers wanted.now.graph.now order.now }
+    requires { HoldsAllNumbers wanted.now.workspace.now.graph order.now }
     ensures { IfOk result (IsReadState wanted.now order.now) }
 {
     let mut so_far = ReadState::new(alloc, wanted)?;
@@ -232,12 +225,11 @@ fn held_of(
     order: &[usize],
     so_far: ReadState,
 ) -> Result<HeldPackages, AllocError>
-    requires sound { IsFaultless wanted.now.graph.now wanted.now.found.now }
-    requires order { HoldsAllNumbers wanted.now.graph.now order.now }
+    requires order { HoldsAllNumbers wanted.now.workspace.now.graph order.now }
     requires so_far { IsReadState wanted.now order.now so_far }
-    ensures held { IfOk result (λ held. HoldsMarked wanted.now.graph.now wanted.now.found.now wanted.now.marks.now held.places.items held.bindings) }
+    ensures held { IfOk result (λ held. HoldsMarked wanted.now.workspace.now.graph wanted.now.workspace.now.findings wanted.now.marks.now held.places.items held.bindings) }
     ensures identifiers { IfOk result (λ held. IsTrue wanted.now.identifiers →
-        AreIdentifiersAmong wanted.now.graph.now (known_in wanted.now.found.now) wanted.now.marks.now held.identifiers.items) }
+        AreIdentifiersAmong wanted.now.workspace.now.graph (known_in wanted.now.workspace.now.findings) wanted.now.marks.now held.identifiers.items) }
 {
     let ReadState {
         gathered,
@@ -258,22 +250,19 @@ fn held_of(
 /// it reads only those that marked packages import.
 pub fn read_marked(
     alloc: Global,
-    graph: &Graph,
-    found: &Findings,
+    workspace: &FaultlessWorkspace<'_>,
     marks: &[bool],
     identifiers: bool,
 ) -> Result<HeldPackages, AllocError>
-    requires { IsFaultless graph.now found.now }
-    ensures held { IfOk result (λ held. HoldsMarked graph.now found.now marks.now held.places.items held.bindings) }
-    ensures identifiers { IfOk result (λ held. IsTrue identifiers → AreIdentifiersAmong graph.now (known_in found.now) marks.now held.identifiers.items) }
+    ensures held { IfOk result (λ held. HoldsMarked workspace.now.graph workspace.now.findings marks.now held.places.items held.bindings) }
+    ensures identifiers { IfOk result (λ held. IsTrue identifiers → AreIdentifiersAmong workspace.now.graph (known_in workspace.now.findings) marks.now held.identifiers.items) }
 {
     let wanted = ToRead {
-        graph,
-        found,
+        workspace,
         marks,
         identifiers,
     };
-    let order = reading_order(alloc, graph)?;
+    let order = reading_order(alloc, workspace.graph)?;
     let so_far = read_ordered(alloc, &wanted, &order)?;
     held_of(&wanted, &order, so_far)
 }

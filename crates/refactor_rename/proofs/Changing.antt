@@ -9,6 +9,7 @@ use Rattle.std.specs.List.Sorted.{IsStrictlySortedBy}
 use Rattle.std.specs.declared.cmp.Ordering.TheVariants.{Less}
 use Rattle.std.proofs.lemmas.List.Elements.{All-nil, All-weaker, All-contains_itself, Contains-append_left, Contains-push, Contains-push_cases}
 use Rattle.std.proofs.lemmas.Option.{same_Some}
+use Rattle.base_lemmas.proofs.Elements.{nothing_in, first_in, later_in, first_or_later}
 use Rattle.base_files.specs.Workspace.{Workspace, path_cmp}
 use Rattle.go_ast.specs.SourceFile.{SourceFile}
 use Rattle.workspace_check.specs.Verdicts.{Verdicts}
@@ -21,7 +22,6 @@ use Rattle.base_edits.specs.declared.edit.Edit.{Edit}
 use Rattle.base_edits.specs.declared.change.FileChange.{FileChange}
 use Rattle.base_edits.specs.declared.change.Fate.TheVariants.{Stays}
 use Rattle.base_edits.proofs.Changes.{change_found, none_changed}
-use Rattle.base_edits.proofs.Held.{nothing_in, first_in, later_in, first_or_later}
 use Rattle.base_edits.proofs.Turned.{is_there}
 use Rattle.refactor_rename.specs.declared.renamed.Literal.{Literal}
 use Rattle.refactor_rename.specs.declared.renamed.Renamed.{Renamed}

@@ -1,8 +1,9 @@
 -- The paths of the places and of the literal.
 use Rattle.std.proofs.Common.{◌≡◌, ℕ, ◌<◌, ◌+◌, ◌⊎◌, inl, inr, List, [], length, take, get_or, sym, ap, subst, ◌∙◌}
 use Rattle.std.specs.Prelude.{Contains, ◌↔◌}
+use Rattle.base_lemmas.proofs.Elements.{nothing_in}
 use Rattle.base_files.specs.declared.place.Place.{Place}
-use Rattle.workspace_check.proofs.Members.{nothing_in, taken_or_next, still_taken, next_taken}
+use Rattle.workspace_check.proofs.Members.{taken_or_next, still_taken, next_taken}
 use Rattle.refs_binding.specs.Bindings.{AddsAll}
 use Rattle.refs_binding.proofs.AddingAll.{all_as, all_then}
 use Rattle.refactor_rename.specs.declared.renamed.Renamed.{Renamed}

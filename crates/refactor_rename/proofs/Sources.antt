@@ -13,6 +13,8 @@ use Rattle.std.proofs.Math.Path.{ap₂}
 use Rattle.std.proofs.lemmas.Bool.{and_parts, true≢false}
 use Rattle.std.proofs.lemmas.List.Kept.{IsStrictlySortedBy-filter}
 use Rattle.std.proofs.lemmas.Option.{same_Some}
+use Rattle.base_lemmas.proofs.Elements.{is_mapped}
+use Rattle.base_lemmas.proofs.Tests.{true_from_T, less_from_test}
 use Rattle.base_files.specs.Path.{folder}
 use Rattle.base_files.specs.Packages.{is_go, is_of_package, package_paths, package_files}
 use Rattle.base_files.specs.Workspace.{Workspace, path_cmp}
@@ -21,7 +23,7 @@ use Rattle.workspace_graph.specs.Packages.{IsParsed}
 use Rattle.workspace_graph.specs.Parsed.{AreParsed, none, tree}
 use Rattle.workspace_graph.proofs.OneFile.{one_file}
 use Rattle.base_edits.proofs.Entries.{get_entry}
-use Rattle.base_edits.proofs.Held.{mapped_from, is_mapped}
+use Rattle.base_edits.proofs.Held.{mapped_from}
 use Rattle.types_declared.specs.Package.{Package}
 use Rattle.workspace_check.specs.Verdicts.{Verdicts}
 use Rattle.workspace_check.proofs.Members.{passes}
@@ -38,18 +40,9 @@ use Rattle.refactor_rename.proofs.TreeSearch.{path_of}
 abbrev pub entry_path : List ℕ × List ℕ → List ℕ
 entry_path e = e.0
 
-is_true : (b : Bool) → T b → b ≡ true
-is_true true h = refl
-is_true false h = absurd h
-
-is_less : (o : Ordering) → is_lt o ≡ true → o ≡ Less
-is_less Less h = refl
-is_less Equal h = absurd (true≢false (sym h))
-is_less Greater h = absurd (true≢false (sym h))
-
 below_paths : (p : List ℕ) (es : List (List ℕ × List ℕ)) → below_all path_cmp p es ≡ true → AllByRecursion (λ q. path_cmp p q ≡ Less) (map entry_path es)
 below_paths p [] h = tt
-below_paths p (e ∷ es) h = let b = and_parts _ _ h in (is_less _ b.0, below_paths p es b.1)
+below_paths p (e ∷ es) h = let b = and_parts _ _ h in (less_from_test _ b.0, below_paths p es b.1)
 
 paths_in_order : (es : List (List ℕ × List ℕ)) → is_sorted path_cmp es ≡ true → IsStrictlySortedBy path_cmp (map entry_path es)
 unfolding IsStrictlySortedBy
@@ -57,7 +50,7 @@ paths_in_order [] h = tt
 paths_in_order (e ∷ es) h = let b = and_parts _ _ h in (below_paths e.0 es b.0, paths_in_order es b.1)
 
 pub entries_in_order : (w : Workspace) → IsStrictlySortedBy path_cmp (map entry_path (entries w))
-entries_in_order w = paths_in_order (entries w) (is_true _ (entries_sorted w))
+entries_in_order w = paths_in_order (entries w) (true_from_T _ (entries_sorted w))
 
 -- and so are those of a package's files
 

@@ -4,7 +4,7 @@ ghost use Rattle.std.specs.List.Sorted.{IsStrictlySortedBy};
 ghost use Rattle.base_files.specs.Workspace.{path_cmp};
 ghost use Rattle.go_ast.specs.SourceFile.{SourceFile, FileParts, source_of};
 ghost use Rattle.refs_binding.specs.Places.{place_cmp};
-ghost use Rattle.refs_binding.specs.Workspaces.{IsFaultless, known_in};
+ghost use Rattle.refs_binding.specs.Workspaces.{known_in};
 ghost use Rattle.refactor_rename.specs.RenameEdits.{IsSourceIn};
 ghost use Rattle.refactor_rename.specs.Changes.{IsPathToEdit, AddsChange, AreSourceChanges};
 
@@ -14,10 +14,8 @@ use crate::renamed::Renamed;
 use base_edits::{Edits, Fate, FileChange};
 use base_files::Path;
 use go_ast::FileTree;
-use refs_binding::trees;
+use refs_binding::{FaultlessWorkspace, trees};
 use std::alloc::{AllocError, Global};
-use workspace_check::Findings;
-use workspace_graph::Graph;
 
 /// The tree of the file at a path, if it is among these files, which are sorted by path.
 fn tree_in<'a>(files: &'a [FileTree], path: &Path) -> Option<&'a FileTree>
@@ -31,14 +29,14 @@ fn tree_in<'a>(files: &'a [FileTree], path: &Path) -> Option<&'a FileTree>
 }
 
 /// The tree of the file at a path, if it is a Go file of the workspace.
-fn tree_of<'a>(graph: &'a Graph, found: &Findings, path: &Path) -> Option<&'a FileTree>
-    requires { IsFaultless graph.now found.now }
-    ensures { MatchOption result ((f : SourceFile) → IsSourceIn graph.now (known_in found.now) f → f.path ≡ path.now → ⊥)
-        (λ file. IsSourceIn graph.now (known_in found.now) (source_of file.now) × (file.now.path ≡ path.now)) }
+fn tree_of<'a>(workspace: &FaultlessWorkspace<'a>, path: &Path) -> Option<&'a FileTree>
+    ensures { MatchOption result ((f : SourceFile) → IsSourceIn workspace.now.graph (known_in workspace.now.findings) f → f.path ≡ path.now → ⊥)
+        (λ file. IsSourceIn workspace.now.graph (known_in workspace.now.findings) (source_of file.now) × (file.now.path ≡ path.now)) }
 {
-    match graph.number_of(path.folder()) {
+    workspace.has_no_faults();
+    match workspace.number_of(path.folder()) {
         None => None,
-        Some(number) => tree_in(trees(graph, found, number), path),
+        Some(number) => tree_in(trees(workspace, number), path),
     }
 }
 
@@ -66,20 +64,18 @@ fn add_change(
 /// The changes of the files at these paths, which are sorted and are just those of the files in which something gets another name.
 fn changes_in(
     alloc: Global,
-    graph: &Graph,
-    found: &Findings,
+    workspace: &FaultlessWorkspace<'_>,
     paths: &[Path],
     renamed: &Renamed,
 ) -> Result<Vec<FileChange>, AllocError>
-    requires sound { IsFaultless graph.now found.now }
     requires sorted { IsStrictlySortedBy place_cmp renamed.now.places }
     requires order { IsStrictlySortedBy path_cmp paths.now }
     requires each { (q : List ℕ) → Contains paths.now q ↔ IsPathToEdit renamed.now q }
-    ensures { IfOk result (λ changed. AreSourceChanges graph.now (known_in found.now) renamed.now changed.items) }
+    ensures { IfOk result (λ changed. AreSourceChanges workspace.now.graph (known_in workspace.now.findings) renamed.now changed.items) }
 {
     let mut changed = Vec::new(alloc);
     for path in paths {
-        if let Some(file) = tree_of(graph, found, path) {
+        if let Some(file) = tree_of(workspace, path) {
             add_change(alloc, &mut changed, file, renamed)?;
         }
     }
@@ -89,14 +85,12 @@ fn changes_in(
 /// The changes of all files in which something gets another name, sorted by path.
 pub(crate) fn changes_of(
     alloc: Global,
-    graph: &Graph,
-    found: &Findings,
+    workspace: &FaultlessWorkspace<'_>,
     renamed: &Renamed,
 ) -> Result<Vec<FileChange>, AllocError>
-    requires sound { IsFaultless graph.now found.now }
-    requires sorted { IsStrictlySortedBy place_cmp renamed.now.places }
-    ensures { IfOk result (λ changed. AreSourceChanges graph.now (known_in found.now) renamed.now changed.items) }
+    requires { IsStrictlySortedBy place_cmp renamed.now.places }
+    ensures { IfOk result (λ changed. AreSourceChanges workspace.now.graph (known_in workspace.now.findings) renamed.now changed.items) }
 {
     let paths = paths_of(alloc, renamed)?;
-    changes_in(alloc, graph, found, paths.as_slice(), renamed)
+    changes_in(alloc, workspace, paths.as_slice(), renamed)
 }

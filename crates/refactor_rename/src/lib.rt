@@ -8,7 +8,6 @@
 mod changes;
 mod file_edits;
 mod literal;
-mod name_characters;
 mod naming;
 mod new_name;
 mod paths;

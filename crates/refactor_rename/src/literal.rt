@@ -8,18 +8,16 @@ ghost use Rattle.types_declared.specs.ExportTablesView.{export_data_in};
 ghost use Rattle.types_info.specs.PackageOf.{package_in};
 ghost use Rattle.refs_binding.specs.declared.declaration.Declaration.TheVariants.{Declared};
 ghost use Rattle.refs_binding.specs.Uses.{IsPackage};
-ghost use Rattle.refs_binding.specs.Workspaces.{IsFaultless, IsPackageAt, known_in};
+ghost use Rattle.refs_binding.specs.Workspaces.{IsPackageAt, known_in};
 ghost use Rattle.refactor_rename.specs.Literals.{IsTokenOf, IsUnnamedImport, IsLiteralIn, IsLiteralOf, IsLiteralFound};
 
 use crate::renamed::Literal;
 use go_ast::FileTree;
 use go_scope::table::ScopeTable;
-use refs_binding::{Declaration, laid_table, path_of, trees};
+use refs_binding::{Declaration, FaultlessWorkspace, laid_table, path_of, seen_by, trees};
 use std::alloc::{AllocError, Global};
 use types_declared::{ExportTable, Package, is_import};
 use types_expr::symbol::SharedPath;
-use workspace_check::{Findings, seen};
-use workspace_graph::Graph;
 
 /// Whether a declaration is an import without a name.
 fn is_unnamed(unit: Package<'_>, d: usize) -> bool
@@ -77,51 +75,46 @@ fn literal_by(
 /// The string literal of the declaration `d` of the package of a number, if it is an import without a name.
 fn literal_at(
     alloc: Global,
-    graph: &Graph,
-    found: &Findings,
+    workspace: &FaultlessWorkspace<'_>,
     number: usize,
     d: usize,
 ) -> Result<Option<Literal>, AllocError>
-    requires in_range { number < length (package_paths graph.now) }
-    requires sound { IsFaultless graph.now found.now }
-    ensures { (p : Checked) → IsPackageAt graph.now (known_in found.now) number p → IfOk result (IsLiteralFound (IsLiteralIn p d)) }
+    requires { number < length (package_paths workspace.now.graph) }
+    ensures { (p : Checked) → IsPackageAt workspace.now.graph (known_in workspace.now.findings) number p → IfOk result (IsLiteralFound (IsLiteralIn p d)) }
 {
-    let files = trees(graph, found, number);
-    let seen = seen(alloc, graph, number, &found.export_table)?;
+    let files = trees(workspace, number);
+    let seen = seen_by(alloc, workspace, number)?;
     let table = laid_table(alloc, files, &seen)?;
-    let path = path_of(graph, found, number);
+    let path = path_of(workspace, number);
     literal_by(path, files, &table, &seen, d)
 }
 
 /// The string literal of the declaration `d` of the package at a path, if there is one and `d` is an import without a name.
 fn literal_under(
     alloc: Global,
-    graph: &Graph,
-    found: &Findings,
+    workspace: &FaultlessWorkspace<'_>,
     path: &SharedPath,
     d: usize,
 ) -> Result<Option<Literal>, AllocError>
-    requires { IsFaultless graph.now found.now }
-    ensures { IfOk result (IsLiteralFound (IsLiteralOf (IsPackage graph.now (known_in found.now)) (Declared path.now d))) }
+    ensures { IfOk result (IsLiteralFound (IsLiteralOf (IsPackage workspace.now.graph (known_in workspace.now.findings)) (Declared path.now d))) }
 {
-    match graph.number_of(path.path()) {
+    workspace.has_no_faults();
+    match workspace.number_of(path.path()) {
         None => Ok(None),
-        Some(number) => literal_at(alloc, graph, found, number, d),
+        Some(number) => literal_at(alloc, workspace, number, d),
     }
 }
 
 /// The string literal of a declaration, if it is an import without a name.
 pub fn literal_of(
     alloc: Global,
-    graph: &Graph,
-    found: &Findings,
+    workspace: &FaultlessWorkspace<'_>,
     declaration: &Declaration,
 ) -> Result<Option<Literal>, AllocError>
-    requires { IsFaultless graph.now found.now }
-    ensures { IfOk result (IsLiteralFound (IsLiteralOf (IsPackage graph.now (known_in found.now)) declaration.now)) }
+    ensures { IfOk result (IsLiteralFound (IsLiteralOf (IsPackage workspace.now.graph (known_in workspace.now.findings)) declaration.now)) }
 {
     match declaration {
-        Declaration::Declared(path, d) => literal_under(alloc, graph, found, path, *d),
+        Declaration::Declared(path, d) => literal_under(alloc, workspace, path, *d),
         Declaration::Predeclared(_) | Declaration::Field(_) | Declaration::Method(_) => Ok(None),
     }
 }

@@ -9,7 +9,7 @@ ghost use Rattle.types_declared.specs.Package.{Package as Checked, spelled};
 ghost use Rattle.types_declared.specs.PackageView.{package_of};
 ghost use Rattle.refs_binding.specs.declared.declaration.Declaration.TheVariants.{Declared, Field, Method};
 ghost use Rattle.refs_binding.specs.Uses.{IsPackage};
-ghost use Rattle.refs_binding.specs.Workspaces.{IsFaultless, IsPackageAt, known_in};
+ghost use Rattle.refs_binding.specs.Workspaces.{IsPackageAt, known_in};
 ghost use Rattle.refactor_rename.specs.NewName.{IsReserved};
 ghost use Rattle.refactor_rename.specs.Naming.{RefusesFor, RefusesNameIn, RefusesNameOf, RefusesName};
 
@@ -18,12 +18,13 @@ use base_files::Refusal;
 use go_ast::FileTree;
 use go_scope::model::{Block, Position};
 use go_scope::table::ScopeTable;
-use refs_binding::{Declaration, field_places, laid_table, method_places, path_of, trees};
+use refs_binding::{
+    Declaration, FaultlessWorkspace, field_places, laid_table, method_places, path_of, seen_by,
+    trees,
+};
 use std::alloc::Global;
 use types_declared::{ExportTable, Index, Package, is_import};
 use types_expr::symbol::{SharedPath, Symbol};
-use workspace_check::{Findings, seen};
-use workspace_graph::Graph;
 
 /// Whether a declaration is in the package block.
 fn is_package_level(unit: Package<'_>, d: usize) -> bool
@@ -182,20 +183,18 @@ fn refuse_by(
 /// Refuses a name for a declaration of the package of a number.
 fn refuse_in_package(
     alloc: Global,
-    graph: &Graph,
-    found: &Findings,
+    workspace: &FaultlessWorkspace<'_>,
     number: usize,
     declaration: &Declaration,
     name: &[u8],
 ) -> Result<(), Refusal>
-    requires in_range { number < length (package_paths graph.now) }
-    requires sound { IsFaultless graph.now found.now }
-    ensures { (p : Checked) → IsPackageAt graph.now (known_in found.now) number p → RefusesNameIn p declaration.now name.now result }
+    requires { number < length (package_paths workspace.now.graph) }
+    ensures { (p : Checked) → IsPackageAt workspace.now.graph (known_in workspace.now.findings) number p → RefusesNameIn p declaration.now name.now result }
 {
-    let files = trees(graph, found, number);
-    let seen = seen(alloc, graph, number, &found.export_table)?;
+    let files = trees(workspace, number);
+    let seen = seen_by(alloc, workspace, number)?;
     let table = laid_table(alloc, files, &seen)?;
-    let path = path_of(graph, found, number);
+    let path = path_of(workspace, number);
     let asked = NamedDeclaration { declaration, name };
     refuse_by(alloc, path, files, &table, &seen, &asked)
 }
@@ -203,18 +202,17 @@ fn refuse_in_package(
 /// Refuses a name for a declaration of the package at a path, if there is one.
 fn refuse_in_path(
     alloc: Global,
-    graph: &Graph,
-    found: &Findings,
+    workspace: &FaultlessWorkspace<'_>,
     path: &SharedPath,
     declaration: &Declaration,
     name: &[u8],
 ) -> Result<(), Refusal>
-    requires { IsFaultless graph.now found.now }
-    ensures { RefusesNameOf (IsPackage graph.now (known_in found.now)) path.now declaration.now name.now result }
+    ensures { RefusesNameOf (IsPackage workspace.now.graph (known_in workspace.now.findings)) path.now declaration.now name.now result }
 {
-    match graph.number_of(path.path()) {
+    workspace.has_no_faults();
+    match workspace.number_of(path.path()) {
         None => Ok(()),
-        Some(number) => refuse_in_package(alloc, graph, found, number, declaration, name),
+        Some(number) => refuse_in_package(alloc, workspace, number, declaration, name),
     }
 }
 
@@ -222,24 +220,22 @@ fn refuse_in_path(
 /// `BadName`, `Same`.
 pub fn refuse_name(
     alloc: Global,
-    graph: &Graph,
-    found: &Findings,
+    workspace: &FaultlessWorkspace<'_>,
     declaration: &Declaration,
     name: &[u8],
 ) -> Result<(), Refusal>
-    requires { IsFaultless graph.now found.now }
-    ensures { RefusesName (IsPackage graph.now (known_in found.now)) declaration.now name.now result }
+    ensures { RefusesName (IsPackage workspace.now.graph (known_in workspace.now.findings)) declaration.now name.now result }
 {
     match declaration {
         Declaration::Predeclared(_) => Err(Refusal::NotRenamable),
         Declaration::Declared(path, _) => {
-            refuse_in_path(alloc, graph, found, path, declaration, name)
+            refuse_in_path(alloc, workspace, path, declaration, name)
         }
         Declaration::Field(symbol) => {
-            refuse_in_path(alloc, graph, found, &symbol.package, declaration, name)
+            refuse_in_path(alloc, workspace, &symbol.package, declaration, name)
         }
         Declaration::Method(symbol) => {
-            refuse_in_path(alloc, graph, found, &symbol.package, declaration, name)
+            refuse_in_path(alloc, workspace, &symbol.package, declaration, name)
         }
     }
 }

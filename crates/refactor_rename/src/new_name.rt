@@ -9,8 +9,7 @@ ghost use Rattle.go_scanner.specs.declared.piece.Class.TheVariants.{Name};
 ghost use Rattle.go_scanner.specs.Pieces.{IsPiece};
 ghost use Rattle.refactor_rename.specs.NewName.{IsNewName, IsReserved, starts_with_letter, is_other_text};
 
-use crate::name_characters::{continues_name, is_letter};
-use go_scanner::Keyword;
+use go_scanner::{Keyword, continues_name, is_letter};
 
 /// Whether a text begins with a letter.
 fn starts_with_letter(name: &str) -> bool

@@ -3,7 +3,7 @@ ghost use Rattle.std.specs.Prelude.{◌≡◌, IfOk};
 ghost use Rattle.std.specs.List.Sorted.{IsStrictlySortedBy};
 ghost use Rattle.base_edits.specs.Fits.{Fits};
 ghost use Rattle.refs_binding.specs.Places.{place_cmp};
-ghost use Rattle.refs_binding.specs.Workspaces.{IsFaultless, known_in};
+ghost use Rattle.refs_binding.specs.Workspaces.{known_in};
 ghost use Rattle.refactor_rename.specs.RenameEdits.{IsRenamedBy, AreEditsOf, AreRenameEdits};
 
 use crate::changes::changes_of;
@@ -11,11 +11,9 @@ use crate::literal::literal_of;
 use crate::renamed::Renamed;
 use base_edits::EditSet;
 use base_files::FileText;
-use refs_binding::Declaration;
+use refs_binding::{Declaration, FaultlessWorkspace};
 use refs_uses::list_uses;
 use std::alloc::{AllocError, Global};
-use workspace_check::Findings;
-use workspace_graph::Graph;
 
 /// A file text of these bytes.
 fn text_of(alloc: Global, bytes: &[u8]) -> Result<FileText, AllocError>
@@ -27,17 +25,15 @@ fn text_of(alloc: Global, bytes: &[u8]) -> Result<FileText, AllocError>
 /// The identifiers that are bound to a declaration, its literal where it is an import without a name, and the new name.
 fn renamed_by(
     alloc: Global,
-    graph: &Graph,
-    found: &Findings,
+    workspace: &FaultlessWorkspace<'_>,
     declaration: &Declaration,
     name: &[u8],
 ) -> Result<Renamed, AllocError>
-    requires { IsFaultless graph.now found.now }
-    ensures { IfOk result (IsRenamedBy graph.now (known_in found.now) declaration.now name.now) }
+    ensures { IfOk result (IsRenamedBy workspace.now.graph (known_in workspace.now.findings) declaration.now name.now) }
 {
     Ok(Renamed {
-        places: list_uses(alloc, graph, found, declaration)?,
-        literal: literal_of(alloc, graph, found, declaration)?,
+        places: list_uses(alloc, workspace, declaration)?,
+        literal: literal_of(alloc, workspace, declaration)?,
         name: text_of(alloc, name)?,
     })
 }
@@ -45,16 +41,14 @@ fn renamed_by(
 /// The edit set of a rename, over all files.
 fn edits_by(
     alloc: Global,
-    graph: &Graph,
-    found: &Findings,
+    workspace: &FaultlessWorkspace<'_>,
     renamed: &Renamed,
 ) -> Result<EditSet, AllocError>
-    requires sound { IsFaultless graph.now found.now }
-    requires sorted { IsStrictlySortedBy place_cmp renamed.now.places }
-    ensures edits { IfOk result (AreEditsOf graph.now (known_in found.now) renamed.now) }
-    ensures fits { IfOk result (λ edits. Fits edits graph.now) }
+    requires { IsStrictlySortedBy place_cmp renamed.now.places }
+    ensures edits { IfOk result (AreEditsOf workspace.now.graph (known_in workspace.now.findings) renamed.now) }
+    ensures fits { IfOk result (λ edits. Fits edits workspace.now.graph) }
 {
-    let changed = changes_of(alloc, graph, found, renamed)?;
+    let changed = changes_of(alloc, workspace, renamed)?;
     let added = Vec::new(alloc);
     let edits = EditSet::new(changed, added);
     Ok(edits)
@@ -63,15 +57,13 @@ fn edits_by(
 /// The edits that give a declaration another name, at each identifier that is bound to it. The workspace has no fault.
 pub fn rename_edits(
     alloc: Global,
-    graph: &Graph,
-    found: &Findings,
+    workspace: &FaultlessWorkspace<'_>,
     declaration: &Declaration,
     name: &[u8],
 ) -> Result<EditSet, AllocError>
-    requires { IsFaultless graph.now found.now }
-    ensures edits { IfOk result (AreRenameEdits graph.now (known_in found.now) declaration.now name.now) }
-    ensures fits { IfOk result (λ edits. Fits edits graph.now) }
+    ensures edits { IfOk result (AreRenameEdits workspace.now.graph (known_in workspace.now.findings) declaration.now name.now) }
+    ensures fits { IfOk result (λ edits. Fits edits workspace.now.graph) }
 {
-    let renamed = renamed_by(alloc, graph, found, declaration, name)?;
-    edits_by(alloc, graph, found, &renamed)
+    let renamed = renamed_by(alloc, workspace, declaration, name)?;
+    edits_by(alloc, workspace, &renamed)
 }

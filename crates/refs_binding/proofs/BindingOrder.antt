@@ -9,6 +9,7 @@ use Rattle.std.specs.List.{HoldsAt}
 use Rattle.std.specs.List.Sorted.{IsSortedBy, IsNonDecreasingBy, IsPartitionPoint}
 use Rattle.std.proofs.lemmas.Bool.{true≢false, cases_lt}
 use Rattle.std.proofs.lemmas.List.Sorted.{searchable_from_sorted}
+use Rattle.base_lemmas.proofs.Tests.{less_differs, greater_differs}
 use Rattle.base_files.specs.Packages.{package_paths}
 use Rattle.base_files.specs.Workspace.{Workspace}
 use Rattle.base_files.specs.declared.place.Place.{Place}
@@ -55,12 +56,6 @@ rises bs place sorted = searchable_from_sorted place_cmp_total bound_place bs pl
 
 not_tied : (o : Ordering) (x y : Place) → place_cmp x y ≡ o → (o ≡ Equal → ⊥) → x ≡ y → ⊥
 not_tied o x y is differs same = differs (sym is ∙ ap (place_cmp x) (sym same) ∙ tied_itself place_cmp_total x)
-
-less_differs : Less ≡ Equal → ⊥
-less_differs e = true≢false (ap is_lt e)
-
-greater_differs : Greater ≡ Equal → ⊥
-greater_differs e = let z : ⊥ = cc in z
 
 none_in : (bs : List BoundIdentifier) (place : Place) (i : ℕ) → IsPartitionPoint (λ x. compared place x ≡ Less) (λ x. compared place x ≡ Greater) bs i →
     (b : BoundIdentifier) → Contains bs b → bound_place b ≡ place → ⊥

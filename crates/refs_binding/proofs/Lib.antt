@@ -21,3 +21,4 @@ pub mod Excluding
 pub mod PackageNumbers
 pub mod Folders
 pub mod Alike
+pub mod FaultlessFacts

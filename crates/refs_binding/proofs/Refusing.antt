@@ -1,6 +1,6 @@
 -- Refusals of workspaces with faults, and refusals in workspaces without faults.
 use Rattle.std.proofs.Common.{ℕ, List, []}
-use Rattle.std.specs.Prelude.{Result, Ok, Err}
+use Rattle.std.specs.Prelude.{Result, Ok, Err, IfOk}
 use Rattle.base_files.specs.Workspace.{Workspace}
 use Rattle.base_files.specs.declared.place.Place.{Place}
 use Rattle.base_files.specs.declared.refusal.Refusal.{Refusal}
@@ -9,12 +9,12 @@ use Rattle.workspace_check.specs.declared.findings.Findings.{Findings}
 use Rattle.workspace_check.specs.Found.{AreFindings}
 use Rattle.workspace_check.specs.FaultLists.{ListsFaults}
 use Rattle.refs_binding.specs.Uses.{IsFile, AnswersUses, AnswersUsesAt}
-use Rattle.refs_binding.specs.Workspaces.{RefusesFirst, RefusesFaults, AnswersUsesIn}
+use Rattle.refs_binding.specs.Workspaces.{IsFaultless, RefusesFirst, RefusesFaults, AnswersUsesIn}
 use Rattle.refs_binding.proofs.Units.{sound_by_list}
 
 -- where something was found, the first fault of the list, if there is one
 
-refusal_first : (w : Workspace) (found : Findings) (r : Refusal) → RefusesFirst w (Err r) → RefusesFaults w found (Err r)
+pub refusal_first : (w : Workspace) (found : Findings) (r : Refusal) → RefusesFirst w (Err r) → RefusesFaults w found (Err r)
 refusal_first w found refusal.Memory h = h
 refusal_first w found refusal.BadCommand h = absurd h
 refusal_first w found refusal.BadPath h = absurd h
@@ -40,9 +40,11 @@ refusal_first w found refusal.Already h = absurd h
 refusal_first w found refusal.NoJob h = absurd h
 refusal_first w found refusal.BodyShort h = absurd h
 
-pub first_refused : (w : Workspace) (found : Findings) → AreFindings w found → (r : Result (Unit {0}) Refusal) → RefusesFirst w r → RefusesFaults w found r
-first_refused w found are (Ok done) h = sound_by_list w found are h
-first_refused w found are (Err r) h = refusal_first w found r h
+-- without a first fault there is none
+pub sound_unless_refused : (w : Workspace) (found : Findings) → AreFindings w found → (r : Result (Unit {0}) Refusal) → RefusesFirst w r →
+    IfOk r (λ _. IsFaultless w found)
+sound_unless_refused w found are (Ok done) h = sound_by_list w found are h
+sound_unless_refused w found are (Err r) h = tt
 
 -- the first fault is why there are no uses
 pub faults_refused : (w : Workspace) (found : Findings) (path : List ℕ) (offset : ℕ) (r : Refusal) → RefusesFaults w found (Err r) →

@@ -4,6 +4,7 @@ use Rattle.std.specs.Prelude.{Option, Some, None, Contains, map, slice_get}
 use Rattle.std.specs.List.Sorted.{IsStrictlySortedBy}
 use Rattle.std.proofs.lemmas.Bool.{cases_lt}
 use Rattle.std.proofs.lemmas.Option.{same_Some, slice_get_within, slice_get_read}
+use Rattle.base_lemmas.proofs.Elements.{nothing_in, first_in, later_in}
 use Rattle.types_info.proofs.MeaningLists.{slice_get_some}
 use Rattle.base_files.specs.Packages.{package_paths, package_files}
 use Rattle.base_files.specs.Workspace.{Workspace}
@@ -33,7 +34,7 @@ use Rattle.workspace_check.specs.Found.{AreFindings}
 use Rattle.workspace_check.specs.KnownFindings.{IsFinding, verdicts_by}
 use Rattle.workspace_check.specs.Verdicts.{Verdicts, AreSeen, IsPackageIn, IsFaultBy}
 use Rattle.workspace_check.proofs.Alike.{fault_as}
-use Rattle.workspace_check.proofs.Members.{empty_by, nothing_in, first_in, later_in}
+use Rattle.workspace_check.proofs.Members.{empty_by}
 use Rattle.workspace_check.proofs.OnePackage.{one_checked}
 use Rattle.workspace_check.proofs.OneVerdict.{right_alike, right_below, verdict_by, without_faults}
 use Rattle.refs_binding.specs.Members.{AreOwnDefinitions, definitions_or_none}

@@ -7,16 +7,15 @@ use Rattle.types_info.specs.MemberUses.{AreMemberUses, uses_in}
 use Rattle.refs_binding.specs.declared.indexed.Numbered.{Numbered}
 use Rattle.refs_binding.specs.declared.indexed.Indexed.{Indexed}
 use Rattle.refs_binding.specs.Members.{AreOwnDefinitions}
-use Rattle.refs_binding.specs.Workspaces.{IsFaultless, known_in, IsPackageAt}
+use Rattle.refs_binding.specs.Workspaces.{known_in, IsPackageAt}
 
 -- The number is that of a package of a workspace without faults.
 pub record IsNumbered (at : Numbered) : Type 0 where
-  pub in_range : at.number < length (package_paths at.graph.now)
-  pub sound : IsFaultless at.graph.now at.found.now
+  pub in_range : at.number < length (package_paths at.workspace.now.graph)
 
 -- `p` is the package of the number.
 abbrev pub IsPackageNumbered : Numbered → Package → Type 0
-IsPackageNumbered at p = IsPackageAt at.graph.now (known_in at.found.now) at.number p
+IsPackageNumbered at p = IsPackageAt at.workspace.now.graph (known_in at.workspace.now.findings) at.number p
 
 -- The index, the type definitions and the uses of members are those of the package.
 pub record IsIndexed (of : Indexed) : Type 0 where

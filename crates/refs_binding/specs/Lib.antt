@@ -6,6 +6,7 @@ pub mod Uses
 pub mod Steps
 pub mod Members
 pub mod Workspaces
+pub mod WorkspaceFindings
 pub mod Packages
 pub mod Exports
 pub mod Bindings

@@ -11,7 +11,7 @@ use Rattle.types_declared.specs.declared.export_tables.ExportTable.{ExportTable}
 use Rattle.workspace_check.specs.declared.findings.Findings.{Findings}
 use Rattle.workspace_check.specs.Verdicts.{Verdicts, AreSeen}
 use Rattle.refs_binding.specs.declared.packages.Packages.{Packages}
-use Rattle.refs_binding.specs.Workspaces.{IsFaultless, known_in, IsPackageAt}
+use Rattle.refs_binding.specs.Workspaces.{known_in, IsPackageAt}
 
 -- The list has `count` elements, and `P` relates each index to its element.
 pub record HoldsOfEach {X : Type 0} (P : ℕ → X → Type 0) (count : ℕ) (list : List X) : Type 0 where
@@ -36,12 +36,11 @@ IsTableAs w known n table seen =
 abbrev pub IsTableOf : Workspace → Verdicts → List ExportTable → ℕ → ScopedPackage → Type 0
 IsTableOf w known all n table = (seen : ExportTable) → slice_get all n ≡ Some seen → IsTableAs w known n table seen
 
--- A workspace without faults, what each of its packages sees of others, and the table of each.
+-- What each package of a workspace sees of others, and the table of each.
 pub record AreRead (w : Workspace) (found : Findings) (all : List ExportTable) (list : List ScopedPackage) : Type 0 where
-  pub sound : IsFaultless w found
   pub seen : AreAllSeen w (known_in found) all
   pub tables : HoldsOfEach (IsTableOf w (known_in found) all) (length (package_paths w)) list
 
 -- The packages of a workspace without faults were read.
 abbrev pub ArePackages : Packages → Type 0
-ArePackages p = AreRead p.graph.now p.found.now p.seen.now p.tables.items
+ArePackages p = AreRead p.workspace.now.graph p.workspace.now.findings p.seen.now p.tables.items

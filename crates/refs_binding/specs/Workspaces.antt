@@ -21,6 +21,7 @@ use Rattle.refs_binding.specs.Binding.{BindsByMember, DeclaresMember}
 use Rattle.refs_binding.specs.Steps.{UsesIn, BindsIn, IsExportedBy}
 use Rattle.refs_binding.specs.Uses.{IsPackage, IsFilePackage, HasDeclaration, HasNoIdentifier, HasNoDeclaration, BindsThroughLiteral, IsUseOf, ListsUses, HasFirstFault}
 use Rattle.refs_binding.specs.Places.{place_cmp}
+use Rattle.refs_binding.specs.WorkspaceFindings.{WorkspaceFindings}
 
 -- The findings of a workspace, none of which has a fault.
 pub record IsFaultless (w : Workspace) (found : Findings) : Type 0 where
@@ -118,9 +119,9 @@ RefusesFirst w (Err (Faulty place kind)) = HasFirstFault w place kind
 RefusesFirst w (Err Memory) = ⊤
 RefusesFirst w (Err refusal) = ⊥
 
--- The findings have no faults, or the refusal has the first fault of the workspace.
-abbrev pub RefusesFaults : Workspace → Findings → Result (Unit {0}) Refusal → Type 0
-RefusesFaults w found (Ok done) = IsFaultless w found
+-- The findings have no faults, and the answer is the workspace with them, or the refusal has the first fault of the workspace.
+abbrev pub RefusesFaults : Workspace → Findings → Result WorkspaceFindings Refusal → Type 0
+RefusesFaults w found (Ok workspace) = IsFaultless w found × (workspace ≡ record { graph = w; findings = found })
 RefusesFaults w found (Err (Faulty place kind)) = HasFirstFault w place kind
 RefusesFaults w found (Err Memory) = ⊤
 RefusesFaults w found (Err refusal) = ⊥

@@ -1,9 +1,10 @@
 //! Refuses a workspace with faults.
-ghost use Rattle.std.specs.Prelude.{ℕ, ◌≡◌, [], slice_get, Some, IsTrue};
+ghost use Rattle.std.specs.Prelude.{ℕ, ◌≡◌, [], slice_get, Some, IsTrue, IfOk};
 ghost use Rattle.workspace_check.specs.declared.finding.Finding.{Finding as Found};
 ghost use Rattle.workspace_check.specs.Found.{AreFindings};
-ghost use Rattle.refs_binding.specs.Workspaces.{RefusesFaults, RefusesFirst};
+ghost use Rattle.refs_binding.specs.Workspaces.{IsFaultless, RefusesFaults, RefusesFirst};
 
+use crate::faultless::FaultlessWorkspace;
 use base_files::Refusal;
 use std::alloc::Global;
 use workspace_check::{Findings, SharedFinding, faults};
@@ -36,13 +37,29 @@ fn are_faultless(packages: &[SharedFinding]) -> bool
 }
 
 /// Refuses a workspace with the first fault of its list, if some finding has one. Without a fault no list is made.
-pub fn refuse_faults(alloc: Global, graph: &Graph, found: &Findings) -> Result<(), Refusal>
+fn refuse_if_faulty(alloc: Global, graph: &Graph, found: &Findings) -> Result<(), Refusal>
     requires { AreFindings graph.now found.now }
-    ensures { RefusesFaults graph.now found.now result }
+    ensures first { RefusesFirst graph.now result }
+    ensures sound { IfOk result (λ _. IsFaultless graph.now found.now) }
 {
     if are_faultless(&found.packages) {
         Ok(())
     } else {
         refuse_first(alloc, graph, found)
+    }
+}
+
+/// Returns the workspace if no finding has a fault. Else refuses it with the first fault of its list.
+pub fn refuse_faults<'a>(
+    alloc: Global,
+    graph: &'a Graph,
+    findings: &'a Findings,
+) -> Result<FaultlessWorkspace<'a>, Refusal>
+    requires { AreFindings graph.now findings.now }
+    ensures { RefusesFaults graph.now findings.now result }
+{
+    match refuse_if_faulty(alloc, graph, findings) {
+        Err(refusal) => Err(refusal),
+        Ok(()) => Ok(FaultlessWorkspace { graph, findings }),
     }
 }

@@ -4,19 +4,17 @@ ghost use Rattle.refs_binding.specs.Packages.{IsTableAs};
 ghost use Rattle.refs_binding.specs.Workspaces.{known_in};
 ghost use Rattle.refs_binding.specs.Indexed.{IsNumbered, IsPackageNumbered, IsIndexed};
 
+use crate::faultless::FaultlessWorkspace;
 use crate::reading::{members_of, own_of, path_of};
 use go_scope::table::ScopeTable;
 use types_declared::{ExportTable, Index, Package};
 use types_expr::found::MemberUse;
 use types_expr::world::Definition;
-use workspace_check::Findings;
-use workspace_graph::Graph;
 
 /// The number of a package in a workspace without faults.
 #[derive(Clone, Copy)]
 pub struct Numbered<'a> {
-    pub graph: &'a Graph,
-    pub found: &'a Findings,
+    pub workspace: &'a FaultlessWorkspace<'a>,
     pub number: usize,
 }
 
@@ -36,10 +34,10 @@ pub fn unit_of<'a>(
     table: &'a ScopeTable<'a>,
 ) -> Package<'a>
     requires numbered { IsNumbered at }
-    requires table { IsTableAs at.graph.now (known_in at.found.now) at.number table.now seen.now }
+    requires table { IsTableAs at.workspace.now.graph (known_in at.workspace.now.findings) at.number table.now seen.now }
     ensures { IsPackageNumbered at.entry (package_of result) }
 {
-    let path = path_of(at.graph, at.found, at.number);
+    let path = path_of(at.workspace, at.number);
     let files = table.files();
     Package {
         path,
@@ -57,8 +55,8 @@ pub fn known_of<'a>(at: Numbered<'a>, unit: Package<'a>, index: &'a Index<'a>) -
     ensures unit { IsPackageNumbered at.entry (package_of result.unit) }
     ensures indexed { IsIndexed result }
 {
-    let own = own_of(at.graph, at.found, at.number);
-    let members = members_of(at.graph, at.found, at.number);
+    let own = own_of(at.workspace, at.number);
+    let members = members_of(at.workspace, at.number);
     Indexed {
         unit,
         index,

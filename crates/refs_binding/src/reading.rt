@@ -12,8 +12,9 @@ ghost use Rattle.types_info.specs.MemberUses.{AreMemberUses, uses_in};
 ghost use Rattle.types_declared.specs.Package.{Package as Checked};
 ghost use Rattle.types_info.specs.QualifiedIdentifiers.{AreQualified};
 ghost use Rattle.refs_binding.specs.Members.{AreOwnDefinitions, definitions_or_none};
-ghost use Rattle.refs_binding.specs.Workspaces.{IsFaultless, known_in, IsPackageAt};
+ghost use Rattle.refs_binding.specs.Workspaces.{known_in, IsPackageAt};
 
+use crate::faultless::FaultlessWorkspace;
 use go_ast::FileTree;
 use go_scope::declare::declare;
 use go_scope::table::ScopeTable;
@@ -23,25 +24,21 @@ use types_expr::found::MemberUse;
 use types_expr::symbol::SharedPath;
 use types_expr::world::{Definition, Definitions};
 use types_info::Qualified;
-use workspace_check::Findings;
-use workspace_graph::Graph;
 
 /// The trees of the files of the package of a number.
-pub fn trees<'a>(graph: &'a Graph, found: &Findings, number: usize) -> &'a [FileTree]
-    requires in_range { number < length (package_paths graph.now) }
-    requires sound { IsFaultless graph.now found.now }
-    ensures { OfPackage graph.now number (λ p. AreParsed (package_files graph.now p) result.now []) }
+pub fn trees<'a>(workspace: &FaultlessWorkspace<'a>, number: usize) -> &'a [FileTree]
+    requires { number < length (package_paths workspace.now.graph) }
+    ensures { OfPackage workspace.now.graph number (λ p. AreParsed (package_files workspace.now.graph p) result.now []) }
 {
-    &graph.package(number).trees
+    &workspace.graph.package(number).trees
 }
 
 /// The path of the package of a number.
-pub fn path_of<'a>(graph: &Graph, found: &'a Findings, number: usize) -> &'a SharedPath
-    requires in_range { number < length (package_paths graph.now) }
-    requires sound { IsFaultless graph.now found.now }
-    ensures { OfPackage graph.now number (λ p. result.now ≡ p) }
+pub fn path_of<'a>(workspace: &FaultlessWorkspace<'a>, number: usize) -> &'a SharedPath
+    requires { number < length (package_paths workspace.now.graph) }
+    ensures { OfPackage workspace.now.graph number (λ p. result.now ≡ p) }
 {
-    &found.packages[number].get().path
+    &workspace.findings.packages[number].get().path
 }
 
 /// Returns a package's table in which each import without a name declares the name of the imported package.
@@ -67,29 +64,26 @@ fn definitions_of<'a>(all: &'a Definitions, path: &[u8]) -> &'a [Definition]
 }
 
 /// The type definitions of the package of a number.
-pub fn own_of<'a>(graph: &Graph, found: &'a Findings, number: usize) -> &'a [Definition]
-    requires in_range { number < length (package_paths graph.now) }
-    requires sound { IsFaultless graph.now found.now }
-    ensures { (p : Checked) → IsPackageAt graph.now (known_in found.now) number p → AreOwnDefinitions p result.now }
+pub fn own_of<'a>(workspace: &FaultlessWorkspace<'a>, number: usize) -> &'a [Definition]
+    requires { number < length (package_paths workspace.now.graph) }
+    ensures { (p : Checked) → IsPackageAt workspace.now.graph (known_in workspace.now.findings) number p → AreOwnDefinitions p result.now }
 {
-    let path = path_of(graph, found, number).path();
-    definitions_of(found.export_table.definitions(), path)
+    let path = path_of(workspace, number).path();
+    definitions_of(workspace.findings.export_table.definitions(), path)
 }
 
 /// The uses of members in the package of a number, in one list for each file.
-pub fn members_of<'a>(graph: &Graph, found: &'a Findings, number: usize) -> &'a [Vec<MemberUse>]
-    requires in_range { number < length (package_paths graph.now) }
-    requires sound { IsFaultless graph.now found.now }
-    ensures { (p : Checked) → IsPackageAt graph.now (known_in found.now) number p → AreMemberUses p (map uses_in result.now) }
+pub fn members_of<'a>(workspace: &FaultlessWorkspace<'a>, number: usize) -> &'a [Vec<MemberUse>]
+    requires { number < length (package_paths workspace.now.graph) }
+    ensures { (p : Checked) → IsPackageAt workspace.now.graph (known_in workspace.now.findings) number p → AreMemberUses p (map uses_in result.now) }
 {
-    &found.packages[number].get().members
+    &workspace.findings.packages[number].get().members
 }
 
 /// The qualified identifiers of the package of a number, listed by the path of the package that each one names.
-pub fn qualified_of<'a>(graph: &Graph, found: &'a Findings, number: usize) -> &'a [Qualified]
-    requires in_range { number < length (package_paths graph.now) }
-    requires sound { IsFaultless graph.now found.now }
-    ensures { (p : Checked) → IsPackageAt graph.now (known_in found.now) number p → AreQualified p result.now }
+pub fn qualified_of<'a>(workspace: &FaultlessWorkspace<'a>, number: usize) -> &'a [Qualified]
+    requires { number < length (package_paths workspace.now.graph) }
+    ensures { (p : Checked) → IsPackageAt workspace.now.graph (known_in workspace.now.findings) number p → AreQualified p result.now }
 {
-    &found.packages[number].get().qualified
+    &workspace.findings.packages[number].get().qualified
 }

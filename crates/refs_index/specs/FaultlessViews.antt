@@ -9,7 +9,7 @@ use Rattle.refs_binding.specs.declared.packages.Packages.{Packages}
 use Rattle.refs_binding.specs.Bindings.{IsBound, bound_place}
 use Rattle.refs_binding.specs.Uses.{IsPackage}
 use Rattle.refs_binding.specs.Workspaces.{known_in}
-use Rattle.refs_index.specs.declared.faultless_workspace.FaultlessWorkspace.{FaultlessWorkspace}
+use Rattle.refs_index.specs.declared.workspace_index.WorkspaceIndex.{WorkspaceIndex}
 
 -- A workspace and the verdicts on its packages.
 pub record FaultlessView : Type 0 where
@@ -18,10 +18,10 @@ pub record FaultlessView : Type 0 where
 
 -- The view of packages that were read.
 abbrev pub packages_view : Packages → FaultlessView
-packages_view p = record { workspace = p.graph.now; known = known_in p.found.now }
+packages_view p = record { workspace = p.workspace.now.graph; known = known_in p.workspace.now.findings }
 
 -- The view of an indexed workspace.
-abbrev pub view_in : FaultlessWorkspace → FaultlessView
+abbrev pub view_in : WorkspaceIndex → FaultlessView
 view_in s = packages_view s.packages.now
 
 -- The packages of the workspace, as they are checked.

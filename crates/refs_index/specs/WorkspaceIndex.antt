@@ -5,16 +5,16 @@ use Rattle.refs_binding.specs.declared.packages.Packages.{Packages}
 use Rattle.refs_binding.specs.Bindings.{AreBindings}
 use Rattle.refs_binding.specs.Packages.{ArePackages}
 use Rattle.refs_binding.specs.Workspaces.{known_in}
-use Rattle.refs_index.specs.declared.faultless_workspace.FaultlessWorkspace.{FaultlessWorkspace}
+use Rattle.refs_index.specs.declared.workspace_index.WorkspaceIndex.{WorkspaceIndex}
 use Rattle.refs_places.specs.declared.declared_places.DeclaredPlaces.{DeclaredPlaces}
 use Rattle.refs_places.specs.DeclaredPlaces.{AreAllPlaces}
 
 -- `places` are those of the declarations of the packages, and `bound` are all bound identifiers.
 pub record IsWorkspaceIndex (p : Packages) (places : List DeclaredPlaces) (bound : List BoundIdentifier) : Type 0 where
   pub read : ArePackages p
-  pub declared : AreAllPlaces p.graph.now (known_in p.found.now) places
-  pub bindings : AreBindings p.graph.now (known_in p.found.now) bound
+  pub declared : AreAllPlaces p.workspace.now.graph (known_in p.workspace.now.findings) places
+  pub bindings : AreBindings p.workspace.now.graph (known_in p.workspace.now.findings) bound
 
 -- The workspace has no faults, and its places and bindings are right.
-abbrev pub HasWorkspaceIndex : FaultlessWorkspace → Type 0
+abbrev pub HasWorkspaceIndex : WorkspaceIndex → Type 0
 HasWorkspaceIndex s = IsWorkspaceIndex s.packages.now s.places.items s.bindings

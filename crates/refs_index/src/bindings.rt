@@ -58,13 +58,12 @@ fn bind_indexed(
     number: usize,
 ) -> Result<(), AllocError>
     requires exports { KnowsExports exports.now }
-    requires numbered { IsPackageAt exports.now.graph.now (known_in exports.now.found.now) number (package_of unit) }
+    requires numbered { IsPackageAt exports.now.workspace.now.graph (known_in exports.now.workspace.now.findings) number (package_of unit) }
     requires index { IsIndexOf (package_of unit) index.now }
-    ensures { OnOk result (AddsAll bound.old.items bound.new.items (IsBoundAt exports.now.graph.now (known_in exports.now.found.now) number)) }
+    ensures { OnOk result (AddsAll bound.old.items bound.new.items (IsBoundAt exports.now.workspace.now.graph (known_in exports.now.workspace.now.findings) number)) }
 {
     let at = Numbered {
-        graph: exports.graph,
-        found: exports.found,
+        workspace: exports.workspace,
         number,
     };
     let of = known_of(at, unit, index);
@@ -102,9 +101,9 @@ pub fn bind_numbered(
     number: usize,
 ) -> Result<(), AllocError>
     requires exports { KnowsExports exports.now }
-    requires numbered { IsPackageAt exports.now.graph.now (known_in exports.now.found.now) number (package_of unit) }
+    requires numbered { IsPackageAt exports.now.workspace.now.graph (known_in exports.now.workspace.now.findings) number (package_of unit) }
     requires index { IsIndexOf (package_of unit) index.now }
-    ensures { OnOk result (AddsAll bound.old.items bound.new.items (IsBoundAt exports.now.graph.now (known_in exports.now.found.now) number)) }
+    ensures { OnOk result (AddsAll bound.old.items bound.new.items (IsBoundAt exports.now.workspace.now.graph (known_in exports.now.workspace.now.findings) number)) }
 {
     let mut own = Vec::new(alloc);
     bind_indexed(alloc, &mut own, exports, unit, index, number)?;
@@ -120,14 +119,13 @@ pub fn bind_laid(
     table: &ScopeTable<'_>,
     number: usize,
 ) -> Result<(), AllocError>
-    requires in_range { number < length (package_paths exports.now.graph.now) }
+    requires in_range { number < length (package_paths exports.now.workspace.now.graph) }
     requires exports { KnowsExports exports.now }
-    requires table { IsTableAs exports.now.graph.now (known_in exports.now.found.now) number table.now seen.now }
-    ensures { OnOk result (AddsAll bound.old.items bound.new.items (IsBoundAt exports.now.graph.now (known_in exports.now.found.now) number)) }
+    requires table { IsTableAs exports.now.workspace.now.graph (known_in exports.now.workspace.now.findings) number table.now seen.now }
+    ensures { OnOk result (AddsAll bound.old.items bound.new.items (IsBoundAt exports.now.workspace.now.graph (known_in exports.now.workspace.now.findings) number)) }
 {
     let at = Numbered {
-        graph: exports.graph,
-        found: exports.found,
+        workspace: exports.workspace,
         number,
     };
     let unit = unit_of(at, seen, table);

@@ -6,7 +6,7 @@ ghost use Rattle.refs_index.specs.WorkspaceIndex.{HasWorkspaceIndex};
 ghost use Rattle.refs_index.specs.FaultlessViews.{view_in};
 ghost use Rattle.refs_index.specs.Becoming.{IsSamePredeclared, Becomes};
 
-use crate::faultless_workspace::FaultlessWorkspace;
+use crate::workspace_index::WorkspaceIndex;
 use base_edits::Moves;
 use base_files::Place;
 use refs_binding::Declaration;
@@ -80,8 +80,8 @@ pub fn goes_to(moves: &Moves<'_>, old: &Place, new: &Place) -> Result<bool, Allo
 /// change moves the place of `d`.
 pub fn corresponds(
     moves: &Moves<'_>,
-    before: &FaultlessWorkspace<'_>,
-    then: &FaultlessWorkspace<'_>,
+    before: &WorkspaceIndex<'_>,
+    then: &WorkspaceIndex<'_>,
     d: &Declaration,
     e: &Declaration,
 ) -> Result<bool, AllocError>

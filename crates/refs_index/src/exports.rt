@@ -4,14 +4,14 @@ ghost use Rattle.base_files.specs.Packages.{package_paths};
 ghost use Rattle.refs_binding.specs.Exports.{number_named, AreExportsByNameAt, AreExports};
 ghost use Rattle.refs_binding.specs.Packages.{ArePackages};
 ghost use Rattle.refs_binding.specs.Steps.{IsDeclarationResult};
-ghost use Rattle.refs_binding.specs.Workspaces.{IsFaultless, known_in, ExportsAs};
+ghost use Rattle.refs_binding.specs.Workspaces.{known_in, ExportsAs};
 
 use refs_binding::exports::{numbers, numbers_by};
-use refs_binding::{Declaration, Packages, laid_table, path_of, trees};
+use refs_binding::{
+    Declaration, FaultlessWorkspace, Packages, laid_table, path_of, seen_by, trees,
+};
 use std::alloc::{AllocError, Global};
 use std::collections::BTreeMap;
-use workspace_check::{Findings, seen};
-use workspace_graph::Graph;
 
 /// Returns the numbers of the declarations that the package of a number exports, by name.
 pub fn numbers_of(
@@ -19,9 +19,9 @@ pub fn numbers_of(
     packages: &Packages<'_>,
     number: usize,
 ) -> Result<BTreeMap<Vec<u8>, usize>, AllocError>
-    requires in_range { number < length (package_paths packages.now.graph.now) }
+    requires in_range { number < length (package_paths packages.now.workspace.now.graph) }
     requires read { ArePackages packages.now }
-    ensures { IfOk result (AreExportsByNameAt packages.now.graph.now (known_in packages.now.found.now) number) }
+    ensures { IfOk result (AreExportsByNameAt packages.now.workspace.now.graph (known_in packages.now.workspace.now.findings) number) }
 {
     let unit = packages.unit(number);
     numbers(alloc, unit)
@@ -30,18 +30,16 @@ pub fn numbers_of(
 /// Reads the package of a number, and returns the numbers of the declarations that it exports, by name.
 pub fn numbers_at(
     alloc: Global,
-    graph: &Graph,
-    found: &Findings,
+    workspace: &FaultlessWorkspace<'_>,
     number: usize,
 ) -> Result<BTreeMap<Vec<u8>, usize>, AllocError>
-    requires in_range { number < length (package_paths graph.now) }
-    requires sound { IsFaultless graph.now found.now }
-    ensures { IfOk result (AreExportsByNameAt graph.now (known_in found.now) number) }
+    requires { number < length (package_paths workspace.now.graph) }
+    ensures { IfOk result (AreExportsByNameAt workspace.now.graph (known_in workspace.now.findings) number) }
 {
-    let files = trees(graph, found, number);
-    let seen = seen(alloc, graph, number, &found.export_table)?;
+    let files = trees(workspace, number);
+    let seen = seen_by(alloc, workspace, number)?;
     let table = laid_table(alloc, files, &seen)?;
-    let path = path_of(graph, found, number);
+    let path = path_of(workspace, number);
     numbers_by(alloc, path, files, &table, &seen)
 }
 
@@ -51,10 +49,10 @@ pub fn exports(
     packages: &Packages<'_>,
 ) -> Result<Vec<BTreeMap<Vec<u8>, usize>>, AllocError>
     requires { ArePackages packages.now }
-    ensures { IfOk result (λ exports. AreExports packages.now.graph.now (known_in packages.now.found.now) exports.items) }
+    ensures { IfOk result (λ exports. AreExports packages.now.workspace.now.graph (known_in packages.now.workspace.now.findings) exports.items) }
 {
     let mut exports = Vec::new(alloc);
-    for number in 0..packages.graph.len() {
+    for number in 0..packages.workspace.len() {
         exports.push(numbers_of(alloc, packages, number)?)?;
     }
     Ok(exports)
@@ -69,22 +67,20 @@ pub fn named(numbers: &BTreeMap<Vec<u8>, usize>, name: &[u8]) -> Option<usize>
 
 /// Returns the declaration that the package of a path exports under a name.
 pub fn exported(
-    graph: &Graph,
-    found: &Findings,
+    workspace: &FaultlessWorkspace<'_>,
     exports: &[BTreeMap<Vec<u8>, usize>],
     path: &[u8],
     name: &[u8],
 ) -> Result<Option<Declaration>, AllocError>
-    requires sound { IsFaultless graph.now found.now }
-    requires exports { AreExports graph.now (known_in found.now) exports.now }
-    ensures { IfOk result (IsDeclarationResult (ExportsAs graph.now (known_in found.now) path.now name.now)) }
+    requires { AreExports workspace.now.graph (known_in workspace.now.findings) exports.now }
+    ensures { IfOk result (IsDeclarationResult (ExportsAs workspace.now.graph (known_in workspace.now.findings) path.now name.now)) }
 {
-    match graph.number_of(path) {
+    match workspace.number_of(path) {
         None => Ok(None),
         Some(number) => match named(&exports[number], name) {
             None => Ok(None),
             Some(d) => {
-                let path = path_of(graph, found, number).clone()?;
+                let path = path_of(workspace, number).clone()?;
                 Ok(Some(Declaration::Declared(path, d)))
             }
         },

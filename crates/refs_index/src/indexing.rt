@@ -25,10 +25,10 @@ fn index_indexed(
     number: usize,
 ) -> Result<(), AllocError>
     requires exports { KnowsExports exports.now }
-    requires numbered { IsPackageAt exports.now.graph.now (known_in exports.now.found.now) number (package_of unit) }
-    ensures places { OnOk result (AreDeclaredBelow exports.now.graph.now (known_in exports.now.found.now) number places.old.items
-        → AreDeclaredBelow exports.now.graph.now (known_in exports.now.found.now) (number + 1) places.new.items) }
-    ensures bound { OnOk result (AddsAll bound.old.items bound.new.items (IsBoundAt exports.now.graph.now (known_in exports.now.found.now) number)) }
+    requires numbered { IsPackageAt exports.now.workspace.now.graph (known_in exports.now.workspace.now.findings) number (package_of unit) }
+    ensures places { OnOk result (AreDeclaredBelow exports.now.workspace.now.graph (known_in exports.now.workspace.now.findings) number places.old.items
+        → AreDeclaredBelow exports.now.workspace.now.graph (known_in exports.now.workspace.now.findings) (number + 1) places.new.items) }
+    ensures bound { OnOk result (AddsAll bound.old.items bound.new.items (IsBoundAt exports.now.workspace.now.graph (known_in exports.now.workspace.now.findings) number)) }
 {
     let index = Index::of(alloc, unit)?;
     places.push(indexed_places(alloc, unit, &index)?)?;
@@ -44,16 +44,15 @@ fn index_package(
     numbers: &[Option<BTreeMap<Vec<u8>, usize>>],
     number: usize,
 ) -> Result<(), AllocError>
-    requires in_range { number < length (package_paths packages.now.graph.now) }
+    requires in_range { number < length (package_paths packages.now.workspace.now.graph) }
     requires read { ArePackages packages.now }
-    requires exports { AreSomeExports packages.now.graph.now (known_in packages.now.found.now) numbers.now }
-    ensures places { OnOk result (AreDeclaredBelow packages.now.graph.now (known_in packages.now.found.now) number places.old.items
-        → AreDeclaredBelow packages.now.graph.now (known_in packages.now.found.now) (number + 1) places.new.items) }
-    ensures bound { OnOk result (AddsAll bound.old.items bound.new.items (IsBoundAt packages.now.graph.now (known_in packages.now.found.now) number)) }
+    requires exports { AreSomeExports packages.now.workspace.now.graph (known_in packages.now.workspace.now.findings) numbers.now }
+    ensures places { OnOk result (AreDeclaredBelow packages.now.workspace.now.graph (known_in packages.now.workspace.now.findings) number places.old.items
+        → AreDeclaredBelow packages.now.workspace.now.graph (known_in packages.now.workspace.now.findings) (number + 1) places.new.items) }
+    ensures bound { OnOk result (AddsAll bound.old.items bound.new.items (IsBoundAt packages.now.workspace.now.graph (known_in packages.now.workspace.now.findings) number)) }
 {
     let exports = KnownExports {
-        graph: packages.graph,
-        found: packages.found,
+        workspace: packages.workspace,
         numbers,
     };
     index_indexed(
@@ -74,12 +73,12 @@ pub fn index_all(
     numbers: &[Option<BTreeMap<Vec<u8>, usize>>],
 ) -> Result<Vec<DeclaredPlaces>, AllocError>
     requires read { ArePackages packages.now }
-    requires exports { AreSomeExports packages.now.graph.now (known_in packages.now.found.now) numbers.now }
-    ensures places { IfOk result (λ all. AreAllPlaces packages.now.graph.now (known_in packages.now.found.now) all.items) }
-    ensures bound { IfOk result (λ all. AddsAll bound.old.items bound.new.items (IsBound packages.now.graph.now (known_in packages.now.found.now))) }
+    requires exports { AreSomeExports packages.now.workspace.now.graph (known_in packages.now.workspace.now.findings) numbers.now }
+    ensures places { IfOk result (λ all. AreAllPlaces packages.now.workspace.now.graph (known_in packages.now.workspace.now.findings) all.items) }
+    ensures bound { IfOk result (λ all. AddsAll bound.old.items bound.new.items (IsBound packages.now.workspace.now.graph (known_in packages.now.workspace.now.findings))) }
 {
     let mut all = Vec::new(alloc);
-    for number in 0..packages.graph.len() {
+    for number in 0..packages.workspace.len() {
         index_package(alloc, &mut all, bound, packages, numbers, number)?;
     }
     Ok(all)

@@ -7,13 +7,13 @@ ghost use Rattle.refs_binding.specs.Exports.{AreExportsByNameAt};
 ghost use Rattle.refs_index.specs.KnownExports.{AreSomeExports, IsImportedAmong, KnowsExports};
 ghost use Rattle.refs_binding.specs.Packages.{ArePackages};
 ghost use Rattle.refs_binding.specs.Steps.{IsDeclarationResult};
-ghost use Rattle.refs_binding.specs.Workspaces.{IsFaultless, known_in, ExportsAs, IsExportedNumber};
+ghost use Rattle.refs_binding.specs.Workspaces.{known_in, ExportsAs, IsExportedNumber};
 
 use crate::exports::{named, numbers_at, numbers_of};
-use refs_binding::{Declaration, Packages, path_of};
+use refs_binding::{Declaration, FaultlessWorkspace, Packages, path_of};
 use std::alloc::{AllocError, Global};
 use std::collections::BTreeMap;
-use workspace_check::{Findings, is_marked};
+use workspace_check::is_marked;
 use workspace_graph::Graph;
 
 /// Whether a marked package imports the package of a number.
@@ -32,17 +32,15 @@ fn is_imported(graph: &Graph, marks: &[bool], number: usize) -> bool
 /// Returns the exports of the package of a number, if a marked package imports it.
 fn imported_numbers(
     alloc: Global,
-    graph: &Graph,
-    found: &Findings,
+    workspace: &FaultlessWorkspace<'_>,
     marks: &[bool],
     number: usize,
 ) -> Result<Option<BTreeMap<Vec<u8>, usize>>, AllocError>
-    requires in_range { number < length (package_paths graph.now) }
-    requires sound { IsFaultless graph.now found.now }
-    ensures { IfOk result (λ numbers. IfSome numbers (AreExportsByNameAt graph.now (known_in found.now) number)) }
+    requires { number < length (package_paths workspace.now.graph) }
+    ensures { IfOk result (λ numbers. IfSome numbers (AreExportsByNameAt workspace.now.graph (known_in workspace.now.findings) number)) }
 {
-    if is_imported(graph, marks, number) {
-        Ok(Some(numbers_at(alloc, graph, found, number)?))
+    if is_imported(workspace.graph, marks, number) {
+        Ok(Some(numbers_at(alloc, workspace, number)?))
     } else {
         Ok(None)
     }
@@ -51,16 +49,14 @@ fn imported_numbers(
 /// Returns the exports, by package number, of each package that a marked package imports. Other packages are not read.
 pub fn imported_exports(
     alloc: Global,
-    graph: &Graph,
-    found: &Findings,
+    workspace: &FaultlessWorkspace<'_>,
     marks: &[bool],
 ) -> Result<Vec<Option<BTreeMap<Vec<u8>, usize>>>, AllocError>
-    requires { IsFaultless graph.now found.now }
-    ensures { IfOk result (λ all. AreSomeExports graph.now (known_in found.now) all.items) }
+    ensures { IfOk result (λ all. AreSomeExports workspace.now.graph (known_in workspace.now.findings) all.items) }
 {
     let mut all = Vec::new(alloc);
-    for number in 0..graph.len() {
-        all.push(imported_numbers(alloc, graph, found, marks, number)?)?;
+    for number in 0..workspace.len() {
+        all.push(imported_numbers(alloc, workspace, marks, number)?)?;
     }
     Ok(all)
 }
@@ -71,10 +67,10 @@ pub fn all_exports(
     packages: &Packages<'_>,
 ) -> Result<Vec<Option<BTreeMap<Vec<u8>, usize>>>, AllocError>
     requires { ArePackages packages.now }
-    ensures { IfOk result (λ all. AreSomeExports packages.now.graph.now (known_in packages.now.found.now) all.items) }
+    ensures { IfOk result (λ all. AreSomeExports packages.now.workspace.now.graph (known_in packages.now.workspace.now.findings) all.items) }
 {
     let mut all = Vec::new(alloc);
-    for number in 0..packages.graph.len() {
+    for number in 0..packages.workspace.len() {
         all.push(Some(numbers_of(alloc, packages, number)?))?;
     }
     Ok(all)
@@ -83,22 +79,21 @@ pub fn all_exports(
 /// The exports of packages, by number. A package whose exports are missing is read on demand.
 #[derive(Drop)]
 pub struct KnownExports<'a> {
-    pub graph: &'a Graph,
-    pub found: &'a Findings,
+    pub workspace: &'a FaultlessWorkspace<'a>,
     pub numbers: &'a [Option<BTreeMap<Vec<u8>, usize>>],
 }
 
 impl KnownExports<'_> {
     /// Returns the number of the declaration that the package of a number exports under a name.
     fn number(&self, alloc: Global, number: usize, name: &[u8]) -> Result<Option<usize>, AllocError>
-        requires in_range { number < length (package_paths self.now.graph.now) }
+        requires in_range { number < length (package_paths self.now.workspace.now.graph) }
         requires exports { KnowsExports self.now }
-        ensures { IfOk result (IsExportedNumber self.now.graph.now (known_in self.now.found.now) number name.now) }
+        ensures { IfOk result (IsExportedNumber self.now.workspace.now.graph (known_in self.now.workspace.now.findings) number name.now) }
     {
         match &self.numbers[number] {
             Some(numbers) => Ok(named(numbers, name)),
             None => {
-                let numbers = numbers_at(alloc, self.graph, self.found, number)?;
+                let numbers = numbers_at(alloc, self.workspace, number)?;
                 Ok(named(&numbers, name))
             }
         }
@@ -112,14 +107,14 @@ impl KnownExports<'_> {
         name: &[u8],
     ) -> Result<Option<Declaration>, AllocError>
         requires { KnowsExports self.now }
-        ensures { IfOk result (IsDeclarationResult (ExportsAs self.now.graph.now (known_in self.now.found.now) path.now name.now)) }
+        ensures { IfOk result (IsDeclarationResult (ExportsAs self.now.workspace.now.graph (known_in self.now.workspace.now.findings) path.now name.now)) }
     {
-        match self.graph.number_of(path) {
+        match self.workspace.number_of(path) {
             None => Ok(None),
             Some(number) => match self.number(alloc, number, name)? {
                 None => Ok(None),
                 Some(d) => {
-                    let path = path_of(self.graph, self.found, number).clone()?;
+                    let path = path_of(self.workspace, number).clone()?;
                     Ok(Some(Declaration::Declared(path, d)))
                 }
             },

@@ -10,12 +10,12 @@ mod bound_identifier;
 mod bound_unit;
 mod corresponding;
 pub mod exports;
-mod faultless_workspace;
 mod indexing;
 mod known_exports;
+mod workspace_index;
 mod workspace_queries;
 
 pub use bindings::{Bindings, bind_laid, bind_numbered};
 pub use corresponding::{are_predeclared, corresponds, goes_to, is_same};
-pub use faultless_workspace::FaultlessWorkspace;
 pub use known_exports::{KnownExports, all_exports, imported_exports};
+pub use workspace_index::WorkspaceIndex;

@@ -9,8 +9,8 @@ ghost use Rattle.refs_index.specs.WorkspaceIndex.{HasWorkspaceIndex};
 ghost use Rattle.refs_places.specs.Identified.{IsIdentifierAt};
 ghost use Rattle.refs_index.specs.FaultlessViews.{view_in, packages_view, view_packages, IsBoundInView, IsBoundAtPlace};
 
-use crate::faultless_workspace::FaultlessWorkspace;
 use crate::indexing::index_all;
+use crate::workspace_index::WorkspaceIndex;
 use crate::{Bindings, all_exports};
 use base_files::Place;
 use refs_binding::{BoundIdentifier, Declaration, Packages};
@@ -19,12 +19,9 @@ use refs_places::declared_places::{declared_at, declared_near};
 use refs_places::identifier_places::identifier_places;
 use std::alloc::{AllocError, Global};
 
-impl<'a> FaultlessWorkspace<'a> {
+impl<'a> WorkspaceIndex<'a> {
     /// Indexes the packages of a workspace without faults.
-    pub fn of(
-        alloc: Global,
-        packages: &'a Packages<'a>,
-    ) -> Result<FaultlessWorkspace<'a>, AllocError>
+    pub fn of(alloc: Global, packages: &'a Packages<'a>) -> Result<WorkspaceIndex<'a>, AllocError>
         requires { ArePackages packages.now }
         ensures view { IfOk result (λ sound. view_in sound ≡ packages_view packages.now) }
         ensures held { IfOk result (λ sound. HasWorkspaceIndex sound) }
@@ -33,7 +30,7 @@ impl<'a> FaultlessWorkspace<'a> {
         let mut bound = Vec::new(alloc);
         let places = index_all(alloc, &mut bound, packages, &numbers)?;
         let bindings = Bindings::of(bound)?;
-        Ok(FaultlessWorkspace {
+        Ok(WorkspaceIndex {
             packages,
             places,
             bindings,
@@ -46,7 +43,7 @@ impl<'a> FaultlessWorkspace<'a> {
         requires { HasWorkspaceIndex self.now }
         ensures { IsChoiceIn (IsDeclaredAt (view_packages (view_in self.now)) declaration.now) result }
     {
-        declared_near(self.packages.graph, &self.places, near, declaration)
+        declared_near(self.packages.workspace, &self.places, near, declaration)
     }
 
     /// Returns the place of a declaration, or `None` if it is predeclared.
@@ -54,7 +51,7 @@ impl<'a> FaultlessWorkspace<'a> {
         requires { HasWorkspaceIndex self.now }
         ensures { IsChoiceIn (IsDeclaredAt (view_packages (view_in self.now)) declaration.now) result }
     {
-        declared_at(self.packages.graph, &self.places, declaration)
+        declared_at(self.packages.workspace, &self.places, declaration)
     }
 
     /// The bound identifiers, sorted by place.

@@ -3,8 +3,9 @@ use Rattle.std.proofs.Common.{ℕ, zero, suc, ◌≡◌, ◌<◌, ◌≤◌, Lis
 use Rattle.std.specs.Prelude.{Some, slice_get}
 use Rattle.std.specs.List.{AllByRecursion}
 use Rattle.std.proofs.lemmas.Option.{none-some, same_Some}
+use Rattle.base_lemmas.proofs.EachElement.{all_append}
 use Rattle.go_scope.specs.declared.model.Position.{Position}
-use Rattle.law_tokens.proofs.Elements.{all_append, all_got}
+use Rattle.law_tokens.proofs.Elements.{all_got}
 
 -- of all elements
 

@@ -2,6 +2,7 @@
 use Rattle.std.proofs.Common.{ℕ, ◌<◌, ◌⊎◌, inl, inr, List, [], ◌∷◌, length, map, refl, subst}
 use Rattle.std.specs.Prelude.{Contains}
 use Rattle.std.proofs.lemmas.Bool.{cases_Bool}
+use Rattle.base_lemmas.proofs.Elements.{nothing_in, first_or_later}
 use Rattle.base_files.specs.Packages.{package_paths}
 use Rattle.base_files.specs.Workspace.{Workspace}
 use Rattle.types_declared.specs.declared.fault.Fault.{Fault}
@@ -19,7 +20,7 @@ use Rattle.workspace_check.specs.FaultLists.{ListsFaults}
 use Rattle.workspace_check.specs.Verdicts.{Verdicts, AreVerdicts, AreStates, IsStateOf, is_missing, is_on_cycle, is_faulty, is_good, IsPackageIn, IsInnerFault}
 use Rattle.workspace_check.proofs.Closed.{imports_closed}
 use Rattle.workspace_check.proofs.FaultFiles.{in_outer, in_later, identifiers_stand}
-use Rattle.workspace_check.proofs.Members.{nothing_in, first_or_later, cases_contains}
+use Rattle.workspace_check.proofs.Members.{cases_contains}
 use Rattle.workspace_check.proofs.OneList.{no_fault}
 use Rattle.workspace_check.proofs.PackageFiles.{package_file, some_tree}
 use Rattle.refs_binding.specs.Uses.{IsPackage}

@@ -6,6 +6,7 @@ use Rattle.std.specs.List.{AllByRecursion, flat_map}
 use Rattle.std.proofs.lemmas.Bool.{true≢false}
 use Rattle.std.proofs.lemmas.List.Elements.{All-contains, All-contains_itself, All-from_recursion, recursion_from_All}
 use Rattle.std.proofs.lemmas.Option.{get_or_from_slice_get}
+use Rattle.base_lemmas.proofs.EachElement.{all_append, all_front, all_back}
 use Rattle.go_scanner.specs.declared.piece.Class.{Class}
 use Rattle.go_scanner.specs.declared.piece.Piece.{Piece}
 use Rattle.go_scanner.specs.Cuts.{bytes_of}
@@ -20,7 +21,6 @@ use Rattle.go_ast.specs.Kinds.{kind_of, kinds_from, kinds_of}
 use Rattle.go_ast.specs.Tree.{Item, Group, single, several, ImportTree, ImportsTree, DeclTree, VarDecl, TypeDecl, FuncDecl, FileTree}
 use Rattle.workspace_graph.specs.FileImports.{paths_in, import_literals}
 use Rattle.law_tokens.specs.Tokens.{is_ident_token, is_header_name, begins_declaration, names_among, identifiers_among}
-use Rattle.law_tokens.proofs.Elements.{all_append, all_left, all_right}
 
 -- of the identifiers among tokens
 
@@ -113,10 +113,10 @@ module _ (R : ℕ → Type 0) where
       all_append Tells (imports_tokens i) (all_tokens imports_tokens is) (
         (λ e. absurd (let z : ⊥ = cc in z)),
         all_append Tells (group_tokens import_tokens i.imports) (sign kind.Semicolon i.semicolon ∷ [])
-            (group_tells i.imports (all_left R (paths_in i.imports) others r))
+            (group_tells i.imports (all_front R (paths_in i.imports) others r))
             (other_tells kind.Semicolon i.semicolon (λ e. cc)),
       )
-      (imports_tell is (all_right R (paths_in i.imports) others r))
+      (imports_tell is (all_back R (paths_in i.imports) others r))
 
   file_tells : (f : FileTree) → AllByRecursion R (import_literals f) → AllTell (identifiers_among (flatten f))
   unfolding flatten identifiers_among

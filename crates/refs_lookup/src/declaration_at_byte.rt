@@ -7,7 +7,7 @@ ghost use Rattle.refs_binding.specs.Indexed.{IsNumbered, IsPackageNumbered, IsIn
 ghost use Rattle.refs_binding.specs.Packages.{IsTableAs};
 ghost use Rattle.refs_binding.specs.Steps.{IsDeclarationResult};
 ghost use Rattle.refs_binding.specs.Uses.{IsPackage, IsBoundTo};
-ghost use Rattle.refs_binding.specs.Workspaces.{IsFaultless, known_in, ExportsAs, IsExportedNumber, BindsMember, FindsDeclaration, FindsDeclarationAt, FindsDeclarationIn};
+ghost use Rattle.refs_binding.specs.Workspaces.{known_in, ExportsAs, IsExportedNumber, BindsMember, FindsDeclaration, FindsDeclarationAt, FindsDeclarationIn};
 
 use crate::exported::exported_as;
 use crate::identifier_at_byte::{identifier_at, named_by};
@@ -16,12 +16,12 @@ use crate::used_member::declaration_by_member;
 use base_files::{Path, Refusal};
 use go_scope::table::ScopeTable;
 use refs_binding::indexed::{Indexed, Numbered, known_of, unit_of};
-use refs_binding::{Declaration, declaration_in_scope, path_of, read_table};
+use refs_binding::{
+    Declaration, FaultlessWorkspace, declaration_in_scope, path_of, read_table, seen_by,
+};
 use std::alloc::{AllocError, Global};
 use types_declared::{ExportTable, Index, Package};
 use types_info::qualifying_path;
-use workspace_check::{Findings, seen};
-use workspace_graph::Graph;
 
 /// Returns the number of the declaration that a package exports under a name, by its table and by what it sees of others.
 fn exported_by(
@@ -31,8 +31,8 @@ fn exported_by(
     name: &[u8],
 ) -> Option<usize>
     requires numbered { IsNumbered at }
-    requires table { IsTableAs at.graph.now (known_in at.found.now) at.number table.now seen.now }
-    ensures { IsExportedNumber at.entry.graph.now (known_in at.entry.found.now) at.entry.number name.now result }
+    requires table { IsTableAs at.workspace.now.graph (known_in at.workspace.now.findings) at.number table.now seen.now }
+    ensures { IsExportedNumber at.entry.workspace.now.graph (known_in at.entry.workspace.now.findings) at.entry.number name.now result }
 {
     exported_as(unit_of(at, seen, table), name)
 }
@@ -44,36 +44,30 @@ fn exported_number(
     name: &[u8],
 ) -> Result<Option<usize>, AllocError>
     requires { IsNumbered at }
-    ensures { IfOk result (IsExportedNumber at.entry.graph.now (known_in at.entry.found.now) at.entry.number name.now) }
+    ensures { IfOk result (IsExportedNumber at.entry.workspace.now.graph (known_in at.entry.workspace.now.findings) at.entry.number name.now) }
 {
-    let seen = seen(alloc, at.graph, at.number, &at.found.export_table)?;
-    let table = read_table(alloc, at.graph, at.found, &seen, at.number)?;
+    let seen = seen_by(alloc, at.workspace, at.number)?;
+    let table = read_table(alloc, at.workspace, &seen, at.number)?;
     Ok(exported_by(at, &seen, &table, name))
 }
 
 /// Returns the declaration that the package of a path exports under a name.
 fn exported_declaration(
     alloc: Global,
-    graph: &Graph,
-    found: &Findings,
+    workspace: &FaultlessWorkspace<'_>,
     path: &[u8],
     name: &[u8],
 ) -> Result<Option<Declaration>, AllocError>
-    requires { IsFaultless graph.now found.now }
-    ensures { IfOk result (IsDeclarationResult (ExportsAs graph.now (known_in found.now) path.now name.now)) }
+    ensures { IfOk result (IsDeclarationResult (ExportsAs workspace.now.graph (known_in workspace.now.findings) path.now name.now)) }
 {
-    match graph.number_of(path) {
+    match workspace.number_of(path) {
         None => Ok(None),
         Some(number) => {
-            let at = Numbered {
-                graph,
-                found,
-                number,
-            };
+            let at = Numbered { workspace, number };
             match exported_number(alloc, at, name)? {
                 None => Ok(None),
                 Some(d) => {
-                    let path = path_of(graph, found, number).clone()?;
+                    let path = path_of(workspace, number).clone()?;
                     Ok(Some(Declaration::Declared(path, d)))
                 }
             }
@@ -84,20 +78,18 @@ fn exported_declaration(
 /// Returns the declaration of `u` as `N` in a qualified identifier `q.N`: what the package that `q` names exports under the name `N`.
 fn declaration_by_package(
     alloc: Global,
-    graph: &Graph,
-    found: &Findings,
+    workspace: &FaultlessWorkspace<'_>,
     unit: Package<'_>,
     index: &Index<'_>,
     u: usize,
 ) -> Result<Option<Declaration>, AllocError>
-    requires sound { IsFaultless graph.now found.now }
     requires index { IsIndexOf (package_of unit) index.now }
     requires in_range { u < length unit.table.now.sites }
-    ensures { IfOk result (IsDeclarationResult (BindsQualified (IsPackage graph.now (known_in found.now)) (package_of unit.entry) u)) }
+    ensures { IfOk result (IsDeclarationResult (BindsQualified (IsPackage workspace.now.graph (known_in workspace.now.findings)) (package_of unit.entry) u)) }
 {
     match qualifying_path(unit, index, u) {
         None => Ok(None),
-        Some(path) => exported_declaration(alloc, graph, found, path, unit.table.name(u)),
+        Some(path) => exported_declaration(alloc, workspace, path, unit.table.name(u)),
     }
 }
 
@@ -120,18 +112,16 @@ fn member_declaration(
 /// Returns the declaration of an identifier that no scope binds: a declaration that another package exports, or a field or method.
 fn declaration_beyond(
     alloc: Global,
-    graph: &Graph,
-    found: &Findings,
+    workspace: &FaultlessWorkspace<'_>,
     of: &Indexed<'_>,
     u: usize,
 ) -> Result<Option<Declaration>, AllocError>
-    requires sound { IsFaultless graph.now found.now }
     requires indexed { IsIndexed of.now }
     requires in_range { u < length of.now.unit.table.now.sites }
     requires unbound { (d : Bound) → BindsByScope (package_of of.now.unit) u d → ⊥ }
-    ensures { IfOk result (IsDeclarationResult (IsBoundTo graph.now (known_in found.now) (package_of of.now.unit) u)) }
+    ensures { IfOk result (IsDeclarationResult (IsBoundTo workspace.now.graph (known_in workspace.now.findings) (package_of of.now.unit) u)) }
 {
-    match declaration_by_package(alloc, graph, found, of.unit, of.index, u)? {
+    match declaration_by_package(alloc, workspace, of.unit, of.index, u)? {
         Some(declaration) => Ok(Some(declaration)),
         None => member_declaration(alloc, of, u),
     }
@@ -140,19 +130,17 @@ fn declaration_beyond(
 /// Returns the declaration that an identifier of a package is bound to.
 fn declaration_of(
     alloc: Global,
-    graph: &Graph,
-    found: &Findings,
+    workspace: &FaultlessWorkspace<'_>,
     of: &Indexed<'_>,
     u: usize,
 ) -> Result<Option<Declaration>, AllocError>
-    requires sound { IsFaultless graph.now found.now }
     requires indexed { IsIndexed of.now }
     requires in_range { u < length of.now.unit.table.now.sites }
-    ensures { IfOk result (IsDeclarationResult (IsBoundTo graph.now (known_in found.now) (package_of of.now.unit) u)) }
+    ensures { IfOk result (IsDeclarationResult (IsBoundTo workspace.now.graph (known_in workspace.now.findings) (package_of of.now.unit) u)) }
 {
     match declaration_in_scope(of.unit, u)? {
         Some(declaration) => Ok(Some(declaration)),
-        None => declaration_beyond(alloc, graph, found, of, u),
+        None => declaration_beyond(alloc, workspace, of, u),
     }
 }
 
@@ -162,21 +150,19 @@ fn declaration_of(
 /// is bound to no declaration.
 pub fn declaration_in_package(
     alloc: Global,
-    graph: &Graph,
-    found: &Findings,
+    workspace: &FaultlessWorkspace<'_>,
     of: &Indexed<'_>,
     path: &Path,
     offset: usize,
 ) -> Result<Declaration, Refusal>
-    requires sound { IsFaultless graph.now found.now }
-    requires indexed { IsIndexed of.now }
-    ensures { FindsDeclarationIn graph.now (known_in found.now) (package_of of.now.unit) path.now offset result }
+    requires { IsIndexed of.now }
+    ensures { FindsDeclarationIn workspace.now.graph (known_in workspace.now.findings) (package_of of.now.unit) path.now offset result }
 {
     match identifier_at(of.unit, path, offset) {
         None => Err(Refusal::NoIdentifier),
         Some(u) => {
             let name = named_by(of.unit, u);
-            match declaration_of(alloc, graph, found, of, name)? {
+            match declaration_of(alloc, workspace, of, name)? {
                 None => Err(Refusal::NotRenamable),
                 Some(declaration) => Ok(declaration),
             }
@@ -196,10 +182,10 @@ fn declaration_found(
     requires numbered { IsNumbered at }
     requires unit { IsPackageNumbered at (package_of unit) }
     requires index { IsIndexOf (package_of unit) index.now }
-    ensures { FindsDeclarationAt at.entry.graph.now (known_in at.entry.found.now) at.entry.number file.now offset result }
+    ensures { FindsDeclarationAt at.entry.workspace.now.graph (known_in at.entry.workspace.now.findings) at.entry.number file.now offset result }
 {
     let of = known_of(at, unit, index);
-    declaration_in_package(alloc, at.graph, at.found, &of, file, offset)
+    declaration_in_package(alloc, at.workspace, &of, file, offset)
 }
 
 /// Returns the declaration of the identifier at a byte of a file of a numbered package, by the package's table and by what it sees.
@@ -212,8 +198,8 @@ fn declaration_by(
     offset: usize,
 ) -> Result<Declaration, Refusal>
     requires numbered { IsNumbered at }
-    requires table { IsTableAs at.graph.now (known_in at.found.now) at.number table.now seen.now }
-    ensures { FindsDeclarationAt at.entry.graph.now (known_in at.entry.found.now) at.entry.number file.now offset result }
+    requires table { IsTableAs at.workspace.now.graph (known_in at.workspace.now.findings) at.number table.now seen.now }
+    ensures { FindsDeclarationAt at.entry.workspace.now.graph (known_in at.entry.workspace.now.findings) at.entry.number file.now offset result }
 {
     let unit = unit_of(at, seen, table);
     let index = Index::of(alloc, unit)?;
@@ -228,10 +214,10 @@ fn declaration_in(
     offset: usize,
 ) -> Result<Declaration, Refusal>
     requires { IsNumbered at }
-    ensures { FindsDeclarationAt at.entry.graph.now (known_in at.entry.found.now) at.entry.number file.now offset result }
+    ensures { FindsDeclarationAt at.entry.workspace.now.graph (known_in at.entry.workspace.now.findings) at.entry.number file.now offset result }
 {
-    let seen = seen(alloc, at.graph, at.number, &at.found.export_table)?;
-    let table = read_table(alloc, at.graph, at.found, &seen, at.number)?;
+    let seen = seen_by(alloc, at.workspace, at.number)?;
+    let table = read_table(alloc, at.workspace, &seen, at.number)?;
     declaration_by(alloc, at, &seen, &table, file, offset)
 }
 
@@ -241,22 +227,16 @@ fn declaration_in(
 /// is bound to no declaration.
 pub fn declaration_at(
     alloc: Global,
-    graph: &Graph,
-    found: &Findings,
+    workspace: &FaultlessWorkspace<'_>,
     path: &Path,
     offset: usize,
 ) -> Result<Declaration, Refusal>
-    requires { IsFaultless graph.now found.now }
-    ensures { FindsDeclaration graph.now (known_in found.now) path.now offset result }
+    ensures { FindsDeclaration workspace.now.graph (known_in workspace.now.findings) path.now offset result }
 {
-    match graph.number_of(path.folder()) {
+    match workspace.number_of(path.folder()) {
         None => Err(Refusal::NoIdentifier),
         Some(number) => {
-            let at = Numbered {
-                graph,
-                found,
-                number,
-            };
+            let at = Numbered { workspace, number };
             declaration_in(alloc, at, path, offset)
         }
     }

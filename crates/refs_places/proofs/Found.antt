@@ -4,6 +4,7 @@ use Rattle.std.specs.Prelude.{Option, Some, None}
 use Rattle.std.specs.Borrow.{Bor}
 use Rattle.std.specs.Option.{option_copied}
 use Rattle.std.proofs.lemmas.Bool.{cases_lt, false≢true}
+use Rattle.base_lemmas.proofs.Tests.{not_below}
 use Rattle.refs_places.specs.DeclaredPlaces.{IsChoice, IsChoiceIn}
 
 pub found_as : {X : Type 0} (P Q : X → Type 0) (o : Option X) → ((x : X) → P x → Q x) → ((x : X) → Q x → P x) → IsChoice P o → IsChoice Q o
@@ -19,6 +20,4 @@ pub found_copied : {X : Type 0} (P : X → Type 0) (o : Option (Bor X)) (x : Opt
 found_copied P None x e h = subst (IsChoice P) (sym e) h
 found_copied P (Some b) x e h = subst (IsChoice P) (sym e) h
 
--- a place beyond a list
-pub beyond : (i n : ℕ) → (i < n → false ≡ true) → n ≤ i
-beyond i n h = elim (cases_lt i n) [ inl lt ↦ absurd (false≢true (h lt)) | inr ge ↦ ge ]
+-- a place not_below a list

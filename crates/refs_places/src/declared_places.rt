@@ -23,11 +23,10 @@ use go_ast::FileTree;
 use go_scope::identifiers::PREDECLARED;
 use go_scope::model::Position;
 use go_scope::table::ScopeTable;
-use refs_binding::{Declaration, Packages, field_places, method_places};
+use refs_binding::{Declaration, FaultlessWorkspace, Packages, field_places, method_places};
 use std::alloc::{AllocError, Global};
 use types_declared::{Index, Package, literal_of};
 use types_expr::symbol::SharedPath;
-use workspace_graph::Graph;
 
 /// The places of the declarations of a package that count: those of its scopes by number, and fields and methods by rank.
 #[derive(Drop)]
@@ -135,9 +134,9 @@ fn places_at(
     packages: &Packages<'_>,
     number: usize,
 ) -> Result<DeclaredPlaces, AllocError>
-    requires in_range { number < length (package_paths packages.now.graph.now) }
+    requires in_range { number < length (package_paths packages.now.workspace.now.graph) }
     requires read { ArePackages packages.now }
-    ensures { IfOk result (AreDeclaredAt packages.now.graph.now (known_in packages.now.found.now) number) }
+    ensures { IfOk result (AreDeclaredAt packages.now.workspace.now.graph (known_in packages.now.workspace.now.findings) number) }
 {
     let unit = packages.unit(number);
     package_places(alloc, unit)
@@ -149,10 +148,10 @@ pub fn declared_places(
     packages: &Packages<'_>,
 ) -> Result<Vec<DeclaredPlaces>, AllocError>
     requires { ArePackages packages.now }
-    ensures { IfOk result (λ all. AreAllPlaces packages.now.graph.now (known_in packages.now.found.now) all.items) }
+    ensures { IfOk result (λ all. AreAllPlaces packages.now.workspace.now.graph (known_in packages.now.workspace.now.findings) all.items) }
 {
     let mut all = Vec::new(alloc);
-    for number in 0..packages.graph.len() {
+    for number in 0..packages.workspace.len() {
         all.push(places_at(alloc, packages, number)?)?;
     }
     Ok(all)
@@ -195,35 +194,39 @@ pub fn package_path(declaration: &Declaration) -> Option<&SharedPath>
 }
 
 /// Whether the package of a number has this path.
-fn has_path(graph: &Graph, number: usize, path: &[u8]) -> bool
-    ensures { IsTrue result → slice_get (package_paths graph.now) number ≡ Some path.now }
+fn has_path(workspace: &FaultlessWorkspace<'_>, number: usize, path: &[u8]) -> bool
+    ensures { IsTrue result → slice_get (package_paths workspace.now.graph) number ≡ Some path.now }
 {
-    number < graph.len() && graph.package(number).path.as_slice() == path
+    number < workspace.len() && workspace.graph.package(number).path.as_slice() == path
 }
 
 /// Returns the number of the package of a path. The search starts at `near`, the number found last.
-fn number_by_hint(graph: &Graph, near: &mut usize, path: &[u8]) -> Option<usize>
-    ensures { MatchOption result (Contains (package_paths graph.now) path.now → ⊥) (λ number. slice_get (package_paths graph.now) number ≡ Some path.now) }
+fn number_by_hint(
+    workspace: &FaultlessWorkspace<'_>,
+    near: &mut usize,
+    path: &[u8],
+) -> Option<usize>
+    ensures { MatchOption result (Contains (package_paths workspace.now.graph) path.now → ⊥) (λ number. slice_get (package_paths workspace.now.graph) number ≡ Some path.now) }
 {
-    if has_path(graph, *near, path) {
+    if has_path(workspace, *near, path) {
         return Some(*near);
     }
-    let found = graph.number_of(path);
+    let found = workspace.number_of(path);
     *near = found.unwrap_or(0);
     found
 }
 
 /// Returns the place of a declaration of the package of a path.
 fn declared_under<'a>(
-    graph: &Graph,
+    workspace: &FaultlessWorkspace<'_>,
     all: &'a [DeclaredPlaces],
     near: &mut usize,
     path: &SharedPath,
     declaration: &Declaration,
 ) -> Option<&'a Place>
-    ensures { (known : Verdicts) → AreAllPlaces graph.now known all.now → IsChoiceIn (λ (place : At). InPackage (IsPackage graph.now known) path.now (λ p. DeclaresAt p declaration.now place)) result }
+    ensures { (known : Verdicts) → AreAllPlaces workspace.now.graph known all.now → IsChoiceIn (λ (place : At). InPackage (IsPackage workspace.now.graph known) path.now (λ p. DeclaresAt p declaration.now place)) result }
 {
-    match number_by_hint(graph, near, path.path()) {
+    match number_by_hint(workspace, near, path.path()) {
         None => None,
         Some(number) => match all.get(number) {
             None => None,
@@ -234,33 +237,33 @@ fn declared_under<'a>(
 
 /// Returns the place of a declaration, or `None` if it is predeclared. The search for its package starts at `near`, the number found last.
 pub fn declared_near<'a>(
-    graph: &Graph,
+    workspace: &FaultlessWorkspace<'_>,
     all: &'a [DeclaredPlaces],
     near: &mut usize,
     declaration: &Declaration,
 ) -> Option<&'a Place>
-    ensures { (known : Verdicts) → AreAllPlaces graph.now known all.now → IsChoiceIn (IsDeclaredAt (IsPackage graph.now known) declaration.now) result }
+    ensures { (known : Verdicts) → AreAllPlaces workspace.now.graph known all.now → IsChoiceIn (IsDeclaredAt (IsPackage workspace.now.graph known) declaration.now) result }
 {
     match declaration {
         Declaration::Predeclared(_) => None,
-        Declaration::Declared(path, _) => declared_under(graph, all, near, path, declaration),
+        Declaration::Declared(path, _) => declared_under(workspace, all, near, path, declaration),
         Declaration::Field(symbol) => {
-            declared_under(graph, all, near, &symbol.package, declaration)
+            declared_under(workspace, all, near, &symbol.package, declaration)
         },
         Declaration::Method(symbol) => {
-            declared_under(graph, all, near, &symbol.package, declaration)
+            declared_under(workspace, all, near, &symbol.package, declaration)
         },
     }
 }
 
 /// Returns the place of a declaration, or `None` if it is predeclared.
 pub fn declared_at<'a>(
-    graph: &Graph,
+    workspace: &FaultlessWorkspace<'_>,
     all: &'a [DeclaredPlaces],
     declaration: &Declaration,
 ) -> Option<&'a Place>
-    ensures { (known : Verdicts) → AreAllPlaces graph.now known all.now → IsChoiceIn (IsDeclaredAt (IsPackage graph.now known) declaration.now) result }
+    ensures { (known : Verdicts) → AreAllPlaces workspace.now.graph known all.now → IsChoiceIn (IsDeclaredAt (IsPackage workspace.now.graph known) declaration.now) result }
 {
     let mut near = 0;
-    declared_near(graph, all, &mut near, declaration)
+    declared_near(workspace, all, &mut near, declaration)
 }

@@ -46,9 +46,9 @@ fn add_package(
     packages: &Packages<'_>,
     number: usize,
 ) -> Result<(), AllocError>
-    requires in_range { number < length (package_paths packages.now.graph.now) }
+    requires in_range { number < length (package_paths packages.now.workspace.now.graph) }
     requires read { ArePackages packages.now }
-    ensures { OnOk result (AddsAll places.old.items places.new.items (BeginsInPackageAt packages.now.graph.now (known_in packages.now.found.now) number)) }
+    ensures { OnOk result (AddsAll places.old.items places.new.items (BeginsInPackageAt packages.now.workspace.now.graph (known_in packages.now.workspace.now.findings) number)) }
 {
     let unit = packages.unit(number);
     add_unit(places, unit)
@@ -57,9 +57,9 @@ fn add_package(
 /// Adds the places of the identifiers of all packages.
 fn add_all(places: &mut Vec<Place>, packages: &Packages<'_>) -> Result<(), AllocError>
     requires { ArePackages packages.now }
-    ensures { OnOk result (AddsAll places.old.items places.new.items (IsIdentifierAt packages.now.graph.now (known_in packages.now.found.now))) }
+    ensures { OnOk result (AddsAll places.old.items places.new.items (IsIdentifierAt packages.now.workspace.now.graph (known_in packages.now.workspace.now.findings))) }
 {
-    for number in 0..packages.graph.len() {
+    for number in 0..packages.workspace.len() {
         add_package(places, packages, number)?;
     }
     Ok(())
@@ -68,7 +68,7 @@ fn add_all(places: &mut Vec<Place>, packages: &Packages<'_>) -> Result<(), Alloc
 /// Returns the places of all identifiers. Path literals of imports are left out.
 pub fn identifier_places(alloc: Global, packages: &Packages<'_>) -> Result<Vec<Place>, AllocError>
     requires { ArePackages packages.now }
-    ensures { IfOk result (λ places. (place : At) → Contains places.items place ↔ IsIdentifierAt packages.now.graph.now (known_in packages.now.found.now) place) }
+    ensures { IfOk result (λ places. (place : At) → Contains places.items place ↔ IsIdentifierAt packages.now.workspace.now.graph (known_in packages.now.workspace.now.findings) place) }
 {
     let mut places = Vec::new(alloc);
     add_all(&mut places, packages)?;

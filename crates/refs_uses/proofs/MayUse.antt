@@ -6,6 +6,7 @@ use Rattle.std.specs.Borrow.{Bor}
 use Rattle.std.specs.Global.{Vec}
 use Rattle.std.specs.Option.{is_some}
 use Rattle.std.proofs.lemmas.Option.{none-some, same_Some}
+use Rattle.base_lemmas.proofs.Elements.{nothing_in}
 use Rattle.base_files.specs.Packages.{package_paths}
 use Rattle.base_files.specs.Workspace.{Workspace}
 use Rattle.go_ast.specs.SourceFile.{spelling_of}
@@ -22,7 +23,6 @@ use Rattle.types_info.specs.MemberUses.{AreMemberUses, uses_in}
 use Rattle.types_info.proofs.MeaningLists.{slice_get_some}
 use Rattle.types_info.proofs.OneWorld.{has_one_world}
 use Rattle.workspace_check.specs.Verdicts.{Verdicts, AreVerdicts}
-use Rattle.workspace_check.proofs.Members.{nothing_in}
 use Rattle.workspace_check.proofs.OnePackage.{layout_formed, files_in_order}
 use Rattle.refs_binding.specs.declared.declaration.Declaration.{Declaration}
 use Rattle.refs_binding.specs.declared.declaration.Declaration.TheVariants.{Predeclared, Declared, Field, Method}

@@ -6,6 +6,7 @@ use Rattle.std.specs.List.{AllByRecursion}
 use Rattle.std.specs.List.Sorted.{IsStrictlySortedBy}
 use Rattle.std.specs.Cmp.Lexicographic.{pointwise, bytes_decides}
 use Rattle.std.specs.declared.cmp.Ordering.TheVariants.{Less}
+use Rattle.std.proofs.lemmas.Bool.{and_parts}
 use Rattle.base_files.specs.declared.place.Place.{Place}
 use Rattle.refs_binding.specs.contracts.place_key.PlaceKeyOrd.TheImpl as order
 use Rattle.refs_binding.specs.contracts.place_key.PlaceKeyPartialEq.TheImpl as equal
@@ -19,14 +20,10 @@ spot_of p = record { path = p.path; offset = p.offset }
 abbrev make : List ℕ → ℕ → PlaceKey
 make path offset = record { path = path; offset = offset }
 
-both : (a b : Bool) → (a && b) ≡ true → (a ≡ true) × (b ≡ true)
-both true b e = (refl, e)
-both false b e = let z : ⊥ = cc in absurd z
-
 -- Spots that compare as equal are equal.
 same_spot : (x y : PlaceKey) → equal.ghosts.eq x y ≡ true → y ≡ x
 same_spot x y e =
-    let a = both (pointwise ◌==◌ x.path y.path) (nat_eq x.offset y.offset) e in
+    let a = and_parts (pointwise ◌==◌ x.path y.path) (nat_eq x.offset y.offset) e in
     let paths : x.path ≡ y.path = (bytes_decides x.path y.path).0 a.0 in
     let offsets : x.offset ≡ y.offset = eqb→eq x.offset y.offset (subst T (sym a.1) tt) in
     ap (λ p. make p y.offset) (sym paths) ∙ ap (λ o. make x.path o) (sym offsets)

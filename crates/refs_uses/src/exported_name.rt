@@ -5,18 +5,16 @@ ghost use Rattle.refs_binding.specs.declared.declaration.Declaration.TheVariants
 ghost use Rattle.refs_binding.specs.Indexed.{IsNumbered};
 ghost use Rattle.refs_binding.specs.Packages.{IsTableAs};
 ghost use Rattle.refs_binding.specs.Steps.{IsExportedBy};
-ghost use Rattle.refs_binding.specs.Workspaces.{IsFaultless, known_in, name_bytes, IsExportedUnder, IsNameAt};
+ghost use Rattle.refs_binding.specs.Workspaces.{known_in, name_bytes, IsExportedUnder, IsNameAt};
 ghost use Rattle.go_scope.specs.Named.{name_value};
 
 use go_scope::table::ScopeTable;
 use refs_binding::indexed::{Numbered, unit_of};
-use refs_binding::{Declaration, read_table};
+use refs_binding::{Declaration, FaultlessWorkspace, read_table, seen_by};
 use std::alloc::{AllocError, Global};
 use types_check::is_seen;
 use types_declared::{ExportTable, Package};
 use types_expr::symbol::SharedPath;
-use workspace_check::{Findings, seen};
-use workspace_graph::Graph;
 
 /// Returns the name under which a package exports its declaration `d`, if it does.
 pub(crate) fn own_name(
@@ -41,8 +39,8 @@ fn name_by(
     d: usize,
 ) -> Result<Option<Vec<u8>>, AllocError>
     requires numbered { IsNumbered at }
-    requires table { IsTableAs at.graph.now (known_in at.found.now) at.number table.now seen.now }
-    ensures { IfOk result (λ name. IsNameAt at.entry.graph.now (known_in at.entry.found.now) at.entry.number d (option_map name_bytes name)) }
+    requires table { IsTableAs at.workspace.now.graph (known_in at.workspace.now.findings) at.number table.now seen.now }
+    ensures { IfOk result (λ name. IsNameAt at.entry.workspace.now.graph (known_in at.entry.workspace.now.findings) at.entry.number d (option_map name_bytes name)) }
 {
     own_name(alloc, unit_of(at, seen, table), d)
 }
@@ -50,32 +48,26 @@ fn name_by(
 /// Reads the package of a number, and returns the name under which it exports its declaration `d`, if it does.
 fn name_at(alloc: Global, at: Numbered<'_>, d: usize) -> Result<Option<Vec<u8>>, AllocError>
     requires { IsNumbered at }
-    ensures { IfOk result (λ name. IsNameAt at.entry.graph.now (known_in at.entry.found.now) at.entry.number d (option_map name_bytes name)) }
+    ensures { IfOk result (λ name. IsNameAt at.entry.workspace.now.graph (known_in at.entry.workspace.now.findings) at.entry.number d (option_map name_bytes name)) }
 {
-    let seen = seen(alloc, at.graph, at.number, &at.found.export_table)?;
-    let table = read_table(alloc, at.graph, at.found, &seen, at.number)?;
+    let seen = seen_by(alloc, at.workspace, at.number)?;
+    let table = read_table(alloc, at.workspace, &seen, at.number)?;
     name_by(alloc, at, &seen, &table, d)
 }
 
 /// Returns the name under which the package of `path` exports its declaration `d`, if it does.
 pub(crate) fn declared_name(
     alloc: Global,
-    graph: &Graph,
-    found: &Findings,
+    workspace: &FaultlessWorkspace<'_>,
     path: &SharedPath,
     d: usize,
 ) -> Result<Option<Vec<u8>>, AllocError>
-    requires { IsFaultless graph.now found.now }
-    ensures { IfOk result (λ name. IsExportedUnder graph.now (known_in found.now) (Declared path.now d) (option_map name_bytes name)) }
+    ensures { IfOk result (λ name. IsExportedUnder workspace.now.graph (known_in workspace.now.findings) (Declared path.now d) (option_map name_bytes name)) }
 {
-    match graph.number_of(path.path()) {
+    match workspace.number_of(path.path()) {
         None => Ok(None),
         Some(number) => {
-            let at = Numbered {
-                graph,
-                found,
-                number,
-            };
+            let at = Numbered { workspace, number };
             name_at(alloc, at, d)
         }
     }
@@ -84,15 +76,13 @@ pub(crate) fn declared_name(
 /// Returns the name under which a declaration is exported, if it is.
 pub(crate) fn exported_under(
     alloc: Global,
-    graph: &Graph,
-    found: &Findings,
+    workspace: &FaultlessWorkspace<'_>,
     declaration: &Declaration,
 ) -> Result<Option<Vec<u8>>, AllocError>
-    requires { IsFaultless graph.now found.now }
-    ensures { IfOk result (λ name. IsExportedUnder graph.now (known_in found.now) declaration.now (option_map name_bytes name)) }
+    ensures { IfOk result (λ name. IsExportedUnder workspace.now.graph (known_in workspace.now.findings) declaration.now (option_map name_bytes name)) }
 {
     match declaration {
-        Declaration::Declared(path, d) => declared_name(alloc, graph, found, path, *d),
+        Declaration::Declared(path, d) => declared_name(alloc, workspace, path, *d),
         Declaration::Predeclared(_) | Declaration::Field(_) | Declaration::Method(_) => Ok(None),
     }
 }

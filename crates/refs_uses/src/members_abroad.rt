@@ -21,13 +21,12 @@ use go_scope::model::Position;
 use refs_binding::identifiers::add_place;
 use refs_binding::indexed::Numbered;
 use refs_binding::member_uses::{KnownTypes, known_member};
-use refs_binding::{Declaration, PlaceKey, members_of, own_of, path_of, trees};
+use refs_binding::{Declaration, PlaceKey, members_of, own_of, path_of, seen_by, trees};
 use std::alloc::{AllocError, Global};
 use types_declared::ExportTable;
 use types_expr::found::MemberUse;
 use types_expr::types::GoType;
 use types_expr::world::Name;
-use workspace_check::seen;
 
 /// What is used of a package that is not read: its trees, the type definitions that it knows, and its uses of members.
 #[derive(Clone, Copy)]
@@ -136,20 +135,21 @@ fn add_members_by(
     declaration: &Declaration,
 ) -> Result<(), AllocError>
     requires numbered { IsNumbered at }
-    requires seen { IsSeenBy at.graph.now (known_in at.found.now) at.number seen.now }
-    requires abroad { IsMemberAbroad at.graph.now (known_in at.found.now) at.number declaration.now }
+    requires seen { IsSeenBy at.workspace.now.graph (known_in at.workspace.now.findings) at.number seen.now }
+    requires abroad { IsMemberAbroad at.workspace.now.graph (known_in at.workspace.now.findings) at.number declaration.now }
     ensures { OnOk result ((name : Option (List ℕ)) → AddsPlaces spots.old.items spots.new.items
-        (IsUseAt at.entry.graph.now (known_in at.entry.found.now) declaration.now name at.entry.number)) }
+        (IsUseAt at.entry.workspace.now.graph (known_in at.entry.workspace.now.findings) declaration.now name at.entry.number)) }
 {
+    at.workspace.has_no_faults();
     let types = KnownTypes {
-        path: path_of(at.graph, at.found, at.number),
-        own: own_of(at.graph, at.found, at.number),
+        path: path_of(at.workspace, at.number),
+        own: own_of(at.workspace, at.number),
         imported: seen.definitions(),
     };
     let of = KnownUses {
-        files: trees(at.graph, at.found, at.number),
+        files: trees(at.workspace, at.number),
         types,
-        members: members_of(at.graph, at.found, at.number),
+        members: members_of(at.workspace, at.number),
     };
     add_known_members(spots, &of, declaration)
 }
@@ -162,18 +162,18 @@ pub(crate) fn add_members_abroad(
     declaration: &Declaration,
 ) -> Result<(), AllocError>
     requires numbered { IsNumbered at }
-    requires abroad { IsMemberAbroad at.graph.now (known_in at.found.now) at.number declaration.now }
+    requires abroad { IsMemberAbroad at.workspace.now.graph (known_in at.workspace.now.findings) at.number declaration.now }
     ensures { OnOk result ((name : Option (List ℕ)) → AddsPlaces spots.old.items spots.new.items
-        (IsUseAt at.entry.graph.now (known_in at.entry.found.now) declaration.now name at.entry.number)) }
+        (IsUseAt at.entry.workspace.now.graph (known_in at.entry.workspace.now.findings) declaration.now name at.entry.number)) }
 {
-    let seen = seen(alloc, at.graph, at.number, &at.found.export_table)?;
+    let seen = seen_by(alloc, at.workspace, at.number)?;
     add_members_by(spots, at, &seen, declaration)
 }
 
 /// Whether a declaration is a field or method of another package than that of the number.
 pub(crate) fn is_member_abroad(at: Numbered<'_>, declaration: &Declaration) -> bool
     requires { IsNumbered at }
-    ensures { IsTrue result → IsMemberAbroad at.entry.graph.now (known_in at.entry.found.now) at.entry.number declaration.now }
+    ensures { IsTrue result → IsMemberAbroad at.entry.workspace.now.graph (known_in at.entry.workspace.now.findings) at.entry.number declaration.now }
 {
     match declaration {
         Declaration::Predeclared(_) | Declaration::Declared(_, _) => false,

@@ -116,10 +116,11 @@ fn add_behind(
     name: &[u8],
 ) -> Result<(), AllocError>
     requires { IsNumbered at }
-    ensures { OnOk result (AddsPlaces spots.old.items spots.new.items (IsQualifiedUseOf at.entry.graph.now (known_in at.entry.found.now) at.entry.number path.now name.now)) }
+    ensures { OnOk result (AddsPlaces spots.old.items spots.new.items (IsQualifiedUseOf at.entry.workspace.now.graph (known_in at.entry.workspace.now.findings) at.entry.number path.now name.now)) }
 {
-    let files = trees(at.graph, at.found, at.number);
-    let lists = qualified_of(at.graph, at.found, at.number);
+    at.workspace.has_no_faults();
+    let files = trees(at.workspace, at.number);
+    let lists = qualified_of(at.workspace, at.number);
     add_all_listed(spots, files, name, path, lists)
 }
 
@@ -132,9 +133,9 @@ pub(crate) fn add_abroad(
     name: Option<&[u8]>,
 ) -> Result<(), AllocError>
     requires numbered { IsNumbered at }
-    requires abroad { IsAbroad at.graph.now (known_in at.found.now) at.number path.now }
+    requires abroad { IsAbroad at.workspace.now.graph (known_in at.workspace.now.findings) at.number path.now }
     ensures { OnOk result ((d : ℕ) → AddsPlaces spots.old.items spots.new.items
-        (IsUseAt at.entry.graph.now (known_in at.entry.found.now) (Declared path.now d) (name_value name.entry) at.entry.number)) }
+        (IsUseAt at.entry.workspace.now.graph (known_in at.entry.workspace.now.findings) (Declared path.now d) (name_value name.entry) at.entry.number)) }
 {
     match name {
         None => Ok(()),
@@ -152,9 +153,9 @@ fn is_same(own: &SharedPath, path: &SharedPath) -> bool
 /// Whether the package of a number has this path.
 pub(crate) fn is_home(at: Numbered<'_>, path: &SharedPath) -> bool
     requires { IsNumbered at }
-    ensures { (p : Checked) → IsPackageAt at.entry.graph.now (known_in at.entry.found.now) at.entry.number p → IsTrue result ↔ (p.path ≡ path.now) }
+    ensures { (p : Checked) → IsPackageAt at.entry.workspace.now.graph (known_in at.entry.workspace.now.findings) at.entry.number p → IsTrue result ↔ (p.path ≡ path.now) }
 {
-    is_same(path_of(at.graph, at.found, at.number), path)
+    is_same(path_of(at.workspace, at.number), path)
 }
 
 /// Returns the path of a declaration's package, if the declaration is in a scope of another package than that of the number.
@@ -163,7 +164,7 @@ pub(crate) fn path_abroad<'a>(
     declaration: &'a Declaration,
 ) -> Option<&'a SharedPath>
     requires { IsNumbered at }
-    ensures { IsPathAbroad at.entry.graph.now (known_in at.entry.found.now) at.entry.number declaration.now result }
+    ensures { IsPathAbroad at.entry.workspace.now.graph (known_in at.entry.workspace.now.findings) at.entry.number declaration.now result }
 {
     match declaration {
         Declaration::Declared(path, _) => { if is_home(at, path) { None } else { Some(path) } }

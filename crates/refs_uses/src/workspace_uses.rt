@@ -11,7 +11,7 @@ ghost use Rattle.refs_uses.specs.Sought.{IsSought};
 ghost use Rattle.refs_binding.specs.Packages.{IsTableAs};
 ghost use Rattle.refs_binding.specs.Steps.{AddsPlaces};
 ghost use Rattle.refs_binding.specs.Uses.{IsUseOf, AnswersUses, AnswersUsesAt};
-ghost use Rattle.refs_binding.specs.Workspaces.{IsFaultless, known_in, name_bytes, IsExportedUnder, IsUseAt, ListsFound, AnswersUsesIn};
+ghost use Rattle.refs_binding.specs.Workspaces.{known_in, name_bytes, IsExportedUnder, IsUseAt, ListsFound, AnswersUsesIn};
 
 use crate::exported_name::{declared_name, exported_under, own_name};
 use crate::may_use::{Sought, home_of, importing_home, may_use};
@@ -24,12 +24,12 @@ use crate::uses_in_package::add_uses_in_package;
 use base_files::{Path, Refusal};
 use go_scope::table::ScopeTable;
 use refs_binding::indexed::{Indexed, Numbered, known_of, unit_of};
-use refs_binding::{Declaration, PlaceKey, read_table, refuse_faults};
+use refs_binding::{Declaration, FaultlessWorkspace, PlaceKey, read_table, refuse_faults, seen_by};
 use refs_lookup::declaration_in_package;
 use std::alloc::{AllocError, Global};
 use types_declared::{ExportTable, Index, Package};
 use types_expr::symbol::SharedPath;
-use workspace_check::{Findings, seen};
+use workspace_check::Findings;
 use workspace_graph::Graph;
 
 /// Adds the places of the identifiers of the package of a number that are bound to a declaration.
@@ -43,7 +43,7 @@ fn add_known_uses(
     requires unit { IsPackageNumbered at (package_of of.now.unit) }
     requires indexed { IsIndexed of.now }
     ensures { OnOk result (AddsPlaces spots.old.items spots.new.items
-        (IsUseAt at.entry.graph.now (known_in at.entry.found.now) sought.now.declaration.now (name_value sought.now.name) at.entry.number)) }
+        (IsUseAt at.entry.workspace.now.graph (known_in at.entry.workspace.now.findings) sought.now.declaration.now (name_value sought.now.name) at.entry.number)) }
 {
     add_uses_in_package(alloc, spots, of, sought)
 }
@@ -61,7 +61,7 @@ fn add_indexed_uses(
     requires unit { IsPackageNumbered at (package_of unit) }
     requires index { IsIndexOf (package_of unit) index.now }
     ensures { OnOk result (AddsPlaces spots.old.items spots.new.items
-        (IsUseAt at.entry.graph.now (known_in at.entry.found.now) sought.now.declaration.now (name_value sought.now.name) at.entry.number)) }
+        (IsUseAt at.entry.workspace.now.graph (known_in at.entry.workspace.now.findings) sought.now.declaration.now (name_value sought.now.name) at.entry.number)) }
 {
     let of = known_of(at, unit, index);
     add_known_uses(alloc, spots, at, &of, sought)
@@ -77,9 +77,9 @@ fn add_uses_by(
     sought: &Sought<'_>,
 ) -> Result<(), AllocError>
     requires numbered { IsNumbered at }
-    requires table { IsTableAs at.graph.now (known_in at.found.now) at.number table.now seen.now }
+    requires table { IsTableAs at.workspace.now.graph (known_in at.workspace.now.findings) at.number table.now seen.now }
     ensures { OnOk result (AddsPlaces spots.old.items spots.new.items
-        (IsUseAt at.entry.graph.now (known_in at.entry.found.now) sought.now.declaration.now (name_value sought.now.name) at.entry.number)) }
+        (IsUseAt at.entry.workspace.now.graph (known_in at.entry.workspace.now.findings) sought.now.declaration.now (name_value sought.now.name) at.entry.number)) }
 {
     let unit = unit_of(at, seen, table);
     let index = Index::of(alloc, unit)?;
@@ -95,10 +95,10 @@ fn add_package_uses(
 ) -> Result<(), AllocError>
     requires { IsNumbered at }
     ensures { OnOk result (AddsPlaces spots.old.items spots.new.items
-        (IsUseAt at.entry.graph.now (known_in at.entry.found.now) sought.now.declaration.now (name_value sought.now.name) at.entry.number)) }
+        (IsUseAt at.entry.workspace.now.graph (known_in at.entry.workspace.now.findings) sought.now.declaration.now (name_value sought.now.name) at.entry.number)) }
 {
-    let seen = seen(alloc, at.graph, at.number, &at.found.export_table)?;
-    let table = read_table(alloc, at.graph, at.found, &seen, at.number)?;
+    let seen = seen_by(alloc, at.workspace, at.number)?;
+    let table = read_table(alloc, at.workspace, &seen, at.number)?;
     add_uses_by(alloc, spots, at, &seen, &table, sought)
 }
 
@@ -112,7 +112,7 @@ fn add_members_or_read(
 ) -> Result<(), AllocError>
     requires { IsNumbered at }
     ensures { OnOk result (AddsPlaces spots.old.items spots.new.items
-        (IsUseAt at.entry.graph.now (known_in at.entry.found.now) sought.now.declaration.now (name_value sought.now.name) at.entry.number)) }
+        (IsUseAt at.entry.workspace.now.graph (known_in at.entry.workspace.now.findings) sought.now.declaration.now (name_value sought.now.name) at.entry.number)) }
 {
     if is_member_abroad(at, sought.declaration) {
         add_members_abroad(alloc, spots, at, sought.declaration)
@@ -131,7 +131,7 @@ fn add_where_used(
 ) -> Result<(), AllocError>
     requires { IsNumbered at }
     ensures { OnOk result (AddsPlaces spots.old.items spots.new.items
-        (IsUseAt at.entry.graph.now (known_in at.entry.found.now) sought.now.declaration.now (name_value sought.now.name) at.entry.number)) }
+        (IsUseAt at.entry.workspace.now.graph (known_in at.entry.workspace.now.findings) sought.now.declaration.now (name_value sought.now.name) at.entry.number)) }
 {
     match path_abroad(at, sought.declaration) {
         None => add_members_or_read(alloc, spots, at, sought),
@@ -147,11 +147,11 @@ fn add_if_used(
     sought: &Sought<'_>,
 ) -> Result<(), AllocError>
     requires numbered { IsNumbered at }
-    requires sought { IsSought at.graph.now (known_in at.found.now) sought.now }
+    requires sought { IsSought at.workspace.now.graph (known_in at.workspace.now.findings) sought.now }
     ensures { OnOk result (AddsPlaces spots.old.items spots.new.items
-        (IsUseAt at.entry.graph.now (known_in at.entry.found.now) sought.now.declaration.now (name_value sought.now.name) at.entry.number)) }
+        (IsUseAt at.entry.workspace.now.graph (known_in at.entry.workspace.now.findings) sought.now.declaration.now (name_value sought.now.name) at.entry.number)) }
 {
-    if may_use(at.graph, at.found, at.number, sought) {
+    if may_use(at.workspace, at.number, sought) {
         add_where_used(alloc, spots, at, sought)
     } else {
         Ok(())
@@ -162,18 +162,15 @@ fn add_if_used(
 fn add_all_uses(
     alloc: Global,
     spots: &mut Vec<PlaceKey>,
-    graph: &Graph,
-    found: &Findings,
+    workspace: &FaultlessWorkspace<'_>,
     sought: &Sought<'_>,
 ) -> Result<(), AllocError>
-    requires sound { IsFaultless graph.now found.now }
-    requires sought { IsSought graph.now (known_in found.now) sought.now }
-    ensures { OnOk result (AddsPlaces spots.old.items spots.new.items (IsUseOf graph.now (known_in found.now) sought.now.declaration.now)) }
+    requires { IsSought workspace.now.graph (known_in workspace.now.findings) sought.now }
+    ensures { OnOk result (AddsPlaces spots.old.items spots.new.items (IsUseOf workspace.now.graph (known_in workspace.now.findings) sought.now.declaration.now)) }
 {
-    for number in 0..graph.len() {
+    for number in 0..workspace.len() {
         let at = Numbered {
-            graph,
-            found,
+            workspace: &*workspace,
             number,
         };
         add_if_used(alloc, spots, at, sought)?;
@@ -193,17 +190,16 @@ fn add_uses_at(
     requires numbered { IsNumbered read }
     requires unit { IsPackageNumbered read (package_of of.now.unit) }
     requires indexed { IsIndexed of.now }
-    requires in_range { number < length (package_paths read.graph.now) }
-    requires sought { IsSought read.graph.now (known_in read.found.now) sought.now }
+    requires in_range { number < length (package_paths read.workspace.now.graph) }
+    requires sought { IsSought read.workspace.now.graph (known_in read.workspace.now.findings) sought.now }
     ensures { OnOk result (AddsPlaces spots.old.items spots.new.items
-        (IsUseAt read.entry.graph.now (known_in read.entry.found.now) sought.now.declaration.now (name_value sought.now.name) number)) }
+        (IsUseAt read.entry.workspace.now.graph (known_in read.entry.workspace.now.findings) sought.now.declaration.now (name_value sought.now.name) number)) }
 {
     if number == read.number {
         return add_known_uses(alloc, spots, read, of, sought);
     }
     let at = Numbered {
-        graph: read.graph,
-        found: read.found,
+        workspace: read.workspace,
         number,
     };
     add_if_used(alloc, spots, at, sought)
@@ -220,10 +216,10 @@ fn add_uses_beyond(
     requires numbered { IsNumbered read }
     requires unit { IsPackageNumbered read (package_of of.now.unit) }
     requires indexed { IsIndexed of.now }
-    requires sought { IsSought read.graph.now (known_in read.found.now) sought.now }
-    ensures { OnOk result (AddsPlaces spots.old.items spots.new.items (IsUseOf read.entry.graph.now (known_in read.entry.found.now) sought.now.declaration.now)) }
+    requires sought { IsSought read.workspace.now.graph (known_in read.workspace.now.findings) sought.now }
+    ensures { OnOk result (AddsPlaces spots.old.items spots.new.items (IsUseOf read.entry.workspace.now.graph (known_in read.entry.workspace.now.findings) sought.now.declaration.now)) }
 {
-    for number in 0..read.graph.len() {
+    for number in 0..read.workspace.len() {
         add_uses_at(alloc, spots, read, of, number, sought)?;
     }
     Ok(())
@@ -239,12 +235,12 @@ fn scope_name(
 ) -> Result<Option<Vec<u8>>, AllocError>
     requires numbered { IsNumbered read }
     requires unit { IsPackageNumbered read (package_of unit) }
-    ensures { IfOk result (λ name. IsExportedUnder read.entry.graph.now (known_in read.entry.found.now) (Declared path.now d) (option_map name_bytes name)) }
+    ensures { IfOk result (λ name. IsExportedUnder read.entry.workspace.now.graph (known_in read.entry.workspace.now.findings) (Declared path.now d) (option_map name_bytes name)) }
 {
     if is_own(unit, path) {
         own_name(alloc, unit, d)
     } else {
-        declared_name(alloc, read.graph, read.found, path, d)
+        declared_name(alloc, read.workspace, path, d)
     }
 }
 
@@ -257,7 +253,7 @@ fn name_by_read(
 ) -> Result<Option<Vec<u8>>, AllocError>
     requires numbered { IsNumbered read }
     requires unit { IsPackageNumbered read (package_of unit) }
-    ensures { IfOk result (λ name. IsExportedUnder read.entry.graph.now (known_in read.entry.found.now) declaration.now (option_map name_bytes name)) }
+    ensures { IfOk result (λ name. IsExportedUnder read.entry.workspace.now.graph (known_in read.entry.workspace.now.findings) declaration.now (option_map name_bytes name)) }
 {
     match declaration {
         Declaration::Declared(path, d) => scope_name(alloc, read, unit, path, *d),
@@ -287,11 +283,11 @@ fn list_named(
     requires numbered { IsNumbered read }
     requires unit { IsPackageNumbered read (package_of of.now.unit) }
     requires indexed { IsIndexed of.now }
-    requires name { IsExportedUnder read.graph.now (known_in read.found.now) declaration.now (name_value name) }
-    ensures { IfOk result (ListsFound read.entry.graph.now (known_in read.entry.found.now) declaration.now) }
+    requires name { IsExportedUnder read.workspace.now.graph (known_in read.workspace.now.findings) declaration.now (name_value name) }
+    ensures { IfOk result (ListsFound read.entry.workspace.now.graph (known_in read.entry.workspace.now.findings) declaration.now) }
 {
-    let home = home_of(read.graph, declaration);
-    let importing = importing_home(alloc, read.graph, home)?;
+    let home = home_of(read.workspace, declaration);
+    let importing = importing_home(alloc, read.workspace, home)?;
     let sought = Sought {
         declaration,
         name,
@@ -313,7 +309,7 @@ fn list_from(
     requires numbered { IsNumbered read }
     requires unit { IsPackageNumbered read (package_of of.now.unit) }
     requires indexed { IsIndexed of.now }
-    ensures { IfOk result (ListsFound read.entry.graph.now (known_in read.entry.found.now) declaration.now) }
+    ensures { IfOk result (ListsFound read.entry.workspace.now.graph (known_in read.entry.workspace.now.findings) declaration.now) }
 {
     let name = name_by_read(alloc, read, of.unit, declaration)?;
     list_named(alloc, read, of, declaration, bytes(&name))
@@ -322,17 +318,15 @@ fn list_from(
 /// Returns the places of all uses of a declaration, sorted. `name` is the name under which it is exported, if it is.
 fn list_everywhere(
     alloc: Global,
-    graph: &Graph,
-    found: &Findings,
+    workspace: &FaultlessWorkspace<'_>,
     declaration: &Declaration,
     name: Option<&[u8]>,
 ) -> Result<Places, AllocError>
-    requires sound { IsFaultless graph.now found.now }
-    requires name { IsExportedUnder graph.now (known_in found.now) declaration.now (name_value name) }
-    ensures { IfOk result (ListsFound graph.now (known_in found.now) declaration.now) }
+    requires { IsExportedUnder workspace.now.graph (known_in workspace.now.findings) declaration.now (name_value name) }
+    ensures { IfOk result (ListsFound workspace.now.graph (known_in workspace.now.findings) declaration.now) }
 {
-    let home = home_of(graph, declaration);
-    let importing = importing_home(alloc, graph, home)?;
+    let home = home_of(workspace, declaration);
+    let importing = importing_home(alloc, workspace, home)?;
     let sought = Sought {
         declaration,
         name,
@@ -340,22 +334,20 @@ fn list_everywhere(
         importing: &importing,
     };
     let mut spots = Vec::new(alloc);
-    add_all_uses(alloc, &mut spots, graph, found, &sought)?;
+    add_all_uses(alloc, &mut spots, workspace, &sought)?;
     Ok(Places::new(places(alloc, spots)?))
 }
 
 /// Returns the places of all uses of a declaration, sorted and without duplicates. Packages that can't use it are not read.
 pub fn list_uses(
     alloc: Global,
-    graph: &Graph,
-    found: &Findings,
+    workspace: &FaultlessWorkspace<'_>,
     declaration: &Declaration,
 ) -> Result<Places, AllocError>
-    requires { IsFaultless graph.now found.now }
-    ensures { IfOk result (ListsFound graph.now (known_in found.now) declaration.now) }
+    ensures { IfOk result (ListsFound workspace.now.graph (known_in workspace.now.findings) declaration.now) }
 {
-    let name = exported_under(alloc, graph, found, declaration)?;
-    list_everywhere(alloc, graph, found, declaration, bytes(&name))
+    let name = exported_under(alloc, workspace, declaration)?;
+    list_everywhere(alloc, workspace, declaration, bytes(&name))
 }
 
 /// Returns the uses of the identifier at a byte of a file of a package, or a refusal.
@@ -367,12 +359,13 @@ fn uses_known(
     offset: usize,
 ) -> Result<Places, Refusal>
     requires numbered { IsNumbered at }
-    requires folder { slice_get (package_paths at.graph.now) at.number ≡ Some (folder path.now) }
+    requires folder { slice_get (package_paths at.workspace.now.graph) at.number ≡ Some (folder path.now) }
     requires unit { IsPackageNumbered at (package_of of.now.unit) }
     requires indexed { IsIndexed of.now }
-    ensures { AnswersUsesAt at.entry.graph.now path.now offset result }
+    ensures { AnswersUsesAt at.entry.workspace.now.graph path.now offset result }
 {
-    match declaration_in_package(alloc, at.graph, at.found, of, path, offset) {
+    at.workspace.has_no_faults();
+    match declaration_in_package(alloc, at.workspace, of, path, offset) {
         Err(refusal) => Err(refusal),
         Ok(declaration) => Ok(list_from(alloc, at, of, &declaration)?),
     }
@@ -388,10 +381,10 @@ fn uses_indexed(
     offset: usize,
 ) -> Result<Places, Refusal>
     requires numbered { IsNumbered at }
-    requires folder { slice_get (package_paths at.graph.now) at.number ≡ Some (folder path.now) }
+    requires folder { slice_get (package_paths at.workspace.now.graph) at.number ≡ Some (folder path.now) }
     requires unit { IsPackageNumbered at (package_of unit) }
     requires index { IsIndexOf (package_of unit) index.now }
-    ensures { AnswersUsesAt at.entry.graph.now path.now offset result }
+    ensures { AnswersUsesAt at.entry.workspace.now.graph path.now offset result }
 {
     let of = known_of(at, unit, index);
     uses_known(alloc, at, &of, path, offset)
@@ -407,9 +400,9 @@ fn uses_by(
     offset: usize,
 ) -> Result<Places, Refusal>
     requires numbered { IsNumbered at }
-    requires folder { slice_get (package_paths at.graph.now) at.number ≡ Some (folder path.now) }
-    requires table { IsTableAs at.graph.now (known_in at.found.now) at.number table.now seen.now }
-    ensures { AnswersUsesAt at.entry.graph.now path.now offset result }
+    requires folder { slice_get (package_paths at.workspace.now.graph) at.number ≡ Some (folder path.now) }
+    requires table { IsTableAs at.workspace.now.graph (known_in at.workspace.now.findings) at.number table.now seen.now }
+    ensures { AnswersUsesAt at.entry.workspace.now.graph path.now offset result }
 {
     let unit = unit_of(at, seen, table);
     let index = Index::of(alloc, unit)?;
@@ -424,33 +417,28 @@ fn uses_of_package(
     offset: usize,
 ) -> Result<Places, Refusal>
     requires numbered { IsNumbered at }
-    requires folder { slice_get (package_paths at.graph.now) at.number ≡ Some (folder path.now) }
-    ensures { AnswersUsesAt at.entry.graph.now path.now offset result }
+    requires folder { slice_get (package_paths at.workspace.now.graph) at.number ≡ Some (folder path.now) }
+    ensures { AnswersUsesAt at.entry.workspace.now.graph path.now offset result }
 {
-    let seen = seen(alloc, at.graph, at.number, &at.found.export_table)?;
-    let table = read_table(alloc, at.graph, at.found, &seen, at.number)?;
+    let seen = seen_by(alloc, at.workspace, at.number)?;
+    let table = read_table(alloc, at.workspace, &seen, at.number)?;
     uses_by(alloc, at, &seen, &table, path, offset)
 }
 
 /// Returns the uses of the identifier at a byte of a file of a workspace without faults.
 fn uses_at(
     alloc: Global,
-    graph: &Graph,
-    found: &Findings,
+    workspace: &FaultlessWorkspace<'_>,
     path: &Path,
     offset: usize,
 ) -> Result<Places, Refusal>
-    requires { IsFaultless graph.now found.now }
-    ensures { AnswersUsesAt graph.now path.now offset result }
+    ensures { AnswersUsesAt workspace.now.graph path.now offset result }
 {
-    match graph.number_of(path.folder()) {
+    workspace.has_no_faults();
+    match workspace.number_of(path.folder()) {
         None => Err(Refusal::NoIdentifier),
         Some(number) => {
-            let at = Numbered {
-                graph,
-                found,
-                number,
-            };
+            let at = Numbered { workspace, number };
             uses_of_package(alloc, at, path, offset)
         }
     }
@@ -469,7 +457,7 @@ fn uses_in(
 {
     match refuse_faults(alloc, graph, found) {
         Err(refusal) => Err(refusal),
-        Ok(()) => uses_at(alloc, graph, found, path, offset),
+        Ok(workspace) => uses_at(alloc, &workspace, path, offset),
     }
 }
 

@@ -11,7 +11,7 @@ returns-in-None c = λ r h.
     let t = c.args.types.now in
     let s = c.args.symbol.now in (
       (λ yes. absurd (false≢true yes)),
-      (λ k. absurd (no_package t.graph.now (known_in t.found.now) s.package (λ p. FieldCounts r p s.rank) (c.in-None.ensures r h) k)),
+      (λ k. absurd (no_package t.workspace.now.graph (known_in t.workspace.now.findings) s.package (λ p. FieldCounts r p s.rank) (c.in-None.ensures r h) k)),
     )
 
 pub returns-in-Some : goal.returns-in-Some
@@ -20,4 +20,5 @@ returns-in-Some c = λ r h.
     let s = c.args.symbol.now in
     let x = c.in-Some.ensures r h in
     let counts = field_counts r x.inside c.in-Some.members.now x.holds s.rank c.is_first.result (c.is_first.ensures x.holds.field_names) in
-    true_in t.graph.now (known_in t.found.now) x.inside x.is_package s.package x.of_path (λ p. FieldCounts r p s.rank) c.is_first.result counts
+    true_in t.workspace.now.graph (known_in t.workspace.now.findings) x.inside x.is_package s.package x.of_path (λ p. FieldCounts r p s.rank)
+    c.is_first.result counts

@@ -19,5 +19,6 @@ returns c = λ r h.
     c.in_ok-definition.ensures (c.first_method.ensures r h) in
     let found = subst (λ m. IsRankFound (λ n. InPackage Known s.package (λ p. IsFirstMethod Known r p new.definition m n)) c.first_method.result)
     c.deref.ensures.value at in
-    one_method t.graph.now (known_in t.found.now) r s.package new.definition new.name.items c.first_method.result found s.rank c.is_rank.result
+    one_method t.workspace.now.graph (known_in t.workspace.now.findings) r s.package new.definition new.name.items c.first_method.result found s.rank
+    c.is_rank.result
     c.is_rank.ensures

@@ -14,7 +14,8 @@ returns-in-None c = λ r h.
     let t = c.args.types.now in
     let s = c.args.of.now in (
       (λ yes. absurd (false≢true yes)),
-      (λ k. absurd (no_package t.graph.now (known_in t.found.now) s.package (λ p. MethodCounts (known_types t) r p s.rank) (c.in-None.ensures r h) k)),
+      (λ k. absurd (no_package t.workspace.now.graph (known_in t.workspace.now.findings) s.package (λ p. MethodCounts (known_types t) r p s.rank)
+          (c.in-None.ensures r h) k)),
     )
 
 pub returns-in-None-called : goal.returns-in-None-called
@@ -24,7 +25,8 @@ returns-in-None-called c = λ r h.
     let m = c.in-Some.members.now in (
       (λ yes. absurd (false≢true yes)),
       (λ k.
-          let are = of_one t.graph.now (known_in t.found.now) k.inside k.is_package s.package k.of_path (λ q. AreNewMembers r q m) (c.in-Some.ensures r h) in
+          let are = of_one t.workspace.now.graph (known_in t.workspace.now.findings) k.inside k.is_package s.package k.of_path
+          (λ q. AreNewMembers r q m) (c.in-Some.ensures r h) in
           absurd (no_method (known_types t) r k.inside m are s.rank c.in-None-called.ensures k.holds)),
     )
 
@@ -34,6 +36,7 @@ returns-in-Some-called c =
     let s = c.args.of.now in
     IfOk-weaker c.is_first_method.result _ _
     (λ yes is r h.
-    method_counts t.graph.now (known_in t.found.now) r c.in-Some.members.now s.package s.rank c.in-Some-called.new.now (c.in-Some.ensures r h)
+    method_counts t.workspace.now.graph (known_in t.workspace.now.findings) r c.in-Some.members.now s.package s.rank c.in-Some-called.new.now
+    (c.in-Some.ensures r h)
     c.in-Some-called.ensures yes (is r h))
     c.is_first_method.ensures

@@ -8,7 +8,7 @@ use Rattle.refactor_after.proofs.members.members_at.Goals as goal
 
 pub returns : goal.returns
 returns c =
-    let w = c.args.packages.now.graph.now in
-    let known = known_in c.args.packages.now.found.now in
+    let w = c.args.packages.now.workspace.now.graph in
+    let known = known_in c.args.packages.now.workspace.now.findings in
     IfOk-weaker c.members_of_unit.result _ (AreNewMembersAt w known (revision_of w c.args.moves.now) c.args.number)
     (λ members h. record { inside = package_of c.unit-unit.result; is_package = c.unit-unit.ensures; are_members = h w }) c.members_of_unit.ensures

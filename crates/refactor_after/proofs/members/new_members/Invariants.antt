@@ -5,5 +5,6 @@ use Rattle.refactor_after.specs.NewMembers.{AreNewMembersBelow}
 use Rattle.refactor_after.proofs.members.new_members.Given as goal
 
 abbrev pub invariant-loop-number : goal.invariant-loop-number
-invariant-loop-number l = AreNewMembersBelow l.packages.graph.now (known_in l.packages.found.now) (revision_of l.packages.graph.now l.moves) l.number
+invariant-loop-number l = AreNewMembersBelow l.packages.workspace.now.graph (known_in l.packages.workspace.now.findings)
+    (revision_of l.packages.workspace.now.graph l.moves) l.number
     l.members.items

@@ -14,8 +14,8 @@ loop-number-init c = none_below _ c.args.old.now.items
 
 pub loop-number-preserved : goal.loop-number-preserved
 loop-number-preserved c =
-    let w = c.args.packages.now.graph.now in
-    let known = known_in c.args.packages.now.found.now in
+    let w = c.args.packages.now.workspace.now.graph in
+    let known = known_in c.args.packages.now.workspace.now.findings in
     let m = moved c.args.moves.now in
     let n = c.loop-number.number in
     let all = c.args.places.now in
@@ -29,10 +29,8 @@ loop-number-preserved c =
 
 pub returns : goal.returns
 returns c =
-    let w = c.args.packages.now.graph.now in
+    let w = c.args.packages.now.workspace.now.graph in
     let end : length (package_paths w) ≤ c.loop-number.number = omega arith in
-    all_gone w (known_in c.args.packages.now.found.now) (moved c.args.moves.now) c.loop-number.number c.args.old.now.items c.loop-number.old.items end
+    all_gone w (known_in c.args.packages.now.workspace.now.findings) (moved c.args.moves.now) c.loop-number.number c.args.old.now.items
+    c.loop-number.old.items end
     c.loop-number.invariant
-
-pub path_of-path-requires-clause-sound : goal.path_of-path-requires-clause-sound
-path_of-path-requires-clause-sound c = c.requires.read.sound

@@ -9,4 +9,4 @@ use Rattle.refactor_after.proofs.places_before.add_all.Given as goal
 abbrev pub invariant-loop-number : goal.invariant-loop-number
 invariant-loop-number l =
     AddsAll l.initial.old.items l.old.items
-    (BelowAll (λ n. HasMovedSpot (IsPackageAt l.packages.graph.now (known_in l.packages.found.now) n) (moved l.moves)) l.number)
+    (BelowAll (λ n. HasMovedSpot (IsPackageAt l.packages.workspace.now.graph (known_in l.packages.workspace.now.findings) n) (moved l.moves)) l.number)

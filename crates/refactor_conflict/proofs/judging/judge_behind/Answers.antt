@@ -33,9 +33,6 @@ judge_exported-requires-clause-there c =
     let name = c.name-name.result.now in
     exported_there w known path name c.in-Some.old (subst (IsDeclarationResult (ExportsAs w known path name)) c.in-Some.is c.in_ok-exported.ensures)
 
-pub exported-requires-clause-sound : goal.exported-requires-clause-sound
-exported-requires-clause-sound c = c.requires.knows.read.sound
-
 pub returns-in-None-clause-stays : goal.returns-in-None-clause-stays
 returns-in-None-clause-stays c =
     let j = c.args.judge.now in

@@ -16,13 +16,13 @@ use Rattle.refactor_conflict.proofs.judging.judge_members.Goals as goal
 pub loop-file-init : goal.loop-file-init
 loop-file-init c =
     let j = c.args.judge.now in
-    let K = FileStays j.packages.now.graph.now (known_verdicts j) (revision_in j) (package_of c.args.unit) in
+    let K = FileStays j.packages.now.workspace.now.graph (known_verdicts j) (revision_in j) (package_of c.args.unit) in
     (takes_none _ c.args.first.now, none_below K c.args.first.now)
 
 pub loop-file-preserved : goal.loop-file-preserved
 loop-file-preserved c =
     let j = c.args.judge.now in
-    let w = j.packages.now.graph.now in
+    let w = j.packages.now.workspace.now.graph in
     let known = known_verdicts j in
     let r = revision_in j in
     let p = package_of c.args.unit in
@@ -56,7 +56,7 @@ returns-clause-takes c = c.loop-file.invariant.0
 pub returns-clause-stays : goal.returns-clause-stays
 returns-clause-stays c =
     let j = c.args.judge.now in
-    let w = j.packages.now.graph.now in
+    let w = j.packages.now.workspace.now.graph in
     let known = known_verdicts j in
     let r = revision_in j in
     let p = package_of c.args.unit in

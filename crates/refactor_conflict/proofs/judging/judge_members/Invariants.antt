@@ -7,5 +7,5 @@ use Rattle.refactor_conflict.proofs.judging.judge_members.Given as goal
 
 abbrev pub invariant-loop-file : goal.invariant-loop-file
 invariant-loop-file l =
-    Takes (IsConflictIn l.judge.packages.now.graph.now (known_verdicts l.judge) (revision_in l.judge) (package_of l.unit)) l.initial.first l.first
-    × HoldsBefore (Below (FileStays l.judge.packages.now.graph.now (known_verdicts l.judge) (revision_in l.judge) (package_of l.unit)) l.file) l.first
+    Takes (IsConflictIn l.judge.packages.now.workspace.now.graph (known_verdicts l.judge) (revision_in l.judge) (package_of l.unit)) l.initial.first l.first
+    × HoldsBefore (Below (FileStays l.judge.packages.now.workspace.now.graph (known_verdicts l.judge) (revision_in l.judge) (package_of l.unit)) l.file) l.first

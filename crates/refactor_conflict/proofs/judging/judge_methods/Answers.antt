@@ -24,7 +24,7 @@ loop-rank-init c =
 pub loop-rank-preserved : goal.loop-rank-preserved
 loop-rank-preserved c =
     let j = c.args.judge.now in
-    let w = j.packages.now.graph.now in
+    let w = j.packages.now.workspace.now.graph in
     let known = known_verdicts j in
     let r = revision_in j in
     let p = package_of c.args.unit in

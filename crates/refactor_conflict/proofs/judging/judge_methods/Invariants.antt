@@ -7,5 +7,5 @@ use Rattle.refactor_conflict.proofs.judging.judge_methods.Given as goal
 
 abbrev pub invariant-loop-rank : goal.invariant-loop-rank
 invariant-loop-rank l =
-    Takes (IsConflictIn l.judge.packages.now.graph.now (known_verdicts l.judge) (revision_in l.judge) (package_of l.unit)) l.initial.first l.first
+    Takes (IsConflictIn l.judge.packages.now.workspace.now.graph (known_verdicts l.judge) (revision_in l.judge) (package_of l.unit)) l.initial.first l.first
     × HoldsBefore (Below (MethodStays (known_packages l.judge) (revision_in l.judge) (package_of l.unit)) l.rank) l.first

@@ -11,12 +11,12 @@ use Rattle.refactor_conflict.proofs.judging.judge_numbers.Goals as goal
 pub loop-u-init : goal.loop-u-init
 loop-u-init c =
     let j = c.args.judge.now in
-    (takes_none _ c.args.first.now, none_stays j.packages.now.graph.now (known_verdicts j) (revision_in j) (package_of c.args.unit) c.args.first.now)
+    (takes_none _ c.args.first.now, none_stays j.packages.now.workspace.now.graph (known_verdicts j) (revision_in j) (package_of c.args.unit) c.args.first.now)
 
 pub loop-u-preserved : goal.loop-u-preserved
 loop-u-preserved c =
     let j = c.args.judge.now in
-    let w = j.packages.now.graph.now in
+    let w = j.packages.now.workspace.now.graph in
     let known = known_verdicts j in
     let r = revision_in j in
     let p = package_of c.args.unit in
@@ -41,4 +41,4 @@ returns-clause-stays c =
     let j = c.args.judge.now in
     let p = package_of c.args.unit in
     let end : c.loop-u.u ≡ p.size = omega arith in
-    all_stay j.packages.now.graph.now (known_verdicts j) (revision_in j) p c.loop-u.u c.loop-u.first end c.loop-u.invariant.1
+    all_stay j.packages.now.workspace.now.graph (known_verdicts j) (revision_in j) p c.loop-u.u c.loop-u.first end c.loop-u.invariant.1

@@ -7,5 +7,5 @@ use Rattle.refactor_conflict.proofs.judging.judge_numbers.Given as goal
 
 abbrev pub invariant-loop-u : goal.invariant-loop-u
 invariant-loop-u l =
-    Takes (IsConflictIn l.judge.packages.now.graph.now (known_verdicts l.judge) (revision_in l.judge) (package_of l.unit)) l.initial.first l.first
-    × HoldsBefore (StaysBelow l.judge.packages.now.graph.now (known_verdicts l.judge) (revision_in l.judge) (package_of l.unit) l.u) l.first
+    Takes (IsConflictIn l.judge.packages.now.workspace.now.graph (known_verdicts l.judge) (revision_in l.judge) (package_of l.unit)) l.initial.first l.first
+    × HoldsBefore (StaysBelow l.judge.packages.now.workspace.now.graph (known_verdicts l.judge) (revision_in l.judge) (package_of l.unit) l.u) l.first

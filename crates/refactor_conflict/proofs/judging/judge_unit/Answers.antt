@@ -10,7 +10,7 @@ use Rattle.refactor_conflict.proofs.judging.judge_unit.Goals as goal
 pub returns-clause-takes : goal.returns-clause-takes
 returns-clause-takes c =
     let j = c.args.judge.now in
-    let w = j.packages.now.graph.now in
+    let w = j.packages.now.workspace.now.graph in
     let known = known_verdicts j in
     let r = revision_in j in
     let p = package_of c.args.unit in
@@ -22,7 +22,7 @@ returns-clause-takes c =
 pub returns-clause-stays : goal.returns-clause-stays
 returns-clause-stays c =
     let j = c.args.judge.now in
-    let w = j.packages.now.graph.now in
+    let w = j.packages.now.workspace.now.graph in
     let known = known_verdicts j in
     let r = revision_in j in
     let p = package_of c.args.unit in

@@ -13,7 +13,8 @@ returns-then-may_follow c =
     let to = c.args.to.now in
     let last : c.last_of-last.result.now ≡ last_of from = (cc) in
     let named : c.last_of-name.result.now ≡ last_of to = (cc) in (
-      (λ t. follows_with (IsPackage c.args.graph.now (known_in c.args.found.now)) from to c.last_of-last.result.now c.last_of-name.result.now last named
+      (λ t. follows_with (IsPackage c.args.workspace.now.graph (known_in c.args.workspace.now.findings)) from to c.last_of-last.result.now
+          c.last_of-name.result.now last named
           (c.may_follow.ensures.0 c.if-may_follow.true) (c.is_called_so.ensures.0 t)),
       (λ h. c.is_called_so.ensures.1 h.was),
     )
@@ -25,6 +26,6 @@ returns-else-may_follow c =
     let last : c.last_of-last.result.now ≡ last_of from = (cc) in
     let named : c.last_of-name.result.now ≡ last_of to = (cc) in (
       (λ t. absurd (false≢true (sym c.if-may_follow.false ∙ t))),
-      (λ h. c.may_follow.ensures.1 (may_from (IsPackage c.args.graph.now (known_in c.args.found.now)) from to c.last_of-last.result.now
+      (λ h. c.may_follow.ensures.1 (may_from (IsPackage c.args.workspace.now.graph (known_in c.args.workspace.now.findings)) from to c.last_of-last.result.now
           c.last_of-name.result.now last named h)),
     )

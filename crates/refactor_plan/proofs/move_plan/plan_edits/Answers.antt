@@ -1,20 +1,21 @@
 -- The answers to the goals of `plan::plan_edits`.
 use Rattle.std.proofs.Common.{ap, sym, subst, ◌∙◌}
-use Rattle.base_edits.specs.EditSet.{FileChanges}
+use Rattle.refs_binding.specs.Workspaces.{known_in}
 use Rattle.workspace_snapshot.specs.declared.change.Change.{Change}
-use Rattle.refactor_plan.specs.MoveSteps.{moving_by, PlansMoveBy}
+use Rattle.refactor_plan.specs.MoveSteps.{package_place}
+use Rattle.refactor_plan.specs.Proposals.{proposed_change, PlansChange}
 use Rattle.refactor_preserve.specs.Planned.{change_in}
 use Rattle.refactor_plan.proofs.move_plan.plan_edits.Goals as goal
 
 pub plan_change-requires-clause-is_change : goal.plan_change-requires-clause-is_change
 plan_change-requires-clause-is_change c =
     let e = c.in_ok-change.ensures in
-    e ∙ ap (moving_by c.args.snapshot.now) (sym (ap (λ (x : Change). x.edits) e))
+    e ∙ sym (ap (λ (x : Change). proposed_change c.args.snapshot.now x.kind x.edits) e)
 
 pub returns-clause-planned : goal.returns-clause-planned
 returns-clause-planned c =
-    subst (λ (s : FileChanges). PlansMoveBy c.args.snapshot.now c.args.from.now s (change_in c.plan_change.result))
-    (ap (λ (x : Change). x.edits) c.in_ok-change.ensures) c.plan_change.ensures.planned
+    subst (λ (x : Change). PlansChange c.args.snapshot.now (known_in c.args.found.now.findings) (package_place c.args.from.now) x.kind x.edits
+    (change_in c.plan_change.result)) c.in_ok-change.ensures c.plan_change.ensures.planned
 
 pub returns-clause-known : goal.returns-clause-known
 returns-clause-known c = c.plan_change.ensures.known

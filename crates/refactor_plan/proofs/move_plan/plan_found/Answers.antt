@@ -5,8 +5,8 @@ use Rattle.refactor_plan.proofs.MovePlanned.{spared_by_free, edits_planned}
 use Rattle.refactor_preserve.specs.Planned.{change_in}
 use Rattle.refactor_plan.proofs.move_plan.plan_found.Goals as goal
 
-pub move_edits-requires-clause-free : goal.move_edits-requires-clause-free
-move_edits-requires-clause-free c = spared_by_free c.args.snapshot.now.files c.args.from.now c.args.to.now c.requires.free
+pub move_edits-requires : goal.move_edits-requires
+move_edits-requires c = spared_by_free c.args.snapshot.now.files c.args.from.now c.args.to.now c.requires.free
 
 pub returns-clause-planned : goal.returns-clause-planned
 returns-clause-planned c =

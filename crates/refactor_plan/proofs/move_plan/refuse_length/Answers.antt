@@ -5,7 +5,9 @@ use Rattle.base_edits.specs.EditSet.{FileChanges, edited}
 use Rattle.base_edits.specs.RevisionsOfEdits.{revision_of}
 use Rattle.refactor_preserve.specs.Preserved.{Preserves}
 use Rattle.workspace_snapshot.specs.declared.change.Change.{Change}
-use Rattle.refactor_plan.specs.MoveSteps.{RefusesConflict}
+use Rattle.refs_binding.specs.Workspaces.{known_in}
+use Rattle.refactor_plan.specs.MoveSteps.{package_place}
+use Rattle.refactor_plan.specs.Proposals.{RefusesConflict}
 use Rattle.refactor_plan.proofs.MovePlanned.{conflict_of_length}
 use Rattle.refactor_plan.proofs.move_plan.refuse_length.Goals as goal
 
@@ -21,8 +23,10 @@ pub returns-in-Err-clause-planned : goal.returns-in-Err-clause-planned
 returns-in-Err-clause-planned c =
     let w = c.args.snapshot.now.files in
     let same = ap (λ (x : Change). x.edits) c.in_ok-change.ensures in
-    conflict_of_length w c.args.from.now c.args.edits c.in-Err.refusal
-    (subst (λ (s : FileChanges). RefusesConflict w c.args.from.now s (Err c.in-Err.refusal)) same c.in-Err.ensures)
+    let known = known_in c.args.found.now.findings in
+    let place = package_place c.args.from.now in
+    conflict_of_length w known place c.args.edits c.in-Err.refusal
+    (subst (λ (s : FileChanges). RefusesConflict w known place s (Err c.in-Err.refusal)) same c.in-Err.ensures)
 
 pub returns-clause-planned : goal.returns-clause-planned
 returns-clause-planned c =

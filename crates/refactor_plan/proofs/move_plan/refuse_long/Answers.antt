@@ -5,8 +5,8 @@ use Rattle.refactor_plan.proofs.MovePlanned.{name_refused, name_planned}
 use Rattle.refactor_preserve.specs.Planned.{change_in}
 use Rattle.refactor_plan.proofs.move_plan.refuse_long.Goals as goal
 
-pub move_edits-requires-clause-free : goal.move_edits-requires-clause-free
-move_edits-requires-clause-free c = λ path is under. under
+pub move_edits-requires : goal.move_edits-requires
+move_edits-requires c = λ path is under. under
 
 pub returns-in-Err-clause-planned : goal.returns-in-Err-clause-planned
 returns-in-Err-clause-planned c =

@@ -8,4 +8,4 @@ returns-in-Err-clause-planned c =
     faults_refused c.args.snapshot.now asked.path.now asked.offset asked.name.now c.args.found.now.findings c.in-Err.refusal c.in-Err.ensures
 
 pub plan_found-requires-clause-sound : goal.plan_found-requires-clause-sound
-plan_found-requires-clause-sound c = c.in-Ok.ensures
+plan_found-requires-clause-sound c = c.in-Ok.ensures.0

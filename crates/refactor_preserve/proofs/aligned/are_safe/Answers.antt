@@ -14,5 +14,5 @@ loop-number-preserved c =
 pub returns : goal.returns
 returns c = λ t.
     let both = c.args.both.now in
-    let end : length (package_paths both.before.now.packages.now.graph.now) ≡ c.loop-number.number = omega arith in
+    let end : length (package_paths both.before.now.packages.now.workspace.now.graph) ≡ c.loop-number.number = omega arith in
     all_numbers_safe both c.loop-number.number end c.loop-number.invariant

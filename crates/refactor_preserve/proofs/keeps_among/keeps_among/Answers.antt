@@ -24,7 +24,7 @@ keeps_marked-requires-clause-affected c =
     let then = c.in_ok-then.then in
     let s = c.args.change.now.edits.now in
     let w = c.args.graph.now in
-    subst (λ (v : Workspace). AreAffected v v then.graph.now s before.marks.now) (sym c.in_ok-before.ensures.graph)
+    subst (λ (v : Workspace). AreAffected v v then.workspace.now.graph s before.marks.now) (sym c.in_ok-before.ensures.graph)
     (subst (λ (x : Workspace). AreAffected w w x s before.marks.now) (sym c.in_ok-then.ensures.graph)
     (subst (λ (m : List Bool). AreAffected w w c.args.change.now.after.now s m) (sym (c.in_ok-before.ensures.marks ∙ c.deref-2.ensures.value))
     c.in_ok-affected.ensures.before))
@@ -35,5 +35,5 @@ returns c =
     let kept = λ (w : Workspace) (f g : Findings). IfOk c.keeps_marked.result (λ answer. AnswersFor answer
     (KeepsBindings w (known_in f) (revision_of w c.args.change.now.edits.now) (known_in g))) in
     subst (λ (w : Workspace). kept w c.args.found.now c.args.found_after.now) c.in_ok-before.ensures.graph
-    (subst (λ (f : Findings). kept before.graph.now f c.args.found_after.now) c.in_ok-before.ensures.found
-    (subst (λ (g : Findings). kept before.graph.now before.found.now g) c.in_ok-then.ensures.found c.keeps_marked.ensures))
+    (subst (λ (f : Findings). kept before.workspace.now.graph f c.args.found_after.now) c.in_ok-before.ensures.found
+    (subst (λ (g : Findings). kept before.workspace.now.graph before.workspace.now.findings g) c.in_ok-then.ensures.found c.keeps_marked.ensures))

@@ -18,6 +18,8 @@ returns c =
     let s = c.args.edits.now in
     let is = c.in_ok-moves.ensures in
     IfOk-weaker c.tell_marked.result (λ answer. AnswersForMarked before then (moved c.in_ok-moves.moves) answer)
-    (λ answer. AnswersFor answer (KeepsBindings before.graph.now (known_in before.found.now) (revision_of before.graph.now s) (known_in then.found.now)))
-    (λ answer h. told_by_marked before then s c.requires.before.packages.sound.findings.right c.requires.then.sound.findings.right c.requires.affected
+    (λ answer. AnswersFor answer
+    (KeepsBindings before.workspace.now.graph (known_in before.workspace.now.findings) (revision_of before.workspace.now.graph s)
+    (known_in then.workspace.now.findings)))
+    (λ answer h. told_by_marked before then s c.has_no_faults.ensures.findings.right c.has_no_faults-2.ensures.findings.right c.requires.affected
     c.requires.edited answer (subst (λ (m : FileChanges). AnswersForMarked before then (moved m) answer) is h)) c.tell_marked.ensures

@@ -15,6 +15,7 @@ returns c =
     let table = c.args.table.now in
     let seen = c.args.seen.now in
     let p = package_in path (map source_of files) table (export_data_in seen) in
-    let is = laid_at c.args.graph.now (known_in c.args.found.now) c.args.number path files table seen c.requires.in_range c.path_of-path.ensures
+    let is = laid_at c.args.workspace.now.graph (known_in c.args.workspace.now.findings) c.args.number path files table seen c.requires.in_range
+    c.path_of-path.ensures
     c.files-files.ensures c.requires.table in
     IfOk-weaker c.numbers_by.result _ _ (λ numbers h. (p, (is, h))) c.numbers_by.ensures

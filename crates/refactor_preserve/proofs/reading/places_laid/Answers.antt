@@ -11,8 +11,8 @@ use Rattle.refactor_preserve.proofs.reading.places_laid.Goals as goal
 
 pub returns : goal.returns
 returns c =
-    let w = c.args.graph.now in
-    let known = known_in c.args.found.now in
+    let w = c.args.workspace.now.graph in
+    let known = known_in c.args.workspace.now.findings in
     let n = c.args.number in
     let path = c.path_of-path.result.now in
     let files = c.files-files.result.now in

@@ -10,14 +10,14 @@ pub returns-clause-held : goal.returns-clause-held
 returns-clause-held c =
     let wanted = c.args.wanted.now in
     record {
-      sound = c.requires.sound;
       declared = places_held wanted c.args.order.now c.args.so_far c.requires.order c.requires.so_far;
-      bindings = c.in_ok-bindings.ensures wanted.graph.now (known_in wanted.found.now) wanted.marks.now
+      bindings = c.in_ok-bindings.ensures wanted.workspace.now.graph (known_in wanted.workspace.now.findings) wanted.marks.now
           (bound_read wanted c.args.order.now c.args.so_far c.requires.order c.requires.so_far);
     }
 
 pub returns-clause-identifiers : goal.returns-clause-identifiers
 returns-clause-identifiers c = λ t.
     let wanted = c.args.wanted.now in
-    all_added [] c.args.so_far.gathered.identifiers.items (IsIdentifierAmong wanted.graph.now (known_in wanted.found.now) wanted.marks.now) refl
+    all_added [] c.args.so_far.gathered.identifiers.items
+    (IsIdentifierAmong wanted.workspace.now.graph (known_in wanted.workspace.now.findings) wanted.marks.now) refl
     (identifiers_read wanted c.args.order.now c.args.so_far c.requires.order c.requires.so_far t)

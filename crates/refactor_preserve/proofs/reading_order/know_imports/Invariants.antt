@@ -5,4 +5,4 @@ use Rattle.refactor_preserve.proofs.reading_order.know_imports.Given as goal
 
 -- what is known of exports is right
 abbrev pub invariant-loop-import : goal.invariant-loop-import
-invariant-loop-import l = AreSomeExports l.wanted.graph.now (known_in l.wanted.found.now) l.numbers.items
+invariant-loop-import l = AreSomeExports l.wanted.workspace.now.graph (known_in l.wanted.workspace.now.findings) l.numbers.items

@@ -13,8 +13,7 @@ read_if_marked-requires c =
     let k = c.loop-number.number-index in
     let lt : k < length order = omega arith in
     record {
-      in_range = (c.requires.order (get_or order k 0)).0 (Contains-get_or order k 0 lt);
-      sound = c.requires.sound;
+      in_range = (c.requires (get_or order k 0)).0 (Contains-get_or order k 0 lt);
       size = c.loop-number.invariant.places.size;
       numbers = c.loop-number.invariant.exports;
     }
@@ -25,7 +24,7 @@ loop-number-preserved c =
     let k = c.loop-number.number-index in
     let lt : k < length order = omega arith in
     let n = get_or order k 0 in
-    next_read c.args.wanted.now (take k order) (take (k + 1) order) n ((c.requires.order n).0 (Contains-get_or order k 0 lt))
+    next_read c.args.wanted.now (take k order) (take (k + 1) order) n ((c.requires n).0 (Contains-get_or order k 0 lt))
     (λ m h. still_taken order k 0 m lt h) (next_taken order k 0 lt) (λ m h. taken_or_next order k 0 m lt h)
     c.loop-number.so_far c.read_if_marked.new.so_far c.loop-number.invariant c.in_ok-read_if_marked.ensures
 

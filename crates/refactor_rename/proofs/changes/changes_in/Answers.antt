@@ -10,13 +10,14 @@ use Rattle.refactor_rename.proofs.changes.changes_in.Goals.{in-Some+in_ok-add_ch
 
 pub loop-path-init : goal.loop-path-init
 loop-path-init c =
-    changing_first c.args.graph.now (known_in c.args.found.now) c.args.renamed.now c.args.paths.now c.new-changed.result.items c.new-changed.ensures.items
+    changing_first c.args.workspace.now.graph (known_in c.args.workspace.now.findings) c.args.renamed.now c.args.paths.now c.new-changed.result.items
+    c.new-changed.ensures.items
     c.requires.order (λ path h. (c.requires.each path).1 h)
 
 pub loop-path-preserved : goal.loop-path-preserved
 loop-path-preserved c =
-    let w = c.args.graph.now in
-    let known = known_in c.args.found.now in
+    let w = c.args.workspace.now.graph in
+    let known = known_in c.args.workspace.now.findings in
     let r = c.args.renamed.now in
     let old = c.loop-path.changed.items in
     let k = c.loop-path.path-index in
@@ -31,5 +32,6 @@ loop-path-preserved c =
 
 pub returns : goal.returns
 returns c =
-    changing_last c.args.graph.now (known_in c.args.found.now) c.args.renamed.now (drop c.loop-path.path-index c.args.paths.now) c.loop-path.changed.items
+    changing_last c.args.workspace.now.graph (known_in c.args.workspace.now.findings) c.args.renamed.now
+    (drop c.loop-path.path-index c.args.paths.now) c.loop-path.changed.items
     (drop_all c.loop-path.path-index c.args.paths.now c.loop-path-test.false) c.loop-path.invariant

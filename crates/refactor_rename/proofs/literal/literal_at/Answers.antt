@@ -11,12 +11,9 @@ use Rattle.refactor_rename.proofs.literal.literal_at.Goals as goal
 
 pub returns : goal.returns
 returns c = λ p is.
-    let w = c.args.graph.now in
-    let known = known_in c.args.found.now in
+    let w = c.args.workspace.now.graph in
+    let known = known_in c.args.workspace.now.findings in
     let q = package_in c.path_of-path.result.now (map source_of c.trees-files.result.now) c.in_ok-table.table (export_data_in c.in_ok-seen.seen) in
-    let at = unit_at w known c.args.number c.path_of-path.result.now c.trees-files.result.now c.in_ok-seen.seen c.in_ok-table.table c.requires.in_range
-    c.path_of-path.ensures c.trees-files.ensures c.in_ok-seen.ensures.seen c.in_ok-table.ensures in
+    let at = unit_at w known c.args.number c.path_of-path.result.now c.trees-files.result.now c.in_ok-seen.seen c.in_ok-table.table c.requires
+    c.path_of-path.ensures c.trees-files.ensures c.in_ok-seen.ensures c.in_ok-table.ensures in
     subst (λ x. IfOk c.literal_by.result (IsLiteralFound (IsLiteralIn x c.args.d))) (one_at w known c.args.number q p at is) c.literal_by.ensures
-
-pub seen-requires-clause-whole : goal.seen-requires-clause-whole
-seen-requires-clause-whole c = c.requires.sound.findings.whole

@@ -16,14 +16,14 @@ use Rattle.refactor_rename.proofs.naming.refuse_in_path.Goals as goal
 
 pub returns-in-Some : goal.returns-in-Some
 returns-in-Some c =
-    let w = c.args.graph.now in
-    let known = known_in c.args.found.now in
+    let w = c.args.workspace.now.graph in
+    let known = known_in c.args.workspace.now.findings in
     let n = c.in-Some.number in
     let path = c.args.path.now in
     let d = c.args.declaration.now in
     let name = c.args.name.now in
     let at : slice_get (package_paths w) n ≡ Some path = c.in-Some.ensures ∙ ap Some c.path.ensures in
-    let x = package_there w c.args.found.now c.requires n (slice_get_within (package_paths w) n path at) in
+    let x = package_there w c.args.workspace.now.findings c.has_no_faults.ensures n (slice_get_within (package_paths w) n path at) in
     let p = x.0 in
     let agree : (P : Package → Type 0) → Agree (P p) (InPackage (IsPackage w known) path P) =
     λ P. record { there = in_package w known n p path P x.1 at; back = of_package w known n p path P x.1 at }

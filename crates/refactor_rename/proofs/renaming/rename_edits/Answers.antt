@@ -4,12 +4,12 @@ use Rattle.refs_binding.specs.Workspaces.{known_in}
 use Rattle.refactor_rename.specs.RenameEdits.{AreEditsOf, AreRenameEdits}
 use Rattle.refactor_rename.proofs.renaming.rename_edits.Goals as goal
 
-pub edits_by-requires-clause-sorted : goal.edits_by-requires-clause-sorted
-edits_by-requires-clause-sorted c = c.in_ok-renamed.ensures.uses.in_order
+pub edits_by-requires : goal.edits_by-requires
+edits_by-requires c = c.in_ok-renamed.ensures.uses.in_order
 
 pub returns-clause-edits : goal.returns-clause-edits
 returns-clause-edits c =
-    let w = c.args.graph.now in
-    let known = known_in c.args.found.now in
+    let w = c.args.workspace.now.graph in
+    let known = known_in c.args.workspace.now.findings in
     IfOk-weaker c.edits_by.result (AreEditsOf w known c.in_ok-renamed.renamed) (AreRenameEdits w known c.args.declaration.now c.args.name.now)
     (λ s h. record { renamed = c.in_ok-renamed.renamed; is_renamed = c.in_ok-renamed.ensures; edits = h }) c.edits_by.ensures.edits

@@ -1,6 +1,10 @@
 -- The answers to the goals of `faults::refuse_faults`.
-use Rattle.refs_binding.proofs.Refusing.{first_refused}
+use Rattle.std.proofs.Common.{refl}
+use Rattle.refs_binding.proofs.Refusing.{refusal_first}
 use Rattle.refs_binding.proofs.faults.refuse_faults.Goals as goal
 
-pub returns-else-are_faultless : goal.returns-else-are_faultless
-returns-else-are_faultless c = first_refused c.args.graph.now c.args.found.now c.requires c.refuse_first.result c.refuse_first.ensures
+pub returns-in-Err : goal.returns-in-Err
+returns-in-Err c = refusal_first c.args.graph.now c.args.findings.now c.in-Err.refusal c.in-Err.ensures.first
+
+pub returns-in-Ok : goal.returns-in-Ok
+returns-in-Ok c = (c.in-Ok.ensures.sound, refl)

@@ -2,7 +2,7 @@
 use Rattle.std.proofs.Common.{length, ap, sym, ◌∙◌}
 use Rattle.std.specs.Prelude.{Some, slice_get}
 use Rattle.std.proofs.lemmas.Option.{slice_get-get_or, slice_get_past}
-use Rattle.workspace_check.proofs.Members.{not_below}
+use Rattle.base_lemmas.proofs.Tests.{not_below}
 use Rattle.refs_binding.proofs.Files.{none_named, is_named}
 use Rattle.refs_binding.proofs.identifiers.is_name_at.Goals as goal
 

@@ -3,10 +3,10 @@ use Rattle.types_declared.specs.PackageView.{package_of}
 use Rattle.refs_binding.proofs.indexed.known_of.Goals as goal
 
 pub own_of-own-requires : goal.own_of-own-requires
-own_of-own-requires c = record { in_range = c.requires.numbered.in_range; sound = c.requires.numbered.sound }
+own_of-own-requires c = c.requires.numbered.in_range
 
 pub members_of-members-requires : goal.members_of-members-requires
-members_of-members-requires c = record { in_range = c.requires.numbered.in_range; sound = c.requires.numbered.sound }
+members_of-members-requires c = c.requires.numbered.in_range
 
 pub returns-clause-unit : goal.returns-clause-unit
 returns-clause-unit c = c.requires.unit

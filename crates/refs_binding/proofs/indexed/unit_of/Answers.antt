@@ -9,16 +9,13 @@ use Rattle.types_info.specs.PackageOf.{package_in}
 use Rattle.refs_binding.specs.Workspaces.{known_in, IsPackageAt}
 use Rattle.refs_binding.proofs.indexed.unit_of.Goals as goal
 
-pub path_of-path-requires-clause-in_range : goal.path_of-path-requires-clause-in_range
-path_of-path-requires-clause-in_range c = c.requires.numbered.in_range
-
-pub path_of-path-requires-clause-sound : goal.path_of-path-requires-clause-sound
-path_of-path-requires-clause-sound c = c.requires.numbered.sound
+pub path_of-path-requires : goal.path_of-path-requires
+path_of-path-requires c = c.requires.numbered.in_range
 
 pub returns : goal.returns
 returns c =
-    let w = c.args.at.graph.now in
-    let known = known_in c.args.at.found.now in
+    let w = c.args.at.workspace.now.graph in
+    let known = known_in c.args.at.workspace.now.findings in
     let n = c.args.at.number in
     let path = c.path_of-path.result.now in
     let x = slice_get_some (package_paths w) n c.requires.numbered.in_range in

@@ -4,4 +4,4 @@ use Rattle.refs_binding.specs.Workspaces.{known_in}
 use Rattle.refs_binding.proofs.packages.all_tables.Given as goal
 
 abbrev pub invariant-loop-number : goal.invariant-loop-number
-invariant-loop-number l = HoldsOfEach (IsTableOf l.graph (known_in l.found) l.all) l.number l.tables.items
+invariant-loop-number l = HoldsOfEach (IsTableOf l.workspace.graph (known_in l.workspace.findings) l.all) l.number l.tables.items

@@ -12,8 +12,8 @@ use Rattle.refs_binding.proofs.packages.read_table.Goals as goal
 
 pub returns : goal.returns
 returns c =
-    let w = c.args.graph.now in
-    let known = known_in c.args.found.now in
+    let w = c.args.workspace.now.graph in
+    let known = known_in c.args.workspace.now.findings in
     let files = c.trees-files.result.now in
     let seen = c.args.seen.now in
     IfOk-weaker c.laid_table.result (λ laid. IsLaidOver (map source_of files) (name_in seen) (scoped files) laid)

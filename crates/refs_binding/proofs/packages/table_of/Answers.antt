@@ -21,8 +21,8 @@ read_table-requires-clause-seen c =
 
 pub returns : goal.returns
 returns c =
-    let w = c.args.graph.now in
-    let known = known_in c.args.found.now in
+    let w = c.args.workspace.now.graph in
+    let known = known_in c.args.workspace.now.findings in
     let n = c.args.number in
     let all = c.args.all.now in
     let here = c.index-all-number.result in

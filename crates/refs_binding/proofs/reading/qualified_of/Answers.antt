@@ -2,15 +2,20 @@
 use Rattle.std.proofs.Common.{◌<◌, length, refl, sym, ap, subst, ◌∙◌}
 use Rattle.std.proofs.lemmas.Option.{slice_get_read}
 use Rattle.types_info.specs.QualifiedIdentifiers.{AreQualified}
+use Rattle.base_files.specs.Packages.{package_paths}
 use Rattle.workspace_check.specs.declared.finding.Finding.{Finding}
+use Rattle.refs_binding.specs.WorkspaceFindings.{WorkspaceFindings}
 use Rattle.refs_binding.proofs.Units.{qualified_at}
 use Rattle.refs_binding.proofs.reading.qualified_of.Goals as goal
 
 pub returns : goal.returns
-returns c = λ p is.
-    let found = c.args.found.now in
+returns c = rw (← c.workspace.view_is) (λ p is.
+    let w = c.workspace.inside.graph.now in
+    let found = c.workspace.inside.findings.now in
+    let sound = c.workspace.invariant in
+    let within = subst (λ (v : WorkspaceFindings). c.args.number < length (package_paths v.graph)) (sym c.workspace.view_is) c.requires in
     let finding = c.index.result.now in
-    let lt = subst (λ m. c.args.number < m) (sym c.requires.sound.findings.size) c.requires.in_range in
+    let lt = subst (λ m. c.args.number < m) (sym sound.findings.size) within in
     let at = slice_get_read found.packages.items (length found.packages.items) c.args.number finding refl lt c.index.ensures in
     subst (AreQualified p) (sym (c.deref.ensures.value ∙ ap (λ (f : Finding). f.qualified.items) c.get.ensures))
-    (qualified_at c.args.graph.now found c.requires.sound c.args.number finding at p is)
+    (qualified_at w found sound c.args.number finding at p is))

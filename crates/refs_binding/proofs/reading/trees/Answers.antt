@@ -8,10 +8,11 @@ use Rattle.refs_binding.proofs.Units.{all_read, no_fault_in}
 use Rattle.refs_binding.proofs.reading.trees.Goals as goal
 
 pub returns : goal.returns
-returns c = λ p at.
-    let w = c.args.graph.now in
+returns c = rw (← c.workspace.view_is) (λ p at.
+    let w = c.workspace.inside.graph.now in
+    let found = c.workspace.inside.findings.now in
     let is = c.package.ensures in
     let pkg = c.package.result.now in
     let parsed = subst (λ q. AreParsed (package_files w q) pkg.trees.items pkg.faulty.items) (same_Some _ _ (sym is.path ∙ at)) is.files in
     subst (λ ts. AreParsed (package_files w p) ts []) (sym c.deref.ensures.value)
-    (all_read w (known_in c.args.found.now) p pkg.trees.items pkg.faulty.items (no_fault_in w c.args.found.now c.requires.sound c.args.number p at) parsed)
+    (all_read w (known_in found) p pkg.trees.items pkg.faulty.items (no_fault_in w found c.workspace.invariant c.args.number p at) parsed))

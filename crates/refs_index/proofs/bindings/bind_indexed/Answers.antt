@@ -11,14 +11,14 @@ use Rattle.refs_index.proofs.bindings.bind_indexed.Goals as goal
 
 pub known_of-of-requires-clause-numbered : goal.known_of-of-requires-clause-numbered
 known_of-of-requires-clause-numbered c = record {
-  in_range = number_within c.args.exports.now.graph.now (known_in c.args.exports.now.found.now) c.args.number (package_of c.args.unit) c.requires.numbered;
-  sound = c.requires.exports.sound;
+  in_range = number_within c.args.exports.now.workspace.now.graph (known_in c.args.exports.now.workspace.now.findings) c.args.number
+      (package_of c.args.unit) c.requires.numbered;
 }
 
 pub returns : goal.returns
 returns c =
-    let w = c.args.exports.now.graph.now in
-    let known = known_in c.args.exports.now.found.now in
+    let w = c.args.exports.now.workspace.now.graph in
+    let known = known_in c.args.exports.now.workspace.now.findings in
     let p = package_of c.known_of-of.result.unit in
     let is = c.known_of-of.ensures.unit in
     call_all c.args.bound.now.items c.bind_package.new.bound.items (BoundIn p (IsBoundTo w known p)) (IsBoundAt w known c.args.number) c.bind_package.result

@@ -2,4 +2,4 @@
 use Rattle.refs_index.proofs.bindings.bind_laid.Goals as goal
 
 pub unit_of-unit-requires-clause-numbered : goal.unit_of-unit-requires-clause-numbered
-unit_of-unit-requires-clause-numbered c = record { in_range = c.requires.in_range; sound = c.requires.exports.sound }
+unit_of-unit-requires-clause-numbered c = record { in_range = c.requires.in_range }

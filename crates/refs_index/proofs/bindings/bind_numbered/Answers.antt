@@ -9,7 +9,7 @@ use Rattle.refs_index.proofs.bindings.bind_numbered.Goals as goal
 
 pub returns : goal.returns
 returns c =
-    let P = IsBoundAt c.args.exports.now.graph.now (known_in c.args.exports.now.found.now) c.args.number in
+    let P = IsBoundAt c.args.exports.now.workspace.now.graph (known_in c.args.exports.now.workspace.now.findings) c.args.number in
     let own = c.bind_indexed.new.bound.items in
     let added = subst (λ l. AddsAll l own P) c.new-own.ensures.items c.in_ok-bind_indexed.ensures in
     call_all c.args.bound.now.items c.add_in_order.new.bound.items (Contains own) P c.add_in_order.result

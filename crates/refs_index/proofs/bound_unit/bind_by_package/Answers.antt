@@ -13,16 +13,16 @@ use Rattle.refs_index.proofs.bound_unit.bind_by_package.Goals as goal
 
 pub returns-in-None : goal.returns-in-None
 returns-in-None c =
-    let w = c.args.exports.now.graph.now in
-    let known = known_in c.args.exports.now.found.now in
+    let w = c.args.exports.now.workspace.now.graph in
+    let known = known_in c.args.exports.now.workspace.now.findings in
     let p = package_of c.args.unit in
     bound_to_nothing (λ b. BeginsAt p (bound_place b).path (bound_place b).offset c.args.u) (BindsQualified (IsPackage w known) p c.args.u) c.args.bound.now.items
     (behind_none w known p c.args.u c.in-None.ensures)
 
 pub returns-in-None-2 : goal.returns-in-None-2
 returns-in-None-2 c =
-    let w = c.args.exports.now.graph.now in
-    let known = known_in c.args.exports.now.found.now in
+    let w = c.args.exports.now.workspace.now.graph in
+    let known = known_in c.args.exports.now.workspace.now.findings in
     let p = package_of c.args.unit in
     let path = c.in-Some.path.now in
     let o = c.in_ok-exported-in-Some.field-0 in
@@ -33,8 +33,8 @@ returns-in-None-2 c =
 
 pub returns-in-Some-2 : goal.returns-in-Some-2
 returns-in-Some-2 c =
-    let w = c.args.exports.now.graph.now in
-    let known = known_in c.args.exports.now.found.now in
+    let w = c.args.exports.now.workspace.now.graph in
+    let known = known_in c.args.exports.now.workspace.now.findings in
     let p = package_of c.args.unit in
     let path = c.in-Some.path.now in
     let o = c.in_ok-exported-in-Some.field-0 in

@@ -12,6 +12,6 @@ pub returns : goal.returns
 returns c =
     let p = package_of c.args.unit in
     either_way (λ b. BeginsAt p (bound_place b).path (bound_place b).offset c.args.u) (BindsByScope p c.args.u)
-    (BindsQualified (IsPackage c.args.exports.now.graph.now (known_in c.args.exports.now.found.now)) p c.args.u)
+    (BindsQualified (IsPackage c.args.exports.now.workspace.now.graph (known_in c.args.exports.now.workspace.now.findings)) p c.args.u)
     c.args.bound.now.items c.bind_by_scope.new.bound.items c.bind_by_package.new.bound.items c.bind_by_package.result c.in_ok-bind_by_scope.ensures
     c.bind_by_package.ensures

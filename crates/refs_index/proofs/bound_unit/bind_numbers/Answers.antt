@@ -19,7 +19,7 @@ loop-u-preserved c = next_below _ c.args.bound.now.items c.loop-u.bound.items c.
 pub returns : goal.returns
 returns c =
     let p = package_of c.args.unit in
-    let P = IsPackage c.args.exports.now.graph.now (known_in c.args.exports.now.found.now) in
+    let P = IsPackage c.args.exports.now.workspace.now.graph (known_in c.args.exports.now.workspace.now.findings) in
     let e : c.loop-u.u ≡ length c.args.unit.table.now.sites = omega (arith, c.len-u-end.ensures) in
     all_numbers (λ u b. BeginsAt p (bound_place b).path (bound_place b).offset u × (BindsByScope p u b.declaration ⊎ BindsQualified P p u b.declaration))
     (BoundIn p (λ u d. BindsByScope p u d ⊎ BindsQualified P p u d))

@@ -13,6 +13,6 @@ use Rattle.refs_index.proofs.bound_unit.bind_numbers.Given as goal
 abbrev pub invariant-loop-u : goal.invariant-loop-u
 invariant-loop-u l =
     let p = package_of l.unit in
-    let P = IsPackage l.exports.graph.now (known_in l.exports.found.now) in
+    let P = IsPackage l.exports.workspace.now.graph (known_in l.exports.workspace.now.findings) in
     AddsAll l.initial.bound.items l.bound.items
     (BelowAll (λ u b. BeginsAt p (bound_place b).path (bound_place b).offset u × (BindsByScope p u b.declaration ⊎ BindsQualified P p u b.declaration)) l.u)

@@ -7,6 +7,6 @@ use Rattle.refs_index.proofs.bound_unit.bind_package.Goals as goal
 
 pub returns : goal.returns
 returns c =
-    all_ways (IsPackage c.args.exports.now.graph.now (known_in c.args.exports.now.found.now)) (package_of c.args.of.now.unit)
+    all_ways (IsPackage c.args.exports.now.workspace.now.graph (known_in c.args.exports.now.workspace.now.findings)) (package_of c.args.of.now.unit)
     c.args.bound.now.items c.bind_numbers.new.bound.items c.bind_members.new.bound.items c.bind_own_names.new.bound.items
     c.bind_own_names.result c.in_ok-bind_numbers.ensures c.in_ok-bind_members.ensures c.bind_own_names.ensures

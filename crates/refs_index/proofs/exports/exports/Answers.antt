@@ -9,15 +9,18 @@ use Rattle.refs_index.proofs.exports.exports.Goals as goal
 
 pub loop-number-init : goal.loop-number-init
 loop-number-init c =
-    none_yet (AreExportsByNameAt c.args.packages.now.graph.now (known_in c.args.packages.now.found.now)) c.new-exports.result.items c.new-exports.ensures.items
+    none_yet (AreExportsByNameAt c.args.packages.now.workspace.now.graph (known_in c.args.packages.now.workspace.now.findings))
+    c.new-exports.result.items c.new-exports.ensures.items
 
 pub loop-number-preserved : goal.loop-number-preserved
 loop-number-preserved c =
-    one_more (AreExportsByNameAt c.args.packages.now.graph.now (known_in c.args.packages.now.found.now)) c.loop-number.number c.loop-number.exports.items
+    one_more (AreExportsByNameAt c.args.packages.now.workspace.now.graph (known_in c.args.packages.now.workspace.now.findings)) c.loop-number.number
+    c.loop-number.exports.items
     c.push.new.self.items _ c.in_ok-push.ensures.items c.in_ok-numbers_of.ensures c.loop-number.invariant
 
 pub returns : goal.returns
 returns c =
-    let w = c.args.packages.now.graph.now in
+    let w = c.args.packages.now.workspace.now.graph in
     let end : c.loop-number.number ≡ length (package_paths w) = omega arith in
-    subst (λ n. HoldsOfEach (AreExportsByNameAt w (known_in c.args.packages.now.found.now)) n c.loop-number.exports.items) end c.loop-number.invariant
+    subst (λ n. HoldsOfEach (AreExportsByNameAt w (known_in c.args.packages.now.workspace.now.findings)) n c.loop-number.exports.items) end
+    c.loop-number.invariant

@@ -5,4 +5,4 @@ use Rattle.refs_binding.specs.Workspaces.{known_in}
 use Rattle.refs_index.proofs.exports.exports.Given as goal
 
 abbrev pub invariant-loop-number : goal.invariant-loop-number
-invariant-loop-number l = HoldsOfEach (AreExportsByNameAt l.packages.graph.now (known_in l.packages.found.now)) l.number l.exports.items
+invariant-loop-number l = HoldsOfEach (AreExportsByNameAt l.packages.workspace.now.graph (known_in l.packages.workspace.now.findings)) l.number l.exports.items

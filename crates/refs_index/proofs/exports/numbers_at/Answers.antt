@@ -8,14 +8,12 @@ use Rattle.refs_binding.specs.Workspaces.{known_in}
 use Rattle.refs_binding.proofs.Units.{unit_at}
 use Rattle.refs_index.proofs.exports.numbers_at.Goals as goal
 
-pub seen-requires-clause-whole : goal.seen-requires-clause-whole
-seen-requires-clause-whole c = c.requires.sound.findings.whole
-
 pub returns : goal.returns
 returns c =
     let p = package_in c.path_of-path.result.now (map source_of c.trees-files.result.now) c.in_ok-table.table (export_data_in c.in_ok-seen.seen) in
     let is =
-    unit_at c.args.graph.now (known_in c.args.found.now) c.args.number c.path_of-path.result.now c.trees-files.result.now c.in_ok-seen.seen c.in_ok-table.table
-    c.requires.in_range c.path_of-path.ensures c.trees-files.ensures c.in_ok-seen.ensures.seen c.in_ok-table.ensures
+    unit_at c.args.workspace.now.graph (known_in c.args.workspace.now.findings) c.args.number c.path_of-path.result.now c.trees-files.result.now
+    c.in_ok-seen.seen c.in_ok-table.table
+    c.requires c.path_of-path.ensures c.trees-files.ensures c.in_ok-seen.ensures c.in_ok-table.ensures
     in
     IfOk-weaker c.numbers_by.result _ _ (λ numbers h. (p, (is, h))) c.numbers_by.ensures

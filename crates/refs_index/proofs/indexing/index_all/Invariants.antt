@@ -8,6 +8,7 @@ use Rattle.refs_index.proofs.indexing.index_all.Given as goal
 -- the packages that were passed are held
 abbrev pub invariant-loop-number : goal.invariant-loop-number
 invariant-loop-number l = record {
-  places : AreDeclaredBelow l.packages.graph.now (known_in l.packages.found.now) l.number l.all.items;
-  bound : AddsAll l.initial.bound.items l.bound.items (BelowAll (IsBoundAt l.packages.graph.now (known_in l.packages.found.now)) l.number);
+  places : AreDeclaredBelow l.packages.workspace.now.graph (known_in l.packages.workspace.now.findings) l.number l.all.items;
+  bound : AddsAll l.initial.bound.items l.bound.items
+      (BelowAll (IsBoundAt l.packages.workspace.now.graph (known_in l.packages.workspace.now.findings)) l.number);
 }

@@ -2,4 +2,4 @@
 use Rattle.refs_index.proofs.indexing.index_package.Goals as goal
 
 pub index_indexed-requires-clause-exports : goal.index_indexed-requires-clause-exports
-index_indexed-requires-clause-exports c = record { sound = c.requires.read.sound; numbers = c.requires.exports }
+index_indexed-requires-clause-exports c = record { numbers = c.requires.exports }

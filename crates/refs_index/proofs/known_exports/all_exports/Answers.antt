@@ -10,17 +10,18 @@ use Rattle.refs_index.proofs.known_exports.all_exports.Goals as goal
 
 pub loop-number-init : goal.loop-number-init
 loop-number-init c =
-    none_yet (λ n numbers. IfSome numbers (AreExportsByNameAt c.args.packages.now.graph.now (known_in c.args.packages.now.found.now) n))
+    none_yet (λ n numbers. IfSome numbers (AreExportsByNameAt c.args.packages.now.workspace.now.graph (known_in c.args.packages.now.workspace.now.findings) n))
     c.new-all.result.items c.new-all.ensures.items
 
 pub loop-number-preserved : goal.loop-number-preserved
 loop-number-preserved c =
-    one_more (λ n numbers. IfSome numbers (AreExportsByNameAt c.args.packages.now.graph.now (known_in c.args.packages.now.found.now) n))
+    one_more (λ n numbers. IfSome numbers (AreExportsByNameAt c.args.packages.now.workspace.now.graph (known_in c.args.packages.now.workspace.now.findings) n))
     c.loop-number.number c.loop-number.all.items c.push.new.self.items _ c.in_ok-push.ensures.items c.in_ok-numbers_of.ensures c.loop-number.invariant
 
 pub returns : goal.returns
 returns c =
-    let w = c.args.packages.now.graph.now in
+    let w = c.args.packages.now.workspace.now.graph in
     let end : c.loop-number.number ≡ length (package_paths w) = omega arith in
-    subst (λ n. HoldsOfEach (λ m numbers. IfSome numbers (AreExportsByNameAt w (known_in c.args.packages.now.found.now) m)) n c.loop-number.all.items)
+    subst (λ n. HoldsOfEach (λ m numbers. IfSome numbers (AreExportsByNameAt w (known_in c.args.packages.now.workspace.now.findings) m)) n
+    c.loop-number.all.items)
     end c.loop-number.invariant

@@ -7,4 +7,5 @@ use Rattle.refs_index.proofs.known_exports.all_exports.Given as goal
 
 -- the packages that were passed
 abbrev pub invariant-loop-number : goal.invariant-loop-number
-invariant-loop-number l = HoldsOfEach (λ n numbers. IfSome numbers (AreExportsByNameAt l.packages.graph.now (known_in l.packages.found.now) n)) l.number l.all.items
+invariant-loop-number l = HoldsOfEach
+    (λ n numbers. IfSome numbers (AreExportsByNameAt l.packages.workspace.now.graph (known_in l.packages.workspace.now.findings) n)) l.number l.all.items

@@ -10,17 +10,17 @@ use Rattle.refs_index.proofs.known_exports.imported_exports.Goals as goal
 
 pub loop-number-init : goal.loop-number-init
 loop-number-init c =
-    none_yet (λ n numbers. IfSome numbers (AreExportsByNameAt c.args.graph.now (known_in c.args.found.now) n))
+    none_yet (λ n numbers. IfSome numbers (AreExportsByNameAt c.args.workspace.now.graph (known_in c.args.workspace.now.findings) n))
     c.new-all.result.items c.new-all.ensures.items
 
 pub loop-number-preserved : goal.loop-number-preserved
 loop-number-preserved c =
-    one_more (λ n numbers. IfSome numbers (AreExportsByNameAt c.args.graph.now (known_in c.args.found.now) n))
+    one_more (λ n numbers. IfSome numbers (AreExportsByNameAt c.args.workspace.now.graph (known_in c.args.workspace.now.findings) n))
     c.loop-number.number c.loop-number.all.items c.push.new.self.items _ c.in_ok-push.ensures.items c.in_ok-imported_numbers.ensures c.loop-number.invariant
 
 pub returns : goal.returns
 returns c =
-    let w = c.args.graph.now in
+    let w = c.args.workspace.now.graph in
     let end : c.loop-number.number ≡ length (package_paths w) = omega arith in
-    subst (λ n. HoldsOfEach (λ m numbers. IfSome numbers (AreExportsByNameAt w (known_in c.args.found.now) m)) n c.loop-number.all.items)
+    subst (λ n. HoldsOfEach (λ m numbers. IfSome numbers (AreExportsByNameAt w (known_in c.args.workspace.now.findings) m)) n c.loop-number.all.items)
     end c.loop-number.invariant

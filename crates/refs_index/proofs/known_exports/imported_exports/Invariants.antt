@@ -7,4 +7,5 @@ use Rattle.refs_index.proofs.known_exports.imported_exports.Given as goal
 
 -- the packages that were passed
 abbrev pub invariant-loop-number : goal.invariant-loop-number
-invariant-loop-number l = HoldsOfEach (λ n numbers. IfSome numbers (AreExportsByNameAt l.graph (known_in l.found) n)) l.number l.all.items
+invariant-loop-number l = HoldsOfEach (λ n numbers. IfSome numbers (AreExportsByNameAt l.workspace.graph (known_in l.workspace.findings) n)) l.number
+    l.all.items

@@ -9,16 +9,16 @@ use Rattle.refs_lookup.proofs.declaration_at_byte.declaration_at.Goals as goal
 
 pub returns-in-None : goal.returns-in-None
 returns-in-None c = λ p is u holds.
-    no_folder c.args.graph.now (known_in c.args.found.now) c.args.path.now
-    (λ has. c.in-None.ensures (subst (Contains (package_paths c.args.graph.now)) (sym c.folder.ensures) has)) p is
+    no_folder c.args.workspace.now.graph (known_in c.args.workspace.now.findings) c.args.path.now
+    (λ has. c.in-None.ensures (subst (Contains (package_paths c.args.workspace.now.graph)) (sym c.folder.ensures) has)) p is
 
 pub returns-in-Some : goal.returns-in-Some
 returns-in-Some c =
-    found_at c.args.graph.now (known_in c.args.found.now) c.in-Some.number c.args.path.now c.args.offset (c.in-Some.ensures ∙ ap Some c.folder.ensures)
+    found_at c.args.workspace.now.graph (known_in c.args.workspace.now.findings) c.in-Some.number c.args.path.now c.args.offset
+    (c.in-Some.ensures ∙ ap Some c.folder.ensures)
     c.declaration_in.result c.declaration_in.ensures
 
 pub declaration_in-requires : goal.declaration_in-requires
 declaration_in-requires c = record {
-  in_range = slice_get_within (package_paths c.args.graph.now) c.in-Some.number _ c.in-Some.ensures;
-  sound = c.requires;
+  in_range = slice_get_within (package_paths c.args.workspace.now.graph) c.in-Some.number _ c.in-Some.ensures;
 }

@@ -8,12 +8,12 @@ use Rattle.refs_binding.proofs.Exporting.{behind_none, by_path}
 use Rattle.refs_lookup.proofs.declaration_at_byte.declaration_by_package.Goals as goal
 
 pub returns-in-None : goal.returns-in-None
-returns-in-None c = behind_none c.args.graph.now (known_in c.args.found.now) (package_of c.args.unit) c.args.u c.in-None.ensures
+returns-in-None c = behind_none c.args.workspace.now.graph (known_in c.args.workspace.now.findings) (package_of c.args.unit) c.args.u c.in-None.ensures
 
 pub returns-in-Some : goal.returns-in-Some
 returns-in-Some c =
-    let w = c.args.graph.now in
-    let known = known_in c.args.found.now in
+    let w = c.args.workspace.now.graph in
+    let known = known_in c.args.workspace.now.findings in
     let p = package_of c.args.unit in
     let path = c.in-Some.path.now in
     IfOk-weaker c.exported_declaration.result _ _

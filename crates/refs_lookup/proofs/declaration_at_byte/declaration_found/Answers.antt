@@ -4,11 +4,9 @@ use Rattle.refs_binding.specs.Workspaces.{known_in}
 use Rattle.refs_lookup.proofs.Asking.{in_package}
 use Rattle.refs_lookup.proofs.declaration_at_byte.declaration_found.Goals as goal
 
-pub declaration_in_package-requires-clause-sound : goal.declaration_in_package-requires-clause-sound
-declaration_in_package-requires-clause-sound c = c.requires.numbered.sound
-
 pub returns : goal.returns
 returns c =
-    in_package c.args.at.graph.now (known_in c.args.at.found.now) c.args.at.number c.args.file.now c.args.offset (package_of c.known_of-of.result.unit)
+    in_package c.args.at.workspace.now.graph (known_in c.args.at.workspace.now.findings) c.args.at.number c.args.file.now c.args.offset
+    (package_of c.known_of-of.result.unit)
     c.known_of-of.ensures.unit
     c.declaration_in_package.result c.declaration_in_package.ensures

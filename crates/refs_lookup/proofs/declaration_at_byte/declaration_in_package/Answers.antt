@@ -8,8 +8,8 @@ use Rattle.refs_lookup.proofs.declaration_at_byte.declaration_in_package.Goals a
 
 pub returns-in-None-2 : goal.returns-in-None-2
 returns-in-None-2 c =
-    let w = c.args.graph.now in
-    let known = known_in c.args.found.now in
+    let w = c.args.workspace.now.graph in
+    let known = known_in c.args.workspace.now.findings in
     let p = package_of c.args.of.now.unit in
     let none = subst (IsDeclarationResult (IsBoundTo w known p c.named_by-name.result)) c.in-None-2.is c.in_ok-declaration_of-in-Some.ensures in
     (c.in-Some.u, (c.in-Some.ensures, λ d h. none d (subst (λ v. IsBoundTo w known p v d) (sym c.named_by-name.ensures.named) h)))

@@ -7,17 +7,16 @@ use Rattle.refs_binding.proofs.Exporting.{no_package, none_exported}
 use Rattle.refs_lookup.proofs.declaration_at_byte.exported_declaration.Goals as goal
 
 pub returns-in-None : goal.returns-in-None
-returns-in-None c = no_package c.args.graph.now (known_in c.args.found.now) c.args.path.now c.args.name.now c.in-None.ensures
+returns-in-None c = no_package c.args.workspace.now.graph (known_in c.args.workspace.now.findings) c.args.path.now c.args.name.now c.in-None.ensures
 
 pub returns-in-None-2 : goal.returns-in-None-2
 returns-in-None-2 c =
-    let w = c.args.graph.now in
-    let known = known_in c.args.found.now in
+    let w = c.args.workspace.now.graph in
+    let known = known_in c.args.workspace.now.findings in
     let x = subst (IsExportedNumber w known c.in-Some.number c.args.name.now) c.in-None-2.is c.in_ok-exported_number-in-Some.ensures in
     none_exported w known c.args.path.now c.args.name.now x.0 x.1.0.is_package (same_Some _ _ (sym x.1.0.has_number ∙ c.in-Some.ensures)) x.1.1
 
 pub exported_number-requires : goal.exported_number-requires
 exported_number-requires c = record {
-  in_range = slice_get_within (package_paths c.args.graph.now) c.in-Some.number _ c.in-Some.ensures;
-  sound = c.requires;
+  in_range = slice_get_within (package_paths c.args.workspace.now.graph) c.in-Some.number _ c.in-Some.ensures;
 }

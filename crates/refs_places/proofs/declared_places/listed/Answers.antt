@@ -2,11 +2,11 @@
 use Rattle.std.proofs.Common.{length, sym, ◌∙◌}
 use Rattle.std.specs.Prelude.{None}
 use Rattle.std.proofs.lemmas.List.{get_or_past, get_or_default}
-use Rattle.refs_places.proofs.Found.{beyond}
+use Rattle.base_lemmas.proofs.Tests.{not_below}
 use Rattle.refs_places.proofs.declared_places.listed.Goals as goal
 
 pub returns-in-None : goal.returns-in-None
-returns-in-None c = sym (get_or_past c.args.places.now c.args.number None (beyond c.args.number (length c.args.places.now) c.in-None.ensures.lookup.2))
+returns-in-None c = sym (get_or_past c.args.places.now c.args.number None (not_below c.args.number (length c.args.places.now) c.in-None.ensures.lookup.2))
 
 pub returns-in-Some : goal.returns-in-Some
 returns-in-Some c =

@@ -7,8 +7,8 @@ use Rattle.refs_places.proofs.declared_places.places_at.Goals as goal
 
 pub returns : goal.returns
 returns c =
-    let w = c.args.packages.now.graph.now in
-    let known = known_in c.args.packages.now.found.now in
+    let w = c.args.packages.now.workspace.now.graph in
+    let known = known_in c.args.packages.now.workspace.now.findings in
     let p = package_of c.unit-unit.result in
     IfOk-weaker c.package_places.result (AreDeclaredIn p) (AreDeclaredAt w known c.args.number)
     (λ places h. record { inside = p; is_package = c.unit-unit.ensures; declared = h }) c.package_places.ensures

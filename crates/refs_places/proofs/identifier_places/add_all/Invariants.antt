@@ -7,4 +7,4 @@ use Rattle.refs_places.proofs.identifier_places.add_all.Given as goal
 
 abbrev pub invariant-loop-number : goal.invariant-loop-number
 invariant-loop-number l = AddsAll l.initial.places.items l.places.items
-    (BelowAll (BeginsInPackageAt l.packages.graph.now (known_in l.packages.found.now)) l.number)
+    (BelowAll (BeginsInPackageAt l.packages.workspace.now.graph (known_in l.packages.workspace.now.findings)) l.number)

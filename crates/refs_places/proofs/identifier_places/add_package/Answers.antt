@@ -8,8 +8,8 @@ use Rattle.refs_places.proofs.identifier_places.add_package.Goals as goal
 
 pub returns : goal.returns
 returns c =
-    let w = c.args.packages.now.graph.now in
-    let known = known_in c.args.packages.now.found.now in
+    let w = c.args.packages.now.workspace.now.graph in
+    let known = known_in c.args.packages.now.workspace.now.findings in
     let n = c.args.number in
     let p = package_of c.unit-unit.result in
     call_all c.args.places.now.items c.add_unit.new.found.items (BeginsIn p) (BeginsInPackageAt w known n) c.add_unit.result

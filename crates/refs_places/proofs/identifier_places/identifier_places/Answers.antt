@@ -6,6 +6,7 @@ use Rattle.refs_places.proofs.identifier_places.identifier_places.Goals as goal
 
 pub returns : goal.returns
 returns c =
-    all_added c.new-places.result.items c.add_all.new.places.items (IsIdentifierAt c.args.packages.now.graph.now (known_in c.args.packages.now.found.now))
+    all_added c.new-places.result.items c.add_all.new.places.items
+    (IsIdentifierAt c.args.packages.now.workspace.now.graph (known_in c.args.packages.now.workspace.now.findings))
     c.new-places.ensures.items
     c.in_ok-add_all.ensures

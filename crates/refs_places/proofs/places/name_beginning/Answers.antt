@@ -2,17 +2,17 @@
 use Rattle.std.proofs.Common.{length}
 use Rattle.std.specs.Prelude.{Some, map, slice_get}
 use Rattle.std.proofs.lemmas.Result.{IfOk-weaker}
+use Rattle.base_lemmas.proofs.Tests.{not_below}
 use Rattle.base_files.specs.declared.place.Place.{Place}
 use Rattle.go_ast.specs.SourceFile.{source_of}
 use Rattle.refs_binding.specs.Identifiers.{NameBegins}
 use Rattle.refs_places.specs.DeclaredPlaces.{IsChoice}
-use Rattle.refs_places.proofs.Found.{beyond}
 use Rattle.refs_places.proofs.Starts.{no_name, name_at}
 use Rattle.refs_places.proofs.places.name_beginning.Goals as goal
 
 pub returns-in-None : goal.returns-in-None
 returns-in-None c =
-    no_name c.args.files.now c.args.at.file c.args.at.index (beyond c.args.at.file (length c.args.files.now) c.in-None.ensures.lookup.2)
+    no_name c.args.files.now c.args.at.file c.args.at.index (not_below c.args.at.file (length c.args.files.now) c.in-None.ensures.lookup.2)
 
 pub returns-in-Some : goal.returns-in-Some
 returns-in-Some c =

@@ -10,12 +10,12 @@ use Rattle.refs_binding.proofs.Exporting.{name_exported}
 use Rattle.refs_uses.proofs.exported_name.declared_name.Goals as goal
 
 pub returns-in-None : goal.returns-in-None
-returns-in-None c = λ p is e seen. c.in-None.ensures (subst (Contains (package_paths c.args.graph.now)) (e ∙ sym c.path.ensures) is.of_workspace)
+returns-in-None c = λ p is e seen. c.in-None.ensures (subst (Contains (package_paths c.args.workspace.now.graph)) (e ∙ sym c.path.ensures) is.of_workspace)
 
 pub returns-in-Some : goal.returns-in-Some
 returns-in-Some c =
-    let w = c.args.graph.now in
-    let known = known_in c.args.found.now in
+    let w = c.args.workspace.now.graph in
+    let known = known_in c.args.workspace.now.findings in
     IfOk-weaker c.name_at.result (λ name. IsNameAt w known c.in-Some.number c.args.d (option_map name_bytes name))
     (λ name. IsExportedUnder w known (Declared c.args.path.now c.args.d) (option_map name_bytes name))
     (λ name x. name_exported w known c.args.path.now c.args.d x.0 x.1.0.is_package
@@ -23,6 +23,5 @@ returns-in-Some c =
 
 pub name_at-requires : goal.name_at-requires
 name_at-requires c = record {
-  in_range = slice_get_within (package_paths c.args.graph.now) c.in-Some.number _ c.in-Some.ensures;
-  sound = c.requires;
+  in_range = slice_get_within (package_paths c.args.workspace.now.graph) c.in-Some.number _ c.in-Some.ensures;
 }

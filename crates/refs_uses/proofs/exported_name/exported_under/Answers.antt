@@ -6,5 +6,6 @@ use Rattle.refs_uses.proofs.exported_name.exported_under.Goals as goal
 
 pub returns-in-Declared : goal.returns-in-Declared
 returns-in-Declared c =
-    subst (λ d. IfOk c.declared_name.result (λ name. IsExportedUnder c.args.graph.now (known_in c.args.found.now) d (option_map name_bytes name)))
+    subst (λ d. IfOk c.declared_name.result
+    (λ name. IsExportedUnder c.args.workspace.now.graph (known_in c.args.workspace.now.findings) d (option_map name_bytes name)))
     (sym c.in-Declared.is) c.declared_name.ensures

@@ -10,5 +10,5 @@ pub returns : goal.returns
 returns c =
     let p = package_of c.unit_of.result in
     IfOk-weaker c.own_name.result (λ name. IsExportedBy p c.args.d (option_map name_bytes name))
-    (λ name. IsNameAt c.args.at.graph.now (known_in c.args.at.found.now) c.args.at.number c.args.d (option_map name_bytes name))
+    (λ name. IsNameAt c.args.at.workspace.now.graph (known_in c.args.at.workspace.now.findings) c.args.at.number c.args.d (option_map name_bytes name))
     (λ name h. (p, (c.unit_of.ensures, h))) c.own_name.ensures

@@ -12,7 +12,7 @@ returns-in-None c = λ h e. absurd (none-some h (sym c.in-None.is ∙ e))
 
 pub returns-in-Some : goal.returns-in-Some
 returns-in-Some c =
-    let w = c.args.graph.now in
+    let w = c.args.workspace.now.graph in
     let n = c.in-Some.number in
     IfOk-weaker c.importing_number.result (λ marks. OfPackage w n (λ q. MarksClosuresWith w q marks.items)) (λ marks. AreImporting w c.args.home marks.items)
     (λ marks are h e. subst (λ (k : ℕ). OfPackage w k (λ q. MarksClosuresWith w q marks.items)) (same_Some n h (sym c.in-Some.is ∙ e)) are)

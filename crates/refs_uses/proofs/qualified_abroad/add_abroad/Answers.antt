@@ -12,8 +12,8 @@ use Rattle.refs_uses.proofs.qualified_abroad.add_abroad.Goals as goal
 
 pub returns-in-None : goal.returns-in-None
 returns-in-None c =
-    let w = c.args.at.graph.now in
-    let known = known_in c.args.at.found.now in
+    let w = c.args.at.workspace.now.graph in
+    let known = known_in c.args.at.workspace.now.findings in
     let n = c.args.at.number in
     let path = c.args.path.now in
     let a = c.args.spots.now.items in
@@ -22,8 +22,8 @@ returns-in-None c =
 
 pub returns-in-Some : goal.returns-in-Some
 returns-in-Some c =
-    let w = c.args.at.graph.now in
-    let known = known_in c.args.at.found.now in
+    let w = c.args.at.workspace.now.graph in
+    let known = known_in c.args.at.workspace.now.findings in
     let n = c.args.at.number in
     let path = c.args.path.now in
     let a = c.args.spots.now.items in

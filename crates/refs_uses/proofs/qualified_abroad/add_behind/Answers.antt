@@ -11,10 +11,10 @@ use Rattle.refs_uses.proofs.qualified_abroad.add_behind.Goals as goal
 
 pub returns : goal.returns
 returns c =
-    let w = c.args.at.graph.now in
-    let found = c.args.at.found.now in
+    let w = c.args.at.workspace.now.graph in
+    let found = c.args.at.workspace.now.findings in
     let n = c.args.at.number in
-    let there = package_there w found c.requires.sound n c.requires.in_range in
+    let there = package_there w found c.has_no_faults.ensures n c.requires.in_range in
     let p = there.0 in
     let is = there.1 in
     let checked = is.is_package.is_checked in

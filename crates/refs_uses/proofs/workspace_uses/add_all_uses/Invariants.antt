@@ -9,4 +9,4 @@ use Rattle.refs_uses.proofs.workspace_uses.add_all_uses.Given as goal
 abbrev pub invariant-loop-number : goal.invariant-loop-number
 invariant-loop-number l =
     AddsPlaces l.initial.spots.items l.spots.items
-    (Below (IsUseAt l.graph (known_in l.found) l.sought.declaration.now (name_value l.sought.name)) l.number)
+    (Below (IsUseAt l.workspace.graph (known_in l.workspace.findings) l.sought.declaration.now (name_value l.sought.name)) l.number)

@@ -9,7 +9,6 @@ use Rattle.refs_uses.proofs.workspace_uses.add_if_used.Goals as goal
 pub may_use-requires : goal.may_use-requires
 may_use-requires c = record {
   in_range = c.requires.numbered.in_range;
-  sound = c.requires.numbered.sound;
   home = c.requires.sought.home;
   importing = c.requires.sought.importing;
 }
@@ -17,5 +16,6 @@ may_use-requires c = record {
 pub returns-else-may_use : goal.returns-else-may_use
 returns-else-may_use c =
     adds_none c.args.spots.now.items
-    (IsUseAt c.args.at.graph.now (known_in c.args.at.found.now) c.args.sought.now.declaration.now (name_value c.args.sought.now.name) c.args.at.number)
+    (IsUseAt c.args.at.workspace.now.graph (known_in c.args.at.workspace.now.findings) c.args.sought.now.declaration.now
+    (name_value c.args.sought.now.name) c.args.at.number)
     (λ place used. false≢true (sym c.if-may_use.false ∙ c.may_use.ensures place used))

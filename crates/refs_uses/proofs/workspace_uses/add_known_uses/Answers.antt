@@ -9,8 +9,8 @@ use Rattle.refs_uses.proofs.workspace_uses.add_known_uses.Goals as goal
 
 pub returns : goal.returns
 returns c =
-    let w = c.args.at.graph.now in
-    let known = known_in c.args.at.found.now in
+    let w = c.args.at.workspace.now.graph in
+    let known = known_in c.args.at.workspace.now.findings in
     let p = package_of c.args.of.now.unit in
     let d = c.args.sought.now.declaration.now in
     let name = name_value c.args.sought.now.name in

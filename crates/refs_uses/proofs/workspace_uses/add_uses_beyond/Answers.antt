@@ -9,19 +9,21 @@ use Rattle.refs_uses.proofs.workspace_uses.add_uses_beyond.Goals as goal
 
 pub loop-number-init : goal.loop-number-init
 loop-number-init c =
-    below_none (IsUseAt c.args.read.graph.now (known_in c.args.read.found.now) c.args.sought.now.declaration.now (name_value c.args.sought.now.name))
+    below_none (IsUseAt c.args.read.workspace.now.graph (known_in c.args.read.workspace.now.findings) c.args.sought.now.declaration.now
+    (name_value c.args.sought.now.name))
     c.args.spots.now.items
 
 pub loop-number-preserved : goal.loop-number-preserved
 loop-number-preserved c =
-    below_next (IsUseAt c.args.read.graph.now (known_in c.args.read.found.now) c.args.sought.now.declaration.now (name_value c.args.sought.now.name))
+    below_next (IsUseAt c.args.read.workspace.now.graph (known_in c.args.read.workspace.now.findings) c.args.sought.now.declaration.now
+    (name_value c.args.sought.now.name))
     c.args.spots.now.items
     c.loop-number.spots.items c.add_uses_at.new.spots.items c.loop-number.number c.loop-number.invariant c.in_ok-add_uses_at.ensures
 
 pub returns : goal.returns
 returns c =
-    let w = c.args.read.graph.now in
+    let w = c.args.read.workspace.now.graph in
     let e : c.loop-number.number ≡ length (package_paths w) = omega arith in
-    all_uses w (known_in c.args.read.found.now) c.args.sought.now.declaration.now (name_value c.args.sought.now.name) c.requires.sought.name
+    all_uses w (known_in c.args.read.workspace.now.findings) c.args.sought.now.declaration.now (name_value c.args.sought.now.name) c.requires.sought.name
     c.loop-number.number
     c.args.spots.now.items c.loop-number.spots.items e c.loop-number.invariant

@@ -9,4 +9,4 @@ use Rattle.refs_uses.proofs.workspace_uses.add_uses_beyond.Given as goal
 abbrev pub invariant-loop-number : goal.invariant-loop-number
 invariant-loop-number l =
     AddsPlaces l.initial.spots.items l.spots.items
-    (Below (IsUseAt l.read.graph.now (known_in l.read.found.now) l.sought.declaration.now (name_value l.sought.name)) l.number)
+    (Below (IsUseAt l.read.workspace.now.graph (known_in l.read.workspace.now.findings) l.sought.declaration.now (name_value l.sought.name)) l.number)

@@ -5,17 +5,17 @@ use Rattle.refs_uses.specs.Importing.{AreImporting}
 use Rattle.refs_lookup.proofs.Asking.{lists_found}
 use Rattle.refs_uses.proofs.workspace_uses.list_everywhere.Goals as goal
 
-pub add_all_uses-requires-clause-sought : goal.add_all_uses-requires-clause-sought
-add_all_uses-requires-clause-sought c = record {
-  name = c.requires.name;
+pub add_all_uses-requires : goal.add_all_uses-requires
+add_all_uses-requires c = record {
+  name = c.requires;
   home = c.home_of-home.ensures;
-  importing = subst (AreImporting c.args.graph.now c.home_of-home.result) (sym c.deref.ensures.value) c.in_ok-importing.ensures;
+  importing = subst (AreImporting c.args.workspace.now.graph c.home_of-home.result) (sym c.deref.ensures.value) c.in_ok-importing.ensures;
 }
 
 pub returns : goal.returns
 returns c =
-    let w = c.args.graph.now in
-    let known = known_in c.args.found.now in
+    let w = c.args.workspace.now.graph in
+    let known = known_in c.args.workspace.now.findings in
     let d = c.args.declaration.now in
     subst (ListsFound w known d) (sym c.new.ensures)
     (lists_found w known d c.in_ok-places.field-0.items c.new-spots.result.items c.add_all_uses.new.spots.items c.new-spots.ensures.items

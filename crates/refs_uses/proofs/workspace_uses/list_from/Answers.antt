@@ -5,4 +5,5 @@ use Rattle.refs_uses.proofs.workspace_uses.list_from.Goals as goal
 
 pub list_named-requires-clause-name : goal.list_named-requires-clause-name
 list_named-requires-clause-name c =
-    subst (IsExportedUnder c.args.read.graph.now (known_in c.args.read.found.now) c.args.declaration.now) (sym c.bytes.ensures) c.in_ok-name.ensures
+    subst (IsExportedUnder c.args.read.workspace.now.graph (known_in c.args.read.workspace.now.findings) c.args.declaration.now) (sym c.bytes.ensures)
+    c.in_ok-name.ensures

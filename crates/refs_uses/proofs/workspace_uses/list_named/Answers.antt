@@ -9,13 +9,13 @@ pub add_uses_beyond-requires-clause-sought : goal.add_uses_beyond-requires-claus
 add_uses_beyond-requires-clause-sought c = record {
   name = c.requires.name;
   home = c.home_of-home.ensures;
-  importing = subst (AreImporting c.args.read.graph.now c.home_of-home.result) (sym c.deref.ensures.value) c.in_ok-importing.ensures;
+  importing = subst (AreImporting c.args.read.workspace.now.graph c.home_of-home.result) (sym c.deref.ensures.value) c.in_ok-importing.ensures;
 }
 
 pub returns : goal.returns
 returns c =
-    let w = c.args.read.graph.now in
-    let known = known_in c.args.read.found.now in
+    let w = c.args.read.workspace.now.graph in
+    let known = known_in c.args.read.workspace.now.findings in
     let d = c.args.declaration.now in
     subst (ListsFound w known d) (sym c.new.ensures)
     (lists_found w known d c.in_ok-places.field-0.items c.new-spots.result.items c.add_uses_beyond.new.spots.items c.new-spots.ensures.items

@@ -6,5 +6,6 @@ use Rattle.refs_uses.proofs.workspace_uses.name_by_read.Goals as goal
 
 pub returns-in-Declared : goal.returns-in-Declared
 returns-in-Declared c =
-    subst (λ d. IfOk c.scope_name.result (λ name. IsExportedUnder c.args.read.graph.now (known_in c.args.read.found.now) d (option_map name_bytes name)))
+    subst (λ d. IfOk c.scope_name.result
+    (λ name. IsExportedUnder c.args.read.workspace.now.graph (known_in c.args.read.workspace.now.findings) d (option_map name_bytes name)))
     (sym c.in-Declared.is) c.scope_name.ensures

@@ -11,13 +11,10 @@ use Rattle.refs_uses.proofs.workspace_uses.scope_name.Goals as goal
 
 pub returns-then-is_own : goal.returns-then-is_own
 returns-then-is_own c =
-    let w = c.args.read.graph.now in
-    let known = known_in c.args.read.found.now in
+    let w = c.args.read.workspace.now.graph in
+    let known = known_in c.args.read.workspace.now.findings in
     let p = package_of c.args.unit in
     IfOk-weaker c.own_name.result (λ name. IsExportedBy p c.args.d (option_map name_bytes name))
     (λ name. IsExportedUnder w known (Declared c.args.path.now c.args.d) (option_map name_bytes name))
     (λ name h. name_exported w known c.args.path.now c.args.d p c.requires.unit.is_package (sym (c.is_own.ensures.0 c.if-is_own.true))
     (option_map name_bytes name) h) c.own_name.ensures
-
-pub declared_name-requires : goal.declared_name-requires
-declared_name-requires c = c.requires.numbered.sound

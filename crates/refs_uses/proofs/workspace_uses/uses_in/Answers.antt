@@ -1,4 +1,7 @@
 -- The answers to the goals of `workspace_uses::uses_in`.
+use Rattle.std.proofs.Common.{subst}
+use Rattle.refs_binding.specs.Uses.{AnswersUsesAt}
+use Rattle.refs_binding.specs.WorkspaceFindings.{WorkspaceFindings}
 use Rattle.refs_binding.proofs.Refusing.{faults_refused, uses_told}
 use Rattle.refs_binding.proofs.Units.{list_of_sound}
 use Rattle.refs_uses.proofs.workspace_uses.uses_in.Goals as goal
@@ -8,8 +11,5 @@ returns-in-Err c = faults_refused c.args.graph.now c.args.found.now c.args.path.
 
 pub returns-in-Ok : goal.returns-in-Ok
 returns-in-Ok c =
-    uses_told c.args.graph.now c.args.path.now c.args.offset (list_of_sound c.args.graph.now c.args.found.now c.in-Ok.ensures) c.uses_at.result
-    c.uses_at.ensures
-
-pub uses_at-requires : goal.uses_at-requires
-uses_at-requires c = c.in-Ok.ensures
+    uses_told c.args.graph.now c.args.path.now c.args.offset (list_of_sound c.args.graph.now c.args.found.now c.in-Ok.ensures.0) c.uses_at.result
+    (subst (λ (v : WorkspaceFindings). AnswersUsesAt v.graph c.args.path.now c.args.offset c.uses_at.result) c.in-Ok.ensures.1 c.uses_at.ensures)

@@ -10,7 +10,7 @@ pub returns-in-None : goal.returns-in-None
 returns-in-None c = λ r h rank k.
     let t = c.args.self.now in
     let s = c.args.of.now in
-    no_package t.graph.now (known_in t.found.now) s.package (λ p. IsFirstField r p s.rank c.args.name.now rank) (c.in-None.ensures r h) k
+    no_package t.workspace.now.graph (known_in t.workspace.now.findings) s.package (λ p. IsFirstField r p s.rank c.args.name.now rank) (c.in-None.ensures r h) k
 
 pub returns-in-Some : goal.returns-in-Some
 returns-in-Some c = λ r h.
@@ -20,4 +20,5 @@ returns-in-Some c = λ r h.
     let x = c.in-Some.ensures r h in
     let found = first_is c.in-Some.members.now.fields.names.items (IsFieldAfter r x.inside) x.holds.fields s.rank n c.first.result
     (c.first.ensures x.holds.field_names) in
-    found_in t.graph.now (known_in t.found.now) x.inside x.is_package s.package x.of_path (λ p. IsFirst (IsFieldAfter r p s.rank n)) c.first.result found
+    found_in t.workspace.now.graph (known_in t.workspace.now.findings) x.inside x.is_package s.package x.of_path
+    (λ p. IsFirst (IsFieldAfter r p s.rank n)) c.first.result found

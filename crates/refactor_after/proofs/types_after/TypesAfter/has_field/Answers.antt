@@ -11,7 +11,8 @@ pub returns-in-None : goal.returns-in-None
 returns-in-None c = λ r h p is e.
     let t = c.args.self.now in (
       (λ yes. absurd (false≢true yes)),
-      (λ k. absurd (has_no_field t.graph.now (known_in t.found.now) r p is c.args.of.now.rank c.args.name.now (c.in-None.ensures p is e) k)),
+      (λ k. absurd (has_no_field t.workspace.now.graph (known_in t.workspace.now.findings) r p is c.args.of.now.rank c.args.name.now
+          (c.in-None.ensures p is e) k)),
     )
 
 pub returns-in-Some : goal.returns-in-Some
@@ -20,5 +21,6 @@ returns-in-Some c = λ r h p is e.
     let n = c.args.name.now in
     let s = c.in-Some.symbol.now in
     let found = subst (λ q. IsRankFound (IsFieldIn (known_types t) r q n s) c.field.result) (c.path-own.ensures ∙ sym e) (c.field.ensures r h) in
-    has_the_field t.graph.now (known_in t.found.now) r p is c.args.of.now.rank n s (c.in-Some.ensures p is e) c.field.result found c.is_some.result
+    has_the_field t.workspace.now.graph (known_in t.workspace.now.findings) r p is c.args.of.now.rank n s (c.in-Some.ensures p is e) c.field.result
+    found c.is_some.result
     c.is_some.ensures

@@ -6,7 +6,7 @@ use Rattle.std.specs.Prelude.{Some, Contains}
 use Rattle.refactor_after.proofs.types_after.TypesAfter.members_beside.Goals as goal
 
 pub returns-in-None : goal.returns-in-None
-returns-in-None c = λ r h k. c.in-None.ensures (subst (Contains (package_paths c.args.self.now.graph.now)) (sym c.path.ensures) k)
+returns-in-None c = λ r h k. c.in-None.ensures (subst (Contains (package_paths c.args.self.now.workspace.now.graph)) (sym c.path.ensures) k)
 
 pub returns-in-Some : goal.returns-in-Some
 returns-in-Some c = λ r h.

@@ -7,11 +7,12 @@ use Rattle.std.specs.Option.{option_copied}
 use Rattle.std.specs.Prelude.{Some, Contains}
 use Rattle.refactor_after.proofs.types_after.TypesAfter.struct_of.Goals as goal
 
-pub own_of-requires-clause-in_range : goal.own_of-requires-clause-in_range
-own_of-requires-clause-in_range c = slice_get_within (package_paths c.args.self.now.graph.now) c.in-Some.number c.path.result.now c.in-Some.ensures
+pub own_of-requires : goal.own_of-requires
+own_of-requires c = slice_get_within (package_paths c.args.self.now.workspace.now.graph) c.in-Some.number c.path.result.now c.in-Some.ensures
 
 pub returns-in-None : goal.returns-in-None
-returns-in-None c = λ p is e. absurd (c.in-None.ensures (subst (Contains (package_paths c.args.self.now.graph.now)) (e ∙ sym c.path.ensures) is.of_workspace))
+returns-in-None c = λ p is e. absurd
+    (c.in-None.ensures (subst (Contains (package_paths c.args.self.now.workspace.now.graph)) (e ∙ sym c.path.ensures) is.of_workspace))
 
 pub returns-in-Some : goal.returns-in-Some
 returns-in-Some c = λ p is e.

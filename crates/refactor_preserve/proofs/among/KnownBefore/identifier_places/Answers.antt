@@ -9,5 +9,6 @@ use Rattle.refactor_preserve.proofs.among.KnownBefore.identifier_places.Goals as
 pub returns : goal.returns
 returns c = λ place.
     let s = c.args.self.now.packages in
-    subst (λ (l : List Place). Contains l place ↔ IsIdentifierAmong s.graph.now (known_in s.found.now) s.marks.now place) (sym c.deref.ensures.value)
+    subst (λ (l : List Place). Contains l place ↔ IsIdentifierAmong s.workspace.now.graph (known_in s.workspace.now.findings) s.marks.now place)
+    (sym c.deref.ensures.value)
     (c.requires.identifiers place)

@@ -2,4 +2,4 @@
 use Rattle.refs_binding.proofs.packages.Packages.of.Goals as goal
 
 pub returns-clause-read : goal.returns-clause-read
-returns-clause-read c = record { sound = c.requires.sound; seen = c.requires.seen; tables = c.in_ok-tables.ensures }
+returns-clause-read c = record { seen = c.requires; tables = c.in_ok-tables.ensures }

@@ -10,14 +10,11 @@ use Rattle.types_info.specs.PackageOf.{package_in}
 use Rattle.refs_binding.specs.Workspaces.{known_in, IsPackageAt}
 use Rattle.refs_binding.proofs.packages.Packages.unit.Goals as goal
 
-pub path_of-path-requires-clause-sound : goal.path_of-path-requires-clause-sound
-path_of-path-requires-clause-sound c = c.requires.read.sound
-
 pub returns : goal.returns
 returns c =
     let self = c.args.self.now in
-    let w = self.graph.now in
-    let known = known_in self.found.now in
+    let w = self.workspace.now.graph in
+    let known = known_in self.workspace.now.findings in
     let n = c.args.number in
     let read = c.requires.read in
     let path = c.path_of-path.result.now in

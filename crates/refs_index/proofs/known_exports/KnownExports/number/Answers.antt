@@ -14,10 +14,11 @@ returns-in-Some c =
     let lt : n < length self.numbers.now = subst (λ m. n < m) (sym all.size) c.requires.in_range in
     let at : slice_get self.numbers.now n ≡ Some (Some c.in-Some.numbers) = slice_get-get_or self.numbers.now n c.index-self-number.result lt ∙
     ap Some c.in-Some.is in
-    number_found self.graph.now (known_in self.found.now) n c.args.name.now c.in-Some.numbers c.named.result (all.each n (Some c.in-Some.numbers) at)
+    number_found self.workspace.now.graph (known_in self.workspace.now.findings) n c.args.name.now c.in-Some.numbers c.named.result
+    (all.each n (Some c.in-Some.numbers) at)
     c.named.ensures
 
 pub returns-in_ok-numbers-in-None : goal.returns-in_ok-numbers-in-None
 returns-in_ok-numbers-in-None c =
-    number_found c.args.self.now.graph.now (known_in c.args.self.now.found.now) c.args.number c.args.name.now
+    number_found c.args.self.now.workspace.now.graph (known_in c.args.self.now.workspace.now.findings) c.args.number c.args.name.now
     c.in_ok-numbers-in-None.numbers c.named-in-None.result c.in_ok-numbers-in-None.ensures c.named-in-None.ensures

@@ -1,4 +1,4 @@
--- The answers to the goals of `faultless_workspace::FaultlessWorkspace::bound_at`.
+-- The answers to the goals of `workspace_index::WorkspaceIndex::bound_at`.
 use Rattle.std.proofs.Common.{◌≡◌, List, sym, subst}
 use Rattle.std.specs.Prelude.{Contains, ◌↔◌}
 use Rattle.std.specs.List.Sorted.{IsSortedBy}
@@ -8,7 +8,7 @@ use Rattle.refs_binding.specs.declared.bound_identifier.BoundIdentifier.{BoundId
 use Rattle.refs_binding.specs.Bindings.{bound_place}
 use Rattle.refs_binding.specs.Places.{place_cmp}
 use Rattle.refs_index.specs.FaultlessViews.{FaultlessView, view_in, IsBoundInView, IsBoundAtPlace}
-use Rattle.refs_index.proofs.faultless_workspace.FaultlessWorkspace.bound_at.Goals as goal
+use Rattle.refs_index.proofs.workspace_index.WorkspaceIndex.bound_at.Goals as goal
 
 pub bound_here-requires : goal.bound_here-requires
 bound_here-requires c = subst (IsSortedBy (λ a b. is_lt (place_cmp (bound_place a) (bound_place b)))) (sym c.as_slice.ensures) c.requires.bindings.in_order

@@ -1,13 +1,13 @@
--- The answers to the goals of `faultless_workspace::FaultlessWorkspace::of`.
+-- The answers to the goals of `workspace_index::WorkspaceIndex::of`.
 use Rattle.std.proofs.Common.{subst}
 use Rattle.refs_binding.specs.Bindings.{AddsAll, IsBound}
 use Rattle.refs_binding.specs.Workspaces.{known_in}
-use Rattle.refs_index.proofs.faultless_workspace.FaultlessWorkspace.of.Goals as goal
+use Rattle.refs_index.proofs.workspace_index.WorkspaceIndex.of.Goals as goal
 
 pub returns-clause-held : goal.returns-clause-held
 returns-clause-held c =
-    let w = c.args.packages.now.graph.now in
-    let known = known_in c.args.packages.now.found.now in
+    let w = c.args.packages.now.workspace.now.graph in
+    let known = known_in c.args.packages.now.workspace.now.findings in
     record {
       read = c.requires;
       declared = c.in_ok-places.ensures.places;
