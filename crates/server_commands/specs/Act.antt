@@ -86,7 +86,7 @@ module _ {D : Type 0} (steps : D → Event → Reply → D → Type 0) where
   -- a command that is meant for the state of the view, after its look
   abbrev pub ActsOn : D → View → StateCommand → Response → D → Type 0
   ActsOn old view state.Look answer new = AnswersReply (Looked view) answer × (new ≡ old)
-  ActsOn old view (state.Put basis path body) answer new =
+  ActsOn old view (state.Put basis path size body) answer new =
       (planned : Result Change Refusal) × PlansBody view path body planned × Commits old basis planned answer new
   ActsOn old view (state.Del basis path) answer new =
       (planned : Result Change Refusal) × PlansDel view.snapshot path planned × Commits old basis planned answer new

@@ -46,7 +46,7 @@ use workspace_graph::Graph;
 use workspace_snapshot::{MadeChange, plan_del, plan_put};
 
 /// Whether the command is meant for the state that the view shows: its basis is that state's number, or it has none.
-fn fits_view(view: &View, command: &StateCommand) -> bool
+fn fits_view(view: &View, command: &StateCommand<'_>) -> bool
     ensures { IsTrue result ↔ FitsView view.now command.now }
 {
     match command.basis() {
@@ -173,20 +173,20 @@ fn put<D: Desk>(
     desk: &mut D,
     view: &View,
     basis: u64,
-    path: Word,
+    path: Word<'_>,
     body: Option<FileText>,
 ) -> Response
     requires { D.sees desk.old view.now.snapshot.files }
-    ensures { (planned : Result PlannedChange WhyRefused) × PlansBody view.now path body planned × Commits D.steps desk.old basis planned result desk.new }
+    ensures { (planned : Result PlannedChange WhyRefused) × PlansBody view.now path.entry body planned × Commits D.steps desk.old basis planned result desk.new }
 {
     let planned = plan_body(alloc, view, path.as_str(), body);
     commit(desk, basis, planned)
 }
 
 /// Plans and commits a del.
-fn del<D: Desk>(alloc: Global, desk: &mut D, view: &View, basis: u64, path: Word) -> Response
+fn del<D: Desk>(alloc: Global, desk: &mut D, view: &View, basis: u64, path: Word<'_>) -> Response
     requires { D.sees desk.old view.now.snapshot.files }
-    ensures { (planned : Result PlannedChange WhyRefused) × PlansDel view.now.snapshot path planned × Commits D.steps desk.old basis planned result desk.new }
+    ensures { (planned : Result PlannedChange WhyRefused) × PlansDel view.now.snapshot path.entry planned × Commits D.steps desk.old basis planned result desk.new }
 {
     let planned = plan_del(alloc, view.snapshot.get(), path.as_str());
     commit(desk, basis, planned)
@@ -236,8 +236,8 @@ fn rename_plan<D: Desk>(
 
 /// The path of a file and an offset in it, as a command gives them.
 #[derive(Drop)]
-struct NamedByte {
-    path: Word,
+struct NamedByte<'a> {
+    path: Word<'a>,
     offset: usize,
 }
 
@@ -247,11 +247,11 @@ fn rename<D: Desk>(
     desk: &mut D,
     view: &View,
     basis: u64,
-    at: NamedByte,
-    name: Word,
+    at: NamedByte<'_>,
+    name: Word<'_>,
 ) -> Response
     requires { D.sees desk.old view.now.snapshot.files }
-    ensures { (planned : Result PlannedChange WhyRefused) × PlansRename view.now.snapshot at.path at.offset name planned × Commits D.steps desk.old basis planned result desk.new }
+    ensures { (planned : Result PlannedChange WhyRefused) × PlansRename view.now.snapshot at.entry.path at.entry.offset name.entry planned × Commits D.steps desk.old basis planned result desk.new }
 {
     let planned = rename_plan(
         alloc,
@@ -289,11 +289,11 @@ fn move_to<D: Desk>(
     desk: &mut D,
     view: &View,
     basis: u64,
-    from: Word,
-    to: Word,
+    from: Word<'_>,
+    to: Word<'_>,
 ) -> Response
     requires { D.sees desk.old view.now.snapshot.files }
-    ensures { (planned : Result PlannedChange WhyRefused) × PlansMove view.now.snapshot from to planned × Commits D.steps desk.old basis planned result desk.new }
+    ensures { (planned : Result PlannedChange WhyRefused) × PlansMove view.now.snapshot from.entry to.entry planned × Commits D.steps desk.old basis planned result desk.new }
 {
     let planned = move_plan(alloc, desk, view, from.as_str(), to.as_str());
     commit_known(desk, basis, planned)
@@ -320,16 +320,16 @@ fn places_response(number: u64, found: Result<Places, Refusal>) -> Response
 }
 
 /// Answers a cat.
-fn answer_cat(alloc: Global, view: &View, path: Word) -> Response
-    ensures { (found : Result (List ℕ) WhyRefused) × FindsFile view.now path found × (result ≡ file_response view.now.snapshot.number found) }
+fn answer_cat(alloc: Global, view: &View, path: Word<'_>) -> Response
+    ensures { (found : Result (List ℕ) WhyRefused) × FindsFile view.now path.entry found × (result ≡ file_response view.now.snapshot.number found) }
 {
     let found = cat(alloc, view, path.as_str());
     file_response(view.snapshot.number(), found)
 }
 
 /// Answers an `object` command.
-fn answer_object(alloc: Global, view: &View, path: Word) -> Response
-    ensures { (found : Result (List ℕ) WhyRefused) × FindsObject view.now path found × (result ≡ file_response view.now.snapshot.number found) }
+fn answer_object(alloc: Global, view: &View, path: Word<'_>) -> Response
+    ensures { (found : Result (List ℕ) WhyRefused) × FindsObject view.now path.entry found × (result ≡ file_response view.now.snapshot.number found) }
 {
     let found = object(alloc, view, path.as_str());
     file_response(view.snapshot.number(), found)
@@ -356,11 +356,11 @@ fn answer_uses<D: Desk>(
     alloc: Global,
     desk: &mut D,
     view: &View,
-    path: Word,
+    path: Word<'_>,
     offset: usize,
 ) -> Response
     requires { D.sees desk.old view.now.snapshot.files }
-    ensures told { (found : Result (List Place) WhyRefused) × AnswersUses view.now.snapshot.files path offset found × (result ≡ places_response view.now.snapshot.number found) }
+    ensures told { (found : Result (List Place) WhyRefused) × AnswersUses view.now.snapshot.files path.entry offset found × (result ≡ places_response view.now.snapshot.number found) }
     ensures same { desk.new ≡ desk.old }
 {
     let found = find_uses(alloc, desk, view, path.as_str(), offset);
@@ -411,9 +411,9 @@ fn answer_faults<D: Desk>(alloc: Global, desk: &mut D, view: &View) -> Response
 }
 
 /// Acts on a command that is meant for the state that the view shows.
-fn act_on<D: Desk>(alloc: Global, desk: &mut D, view: &View, command: StateCommand) -> Response
+fn act_on<D: Desk>(alloc: Global, desk: &mut D, view: &View, command: StateCommand<'_>) -> Response
     requires { D.sees desk.old view.now.snapshot.files }
-    ensures { ActsOn D.steps desk.old view.now command result desk.new }
+    ensures { ActsOn D.steps desk.old view.now command.entry result desk.new }
 {
     match command {
         StateCommand::Look => Response::Steps {
@@ -421,7 +421,12 @@ fn act_on<D: Desk>(alloc: Global, desk: &mut D, view: &View, command: StateComma
             undo: view.undo,
             redo: view.redo,
         },
-        StateCommand::Put { basis, path, body } => put(alloc, desk, view, basis, path, body),
+        StateCommand::Put {
+            basis,
+            path,
+            body,
+            ..
+        } => put(alloc, desk, view, basis, path, body),
         StateCommand::Del { basis, path } => del(alloc, desk, view, basis, path),
         StateCommand::Rename {
             basis,
@@ -442,9 +447,14 @@ fn act_on<D: Desk>(alloc: Global, desk: &mut D, view: &View, command: StateComma
 }
 
 /// Acts on a command after its look has shown the view. A command that is meant for another state is refused.
-fn act_after<D: Desk>(alloc: Global, desk: &mut D, view: &View, command: StateCommand) -> Response
+fn act_after<D: Desk>(
+    alloc: Global,
+    desk: &mut D,
+    view: &View,
+    command: StateCommand<'_>,
+) -> Response
     requires { D.sees desk.old view.now.snapshot.files }
-    ensures { ActsAfter D.steps desk.old view.now command result desk.new }
+    ensures { ActsAfter D.steps desk.old view.now command.entry result desk.new }
 {
     if fits_view(view, &command) {
         act_on(alloc, desk, view, command)
@@ -459,8 +469,8 @@ fn act_after<D: Desk>(alloc: Global, desk: &mut D, view: &View, command: StateCo
 }
 
 /// Looks, and acts on a command about the current state.
-fn act_looking<D: Desk>(alloc: Global, desk: &mut D, command: StateCommand) -> Response
-    ensures { LooksFirst D.steps desk.old command result desk.new }
+fn act_looking<D: Desk>(alloc: Global, desk: &mut D, command: StateCommand<'_>) -> Response
+    ensures { LooksFirst D.steps desk.old command.entry result desk.new }
 {
     match desk.look() {
         Ok(view) => act_after(alloc, desk, &view, command),
@@ -492,8 +502,8 @@ fn log<D: Desk>(desk: &mut D, number: u64) -> Response
 }
 
 /// Acts on one command, and answers it.
-pub fn act<D: Desk>(alloc: Global, desk: &mut D, command: Command) -> Response
-    ensures { Acts D.steps D.waits desk.old command result desk.new }
+pub fn act<D: Desk>(alloc: Global, desk: &mut D, command: Command<'_>) -> Response
+    ensures { Acts D.steps D.waits desk.old command.entry result desk.new }
 {
     match command {
         Command::OnState(command) => act_looking(alloc, desk, command),

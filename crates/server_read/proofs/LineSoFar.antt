@@ -1,5 +1,5 @@
 -- The part of a line that was read.
-use Rattle.std.proofs.Common.{◌≡◌, ◌≢◌, ℕ, ◌+◌, ◌<◌, ◌≤◌, List, [], ◌∷◌, ◌++◌, length, take, Option, None, Some, Ok, Bool, true, false, cond, nat_lt}
+use Rattle.std.proofs.Common.{◌≡◌, ◌≢◌, ℕ, ◌<◌, ◌≤◌, List, [], ◌∷◌, ◌++◌, length, take, Option, None, Some, Ok, Bool, true, false, cond, nat_lt}
 use Rattle.std.proofs.Common.{sym, ap, ◌∙◌, arith, length-append, length-take, min}
 use Rattle.std.proofs.lemmas.List.{length-take, take_all, take-append-le}
 use Rattle.std.proofs.lemmas.Bool.{ltb-true}

@@ -1,46 +1,65 @@
 -- The next message, from its line and its body.
-use Rattle.std.proofs.Common.{◌≡◌, ◌≢◌, ℕ, ◌+◌, ◌≤◌, ◌<◌, List, [], ◌∷◌, ◌++◌, length, take, drop, Option, None, Some, Result, Ok, Err, refl, sym, ap, ◌∙◌}
+use Rattle.std.proofs.Common.{◌≡◌, ◌≢◌, ℕ, zero, suc, get_or, ◌+◌, ◌≤◌, ◌<◌, List, [], ◌∷◌, ◌++◌, length, take, drop, Option, None, Some, Result, Ok, Err, codes, refl, sym, ap, ◌∙◌}
 use Rattle.std.proofs.Common.{inl, inr, append_assoc, arith, le_trans, length-append, length-drop}
 use Rattle.std.proofs.lemmas.Grind.{common_steps}
 use Rattle.std.proofs.lemmas.List.Folds.{prefix_len-append}
 use Rattle.std.proofs.lemmas.List.{take-append-drop}
+use Rattle.std.proofs.lemmas.Str.{IsUtf8-from_ascii}
+use Rattle.std.proofs.lemmas.Str.Ascii.{IsAscii-from_reads}
 use Rattle.std.specs.List.{position_or_len}
 use Rattle.std.specs.Str.{IsUtf8}
 use Rattle.std.specs.Io.KnownBytes.{Keeps}
 use Rattle.base_files.specs.declared.limits.Limits.{Limits}
 use Rattle.server_read.specs.declared.command.Command.{Command}
-use Rattle.server_read.specs.declared.command.Command.TheVariants as command
-use Rattle.server_read.specs.declared.command.StateCommand.TheVariants as state
+use Rattle.server_read.specs.declared.command.Command.TheVariants.{OnState}
+use Rattle.server_read.specs.declared.command.StateCommand.TheVariants.{Put}
 use Rattle.server_read.specs.declared.input.InputFault.{InputFault}
 use Rattle.server_read.specs.declared.input.ReadLine.TheVariants.{Whole}
 use Rattle.server_read.specs.declared.message.Message.{Message}
 use Rattle.server_read.specs.declared.message.Message.TheVariants.{Ask, Unknown, CutShort}
 use Rattle.server_read.specs.declared.next.Next.{Next}
 use Rattle.server_read.specs.declared.next.Next.TheVariants as next
-use Rattle.server_read.specs.declared.parse.CommandLine.{CommandLine}
-use Rattle.server_read.specs.declared.parse.CommandLine.TheVariants.{Look, Put, Del, Rename, Move, Undo, Redo, Cat, Uses, End}
-use Rattle.server_read.specs.declared.parse.CommandLine.TheVariants as line
 use Rattle.server_read.specs.FirstLine.{is_newline, first_line, after_line}
 use Rattle.server_read.specs.Lines.{IsCommandLine, size_after}
 use Rattle.server_read.specs.Stops.{StopsInLine, StopsBefore}
 use Rattle.server_read.specs.Wire.{IsReadable, Says, Ends, IsWholeMessage, IsWholeEnd, StaysWithin}
 use Rattle.server_read.specs.Parsing.{ReadsLineText}
-use Rattle.server_read.specs.Puts.{ReadsPut, ReadsAfter, AsksOf}
+use Rattle.server_read.specs.Puts.{put_line, ReadsPut, ReadsAfter}
 use Rattle.server_read.specs.NextMessage.{ReadsNext}
 use Rattle.server_read.specs.Incoming.{ReadsLine}
 use Rattle.server_read.proofs.LineSoFar.{after_line-append}
-use Rattle.server_read.proofs.Unique.{line_unique, end_or_put}
-
-pub next_unknown : (limits : Limits) (before after : Option (List ℕ)) (text : List ℕ)
-    → ReadsLine limits.command_bytes before after text (Ok Whole) → (IsUtf8 text → (said : CommandLine) → IsCommandLine text said → ⊥)
-    → ReadsNext limits before after (Ok (next.Message Unknown))
-next_unknown limits None after text h k = tt
-next_unknown limits (Some input) after text h k =
-    (after_line input, (h.0, (λ readable said is_line. k (rw h.2 readable.utf8) said (rw h.2 is_line), refl)), h.3)
+use Rattle.server_read.proofs.Unique.{line_unique, end_or_command}
 
 readable_line : (limits : Limits) (text input : List ℕ) → length text ≤ limits.command_bytes → text ≡ first_line input → IsUtf8 text →
     IsReadable limits (first_line input)
 readable_line limits text input short e utf8 = record { short = rw (← e) short; utf8 = rw (← e) utf8 }
+
+pub next_unknown : (limits : Limits) (before after : Option (List ℕ)) (text : List ℕ)
+    → ReadsLine limits.command_bytes before after text (Ok Whole) → text ≢ codes "end" → (IsUtf8 text → (said : Command) → IsCommandLine text said → ⊥)
+    → ReadsNext limits before after (Ok (next.Message Unknown))
+next_unknown limits None after text h not_end k = tt
+next_unknown limits (Some input) after text h not_end k = (
+  after_line input,
+  (h.0, (λ readable. (λ e. not_end (h.2 ∙ e), λ said is_line. k (rw h.2 readable.utf8) said (rw h.2 is_line)), refl)),
+  h.3,
+)
+
+end_ascii : (k : ℕ) → k < 3 → get_or (codes "end") k 0 < 128
+end_ascii zero l = omega arith
+end_ascii (suc zero) l = omega arith
+end_ascii (suc (suc zero)) l = omega arith
+end_ascii (suc (suc (suc k))) l = absurd (omega (arith, l))
+
+end_utf8 : IsUtf8 (codes "end")
+end_utf8 = IsUtf8-from_ascii (codes "end") (IsAscii-from_reads (codes "end") 3 (omega arith) end_ascii)
+
+-- the line `end` ends the session
+pub next_end : (limits : Limits) (before after : Option (List ℕ)) (text : List ℕ)
+    → ReadsLine limits.command_bytes before after text (Ok Whole) → text ≡ codes "end" → ReadsNext limits before after (Ok next.End)
+next_end limits None after text h e = tt
+next_end limits (Some input) after text h e =
+    let utf8 : IsUtf8 text = rw e end_utf8 in
+    (after_line input, inr (readable_line limits text input h.1 h.2 utf8, sym h.2 ∙ e, refl), h.3)
 
 kept_is : (xs : List ℕ) (after : Option (List ℕ)) → Keeps (Some xs) after → after ≡ Some xs
 kept_is xs None h = absurd h
@@ -98,17 +117,17 @@ stays_in_line limits part rest p =
     }
 
 -- the bytes after a body are not in a part of the body
-after_body : (limits : Limits) (input part rest : List ℕ) (said : CommandLine) (m : Message) (after : List ℕ) → IsReadable limits (first_line input) →
+after_body : (limits : Limits) (input part rest : List ℕ) (said : Command) (m : Message) (after : List ℕ) → IsReadable limits (first_line input) →
     IsCommandLine (first_line input) said
     → after_line input ≡ part ++ rest → length part ≤ size_after said → Says limits input m after → length after ≤ length rest
 after_body limits input part rest said (Ask asked) after readable is_line e short h =
     let same = ap size_after (line_unique (first_line input) h.1.0 said h.1.2 is_line) in
     omega (arith, ap length h.1.5, length-drop (size_after h.1.0) (after_line input), ap length e, length-append part rest, same, short)
-after_body limits input part rest said Unknown after readable is_line e short h = absurd (h.1.0 readable said is_line)
+after_body limits input part rest said Unknown after readable is_line e short h = absurd ((h.1.0 readable).1 said is_line)
 after_body limits input part rest said CutShort after readable is_line e short h = omega (arith, ap length h.1.4)
 
 -- no message is whole before the end of its body
-no_message_in_body : (limits : Limits) (input bytes rest front back : List ℕ) (said : CommandLine) (m : Message)
+no_message_in_body : (limits : Limits) (input bytes rest front back : List ℕ) (said : Command) (m : Message)
     → IsReadable limits (first_line input) → IsCommandLine (first_line input) said
     → after_line input ≡ bytes ++ rest → length bytes < size_after said → input ≡ front ++ (back ++ rest) → IsWholeMessage limits front m → ⊥
 no_message_in_body limits input bytes rest front back said (Ask asked) readable is_line e short all whole =
@@ -118,35 +137,35 @@ no_message_in_body limits input bytes rest front back said (Ask asked) readable 
     absurd (omega (arith, left, h.1.3, ap length e, length-append bytes rest, length-append back rest, same, short))
 no_message_in_body limits input bytes rest front back said Unknown readable is_line e short all whole =
     let h : Says limits input Unknown (back ++ rest) = rw all (whole (back ++ rest)) in
-    absurd (h.1.0 readable said is_line)
+    absurd ((h.1.0 readable).1 said is_line)
 no_message_in_body limits input bytes rest front back said CutShort readable is_line e short all whole =
     let h : Says limits (front ++ 10 ∷ []) CutShort (10 ∷ []) = whole (10 ∷ []) in
     absurd (omega (arith, ap length h.1.4))
 
-no_end_at_put : (limits : Limits) (input path : List ℕ) (basis size : ℕ) (after : List ℕ) → input ≢ [] → IsCommandLine (first_line input) (Put basis path size)
+no_end_at_put : (limits : Limits) (input path : List ℕ) (basis size : ℕ) (after : List ℕ) → input ≢ [] → IsCommandLine (first_line input) (put_line basis path size)
     → Ends limits input after → ⊥
 no_end_at_put limits input path basis size after some put e = elim e [
   | inl over ↦ absurd (some over.0)
-  | inr line ↦ absurd (end_or_put (first_line input) basis path size line.1 put)
+  | inr line ↦ absurd (end_or_command (first_line input) (put_line basis path size) line.1 put)
 ]
 
 cut_again : (input part rest front back : List ℕ) → input ≡ part ++ rest → part ≡ front ++ back → input ≡ front ++ (back ++ rest)
 cut_again input part rest front back e f = e ∙ ap (λ l. l ++ rest) f ∙ append_assoc front back rest
 
 stays_in_body : (limits : Limits) (input part bytes rest path : List ℕ) (basis size : ℕ) → input ≢ [] → IsReadable limits (first_line input) →
-    IsCommandLine (first_line input) (Put basis path size)
+    IsCommandLine (first_line input) (put_line basis path size)
     → input ≡ part ++ rest → after_line input ≡ bytes ++ rest → length bytes < size → StaysWithin limits part rest
 stays_in_body limits input part bytes rest path basis size some readable put all e short = record {
-  message = λ m after says. after_body limits input bytes rest (Put basis path size) m after readable put e (omega (arith, short)) (rw all says);
+  message = λ m after says. after_body limits input bytes rest (put_line basis path size) m after readable put e (omega (arith, short)) (rw all says);
   end = λ after ends. absurd (no_end_at_put limits input path basis size after some put (rw all ends));
   no_message = λ front back m is whole.
-      no_message_in_body limits input bytes rest front back (Put basis path size) m readable put e short (cut_again input part rest front back all is) whole;
+      no_message_in_body limits input bytes rest front back (put_line basis path size) m readable put e short (cut_again input part rest front back all is) whole;
   no_end = λ front back is whole.
       no_end_at_put limits input path basis size (back ++ rest) some put (rw (cut_again input part rest front back all is) (whole (back ++ rest)));
 }
 
 stops_after : (limits : Limits) (input path : List ℕ) (basis size : ℕ) (after : Option (List ℕ)) (fault : InputFault)
-    → input ≢ [] → IsReadable limits (first_line input) → IsCommandLine (first_line input) (Put basis path size)
+    → input ≢ [] → IsReadable limits (first_line input) → IsCommandLine (first_line input) (put_line basis path size)
     → StopsBefore (Some (after_line input)) after size → ReadsNext limits (Some input) after (Err fault)
 stops_after limits input path basis size None fault some readable put h = absurd h.2
 stops_after limits input path basis size (Some rest) fault some readable put h =
@@ -167,132 +186,32 @@ next_unknown_reader limits after (Ok next.NoRoom) = tt
 next_unknown_reader limits after (Err fault) = tt
 
 next_put : (limits : Limits) (input path : List ℕ) (basis size : ℕ) (after : Option (List ℕ)) (r : Result Next InputFault)
-    → input ≢ [] → IsReadable limits (first_line input) → IsCommandLine (first_line input) (Put basis path size)
+    → input ≢ [] → IsReadable limits (first_line input) → IsCommandLine (first_line input) (put_line basis path size)
     → ReadsPut limits basis path size (Some (after_line input)) after r → ReadsNext limits (Some input) after r
 next_put limits input path basis size after (Ok (next.Message (Ask asked))) some readable put k =
-    (drop size (after_line input), (some, (Put basis path size, readable, put, k.0, k.1, refl)), k.2)
+    (drop size (after_line input), (some, (put_line basis path size, readable, put, k.0, k.1, refl)), k.2)
 next_put limits input path basis size after (Ok next.NoRoom) some readable put k =
-    (k.0, drop size (after_line input), (some, (Put basis path size, readable, put, k.1.0, k.1.1, refl)), k.1.2)
+    (k.0, drop size (after_line input), (some, (put_line basis path size, readable, put, k.1.0, k.1.1, refl)), k.1.2)
 next_put limits input path basis size after (Ok (next.Message CutShort)) some readable put k =
-    ([], (some, (Put basis path size, readable, put, k.0, refl)), k.1)
+    ([], (some, (put_line basis path size, readable, put, k.0, refl)), k.1)
 next_put limits input path basis size after (Ok (next.Message Unknown)) some readable put k = absurd k
 next_put limits input path basis size after (Ok next.End) some readable put k = absurd k
 next_put limits input path basis size after (Err fault) some readable put k = stops_after limits input path basis size after fault some readable put k
 
--- a line that announces no bytes
-next_bare : (limits : Limits) (input : List ℕ) (asked : Command) (after : Option (List ℕ)) (r : Result Next InputFault)
-    → Says limits input (Ask asked) (after_line input) → AsksOf asked r → after ≡ Some (after_line input) → ReadsNext limits (Some input) after r
-next_bare limits input asked after (Ok (next.Message message)) said h e = (after_line input, rw h said, e)
-next_bare limits input asked after (Ok next.NoRoom) said h e = (asked, after_line input, said, e)
-next_bare limits input asked after (Ok next.End) said h e = absurd h
-next_bare limits input asked after (Err fault) said h e = absurd h
-
 zero_below : (n : ℕ) → 0 ≤ n
 zero_below n = omega arith
 
-pub next_line : (limits : Limits) (before mid after : Option (List ℕ)) (text : List ℕ) (said : CommandLine) (r : Result Next InputFault)
+pub next_line : (limits : Limits) (before mid after : Option (List ℕ)) (text : List ℕ) (said : Command) (r : Result Next InputFault)
     → ReadsLine limits.command_bytes before mid text (Ok Whole) → ReadsLineText text (Some said) → ReadsAfter limits said mid after r
     → ReadsNext limits before after r
 next_line limits None mid after text said r h t k = next_unknown_reader limits after r
-next_line limits (Some input) mid after text (Put basis path size) r h t k =
-    let is_put : IsCommandLine (first_line input) (Put basis path size) = rw (← h.2) t.1 in
-    next_put limits input path basis size after r h.0 (readable_line limits text input h.1 h.2 t.0) is_put (rw h.3 at k)
-next_line limits (Some input) mid after text End r h t k =
+next_line limits (Some input) mid after text (OnState (Put basis path size body)) r h t k =
+    let is_put : IsCommandLine text (put_line basis path size) = record { spelled = t.1.spelled; fits = rw t.1.fits.3 at t.1.fits } in
+    next_put limits input path basis size after r h.0 (readable_line limits text input h.1 h.2 t.0) (rw (← h.2) is_put) (rw h.3 at k)
+next_line limits (Some input) mid after text said r h t k =
     let is_after = kept_is (after_line input) after (rw h.3 at k.1) in
-    rw k.0 (after_line input, inr (readable_line limits text input h.1 h.2 t.0, sym h.2 ∙ t.1.spelled, refl), is_after)
-next_line limits (Some input) mid after text Look r h t k =
-    next_bare limits input (command.OnState state.Look) after r (
-      h.0,
-      (
-        Look,
-        readable_line limits text input h.1 h.2 t.0,
-        rw (← h.2) t.1,
-        zero_below (length (after_line input)),
-        refl,
-        refl,
-      ),
-    ) k.0
-    (kept_is (after_line input) after (rw h.3 at k.1))
-next_line limits (Some input) mid after text line.List r h t k =
-    next_bare limits input (command.OnState state.List) after r (
-      h.0,
-      (
-        line.List,
-        readable_line limits text input h.1 h.2 t.0,
-        rw (← h.2) t.1,
-        zero_below (length (after_line input)),
-        refl,
-        refl,
-      ),
-    ) k.0
-    (kept_is (after_line input) after (rw h.3 at k.1))
-next_line limits (Some input) mid after text line.Faults r h t k =
-    next_bare limits input (command.OnState state.Faults) after r (
-      h.0,
-      (line.Faults, readable_line limits text input h.1 h.2 t.0, rw (← h.2) t.1, zero_below (length (after_line input)), refl, refl),
-    ) k.0
-    (kept_is (after_line input) after (rw h.3 at k.1))
-next_line limits (Some input) mid after text line.Work r h t k =
-    next_bare limits input (command.OnState state.Work) after r (
-      h.0,
-      (
-        line.Work,
-        readable_line limits text input h.1 h.2 t.0,
-        rw (← h.2) t.1,
-        zero_below (length (after_line input)),
-        refl,
-        refl,
-      ),
-    ) k.0
-    (kept_is (after_line input) after (rw h.3 at k.1))
-next_line limits (Some input) mid after text line.Wait r h t k =
-    next_bare limits input command.Wait after r (
-      h.0,
-      (
-        line.Wait,
-        readable_line limits text input h.1 h.2 t.0,
-        rw (← h.2) t.1,
-        zero_below (length (after_line input)),
-        refl,
-        refl,
-      ),
-    ) k.0
-    (kept_is (after_line input) after (rw h.3 at k.1))
-next_line limits (Some input) mid after text (line.Object path) r h t k =
-    next_bare limits input (command.OnState (state.Object path)) after r
-    (h.0, (line.Object path, readable_line limits text input h.1 h.2 t.0, rw (← h.2) t.1, zero_below (length (after_line input)), refl, refl)) k.0
-    (kept_is (after_line input) after (rw h.3 at k.1))
-next_line limits (Some input) mid after text (Rename basis path offset name) r h t k =
-    next_bare limits input (command.OnState (state.Rename basis path offset name)) after r
-    (h.0, (Rename basis path offset name, readable_line limits text input h.1 h.2 t.0, rw (← h.2) t.1, zero_below (length (after_line input)), refl, refl)) k.0
-    (kept_is (after_line input) after (rw h.3 at k.1))
-next_line limits (Some input) mid after text (Move basis from to) r h t k =
-    next_bare limits input (command.OnState (state.Move basis from to)) after r
-    (h.0, (Move basis from to, readable_line limits text input h.1 h.2 t.0, rw (← h.2) t.1, zero_below (length (after_line input)), refl, refl)) k.0
-    (kept_is (after_line input) after (rw h.3 at k.1))
-next_line limits (Some input) mid after text (line.Log number) r h t k =
-    next_bare limits input (command.Log number) after r
-    (h.0, (line.Log number, readable_line limits text input h.1 h.2 t.0, rw (← h.2) t.1, zero_below (length (after_line input)), refl, refl)) k.0
-    (kept_is (after_line input) after (rw h.3 at k.1))
-next_line limits (Some input) mid after text (Undo basis) r h t k =
-    next_bare limits input (command.OnState (state.Undo basis)) after r
-    (h.0, (Undo basis, readable_line limits text input h.1 h.2 t.0, rw (← h.2) t.1, zero_below (length (after_line input)), refl, refl)) k.0
-    (kept_is (after_line input) after (rw h.3 at k.1))
-next_line limits (Some input) mid after text (Redo basis) r h t k =
-    next_bare limits input (command.OnState (state.Redo basis)) after r
-    (h.0, (Redo basis, readable_line limits text input h.1 h.2 t.0, rw (← h.2) t.1, zero_below (length (after_line input)), refl, refl)) k.0
-    (kept_is (after_line input) after (rw h.3 at k.1))
-next_line limits (Some input) mid after text (Del basis path) r h t k =
-    next_bare limits input (command.OnState (state.Del basis path)) after r
-    (h.0, (Del basis path, readable_line limits text input h.1 h.2 t.0, rw (← h.2) t.1, zero_below (length (after_line input)), refl, refl)) k.0
-    (kept_is (after_line input) after (rw h.3 at k.1))
-next_line limits (Some input) mid after text (Cat path) r h t k =
-    next_bare limits input (command.OnState (state.Cat path)) after r (
-      h.0,
-      (Cat path, readable_line limits text input h.1 h.2 t.0, rw (← h.2) t.1, zero_below (length (after_line input)), refl, refl),
-    ) k.0
-    (kept_is (after_line input) after (rw h.3 at k.1))
-next_line limits (Some input) mid after text (Uses path offset) r h t k =
-    next_bare limits input (command.OnState (state.Uses path offset)) after r
-    (h.0, (Uses path offset, readable_line limits text input h.1 h.2 t.0, rw (← h.2) t.1, zero_below (length (after_line input)), refl, refl)) k.0
-    (kept_is (after_line input) after (rw h.3 at k.1))
+    rw k.0 (
+      after_line input,
+      (h.0, (said, readable_line limits text input h.1 h.2 t.0, rw (← h.2) t.1, zero_below (length (after_line input)), refl, refl)),
+      is_after,
+    )

@@ -83,7 +83,7 @@ taken_away limits basis path size (Some input) None h = absurd h.2
 taken_away limits basis path size (Some input) (Some rest) h =
     let f = front size input h.0 rest h.1 h.2 in
     let b = some_body limits path (take size input) in
-    (command.OnState (state.Put basis path b.0), (f.within, (b.0, b.1, refl), ap Some (sym f.left)))
+    (command.OnState (state.Put basis path size b.0), (f.within, (b.0, b.1, refl), ap Some (sym f.left)))
 
 cut_short : (limits : Limits) (basis : ℕ) (path : List ℕ) (size : ℕ) (before after : Option (List ℕ)) → FallsShort before after size
     → ReadsPut limits basis path size before after (Ok (next.Message CutShort))
@@ -103,7 +103,7 @@ not_kept_of limits path size kept t e = λ k. false≢true (sym e ∙ t.1 k)
 
 pub put_read : (limits : Limits) (basis : ℕ) (path : List ℕ) (size : ℕ) (before after : Option (List ℕ)) (kept : Bool) (became : Body)
     → SaysIfKept limits path size kept → ReadsBody before after size kept (Ok became)
-    → ReadsPut limits basis path size before after (Ok (put_next basis path became))
+    → ReadsPut limits basis path size before after (Ok (put_next basis path size became))
 put_read limits basis path size before after kept body.NoRoom t h = taken_away limits basis path size before after h.1
 put_read limits basis path size before after kept body.Short t h = cut_short limits basis path size before after h
 put_read limits basis path size None after kept (body.Kept bytes) t h = tt

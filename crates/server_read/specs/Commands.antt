@@ -6,7 +6,7 @@ use Rattle.server_read.specs.declared.command.StateCommand.TheVariants as state
 -- the basis of a command about the current state, or none
 abbrev pub command_basis : StateCommand → Option ℕ
 command_basis state.Look = None
-command_basis (state.Put basis path body) = Some basis
+command_basis (state.Put basis path size body) = Some basis
 command_basis (state.Del basis path) = Some basis
 command_basis (state.Rename basis path offset name) = Some basis
 command_basis (state.Move basis from to) = Some basis

@@ -1,10 +1,10 @@
--- Texts as command lines, and their parts.
+-- Texts as the lines of commands, and their parts.
 use Rattle.std.specs.Prelude.{◌≡◌, ◌≢◌, ℕ, ◌<◌, List, [], ◌∷◌, ◌++◌, Option, None, Some, decimal}
 use Rattle.std.specs.Str.{IsUtf8}
 use Rattle.std.specs.Borrow.{Bor}
 use Rattle.server_read.specs.Words.{HasNoSpace, HasNoMark, IsArgument, spaced}
 use Rattle.server_read.specs.Lines.{IsCommandLine, verb_of, args_of, place_word, FitsPlace, FitsLine}
-use Rattle.server_read.specs.declared.parse.CommandLine.{CommandLine}
+use Rattle.server_read.specs.declared.command.Command.{Command}
 
 -- the number below `limit` that the text is the decimal of, or none
 abbrev pub ReadsNumber : ℕ → List ℕ → Option ℕ → Type 0
@@ -41,28 +41,28 @@ abbrev pub IsSpaced : List (List ℕ) → List ℕ → Type 0
 IsSpaced [] text = ⊥
 IsSpaced (first ∷ others) text = text ≡ spaced first others
 
--- the command line has this first word, and these words after it, with one space between
-pub record HasWords (verb words : List ℕ) (command : CommandLine) : Type 0 where
+-- the line of the command has this first word, and these words after it, with one space between
+pub record HasWords (verb words : List ℕ) (command : Command) : Type 0 where
   pub first : verb_of command ≡ verb
   pub fits : FitsLine command
   pub others : IsSpaced (args_of command) words
 
--- the command line with this first word and these words after it, or none
-abbrev pub ParsesArgs : List ℕ → List ℕ → Option CommandLine → Type 0
-ParsesArgs verb words None = (command : CommandLine) → HasWords verb words command → ⊥
+-- the command with this first word and these words after it, or none
+abbrev pub ParsesArgs : List ℕ → List ℕ → Option Command → Type 0
+ParsesArgs verb words None = (command : Command) → HasWords verb words command → ⊥
 ParsesArgs verb words (Some command) = HasWords verb words command
 
--- the command line that this one word is, or none
-abbrev pub ParsesBare : List ℕ → Option CommandLine → Type 0
-ParsesBare verb None = (command : CommandLine) → args_of command ≡ [] → verb_of command ≢ verb
+-- the command whose line this one word is, or none
+abbrev pub ParsesBare : List ℕ → Option Command → Type 0
+ParsesBare verb None = (command : Command) → args_of command ≡ [] → verb_of command ≢ verb
 ParsesBare verb (Some command) = IsCommandLine verb command
 
--- the command line that the text is, or none
-abbrev pub ParsesLine : List ℕ → Option CommandLine → Type 0
-ParsesLine text None = (command : CommandLine) → IsCommandLine text command → ⊥
+-- the command whose line the text is, or none
+abbrev pub ParsesLine : List ℕ → Option Command → Type 0
+ParsesLine text None = (command : Command) → IsCommandLine text command → ⊥
 ParsesLine text (Some command) = IsCommandLine text command
 
--- the command line that the bytes are, or none where they are no command line or not UTF-8
-abbrev pub ReadsLineText : List ℕ → Option CommandLine → Type 0
-ReadsLineText text None = IsUtf8 text → (command : CommandLine) → IsCommandLine text command → ⊥
+-- the command whose line the bytes are, or none where they are no command's line or not UTF-8
+abbrev pub ReadsLineText : List ℕ → Option Command → Type 0
+ReadsLineText text None = IsUtf8 text → (command : Command) → IsCommandLine text command → ⊥
 ReadsLineText text (Some command) = IsUtf8 text × IsCommandLine text command

@@ -1,4 +1,4 @@
--- The messages of an input: its lines, with the bytes that some lines announce. A later command is a case of `SaysCommand`.
+-- The messages of an input: its lines, with the bytes that some lines announce.
 use Rattle.std.specs.Prelude.{◌≡◌, ◌≢◌, ℕ, ◌<◌, ◌≤◌, ◌⊎◌, List, [], ◌∷◌, ◌++◌, length, take, drop, Option, Some, None, codes}
 use Rattle.std.specs.Str.{IsUtf8}
 use Rattle.base_files.specs.Path.{IsPath}
@@ -8,8 +8,6 @@ use Rattle.server_read.specs.declared.command.Command.TheVariants as command
 use Rattle.server_read.specs.declared.command.StateCommand.TheVariants as state
 use Rattle.server_read.specs.declared.message.Message.{Message}
 use Rattle.server_read.specs.declared.message.Message.TheVariants.{Ask, Unknown, CutShort}
-use Rattle.server_read.specs.declared.parse.CommandLine.{CommandLine}
-use Rattle.server_read.specs.declared.parse.CommandLine.TheVariants as line
 use Rattle.server_read.specs.FirstLine.{first_line, after_line}
 use Rattle.server_read.specs.Lines.{IsCommandLine, size_after}
 
@@ -27,35 +25,25 @@ abbrev pub KeepsBody : Limits → List ℕ → List ℕ → Option (List ℕ) �
 KeepsBody limits path bytes (Some body) = IsBodyKept limits path (length bytes) × (body ≡ bytes)
 KeepsBody limits path bytes None = ¬ (IsBodyKept limits path (length bytes))
 
--- the command line, with these bytes that it announces, says this command
-abbrev pub SaysCommand : Limits → CommandLine → List ℕ → Command → Type 0
-SaysCommand limits line.Look bytes asked = asked ≡ command.OnState state.Look
-SaysCommand limits (line.Put basis path size) bytes asked =
-    (body : Option (List ℕ)) × KeepsBody limits path bytes body × (asked ≡ command.OnState (state.Put basis path body))
-SaysCommand limits (line.Del basis path) bytes asked = asked ≡ command.OnState (state.Del basis path)
-SaysCommand limits (line.Rename basis path offset name) bytes asked = asked ≡ command.OnState (state.Rename basis path offset name)
-SaysCommand limits (line.Move basis from to) bytes asked = asked ≡ command.OnState (state.Move basis from to)
-SaysCommand limits (line.Undo basis) bytes asked = asked ≡ command.OnState (state.Undo basis)
-SaysCommand limits (line.Redo basis) bytes asked = asked ≡ command.OnState (state.Redo basis)
-SaysCommand limits (line.Cat path) bytes asked = asked ≡ command.OnState (state.Cat path)
-SaysCommand limits (line.Uses path offset) bytes asked = asked ≡ command.OnState (state.Uses path offset)
-SaysCommand limits line.List bytes asked = asked ≡ command.OnState state.List
-SaysCommand limits line.Faults bytes asked = asked ≡ command.OnState state.Faults
-SaysCommand limits (line.Object path) bytes asked = asked ≡ command.OnState (state.Object path)
-SaysCommand limits line.Work bytes asked = asked ≡ command.OnState state.Work
-SaysCommand limits line.Wait bytes asked = asked ≡ command.Wait
-SaysCommand limits (line.Log number) bytes asked = asked ≡ command.Log number
-SaysCommand limits line.End bytes asked = ⊥
+-- the command of a line, with these bytes that the line announces, is this command
+abbrev pub SaysCommand : Limits → Command → List ℕ → Command → Type 0
+SaysCommand limits (command.OnState (state.Put basis path size unread)) bytes asked =
+    (body : Option (List ℕ)) × KeepsBody limits path bytes body × (asked ≡ command.OnState (state.Put basis path size body))
+SaysCommand limits said bytes asked = asked ≡ said
+
+-- the text is no line of a session: neither `end` nor the line of a command
+abbrev pub IsUnknown : List ℕ → Type 0
+IsUnknown text = (text ≢ codes "end") × ((said : Command) → IsCommandLine text said → ⊥)
 
 -- The line `text`, with the bytes `after` it, says this message. `rest` are the bytes that remain.
 abbrev pub SaysLine : Limits → (text after : List ℕ) → Message → (rest : List ℕ) → Type 0
 SaysLine limits text after (Ask asked) rest =
-    (said : CommandLine) × IsReadable limits text × IsCommandLine text said × (size_after said ≤ length after)
+    (said : Command) × IsReadable limits text × IsCommandLine text said × (size_after said ≤ length after)
     × SaysCommand limits said (take (size_after said) after) asked × (rest ≡ drop (size_after said) after)
 SaysLine limits text after CutShort rest =
-    (said : CommandLine) × IsReadable limits text × IsCommandLine text said × (length after < size_after said) × (rest ≡ [])
+    (said : Command) × IsReadable limits text × IsCommandLine text said × (length after < size_after said) × (rest ≡ [])
 SaysLine limits text after Unknown rest =
-    (IsReadable limits text → (said : CommandLine) → IsCommandLine text said → ⊥) × (rest ≡ after)
+    (IsReadable limits text → IsUnknown text) × (rest ≡ after)
 
 -- the input begins with this message, and `rest` are the bytes after it
 abbrev pub Says : Limits → List ℕ → Message → List ℕ → Type 0

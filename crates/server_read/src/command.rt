@@ -1,5 +1,5 @@
-//! The commands of a session. A later command is a variant here. If it is about the current state, it is also a case of `command_basis` in
-//! specs/Commands.antt.
+//! The commands of a session, as their lines say them. A later command is a variant here, a case of each function in specs/Lines.antt but
+//! `size_after`, and an arm in src/parse.rt. If it is about the current state, it is also a case of `command_basis` in specs/Commands.antt.
 ghost use Rattle.std.specs.Prelude.{◌≡◌};
 
 use crate::word::Word;
@@ -7,33 +7,34 @@ use base_files::FileText;
 
 /// A command about the current state, which begins with a look. Its basis is the number of the state that the client means it for.
 #[derive(Drop)]
-pub enum StateCommand {
+pub enum StateCommand<'a> {
     /// How many steps undo and redo can make.
     Look,
-    /// Adds a file, or replaces its text. The body is `None` where it was dropped: the word is no path of a file, or the body is over the
-    /// limit of a file.
+    /// Adds a file, or replaces its text. The line announces a body of `size` bytes, and `body` is `None` until these are read. It stays
+    /// `None` where they are dropped: the word is no path of a file, or the body is over the limit of a file.
     Put {
         basis: u64,
-        path: Word,
+        path: Word<'a>,
+        size: u32,
         body: Option<FileText>,
     },
     /// Deletes a file.
     Del {
         basis: u64,
-        path: Word,
+        path: Word<'a>,
     },
     /// Renames the identifier, or the import's path literal, at the offset in the file. The offset is that of any byte of it.
     Rename {
         basis: u64,
-        path: Word,
+        path: Word<'a>,
         offset: usize,
-        name: Word,
+        name: Word<'a>,
     },
     /// Moves a package's folder, with everything below it, to another path.
     Move {
         basis: u64,
-        from: Word,
-        to: Word,
+        from: Word<'a>,
+        to: Word<'a>,
     },
     Undo {
         basis: u64,
@@ -43,12 +44,12 @@ pub enum StateCommand {
     },
     /// The text of a file.
     Cat {
-        path: Word,
+        path: Word<'a>,
     },
     /// The uses of the declaration that the identifier, or the import's path literal, at the offset in the file is bound to. The offset is
     /// that of any byte of it.
     Uses {
-        path: Word,
+        path: Word<'a>,
         offset: usize,
     },
     /// All files, with their sizes.
@@ -57,13 +58,13 @@ pub enum StateCommand {
     Faults,
     /// The object of a package.
     Object {
-        path: Word,
+        path: Word<'a>,
     },
     /// Builds one package in this session.
     Work,
 }
 
-impl StateCommand {
+impl StateCommand<'_> {
     ghost use Rattle.server_read.specs.Commands.{command_basis};
 
     /// The basis of the command, or `None` where it has none.
@@ -88,10 +89,10 @@ impl StateCommand {
     }
 }
 
-/// A command of a session.
+/// A command of a session, from its line to the desk. Its words are in the line that it was read from.
 #[derive(Drop)]
-pub enum Command {
-    OnState(StateCommand),
+pub enum Command<'a> {
+    OnState(StateCommand<'a>),
     /// Waits until every package of the current state is finished.
     Wait,
     /// The line of an entry of the journal, by its number.

@@ -20,6 +20,6 @@ pub use input::{InputFault, ReadLine, read_line};
 pub use laws::begins_one_way;
 pub use message::Message;
 pub use next::{LineBuffer, Next, read_message};
-pub use parse::{Argument, CommandLine, parse_command_line};
+pub use parse::parse_command;
 pub use stream::{ByteSource, ReadFailed, Reading, Sink, WriteFailed, Writing};
 pub use word::Word;

@@ -5,16 +5,16 @@ use crate::command::Command;
 
 /// A message: a line of the input, with the bytes that it announces.
 #[derive(Drop)]
-pub enum Message {
+pub enum Message<'a> {
     /// A command.
-    Ask(Command),
+    Ask(Command<'a>),
     /// A line that is no command.
     Unknown,
     /// The input ended within the bytes that a line announced.
     CutShort,
 }
 
-impl Message {
+impl Message<'_> {
     ghost use Rattle.server_read.specs.Last.{is_last};
 
     /// Whether the session ends after this message.

@@ -1,23 +1,23 @@
-//! Reads the next message of an input. A later command is an arm of `command_after` and a case of `SaysCommand` in specs/Wire.antt.
-ghost use Rattle.std.specs.Prelude.{◌≡◌, ◌+◌, ◌^◌, ◌≤◌, ◌<◌, IfOk, vec_capacity};
+//! Reads the next message of an input. A later command whose line announces bytes is an arm of `command_after`.
+ghost use Rattle.std.specs.Prelude.{◌≡◌, ◌↔◌, ◌+◌, ◌^◌, ◌≤◌, ◌<◌, IfOk, IsTrue, vec_capacity, codes};
 ghost use Rattle.server_read.specs.Failures.{CountsReadFault};
 ghost use Rattle.server_read.specs.NextMessage.{ReadsNext};
 ghost use Rattle.server_read.specs.Puts.{ReadsPut, ReadsAfter, put_next, SaysIfKept};
 ghost use Rattle.server_read.specs.Parsing.{ReadsLineText};
 
 use crate::{
-    Body, ByteSource, Command, CommandLine, InputFault, Message, ReadLine, Sink, StateCommand,
-    Word, parse_command_line, read_body, read_line, skip,
+    Body, ByteSource, Command, InputFault, Message, ReadLine, Sink, StateCommand, Word,
+    parse_command, read_body, read_line, skip,
 };
 use base_files::{Limits, Path, Refusal};
 use std::alloc::{AllocError, Global};
 
 /// The outcome of reading the next message.
 #[derive(Drop)]
-pub enum Next {
+pub enum Next<'a> {
     /// The input is over, or its line is `end`.
     End,
-    Message(Message),
+    Message(Message<'a>),
     /// A command was read and dropped for want of memory.
     NoRoom,
 }
@@ -53,9 +53,17 @@ fn is_kept(alloc: Global, path: &str, size: u32, limits: &Limits) -> Result<bool
     }
 }
 
+/// The basis and the path of a line `put`, and the size of its body in bytes.
+#[derive(Drop)]
+struct PutLine<'a> {
+    basis: u64,
+    path: Word<'a>,
+    size: u32,
+}
+
 /// The message of a line `put`, after its body was read.
-fn put_message(basis: u64, path: Word, body: Body) -> Next
-    ensures { result ≡ put_next basis path body }
+fn put_message(line: PutLine<'_>, body: Body) -> Next<'_>
+    ensures { result ≡ put_next line.entry.basis line.entry.path line.entry.size body }
 {
     let body = match body {
         Body::Kept(text) => Some(text),
@@ -63,46 +71,31 @@ fn put_message(basis: u64, path: Word, body: Body) -> Next
         Body::NoRoom => return Next::NoRoom,
         Body::Short => return Next::Message(Message::CutShort),
     };
-    ask(StateCommand::Put { basis, path, body })
-}
-
-/// The path of a put as a word, and whether the put's body is kept.
-fn prepare_put(
-    alloc: Global,
-    path: &str,
-    size: u32,
-    limits: &Limits,
-) -> Result<(Word, bool), AllocError>
-    ensures { IfOk result (λ put. (put.0 ≡ path.now) × SaysIfKept limits.now path.now size put.1) }
-{
-    let is_kept = is_kept(alloc, path, size, limits)?;
-    Ok((Word::new(alloc, path)?, is_kept))
-}
-
-/// The basis and the path of a line `put`, and the size of its body in bytes.
-#[derive(Clone, Copy)]
-struct PutLine<'a> {
-    basis: u64,
-    path: &'a str,
-    size: u32,
+    let PutLine { basis, path, size } = line;
+    ask(StateCommand::Put {
+        basis,
+        path,
+        size,
+        body,
+    })
 }
 
 /// Reads the body of a line `put`, and makes the command.
-fn read_put<S: ByteSource>(
+fn read_put<'a, S: ByteSource>(
     alloc: Global,
     source: &mut S,
     reads_left: &mut u64,
-    line: PutLine<'_>,
+    line: PutLine<'a>,
     limits: &Limits,
-) -> Result<Next, InputFault>
+) -> Result<Next<'a>, InputFault>
     requires reads { S.reads source.old + reads_left.old < 2 ^ 64 }
-    ensures put { ReadsPut limits.now line.entry.basis line.entry.path.now line.entry.size (S.remaining source.old) (S.remaining source.new) result }
+    ensures put { ReadsPut limits.now line.entry.basis line.entry.path line.entry.size (S.remaining source.old) (S.remaining source.new) result }
     ensures counted { CountsReadFault (S.failures source.old) (S.failures source.new) result }
     ensures turns { IfOk result (λ _. reads_left.new ≤ reads_left.old) }
     ensures reads { S.reads source.new + reads_left.new ≡ S.reads source.old + reads_left.old }
     ensures turns_over { result ≡ Err InputFault.Turns → reads_left.new ≡ 0 }
 {
-    match prepare_put(alloc, line.path, line.size, limits) {
+    match is_kept(alloc, line.path.as_str(), line.size, limits) {
         Err(_) => {
             let is_whole = skip(source, reads_left, line.size as usize)?;
             Ok(if is_whole {
@@ -111,120 +104,78 @@ fn read_put<S: ByteSource>(
                 Next::Message(Message::CutShort)
             })
         }
-        Ok((path, is_kept)) => {
+        Ok(is_kept) => {
             let body = read_body(alloc, source, reads_left, line.size as usize, is_kept)?;
-            Ok(put_message(line.basis, path, body))
+            Ok(put_message(line, body))
         }
     }
 }
 
 /// A command about the current state, as a message.
-fn ask(command: StateCommand) -> Next
-    ensures { result ≡ Next.Message (Message.Ask (Command.OnState command)) }
+fn ask(command: StateCommand<'_>) -> Next<'_>
+    ensures { result ≡ Next.Message (Message.Ask (Command.OnState command.entry)) }
 {
     Next::Message(Message::Ask(Command::OnState(command)))
 }
 
-/// Two arguments as words.
-fn two_words(alloc: Global, one: &str, other: &str) -> Result<(Word, Word), AllocError>
-    ensures { IfOk result (λ words. (words.0 ≡ one.now) × (words.1 ≡ other.now)) }
-{
-    let one = Word::new(alloc, one)?;
-    Ok((one, Word::new(alloc, other)?))
-}
-
-/// Reads the bytes that a command line announces, and makes the message.
-fn command_after<S: ByteSource>(
+/// Reads the bytes that a command's line announces, and makes the message.
+fn command_after<'a, S: ByteSource>(
     alloc: Global,
     source: &mut S,
     reads_left: &mut u64,
-    line: CommandLine<'_>,
+    command: Command<'a>,
     limits: &Limits,
-) -> Result<Next, InputFault>
+) -> Result<Next<'a>, InputFault>
     requires reads { S.reads source.old + reads_left.old < 2 ^ 64 }
-    ensures line { ReadsAfter limits.now line.entry (S.remaining source.old) (S.remaining source.new) result }
+    ensures line { ReadsAfter limits.now command.entry (S.remaining source.old) (S.remaining source.new) result }
     ensures counted { CountsReadFault (S.failures source.old) (S.failures source.new) result }
     ensures turns { IfOk result (λ _. reads_left.new ≤ reads_left.old) }
     ensures reads { S.reads source.new + reads_left.new ≡ S.reads source.old + reads_left.old }
     ensures turns_over { result ≡ Err InputFault.Turns → reads_left.new ≡ 0 }
 {
-    match line {
-        CommandLine::Put { basis, path, size } => {
-            let path = path.as_str();
+    match command {
+        Command::OnState(
+            StateCommand::Put {
+                basis,
+                path,
+                size,
+                body: _unread,
+            },
+        ) => {
             let line = PutLine { basis, path, size };
             read_put(alloc, source, reads_left, line, limits)
         }
-        CommandLine::End => Ok(Next::End),
-        CommandLine::Look => Ok(ask(StateCommand::Look)),
-        CommandLine::List => Ok(ask(StateCommand::List)),
-        CommandLine::Faults => Ok(ask(StateCommand::Faults)),
-        CommandLine::Work => Ok(ask(StateCommand::Work)),
-        CommandLine::Wait => Ok(Next::Message(Message::Ask(Command::Wait))),
-        CommandLine::Log { number } => Ok(Next::Message(Message::Ask(Command::Log { number }))),
-        CommandLine::Undo { basis } => Ok(ask(StateCommand::Undo { basis })),
-        CommandLine::Redo { basis } => Ok(ask(StateCommand::Redo { basis })),
-        CommandLine::Del { basis, path } => match Word::new(alloc, path.as_str()) {
-            Ok(path) => Ok(ask(StateCommand::Del { basis, path })),
-            Err(_) => Ok(Next::NoRoom),
-        },
-        CommandLine::Rename {
-            basis,
-            path,
-            offset,
-            name,
-        } => match two_words(alloc, path.as_str(), name.as_str()) {
-            Ok((path, name)) => Ok(ask(StateCommand::Rename {
-                basis,
-                path,
-                offset: offset as usize,
-                name,
-            })),
-            Err(_) => Ok(Next::NoRoom),
-        },
-        CommandLine::Move { basis, from, to } => {
-            match two_words(alloc, from.as_str(), to.as_str()) {
-                Ok((from, to)) => Ok(ask(StateCommand::Move { basis, from, to })),
-                Err(_) => Ok(Next::NoRoom),
-            }
-        }
-        CommandLine::Cat { path } => match Word::new(alloc, path.as_str()) {
-            Ok(path) => Ok(ask(StateCommand::Cat { path })),
-            Err(_) => Ok(Next::NoRoom),
-        },
-        CommandLine::Object { path } => match Word::new(alloc, path.as_str()) {
-            Ok(path) => Ok(ask(StateCommand::Object { path })),
-            Err(_) => Ok(Next::NoRoom),
-        },
-        CommandLine::Uses { path, offset } => match Word::new(alloc, path.as_str()) {
-            Ok(path) => Ok(ask(StateCommand::Uses {
-                path,
-                offset: offset as usize,
-            })),
-            Err(_) => Ok(Next::NoRoom),
-        },
+        command => Ok(Next::Message(Message::Ask(command))),
     }
 }
 
-/// The command line in a line's bytes, or `None` where they are no command line.
-fn command_line_of(line: &[u8]) -> Option<CommandLine<'_>>
+/// Whether a line's bytes are `end`.
+fn is_end(line: &[u8]) -> bool
+    ensures { IsTrue result ↔ (line.now ≡ codes "end") }
+{
+    line == b"end".as_slice()
+}
+
+/// The command in a line's bytes, or `None` where they are no command's line.
+fn command_of(line: &[u8]) -> Option<Command<'_>>
     ensures { ReadsLineText line.now result }
 {
     match str::from_utf8(line) {
-        Ok(text) => parse_command_line(text),
+        Ok(text) => parse_command(text),
         Err(_) => None,
     }
 }
 
 /// Reads the next message whole, and nothing beyond it. Each read of the source takes one from `reads_left`. A read may wait for the
 /// client, so everything that was written to the sink must be sent before.
-pub fn read_message<S: ByteSource, T: Sink>(
+pub fn read_message<'a, S: ByteSource, T: Sink>(
     alloc: Global,
     source: &mut S,
     _sink: &T,
     reads_left: &mut u64,
-    line: &mut LineBuffer,
+    line: &'a mut LineBuffer,
     limits: &Limits,
-) -> Result<Next, InputFault>
+) -> Result<Next<'a>, InputFault>
     requires reads { S.reads source.old + reads_left.old < 2 ^ 64 }
     requires sent { T.sent _sink.now }
     ensures next { ReadsNext limits.now (S.remaining source.old) (S.remaining source.new) result }
@@ -237,7 +188,8 @@ pub fn read_message<S: ByteSource, T: Sink>(
         Err(fault) => Err(fault),
         Ok(ReadLine::Nothing) => Ok(Next::End),
         Ok(ReadLine::TooLong) => Ok(Next::Message(Message::Unknown)),
-        Ok(ReadLine::Whole) => match command_line_of(&line.bytes) {
+        Ok(ReadLine::Whole) if is_end(&line.bytes) => Ok(Next::End),
+        Ok(ReadLine::Whole) => match command_of(&line.bytes) {
             None => Ok(Next::Message(Message::Unknown)),
             Some(command) => command_after(alloc, source, reads_left, command, limits),
         },

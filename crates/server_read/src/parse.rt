@@ -1,83 +1,10 @@
-//! Takes command lines apart. A later command is a variant of `CommandLine`, a case of each function in specs/Lines.antt, and an arm here.
+//! Takes the lines of commands apart. A later command is an arm here.
 ghost use Rattle.std.specs.Prelude.{◌≡◌, ◌^◌, codes, MatchBool};
 ghost use Rattle.server_read.specs.Words.{HasNoSpace};
 ghost use Rattle.server_read.specs.Parsing.{SplitsWord, SplitsPlace, ReadsNumber, ReadsPart, ReadsArgument, ReadsPlace, ParsesBare, ParsesArgs, ParsesLine};
 
+use crate::{Command, StateCommand, Word};
 use itoa::Buffer;
-use std::marker::Model;
-
-/// A word of a command line that names something, or the part of a word before an offset.
-#[derive(Drop)]
-pub struct Argument<'a> {
-    text: &'a str,
-}
-
-impl<'a> Model for Argument<'a> {
-    ghost use Rattle.std.specs.Prelude.{List, ℕ};
-
-    ghost Value = { List ℕ };
-
-    ghost view = { λ a. a.text.now };
-}
-
-impl<'a> Argument<'a> {
-    /// The word's text.
-    pub fn as_str(&self) -> &str
-        ensures { result.now ≡ self.now }
-    {
-        self.text
-    }
-}
-
-/// A command line, without the bytes that it announces.
-#[derive(Drop)]
-pub enum CommandLine<'a> {
-    Look,
-    Put {
-        basis: u64,
-        path: Argument<'a>,
-        size: u32,
-    },
-    Del {
-        basis: u64,
-        path: Argument<'a>,
-    },
-    Rename {
-        basis: u64,
-        path: Argument<'a>,
-        offset: u32,
-        name: Argument<'a>,
-    },
-    Move {
-        basis: u64,
-        from: Argument<'a>,
-        to: Argument<'a>,
-    },
-    Undo {
-        basis: u64,
-    },
-    Redo {
-        basis: u64,
-    },
-    Cat {
-        path: Argument<'a>,
-    },
-    Uses {
-        path: Argument<'a>,
-        offset: u32,
-    },
-    List,
-    Faults,
-    Object {
-        path: Argument<'a>,
-    },
-    Work,
-    Wait,
-    Log {
-        number: u64,
-    },
-    End,
-}
 
 /// The number below 2^64 that the text is the decimal of, without leading zeros.
 fn parse_u64(text: &str) -> Option<u64>
@@ -122,152 +49,152 @@ fn split_place(text: &str) -> Option<(&str, &str)>
 }
 
 /// The text as the part of a word before an offset: it may be empty, and has no space.
-fn parse_part(text: &str) -> Option<Argument<'_>>
+fn parse_part(text: &str) -> Option<Word<'_>>
     ensures { ReadsPart text.now result }
 {
     if has_no_space(text) {
-        Some(Argument { text })
+        Some(Word::new(text))
     } else {
         None
     }
 }
 
 /// The text as a word: it isn't empty, and has no space.
-fn parse_argument(text: &str) -> Option<Argument<'_>>
+fn parse_argument(text: &str) -> Option<Word<'_>>
     ensures { ReadsArgument text.now result }
 {
     if !text.is_empty() && has_no_space(text) {
-        Some(Argument { text })
+        Some(Word::new(text))
     } else {
         None
     }
 }
 
 /// The path and the offset of a place `path:#offset`.
-fn parse_place(text: &str) -> Option<(Argument<'_>, u32)>
+fn parse_place(text: &str) -> Option<(Word<'_>, usize)>
     ensures { ReadsPlace text.now result }
 {
     let (path, offset) = split_place(text)?;
-    Some((parse_part(path)?, parse_u32(offset)?))
+    Some((parse_part(path)?, parse_u32(offset)? as usize))
 }
 
-/// The command line `put BASIS PATH SIZE` with these words after `put`.
-fn parse_put(words: &str) -> Option<CommandLine<'_>>
+/// The command `put BASIS PATH SIZE` with these words after `put`.
+fn parse_put(words: &str) -> Option<Command<'_>>
     ensures { ParsesArgs (codes "put") words.now result }
 {
     let (basis, rest) = split_word(words)?;
     let (path, size) = split_word(rest)?;
-    Some(CommandLine::Put {
+    Some(Command::OnState(StateCommand::Put {
         basis: parse_u64(basis)?,
         path: parse_argument(path)?,
         size: parse_u32(size)?,
-    })
+        body: None,
+    }))
 }
 
-/// The command line `del BASIS PATH` with these words after `del`.
-fn parse_del(words: &str) -> Option<CommandLine<'_>>
+/// The command `del BASIS PATH` with these words after `del`.
+fn parse_del(words: &str) -> Option<Command<'_>>
     ensures { ParsesArgs (codes "del") words.now result }
 {
     let (basis, path) = split_word(words)?;
-    Some(CommandLine::Del {
+    Some(Command::OnState(StateCommand::Del {
         basis: parse_u64(basis)?,
         path: parse_argument(path)?,
-    })
+    }))
 }
 
-/// The command line `rename BASIS PATH:#OFFSET NAME` with these words after `rename`.
-fn parse_rename(words: &str) -> Option<CommandLine<'_>>
+/// The command `rename BASIS PATH:#OFFSET NAME` with these words after `rename`.
+fn parse_rename(words: &str) -> Option<Command<'_>>
     ensures { ParsesArgs (codes "rename") words.now result }
 {
     let (basis, rest) = split_word(words)?;
     let (place, name) = split_word(rest)?;
     let (path, offset) = parse_place(place)?;
-    Some(CommandLine::Rename {
+    Some(Command::OnState(StateCommand::Rename {
         basis: parse_u64(basis)?,
         path,
         offset,
         name: parse_argument(name)?,
-    })
+    }))
 }
 
-/// The command line `move BASIS FROM TO` with these words after `move`.
-fn parse_move(words: &str) -> Option<CommandLine<'_>>
+/// The command `move BASIS FROM TO` with these words after `move`.
+fn parse_move(words: &str) -> Option<Command<'_>>
     ensures { ParsesArgs (codes "move") words.now result }
 {
     let (basis, rest) = split_word(words)?;
     let (from, to) = split_word(rest)?;
-    Some(CommandLine::Move {
+    Some(Command::OnState(StateCommand::Move {
         basis: parse_u64(basis)?,
         from: parse_argument(from)?,
         to: parse_argument(to)?,
-    })
+    }))
 }
 
-/// The command line `undo BASIS` with this word after `undo`.
-fn parse_undo(words: &str) -> Option<CommandLine<'_>>
+/// The command `undo BASIS` with this word after `undo`.
+fn parse_undo(words: &str) -> Option<Command<'_>>
     ensures { ParsesArgs (codes "undo") words.now result }
 {
     let basis = parse_u64(words)?;
-    Some(CommandLine::Undo { basis })
+    Some(Command::OnState(StateCommand::Undo { basis }))
 }
 
-/// The command line `redo BASIS` with this word after `redo`.
-fn parse_redo(words: &str) -> Option<CommandLine<'_>>
+/// The command `redo BASIS` with this word after `redo`.
+fn parse_redo(words: &str) -> Option<Command<'_>>
     ensures { ParsesArgs (codes "redo") words.now result }
 {
     let basis = parse_u64(words)?;
-    Some(CommandLine::Redo { basis })
+    Some(Command::OnState(StateCommand::Redo { basis }))
 }
 
-/// The command line `cat PATH` with this word after `cat`.
-fn parse_cat(words: &str) -> Option<CommandLine<'_>>
+/// The command `cat PATH` with this word after `cat`.
+fn parse_cat(words: &str) -> Option<Command<'_>>
     ensures { ParsesArgs (codes "cat") words.now result }
 {
     let path = parse_argument(words)?;
-    Some(CommandLine::Cat { path })
+    Some(Command::OnState(StateCommand::Cat { path }))
 }
 
-/// The command line `object PATH` with this word after `object`.
-fn parse_object(words: &str) -> Option<CommandLine<'_>>
+/// The command `object PATH` with this word after `object`.
+fn parse_object(words: &str) -> Option<Command<'_>>
     ensures { ParsesArgs (codes "object") words.now result }
 {
     let path = parse_argument(words)?;
-    Some(CommandLine::Object { path })
+    Some(Command::OnState(StateCommand::Object { path }))
 }
 
-/// The command line `uses PATH:#OFFSET` with this word after `uses`.
-fn parse_uses(words: &str) -> Option<CommandLine<'_>>
+/// The command `uses PATH:#OFFSET` with this word after `uses`.
+fn parse_uses(words: &str) -> Option<Command<'_>>
     ensures { ParsesArgs (codes "uses") words.now result }
 {
     let (path, offset) = parse_place(words)?;
-    Some(CommandLine::Uses { path, offset })
+    Some(Command::OnState(StateCommand::Uses { path, offset }))
 }
 
-/// The command line `log NUMBER` with this word after `log`.
-fn parse_log(words: &str) -> Option<CommandLine<'_>>
+/// The command `log NUMBER` with this word after `log`.
+fn parse_log(words: &str) -> Option<Command<'_>>
     ensures { ParsesArgs (codes "log") words.now result }
 {
     let number = parse_u64(words)?;
-    Some(CommandLine::Log { number })
+    Some(Command::Log { number })
 }
 
-/// The command line of this one word.
-fn parse_bare(verb: &str) -> Option<CommandLine<'_>>
+/// The command of this one word.
+fn parse_bare(verb: &str) -> Option<Command<'_>>
     ensures { ParsesBare verb.now result }
 {
     match verb {
-        "look" => Some(CommandLine::Look),
-        "list" => Some(CommandLine::List),
-        "faults" => Some(CommandLine::Faults),
-        "work" => Some(CommandLine::Work),
-        "wait" => Some(CommandLine::Wait),
-        "end" => Some(CommandLine::End),
+        "look" => Some(Command::OnState(StateCommand::Look)),
+        "list" => Some(Command::OnState(StateCommand::List)),
+        "faults" => Some(Command::OnState(StateCommand::Faults)),
+        "work" => Some(Command::OnState(StateCommand::Work)),
+        "wait" => Some(Command::Wait),
         _ => None,
     }
 }
 
-/// The command line with this first word and these words after it.
-fn parse_verb<'a>(verb: &str, words: &'a str) -> Option<CommandLine<'a>>
+/// The command with this first word and these words after it.
+fn parse_verb<'a>(verb: &str, words: &'a str) -> Option<Command<'a>>
     ensures { ParsesArgs verb.now words.now result }
 {
     match verb {
@@ -285,8 +212,8 @@ fn parse_verb<'a>(verb: &str, words: &'a str) -> Option<CommandLine<'a>>
     }
 }
 
-/// The command line that the text is, or `None` where it is none.
-pub fn parse_command_line(text: &str) -> Option<CommandLine<'_>>
+/// The command whose line the text is, or `None` where there is none.
+pub fn parse_command(text: &str) -> Option<Command<'_>>
     ensures { ParsesLine text.now result }
 {
     match split_word(text) {

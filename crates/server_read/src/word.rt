@@ -1,36 +1,34 @@
 //! A word of a command.
-ghost use Rattle.std.specs.Prelude.{◌≡◌, IfOk};
+ghost use Rattle.std.specs.Prelude.{◌≡◌};
 
-use std::alloc::{AllocError, Global};
 use std::marker::Model;
 
-/// A text by which a command names something, which need not exist.
+/// A part of a line by which a command names something, which need not exist.
 #[derive(Drop)]
-pub struct Word {
-    text: String,
+pub struct Word<'a> {
+    text: &'a str,
 }
 
-impl Model for Word {
-    ghost use Rattle.std.specs.Prelude.{List, ℕ, string_bytes};
+impl<'a> Model for Word<'a> {
+    ghost use Rattle.std.specs.Prelude.{List, ℕ};
 
     ghost Value = { List ℕ };
 
-    ghost view = { λ w. string_bytes w.text };
+    ghost view = { λ w. w.text.now };
 }
 
-impl Word {
-    /// Copies a text as a word.
-    pub fn new(alloc: Global, text: &str) -> Result<Word, AllocError>
-        ensures { IfOk result (λ word. word ≡ text.now) }
+impl<'a> Word<'a> {
+    /// The text as a word.
+    pub(crate) fn new(text: &'a str) -> Word<'a>
+        ensures { result ≡ text.now }
     {
-        let text = text.to_string(alloc)?;
-        Ok(Word { text })
+        Word { text }
     }
 
     /// The word's text.
     pub fn as_str(&self) -> &str
         ensures { result.now ≡ self.now }
     {
-        self.text.as_str()
+        self.text
     }
 }

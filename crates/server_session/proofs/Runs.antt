@@ -96,7 +96,7 @@ worked old new answer h =
 acted_on : (old new : Machine) (view : View) (asked : StateCommand) (answer : Response) → ActsOn Step old view asked answer new
     → IsRun old new (λ a b. ActsOn GainsEvent a view asked answer b)
 acted_on old new view state.Look answer h = ([], h.1, λ before after n. (h.0, nothing before after n))
-acted_on old new view (state.Put basis path body) answer h =
+acted_on old new view (state.Put basis path size body) answer h =
     let g = committed old new basis h.0 answer h.2 in
     (g.0, g.1, λ before after e. (h.0, h.1, g.2 before after e))
 acted_on old new view (state.Del basis path) answer h =

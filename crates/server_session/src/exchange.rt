@@ -38,8 +38,8 @@ impl From<WriteFailed> for SessionFault {
 }
 
 /// Has a message answered, and makes the reply's body if that takes memory.
-fn answer<D: Desk>(alloc: Global, desk: &mut D, message: Message) -> WrittenReply
-    ensures { AnswersMessage D.steps D.waits desk.old message result desk.new }
+fn answer<D: Desk>(alloc: Global, desk: &mut D, message: Message<'_>) -> WrittenReply
+    ensures { AnswersMessage D.steps D.waits desk.old message.entry result desk.new }
 {
     match message {
         Message::Ask(command) => WrittenReply::of(alloc, act(alloc, desk, command)),
@@ -56,32 +56,26 @@ struct Allowance {
 }
 
 /// Sends everything that was written, since a read may wait for the client, and reads the next message.
-fn await_message<S: ByteSource, T: Sink>(
+fn await_message<'a, S: ByteSource, T: Sink>(
     alloc: Global,
     source: &mut S,
     sink: &mut T,
-    reading: &mut Allowance,
+    reads_left: &mut u64,
+    line: &'a mut LineBuffer,
     limits: &Limits,
-) -> Result<Next, SessionFault>
-    requires reads { S.reads source.old + reading.old.reads_left < 2 ^ 64 }
+) -> Result<Next<'a>, SessionFault>
+    requires reads { S.reads source.old + reads_left.old < 2 ^ 64 }
     ensures awaits { AwaitsNext limits.now (S.remaining source.old) (S.remaining source.new)
         (T.contents sink.old) (T.contents sink.new) result }
     ensures sent { LeavesSent (T.sent sink.new) result }
     ensures counted { CountsFaults (S.failures source.old) (S.failures source.new)
         (T.failures sink.old) (T.failures sink.new) result }
-    ensures turns { IfOk result (λ _. reading.new.reads_left < reading.old.reads_left) }
-    ensures turns_over { result ≡ Err SessionFault.Turns → reading.new.reads_left ≡ 0 }
-    ensures reads { S.reads source.new + reading.new.reads_left ≡ S.reads source.old + reading.old.reads_left }
+    ensures turns { IfOk result (λ _. reads_left.new < reads_left.old) }
+    ensures turns_over { result ≡ Err SessionFault.Turns → reads_left.new ≡ 0 }
+    ensures reads { S.reads source.new + reads_left.new ≡ S.reads source.old + reads_left.old }
 {
     sink.flush()?;
-    match read_message(
-        alloc,
-        source,
-        sink,
-        &mut reading.reads_left,
-        &mut reading.line,
-        limits,
-    ) {
+    match read_message(alloc, source, sink, reads_left, line, limits) {
         Ok(next) => Ok(next),
         Err(InputFault::Read) => Err(SessionFault::Read),
         Err(InputFault::Turns) => Err(SessionFault::Turns),
@@ -117,7 +111,14 @@ fn serve_next<S: ByteSource, T: Sink, D: Desk>(
     ensures turns_over { result ≡ Err SessionFault.Turns → reading.new.reads_left ≡ 0 }
     ensures reads { S.reads source.new + reading.new.reads_left ≡ S.reads source.old + reading.old.reads_left }
 {
-    match await_message(alloc, source, sink, reading, limits)? {
+    match await_message(
+        alloc,
+        source,
+        sink,
+        &mut reading.reads_left,
+        &mut reading.line,
+        limits,
+    )? {
         Next::End => Ok(false),
         Next::NoRoom => {
             let refused = WrittenReply::refuse(alloc, Refusal::Memory);

@@ -84,7 +84,7 @@ module _ {D E : Type 0} (steps : D → Event → Reply → D → Type 0) (waits 
   acted_on : (old new : D) (view : View) (asked : StateCommand) (answer : Response) → ActsOn steps old view asked answer new
       → Lifts old new (λ a b. ActsOn shown a view asked answer b)
   acted_on old new view state.Look answer h = let k = same old new h.1 in (k.0, (h.0, k.1))
-  acted_on old new view (state.Put basis path body) answer h = let k = committed old new basis h.0 answer h.2 in (k.0, (h.0, h.1, k.1))
+  acted_on old new view (state.Put basis path size body) answer h = let k = committed old new basis h.0 answer h.2 in (k.0, (h.0, h.1, k.1))
   acted_on old new view (state.Del basis path) answer h = let k = committed old new basis h.0 answer h.2 in (k.0, (h.0, h.1, k.1))
   acted_on old new view (state.Rename basis path offset word) answer h = let k = committed old new basis h.0 answer h.2 in (k.0, (h.0, h.1, k.1))
   acted_on old new view (state.Move basis from to) answer h = let k = committed old new basis h.0 answer h.2 in (k.0, (h.0, h.1, k.1))

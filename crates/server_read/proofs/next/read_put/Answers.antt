@@ -1,13 +1,11 @@
 -- The answers to the goals of `next::read_put`.
-use Rattle.std.proofs.Common.{◌≡◌, ap, ◌∙◌}
-use Rattle.server_read.specs.Puts.{put_next}
 use Rattle.server_read.proofs.Puts.{put_skipped, put_read}
 use Rattle.server_read.proofs.next.read_put.Goals as goal
 use Rattle.server_read.proofs.next.read_put.Goals.{then-is_whole, else-is_whole}
 
 pub returns-after-is_whole-clause-put : goal.returns-after-is_whole-clause-put
 returns-after-is_whole-clause-put g c =
-    let skipped = put_skipped c.args.limits.now c.args.line.basis c.args.line.path.now c.args.line.size (g.S.ByteSource.remaining c.args.source.now)
+    let skipped = put_skipped c.args.limits.now c.args.line.basis c.args.line.path c.args.line.size (g.S.ByteSource.remaining c.args.source.now)
     (g.S.ByteSource.remaining c.skip.new.source)
     c.in_ok-is_whole-in-Err.is_whole c.in_ok-is_whole-in-Err.ensures.skips in
     elim c.if-is_whole.branch [
@@ -17,9 +15,7 @@ returns-after-is_whole-clause-put g c =
 
 pub returns-in_ok-body-in-Ok-clause-put : goal.returns-in_ok-body-in-Ok-clause-put
 returns-in_ok-body-in-Ok-clause-put g c =
-    let made : c.put_message.result ≡ put_next c.args.line.basis c.args.line.path.now c.in_ok-body-in-Ok.body =
-    c.put_message.ensures ∙ ap (λ path. put_next c.args.line.basis path c.in_ok-body-in-Ok.body) c.in-Ok.ensures.0 in
-    rw made
-    (put_read c.args.limits.now c.args.line.basis c.args.line.path.now c.args.line.size (g.S.ByteSource.remaining c.args.source.now)
+    rw c.put_message.ensures
+    (put_read c.args.limits.now c.args.line.basis c.args.line.path c.args.line.size (g.S.ByteSource.remaining c.args.source.now)
     (g.S.ByteSource.remaining c.read_body.new.source)
-    c.in-Ok.is_kept c.in_ok-body-in-Ok.body c.in-Ok.ensures.1 c.in_ok-body-in-Ok.ensures.body)
+    c.in-Ok.is_kept c.in_ok-body-in-Ok.body (rw c.as_str.ensures at c.in-Ok.ensures) c.in_ok-body-in-Ok.ensures.body)

@@ -1,5 +1,5 @@
 -- What was built of a Job has its inputs, which are those of its package in the current files.
-use Rattle.std.proofs.Common.{List, ℕ, sym, subst}
+use Rattle.std.proofs.Common.{sym, subst}
 use Rattle.base_files.specs.Workspace.{Workspace}
 use Rattle.build_unit.specs.Inputs.{AreInputs}
 use Rattle.history_machine.specs.Machine.{Machine}

@@ -1,5 +1,5 @@
 -- The Job that is handed out has the inputs of its package in the current files, which the Take leaves.
-use Rattle.std.proofs.Common.{◌≡◌, Result, Ok, Err, IfOk, sym, ap, subst}
+use Rattle.std.proofs.Common.{Result, Ok, Err, IfOk, sym, subst}
 use Rattle.base_files.specs.declared.refusal.Refusal.{Refusal}
 use Rattle.build_unit.specs.Inputs.{AreInputs}
 use Rattle.build_unit.specs.declared.job.JobRecord.{JobRecord}

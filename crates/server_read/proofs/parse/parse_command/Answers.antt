@@ -1,6 +1,6 @@
--- The answers to the goals of `parse::parse_command_line`.
+-- The answers to the goals of `parse::parse_command`.
 use Rattle.server_read.proofs.LineWords.{split_line}
-use Rattle.server_read.proofs.parse.parse_command_line.Goals as goal
+use Rattle.server_read.proofs.parse.parse_command.Goals as goal
 
 pub returns-in-Some : goal.returns-in-Some
 returns-in-Some c =
