@@ -1,0 +1,9 @@
+-- The lemmas of this crate.
+pub mod NumbersInOrder
+pub mod KeptNames
+pub mod SeenDefinitions
+pub mod KeptFields
+pub mod KeptScopes
+pub mod KeptExports
+pub mod KeptBound
+pub mod OwnConflicts

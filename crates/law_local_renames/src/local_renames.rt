@@ -1,0 +1,42 @@
+//! Laws of the numbers of identifiers, and of renames of declarations that are not package-level.
+ghost use Rattle.law_local_renames.specs.BoundThere.{NamesStayBound};
+ghost use Rattle.law_local_renames.specs.FieldsStay.{FieldsStay};
+ghost use Rattle.law_local_renames.specs.LocalConflicts.{LocalConflictsAreOfScopes};
+ghost use Rattle.law_local_renames.specs.LocalRenames.{OwnScopesAloneBind, OtherNamesStay, FieldNamesStay, MethodNamesStay};
+ghost use Rattle.law_local_renames.specs.OtherPackages.{OtherPackagesKeepScopes, ExportsStay, SelectorsKeepNames};
+ghost use Rattle.law_local_renames.specs.Numbers.{NumbersFollowPlaces};
+
+/// Identifiers of a package are numbered in the order of their places.
+pub fn numbers_follow_places()
+    ensures { NumbersFollowPlaces }
+{}
+
+/// Only scopes of its own package bind identifiers to a declaration that is not package-level. When it is renamed, all other names stay.
+pub fn local_renames_keep_names()
+    ensures bind { OwnScopesAloneBind }
+    ensures names { OtherNamesStay }
+    ensures fields { FieldNamesStay }
+    ensures methods { MethodNamesStay }
+{}
+
+/// When such a declaration is renamed, each field and each use of a field stays bound.
+pub fn local_renames_keep_fields()
+    ensures { FieldsStay }
+{}
+
+/// Other packages keep their scopes, each package exports what it exported, and selectors of qualified identifiers keep their names.
+pub fn local_renames_keep_other_packages()
+    ensures scopes { OtherPackagesKeepScopes }
+    ensures exports { ExportsStay }
+    ensures selectors { SelectorsKeepNames }
+{}
+
+/// Where each package is there after the rename, names behind packages stay bound, and so do names that scopes of other packages bind.
+pub fn local_renames_keep_bound_names()
+    ensures { NamesStayBound }
+{}
+
+/// Where each package is there after the rename, and methods stay, only what scopes of the declaring package bind can be lost or captured.
+pub fn local_conflicts_are_of_scopes()
+    ensures { LocalConflictsAreOfScopes }
+{}

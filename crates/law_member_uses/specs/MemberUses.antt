@@ -1,0 +1,34 @@
+-- Two worlds that agree on all that judging asks of them. Judging asks for the member at a token only for the type that stands before it,
+-- and it reports each such use. What a token's name would be for another type may differ: so the worlds need not be equal.
+use Rattle.std.specs.Prelude.{ℕ, ◌≡◌, Bool, List, Contains, None}
+use Rattle.go_ast.specs.Tree.{ExprTree, DeclTree, VarDecl, TypeDecl, FuncDecl, FileTree}
+use Rattle.types_expr.specs.declared.symbol.Symbol.{Symbol}
+use Rattle.types_expr.specs.World.{World, Locals}
+use Rattle.types_expr.specs.Judge.{MemberUse, judge}
+use Rattle.types_stmt.specs.Declarations.{check_file}
+
+-- v and w have the same members at the tokens and types of these uses.
+abbrev pub AgreeAt : List MemberUse → World → World → Type 0
+AgreeAt uses v w = (u : MemberUse) → Contains uses u → w.member u.place u.before ≡ v.member u.place u.before
+
+-- v and w bind each name to the same, have the same definitions, and have the same members at these uses.
+pub record IsAlike (uses : List MemberUse) (v w : World) : Type 0 where
+  pub bound : (token : ℕ) → w.bound token ≡ v.bound token
+  pub definition : (s : Symbol) → w.definition s ≡ v.definition s
+  pub members : AgreeAt uses v w
+
+-- What is found of an expression is the same in a world that is alike at the uses that are found in it.
+abbrev pub ExpressionsAskForTheirUses : Type 0
+ExpressionsAskForTheirUses = (v w : World) (locals : Locals) (e : ExprTree) → IsAlike (judge v locals e).uses v w → judge w locals e ≡ judge v locals e
+
+-- `old` and `new` agree on whether the name of a declaration is `init`, where that matters: at a function without a receiver.
+abbrev pub KeepsInit : (old new : ℕ → Bool) → DeclTree → Type 0
+KeepsInit old new (VarDecl k g s) = Unit {0}
+KeepsInit old new (TypeDecl k g s) = Unit {0}
+KeepsInit old new (FuncDecl k f s) = f.receiver ≡ None → new f.name ≡ old f.name
+
+-- What is found of a file is the same in a world that is alike at the uses that are found in it. Its functions have to stay `init` or not.
+abbrev pub FilesAskForTheirUses : Type 0
+FilesAskForTheirUses = (v w : World) (is_init is_init' : ℕ → Bool) (f : FileTree) →
+    ((d : DeclTree) → Contains f.decls d → KeepsInit is_init is_init' d) → IsAlike (check_file v is_init f).uses v w →
+    check_file w is_init' f ≡ check_file v is_init f

@@ -1,0 +1,158 @@
+-- What the lemmas of this crate take as premises, besides the laws of crates below.
+use Rattle.std.specs.Prelude.{ℕ, ◌≡◌, ◌⊎◌, List, []}
+use Rattle.base_files.specs.Workspace.{Workspace}
+use Rattle.base_files.specs.declared.place.Place.{Place}
+use Rattle.base_edits.specs.EditSet.{FileChanges, edited}
+use Rattle.base_edits.specs.Revisions.{Revision}
+use Rattle.base_edits.specs.RevisionsOfEdits.{revision_of}
+use Rattle.go_scope.specs.declared.model.Position.{Position}
+use Rattle.go_scope.specs.Bindings.{Counts}
+use Rattle.types_declared.specs.Laid.{literal_of}
+use Rattle.types_declared.specs.Package.{Package}
+use Rattle.workspace_check.specs.Verdicts.{Verdicts, AreVerdicts}
+use Rattle.refs_binding.specs.declared.declaration.Declaration.{Declaration}
+use Rattle.refs_binding.specs.Binding.{IsPredeclared, BindsByMember, DeclaresMember}
+use Rattle.refs_binding.specs.DeclaringPlaces.{TokenAt, IsDeclaredAt}
+use Rattle.refs_binding.specs.Identifiers.{BeginsAt}
+use Rattle.refs_binding.specs.Uses.{IsPackage, IsUseOf}
+use Rattle.refs_places.specs.Identified.{IsIdentifierAt}
+use Rattle.refs_index.specs.Corresponding.{Corresponds}
+use Rattle.refactor_preserve.specs.BoundToOne.{IsBoundToOne}
+use Rattle.law_same_bindings.specs.SameBindings.{IsBoundAlike}
+use Rattle.refactor_after.specs.ScopedPackages.{IsScopedIn}
+use Rattle.law_renamed_packages.specs.Layouts.{IsRelaid, AreSoundBelow}
+use Rattle.law_renamed_packages.specs.Renames.{IsRename, IsPlainRename}
+use Rattle.law_renamed_packages.specs.MovedExports.{AreMovedBelow}
+use Rattle.workspace_check.specs.FaultLists.{ListsFaults}
+use Rattle.types_info.specs.QualifiedIdentifiers.{IsQualifiedByPath}
+use Rattle.refactor_conflict.specs.Staying.{StaysByMember, StaysByName, NoneIsLost}
+use Rattle.refactor_preserve.specs.Preserved.{KeepsBindings}
+
+-- The change moves no two declarations to one place.
+abbrev pub MoveApart : Workspace → Verdicts → Revision → Type 0
+MoveApart w known r = (c d : Declaration) (a b : Place) → IsDeclaredAt (IsPackage w known) c a → IsDeclaredAt (IsPackage w known) d b →
+    r.moved a ≡ r.moved b → c ≡ d
+
+-- No rename moves two declarations to one place.
+abbrev pub DeclarationsMoveApart : Type 0
+DeclarationsMoveApart = (w : Workspace) (known : Verdicts) (d : Declaration) (name : List ℕ) (s : FileChanges) → IsRename w known d name s →
+    MoveApart w known (revision_of w s)
+
+-- Each token of the package `q` begins where the change moves the token of this position in `p`. Names stay names.
+pub record HasMovedTokens (r : Revision) (p q : Package) : Type 0 where
+  pub tokens : (at : Position) (place : Place) → TokenAt p at place → TokenAt q at (r.moved place)
+  pub names : (u : ℕ) (place : Place) → BeginsAt p place.path place.offset u → BeginsAt q (r.moved place).path (r.moved place).offset u
+
+-- By scopes each package is there after a plain rename, relaid, with its tokens moved. This asks for no verdict.
+abbrev pub ScopedPackagesAreRelaid : Type 0
+ScopedPackagesAreRelaid = (w : Workspace) (known : Verdicts) (d : Declaration) (name : List ℕ) (s : FileChanges) → IsPlainRename w known d name s →
+    (p : Package) → IsPackage w known p →
+    (q : Package) × (IsScopedIn (edited s w) q × (IsRelaid (revision_of w s) p q × HasMovedTokens (revision_of w s) p q))
+
+-- A declaration of a package's own scopes has a place.
+abbrev pub DeclarationsHavePlaces : Type 0
+DeclarationsHavePlaces = (w : Workspace) (known : Verdicts) (p : Package) → IsPackage w known p → (d : ℕ) → Counts p.layout p.names d →
+    (IsPredeclared d → ⊥) → (place : Place) × TokenAt p (p.layout.place (literal_of p.layout d)) place
+
+-- The package `o` has the files and the scopes of `q`.
+pub record HasSameScopes (q o : Package) : Type 0 where
+  pub path : o.path ≡ q.path
+  pub layout : o.layout ≡ q.layout
+  pub names : o.names ≡ q.names
+  pub size : o.size ≡ q.size
+  pub files : o.files ≡ q.files
+
+-- In a workspace without faults each package that is checked has the scopes that it has without checking.
+abbrev pub FaultlessPackagesAreScoped : Type 0
+FaultlessPackagesAreScoped = (x : Workspace) (known : Verdicts) → AreVerdicts x known → ListsFaults x [] → (q : Package) → IsPackage x known q →
+    (o : Package) × (IsScopedIn x o × HasSameScopes q o)
+
+-- A plain rename keeps all bindings, and brings no fault.
+pub record IsKeptRename (w : Workspace) (known : Verdicts) (d : Declaration) (name : List ℕ) (s : FileChanges) (after : Verdicts) : Type 0 where
+  pub rename : IsPlainRename w known d name s
+  pub right : AreVerdicts (edited s w) after
+  pub sound : ListsFaults (edited s w) []
+  pub kept : KeepsBindings w known (revision_of w s) after
+
+-- Then the packages that a package builds on keep their names, and have no faults.
+abbrev pub KeptAreSoundBelow : Type 0
+KeptAreSoundBelow = (w : Workspace) (known : Verdicts) (d : Declaration) (name : List ℕ) (s : FileChanges) (after : Verdicts) →
+    IsKeptRename w known d name s after → (path : List ℕ) → AreSoundBelow w known after path
+
+-- By scopes each package is there, relaid, with its tokens moved.
+abbrev pub KeptPackagesAreRelaid : Type 0
+KeptPackagesAreRelaid = (w : Workspace) (known : Verdicts) (d : Declaration) (name : List ℕ) (s : FileChanges) (after : Verdicts) →
+    IsKeptRename w known d name s after → (p : Package) → IsPackage w known p →
+    (q : Package) × (IsScopedIn (edited s w) q × (IsRelaid (revision_of w s) p q × HasMovedTokens (revision_of w s) p q))
+
+-- The selector of a qualified identifier does not become a use of a member.
+abbrev pub SelectorsStayQualified : Type 0
+SelectorsStayQualified = (w : Workspace) (known : Verdicts) (d : Declaration) (name : List ℕ) (s : FileChanges) (after : Verdicts) →
+    IsKeptRename w known d name s after → (p q : Package) → IsPackage w known p → IsPackage (edited s w) after q → q.path ≡ p.path →
+    (u : ℕ) (path : List ℕ) → IsQualifiedByPath p u path → (e : Declaration) → BindsByMember q u e → ⊥
+
+-- Uses of members, and the names by which members are declared, stay bound, by the types of before and the new names.
+abbrev pub KeptMembersStay : Type 0
+KeptMembersStay = (w : Workspace) (known : Verdicts) (d : Declaration) (name : List ℕ) (s : FileChanges) (after : Verdicts) →
+    IsKeptRename w known d name s after → (p : Package) → IsPackage w known p → (u : ℕ) (place : Place) → BeginsAt p place.path place.offset u →
+    StaysByMember w known (revision_of w s) p u place × StaysByName w known (revision_of w s) p u place
+
+-- A plain rename that loses and captures no identifier brings no fault.
+abbrev pub PlainRenamesBringNoFault : Type 0
+PlainRenamesBringNoFault = (w : Workspace) (known : Verdicts) (d : Declaration) (name : List ℕ) (s : FileChanges) → IsPlainRename w known d name s →
+    NoneIsLost w known (revision_of w s) → ListsFaults (edited s w) []
+
+-- A plain rename loses and captures no identifier, and brings no fault.
+pub record IsFreeRename (w : Workspace) (known : Verdicts) (d : Declaration) (name : List ℕ) (s : FileChanges) (after : Verdicts) : Type 0 where
+  pub rename : IsPlainRename w known d name s
+  pub right : AreVerdicts (edited s w) after
+  pub sound : ListsFaults (edited s w) []
+  pub none : NoneIsLost w known (revision_of w s)
+
+-- Then, of all that a package builds on, the export data have one other name at most, and no fault comes.
+abbrev pub ExportsMoveBelow : Type 0
+ExportsMoveBelow = (w : Workspace) (known : Verdicts) (d : Declaration) (name : List ℕ) (s : FileChanges) (after : Verdicts) →
+    IsFreeRename w known d name s after → (path : List ℕ) → AreMovedBelow w known after path
+
+-- Each package by scopes is one that is checked.
+abbrev pub ScopedPackagesAreChecked : Type 0
+ScopedPackagesAreChecked = (w : Workspace) (known : Verdicts) (d : Declaration) (name : List ℕ) (s : FileChanges) (after : Verdicts) →
+    IsFreeRename w known d name s after → (o : Package) → IsScopedIn (edited s w) o →
+    (q : Package) × (IsPackage (edited s w) after q × HasSameScopes o q)
+
+-- Each package is there after the change, relaid and bound alike, with its tokens moved.
+abbrev pub PackagesStayAlike : Type 0
+PackagesStayAlike = (w : Workspace) (known : Verdicts) (d : Declaration) (name : List ℕ) (s : FileChanges) (after : Verdicts) →
+    IsFreeRename w known d name s after → (p : Package) → IsPackage w known p →
+    (q : Package) × (IsPackage (edited s w) after q × (IsRelaid (revision_of w s) p q × (IsBoundAlike p q × HasMovedTokens (revision_of w s) p q)))
+
+-- A use of a member, and the name by which a member is declared, stays bound to what its declaration has become.
+abbrev pub MembersStayBound : Type 0
+MembersStayBound = (w : Workspace) (known : Verdicts) (d : Declaration) (name : List ℕ) (s : FileChanges) (after : Verdicts) →
+    IsFreeRename w known d name s after → (p : Package) → IsPackage w known p → (u : ℕ) (place : Place) → BeginsAt p place.path place.offset u →
+    (old : Declaration) → BindsByMember p u old ⊎ DeclaresMember p u old → IsBoundToOne (edited s w) after ((revision_of w s).moved place)
+    (λ e. Corresponds (IsPackage w known) (IsPackage (edited s w) after) (revision_of w s).moved old e)
+
+-- What is bound afterwards was bound.
+abbrev pub UnboundStayUnbound : Type 0
+UnboundStayUnbound = (w : Workspace) (known : Verdicts) (d : Declaration) (name : List ℕ) (s : FileChanges) (after : Verdicts) →
+    IsFreeRename w known d name s after → (place : Place) (e : Declaration) → IsIdentifierAt w known place →
+    IsUseOf (edited s w) after e ((revision_of w s).moved place) → (old : Declaration) × IsUseOf w known old place
+
+-- Each workspace has right verdicts on its packages.
+abbrev pub WorkspacesHaveVerdicts : Type 0
+WorkspacesHaveVerdicts = (x : Workspace) → (known : Verdicts) × AreVerdicts x known
+
+-- The name by which a member is declared begins at a place of some package.
+pub record IsDeclaredByName (w : Workspace) (known : Verdicts) (d : Declaration) : Type 0 where
+  pub inside : Package
+  pub is_package : IsPackage w known inside
+  pub user : ℕ
+  pub place : Place
+  pub begins : BeginsAt inside place.path place.offset user
+  pub declares : DeclaresMember inside user d
+
+-- In a workspace without faults a member that is used is declared by a name.
+abbrev pub UsedMembersAreDeclared : Type 0
+UsedMembersAreDeclared = (w : Workspace) → ListsFaults w [] → (known : Verdicts) → AreVerdicts w known → (p : Package) → IsPackage w known p →
+    (u : ℕ) (d : Declaration) → BindsByMember p u d → IsDeclaredByName w known d

@@ -1,0 +1,11 @@
+-- The lemmas of this crate.
+pub mod NameTokens
+pub mod NewNames
+pub mod FirstOf
+pub mod CountingMembers
+pub mod DefinitionsAfter
+mod MembersAfterwards
+mod UsesOfMembers
+pub mod WorldsAlike
+pub mod SeenAfter
+pub mod StayingMembers

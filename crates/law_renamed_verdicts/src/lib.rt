@@ -1,0 +1,5 @@
+//! Laws of renames in which no import gains a name: where no identifier is lost or captured, no package gets a fault, and its export data
+//! keep all but names. There is no code that runs.
+#![tactic(auto)]
+
+pub mod verdicts;
