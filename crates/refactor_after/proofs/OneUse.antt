@@ -32,7 +32,7 @@ use Rattle.refactor_after.specs.ScopeBindings.{IsScopeUse}
 use Rattle.refactor_after.proofs.OneScoped.{one_scoped}
 
 -- a file lies in the folder of its package
-entry_of : {es : List (List ℕ × List ℕ)} {ts : List FileParts} → AreParsed es ts [] → (i : ℕ) (s : SourceFile) → slice_get (map source_of ts) i ≡ Some s →
+pub entry_of : {es : List (List ℕ × List ℕ)} {ts : List FileParts} → AreParsed es ts [] → (i : ℕ) (s : SourceFile) → slice_get (map source_of ts) i ≡ Some s →
     (e : List ℕ × List ℕ) × (Contains es e × (s.path ≡ e.0))
 entry_of none i s at = absurd (none-some s at)
 entry_of (tree {e = e} {es = es} {t = t} is rest) zero s at =

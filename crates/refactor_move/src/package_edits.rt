@@ -4,8 +4,6 @@ ghost use Rattle.std.specs.BTreeMap.{Updates};
 ghost use Rattle.base_files.specs.Packages.{package_paths};
 ghost use Rattle.base_files.specs.Workspace.{path_cmp};
 ghost use Rattle.go_ast.specs.SourceFile.{source_of};
-ghost use Rattle.types_info.specs.PackageOf.{package_in};
-ghost use Rattle.types_declared.specs.ExportTablesView.{export_data_in};
 ghost use Rattle.types_declared.specs.PackageView.{package_of, IsIndexOf};
 ghost use Rattle.refs_binding.specs.Workspaces.{known_in};
 ghost use Rattle.refactor_move.specs.FileEdits.{AreFileEdits};
@@ -16,12 +14,11 @@ use crate::moved::Moved;
 use base_edits::Edits;
 use base_files::Path;
 use go_ast::FileTree;
-use go_scope::table::ScopeTable;
-use refs_binding::{FaultlessWorkspace, laid_table, path_of, seen_by, trees};
+use refs_binding::indexed::Numbered;
+use refs_binding::{FaultlessWorkspace, PackageReader};
 use std::alloc::{AllocError, Global};
 use std::collections::BTreeMap;
-use types_declared::{ExportTable, Index, Package};
-use types_expr::symbol::SharedPath;
+use types_declared::{Index, Package};
 
 /// Adds the edits of a file.
 fn insert(
@@ -86,34 +83,6 @@ fn add_files(
     Ok(())
 }
 
-/// The path of a package, and its files.
-#[derive(Clone, Copy)]
-struct PackageFiles<'p, 'f> {
-    path: &'p SharedPath,
-    files: &'f [FileTree],
-}
-
-/// Adds the edits of the files of the package with these parts.
-fn add_package_by(
-    alloc: Global,
-    edits: &mut BTreeMap<Path, Edits>,
-    of: &PackageFiles<'_, '_>,
-    table: &ScopeTable<'_>,
-    export_table: &ExportTable,
-    moved: &Moved,
-) -> Result<(), AllocError>
-    ensures { let p = package_in of.now.path.now (map source_of of.now.files.now) table.now (export_data_in export_table.now) in
-        OnOk result (AddsEdits edits.old edits.new (AreEditsIn p moved.now) (HasFileIn p)) }
-{
-    let unit = Package {
-        path: of.path,
-        files: of.files,
-        table,
-        export_table,
-    };
-    add_files(alloc, edits, unit, moved)
-}
-
 /// Adds the edits of the files of the package of a number.
 fn add_package(
     alloc: Global,
@@ -125,12 +94,10 @@ fn add_package(
     requires { number < length (package_paths workspace.now.graph) }
     ensures { OnOk result (KnowsEdits workspace.now.graph (known_in workspace.now.findings) moved.now number edits.old → KnowsEdits workspace.now.graph (known_in workspace.now.findings) moved.now (number + 1) edits.new) }
 {
-    let files = trees(workspace, number);
-    let seen = seen_by(alloc, workspace, number)?;
-    let table = laid_table(alloc, files, &seen)?;
-    let path = path_of(workspace, number);
-    let of = PackageFiles { path, files };
-    add_package_by(alloc, edits, &of, &table, &seen, moved)
+    let at = Numbered { workspace, number };
+    let reader = PackageReader::of(alloc, at)?;
+    let table = reader.table(alloc)?;
+    add_files(alloc, edits, reader.unit(&table), moved)
 }
 
 /// The edits of all Go files of a workspace without faults.

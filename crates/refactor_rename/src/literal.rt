@@ -4,8 +4,6 @@ ghost use Rattle.base_files.specs.Packages.{package_paths};
 ghost use Rattle.go_ast.specs.SourceFile.{source_of};
 ghost use Rattle.types_declared.specs.Package.{Package as Checked};
 ghost use Rattle.types_declared.specs.PackageView.{package_of};
-ghost use Rattle.types_declared.specs.ExportTablesView.{export_data_in};
-ghost use Rattle.types_info.specs.PackageOf.{package_in};
 ghost use Rattle.refs_binding.specs.declared.declaration.Declaration.TheVariants.{Declared};
 ghost use Rattle.refs_binding.specs.Uses.{IsPackage};
 ghost use Rattle.refs_binding.specs.Workspaces.{IsPackageAt, known_in};
@@ -13,10 +11,10 @@ ghost use Rattle.refactor_rename.specs.Literals.{IsTokenOf, IsUnnamedImport, IsL
 
 use crate::renamed::Literal;
 use go_ast::FileTree;
-use go_scope::table::ScopeTable;
-use refs_binding::{Declaration, FaultlessWorkspace, laid_table, path_of, seen_by, trees};
+use refs_binding::indexed::Numbered;
+use refs_binding::{Declaration, FaultlessWorkspace, PackageReader};
 use std::alloc::{AllocError, Global};
-use types_declared::{ExportTable, Package, is_import};
+use types_declared::{Package, is_import};
 use types_expr::symbol::SharedPath;
 
 /// Whether a declaration is an import without a name.
@@ -52,26 +50,6 @@ fn literal_in(unit: Package<'_>, d: usize) -> Result<Option<Literal>, AllocError
     }
 }
 
-/// The string literal of the declaration `d` of the package with these parts, if it is an import without a name.
-fn literal_by(
-    path: &SharedPath,
-    files: &[FileTree],
-    table: &ScopeTable<'_>,
-    export_table: &ExportTable,
-    d: usize,
-) -> Result<Option<Literal>, AllocError>
-    ensures { let p = package_in path.now (map source_of files.now) table.now (export_data_in export_table.now) in
-        IfOk result (IsLiteralFound (IsLiteralIn p d)) }
-{
-    let unit = Package {
-        path,
-        files,
-        table,
-        export_table,
-    };
-    literal_in(unit, d)
-}
-
 /// The string literal of the declaration `d` of the package of a number, if it is an import without a name.
 fn literal_at(
     alloc: Global,
@@ -82,11 +60,10 @@ fn literal_at(
     requires { number < length (package_paths workspace.now.graph) }
     ensures { (p : Checked) → IsPackageAt workspace.now.graph (known_in workspace.now.findings) number p → IfOk result (IsLiteralFound (IsLiteralIn p d)) }
 {
-    let files = trees(workspace, number);
-    let seen = seen_by(alloc, workspace, number)?;
-    let table = laid_table(alloc, files, &seen)?;
-    let path = path_of(workspace, number);
-    literal_by(path, files, &table, &seen, d)
+    let at = Numbered { workspace, number };
+    let reader = PackageReader::of(alloc, at)?;
+    let table = reader.table(alloc)?;
+    literal_in(reader.unit(&table), d)
 }
 
 /// The string literal of the declaration `d` of the package at a path, if there is one and `d` is an import without a name.

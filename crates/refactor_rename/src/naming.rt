@@ -1,10 +1,7 @@
 //! Whether a name is legal for a declaration.
-ghost use Rattle.std.specs.Prelude.{ℕ, ◌≡◌, ◌<◌, ◌↔◌, ◌⊎◌, List, length, map, slice_index_or, MatchOption, IsTrue, codes};
+ghost use Rattle.std.specs.Prelude.{ℕ, ◌≡◌, ◌<◌, ◌↔◌, ◌⊎◌, List, length, slice_index_or, MatchOption, IsTrue, codes};
 ghost use Rattle.base_files.specs.Packages.{package_paths};
-ghost use Rattle.go_ast.specs.SourceFile.{source_of};
 ghost use Rattle.go_scope.specs.Bindings.{IsPackageLevel, IsImport};
-ghost use Rattle.types_info.specs.PackageOf.{package_in};
-ghost use Rattle.types_declared.specs.ExportTablesView.{export_data_in};
 ghost use Rattle.types_declared.specs.Package.{Package as Checked, spelled};
 ghost use Rattle.types_declared.specs.PackageView.{package_of};
 ghost use Rattle.refs_binding.specs.declared.declaration.Declaration.TheVariants.{Declared, Field, Method};
@@ -15,15 +12,11 @@ ghost use Rattle.refactor_rename.specs.Naming.{RefusesFor, RefusesNameIn, Refuse
 
 use crate::new_name::is_reserved;
 use base_files::Refusal;
-use go_ast::FileTree;
 use go_scope::model::{Block, Position};
-use go_scope::table::ScopeTable;
-use refs_binding::{
-    Declaration, FaultlessWorkspace, field_places, laid_table, method_places, path_of, seen_by,
-    trees,
-};
+use refs_binding::indexed::Numbered;
+use refs_binding::{Declaration, FaultlessWorkspace, PackageReader, field_places, method_places};
 use std::alloc::Global;
-use types_declared::{ExportTable, Index, Package, is_import};
+use types_declared::{Index, Package, is_import};
 use types_expr::symbol::{SharedPath, Symbol};
 
 /// Whether a declaration is in the package block.
@@ -152,34 +145,6 @@ fn refuse_in_unit(
     }
 }
 
-/// A declaration and the new name for it.
-#[derive(Clone, Copy)]
-struct NamedDeclaration<'d, 'n> {
-    declaration: &'d Declaration,
-    name: &'n [u8],
-}
-
-/// Refuses a name for a declaration of the package with these parts.
-fn refuse_by(
-    alloc: Global,
-    path: &SharedPath,
-    files: &[FileTree],
-    table: &ScopeTable<'_>,
-    export_table: &ExportTable,
-    asked: &NamedDeclaration<'_, '_>,
-) -> Result<(), Refusal>
-    ensures { let p = package_in path.now (map source_of files.now) table.now (export_data_in export_table.now) in
-        RefusesNameIn p asked.now.declaration.now asked.now.name.now result }
-{
-    let unit = Package {
-        path,
-        files,
-        table,
-        export_table,
-    };
-    refuse_in_unit(alloc, unit, asked.declaration, asked.name)
-}
-
 /// Refuses a name for a declaration of the package of a number.
 fn refuse_in_package(
     alloc: Global,
@@ -191,12 +156,10 @@ fn refuse_in_package(
     requires { number < length (package_paths workspace.now.graph) }
     ensures { (p : Checked) → IsPackageAt workspace.now.graph (known_in workspace.now.findings) number p → RefusesNameIn p declaration.now name.now result }
 {
-    let files = trees(workspace, number);
-    let seen = seen_by(alloc, workspace, number)?;
-    let table = laid_table(alloc, files, &seen)?;
-    let path = path_of(workspace, number);
-    let asked = NamedDeclaration { declaration, name };
-    refuse_by(alloc, path, files, &table, &seen, &asked)
+    let at = Numbered { workspace, number };
+    let reader = PackageReader::of(alloc, at)?;
+    let table = reader.table(alloc)?;
+    refuse_in_unit(alloc, reader.unit(&table), declaration, name)
 }
 
 /// Refuses a name for a declaration of the package at a path, if there is one.

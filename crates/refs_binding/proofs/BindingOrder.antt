@@ -7,7 +7,7 @@ use Rattle.std.specs.Ordering.{is_lt, ordering_index}
 use Rattle.std.specs.Cmp.{tied_itself}
 use Rattle.std.specs.List.{HoldsAt}
 use Rattle.std.specs.List.Sorted.{IsSortedBy, IsNonDecreasingBy, IsPartitionPoint}
-use Rattle.std.proofs.lemmas.Bool.{true≢false, cases_lt}
+use Rattle.std.proofs.lemmas.Bool.{cases_lt}
 use Rattle.std.proofs.lemmas.List.Sorted.{searchable_from_sorted}
 use Rattle.base_lemmas.proofs.Tests.{less_differs, greater_differs}
 use Rattle.base_files.specs.Packages.{package_paths}

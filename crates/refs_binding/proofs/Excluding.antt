@@ -50,7 +50,7 @@ exported_as I p u (Declared path n) h = (path, (n, (refl, h)))
 exported_as I p u (Field s) h = absurd h
 exported_as I p u (Method s) h = absurd h
 
-one_behind : (p : Package) → WellFormed p.layout → (u : ℕ) (path other : List ℕ) → IsQualifiedByPath p u path → IsQualifiedByPath p u other → path ≡ other
+pub one_behind : (p : Package) → WellFormed p.layout → (u : ℕ) (path other : List ℕ) → IsQualifiedByPath p u path → IsQualifiedByPath p u other → path ≡ other
 one_behind p w u path other h k =
     let file = (p.layout.place u).file in
     let at : (p.layout.place u).index ≡ suc (suc h.before) = h.behind_dot in
@@ -60,7 +60,7 @@ one_behind p w u path other h k =
     let import : k.named.import ≡ h.named.import = one_binding p w file h.before k.named.import h.named.import binds h.named.binds in
     one_import_path p h.named.import path other h.named.imports (subst (λ i. ImportsPath p i other) import k.named.imports)
 
-one_export : (w : Workspace) (known : Verdicts) (p : Package) (u : ℕ) (path : List ℕ) (d e : ℕ) → IsQualifiedUse (IsPackage w known) p u path d →
+pub one_export : (w : Workspace) (known : Verdicts) (p : Package) (u : ℕ) (path : List ℕ) (d e : ℕ) → IsQualifiedUse (IsPackage w known) p u path d →
     IsQualifiedUse (IsPackage w known) p u path e → d ≡ e
 one_export w known p u path d e h k =
     let checked : IsPackageIn w known h.other.path k.other = subst (λ q. IsPackageIn w known q k.other) (k.of_path ∙ sym h.of_path) k.is_package.is_checked in

@@ -19,6 +19,7 @@ pub mod PlaceOrder
 pub mod BindingOrder
 pub mod Excluding
 pub mod PackageNumbers
+pub mod PackageReaders
 pub mod Folders
 pub mod Alike
 pub mod FaultlessFacts

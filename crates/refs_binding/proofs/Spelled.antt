@@ -3,7 +3,7 @@ use Rattle.std.proofs.Common.{ℕ, zero, suc, ◌≡◌, ◌+◌, List, [], ◌�
 use Rattle.std.specs.Prelude.{Option, Some, None, option_map, slice_get}
 use Rattle.std.proofs.lemmas.Option.{none-some, same_Some, slice_get-map}
 use Rattle.base_files.specs.Workspace.{Workspace}
-use Rattle.go_ast.specs.SourceFile.{FileParts, source_of, spelling_of}
+use Rattle.go_ast.specs.SourceFile.{FileParts, source_of}
 use Rattle.go_scope.specs.declared.model.Role.TheVariants.{NotLexical}
 use Rattle.go_scope.specs.declared.model.Purpose.TheVariants.{Selected}
 use Rattle.go_scope.specs.Site.{Site, Source, or_blank}

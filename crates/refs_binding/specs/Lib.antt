@@ -11,5 +11,6 @@ pub mod Packages
 pub mod Exports
 pub mod Bindings
 pub mod Indexed
+pub mod PackageReaders
 pub mod DeclaringPlaces
 pub mod DeclaredNames

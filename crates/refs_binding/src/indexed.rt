@@ -48,7 +48,11 @@ pub fn unit_of<'a>(
 }
 
 /// Returns the package of a number with its index, type definitions and uses of members.
-pub fn known_of<'a>(at: Numbered<'a>, unit: Package<'a>, index: &'a Index<'a>) -> Indexed<'a>
+pub fn known_of<'a, 'w: 'a, 'i: 'a>(
+    at: Numbered<'w>,
+    unit: Package<'a>,
+    index: &'a Index<'i>,
+) -> Indexed<'a>
     requires numbered { IsNumbered at }
     requires unit { IsPackageNumbered at (package_of unit) }
     requires index { IsIndexOf (package_of unit) index.now }

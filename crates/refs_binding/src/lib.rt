@@ -2,7 +2,8 @@
 //! and the places and names of declarations.
 //!
 //! Crates above rely on: `IsBoundTo` says whether an identifier is bound to a declaration, by scope, as a qualified identifier or as a
-//! member. `refuse_faults` refuses with `Faulty` exactly a workspace that has a fault, and names its first one.
+//! member. A `FaultlessWorkspace` is a graph with the findings of its packages, none with a fault. `refuse_faults` lends one, or refuses
+//! with `Faulty` exactly a workspace that has a fault, and names its first one.
 #![tactic(auto)]
 
 pub mod bindings;
@@ -16,6 +17,7 @@ pub mod indexed;
 pub mod laws;
 pub mod member_uses;
 pub mod own_names;
+mod package_reader;
 mod packages;
 mod place_key;
 mod reading;
@@ -28,6 +30,7 @@ pub use faults::refuse_faults;
 pub use identifiers::is_name;
 pub use member_uses::member_declaration;
 pub use own_names::{field_places, method_places};
+pub use package_reader::PackageReader;
 pub use packages::{Packages, all_seen, read_table, seen_by};
 pub use place_key::PlaceKey;
 pub use reading::{laid_table, members_of, own_of, path_of, qualified_of, trees};

@@ -29,13 +29,13 @@ use Rattle.refs_binding.proofs.Alike.{package_for}
 
 -- what follows whether or not a claim is true of each path follows
 
-abbrev IsDecided : (List ℕ → Type 0) → List ℕ → Type 0
+abbrev pub IsDecided : (List ℕ → Type 0) → List ℕ → Type 0
 IsDecided P q = P q ⊎ (P q → ⊥)
 
 either_way : (A : Type 0) → (A ⊎ (A → ⊥) → ⊥) → ⊥
 either_way A n = n (inr (λ a. n (inl a)))
 
-all_decided : (P : List ℕ → Type 0) (qs : List (List ℕ)) → (((q : List ℕ) → Contains qs q → IsDecided P q) → ⊥) → ⊥
+pub all_decided : (P : List ℕ → Type 0) (qs : List (List ℕ)) → (((q : List ℕ) → Contains qs q → IsDecided P q) → ⊥) → ⊥
 all_decided P [] k = k (λ q h. absurd (nothing_in q h))
 all_decided P (q ∷ qs) k =
     all_decided P qs
@@ -44,7 +44,7 @@ all_decided P (q ∷ qs) k =
 -- what each path is to a package that may import it
 module _ (w : Workspace) (known : Verdicts) (p : List ℕ)
     (decided : (q : List ℕ) → Contains (package_paths w) q → IsDecided (λ r. IsInClosure w r p) q) where
-  state_for : (q : List ℕ) → (s : ImportState) × (PackageImports w p q → IsStateOf w known p q s)
+  pub state_for : (q : List ℕ) → (s : ImportState) × (PackageImports w p q → IsStateOf w known p q s)
   state_for q = elim (cases_contains (package_paths w) q) [
     | inl there ↦ elim (decided q there) [
       | inl back ↦ (import_state.OnCycle, λ i. is_on_cycle back)
@@ -56,10 +56,10 @@ module _ (w : Workspace) (known : Verdicts) (p : List ℕ)
     | inr missing ↦ (import_state.Missing, λ i. is_missing missing)
   ]
 
-  state_in : List ℕ → ImportState
+  pub state_in : List ℕ → ImportState
   state_in q = (state_for q).0
 
-  are_states : AreStates w known p state_in
+  pub are_states : AreStates w known p state_in
   unfolding state_in
   are_states q i = (state_for q).1 i
 

@@ -35,7 +35,7 @@ contained (y ∷ ys) x h = elim h [
 
 -- by the trees of files
 
-record IsMemberIn (files : List SourceFile) (at : Position) : Type 0 where
+pub record IsMemberIn (files : List SourceFile) (at : Position) : Type 0 where
   source : SourceFile
   of_rank : slice_get files at.file ≡ Some source
   member : Contains (member_names source.tree) at.index
@@ -108,7 +108,7 @@ in_tree files r decl at hr hd e m =
       member = contained (member_names r.1.tree) at.index (held_flat decl_members r.1.tree.decls decl at.index hd m);
     }
 
-field_in_tree : (p : Package) (rank : ℕ) (f : PlacedField) → slice_get (package_fields p) rank ≡ Some f → IsMemberIn p.files (field_place f)
+pub field_in_tree : (p : Package) (rank : ℕ) (f : PlacedField) → slice_get (package_fields p) rank ≡ Some f → IsMemberIn p.files (field_place f)
 field_in_tree p rank f is =
     let d = type_of_field 0 (package_types p) f (holds_got (package_fields p) rank f is) in
     let r = holds_flat types_in (ranked_files p.files) d.0 d.1.0 in
@@ -116,7 +116,7 @@ field_in_tree p rank f is =
     let m = type_members r.0.0 decl.0 d.0 f.name decl.1.1 d.1.1.1 in
     in_tree p.files r.0 decl.0 (field_place f) r.1.0 decl.1.0 (m.0 ∙ d.1.1.0) m.1
 
-method_in_tree : (p : Package) (rank : ℕ) (f : PlacedFunction) (x : ReceiverTree) → slice_get (package_functions p) rank ≡ Some f →
+pub method_in_tree : (p : Package) (rank : ℕ) (f : PlacedFunction) (x : ReceiverTree) → slice_get (package_functions p) rank ≡ Some f →
     f.function.receiver ≡ Some x → IsMemberIn p.files (function_place f)
 method_in_tree p rank f x is e =
     let r = holds_flat functions_in (ranked_files p.files) f (holds_got (package_functions p) rank f is) in
@@ -126,7 +126,7 @@ method_in_tree p rank f x is e =
 
 -- their roles
 
-role_of : (w : Workspace) (known : Verdicts) (path : List ℕ) (p : Package) → IsPackageIn w known path p → (at : Position) → IsMemberIn p.files at →
+pub role_of : (w : Workspace) (known : Verdicts) (path : List ℕ) (p : Package) → IsPackageIn w known path p → (at : Position) → IsMemberIn p.files at →
     (u : ℕ) → u < p.size →
     LiesAt p.layout at u → p.layout.role u ≡ NotLexical purpose.Member
 role_of w known path p h at m u lt stands =
@@ -138,7 +138,7 @@ role_of w known path p h at m u lt stands =
     (subst (λ n. u < n) (same_size w known path p h) lt) (subst (λ l. LiesAt l at u) layout stands) in
     subst (λ l. l.role u ≡ NotLexical purpose.Member) (sym layout) role
 
-field_member : (w : Workspace) (known : Verdicts) (path : List ℕ) (p : Package) → IsPackageIn w known path p → (u rank : ℕ) → u < p.size →
+pub field_member : (w : Workspace) (known : Verdicts) (path : List ℕ) (p : Package) → IsPackageIn w known path p → (u rank : ℕ) → u < p.size →
     IsNameOf (IsFieldAt p) p u rank →
     p.layout.role u ≡ NotLexical purpose.Member
 field_member w known path p h u rank lt n =
@@ -146,7 +146,7 @@ field_member w known path p h u rank lt n =
     let there = field_in_tree p rank counts.field counts.counting.is_field.has_rank in
     role_of w known path p h n.at (subst (λ a. IsMemberIn p.files a) n.is_at.named_at there) u lt n.stands
 
-method_member : (w : Workspace) (known : Verdicts) (path : List ℕ) (p : Package) → IsPackageIn w known path p → (u rank : ℕ) → u < p.size →
+pub method_member : (w : Workspace) (known : Verdicts) (path : List ℕ) (p : Package) → IsPackageIn w known path p → (u rank : ℕ) → u < p.size →
     IsNameOf (IsMethodAt p) p u rank →
     p.layout.role u ≡ NotLexical purpose.Member
 method_member w known path p h u rank lt n =

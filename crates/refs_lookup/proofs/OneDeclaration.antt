@@ -42,7 +42,7 @@ module _ (w : Workspace) (known : Verdicts) (p : Package) (is : IsPackage w know
 -- one identifier of one package begins at a place
 
 module _ (w : Workspace) (known : Verdicts) (place : Place) where
-  same_package : (p q : Package) → IsPackage w known p → IsPackage w known q → (u v : ℕ) → BeginsAt p place.path place.offset u →
+  pub same_package : (p q : Package) → IsPackage w known p → IsPackage w known q → (u v : ℕ) → BeginsAt p place.path place.offset u →
       BeginsAt q place.path place.offset v → p ≡ q
   same_package p q a b u v x y =
       one_package w known p q a b

@@ -4,7 +4,6 @@ ghost use Rattle.types_declared.specs.PackageView.{package_of, IsIndexOf};
 ghost use Rattle.refs_binding.specs.declared.declaration.Declaration.{Declaration as Bound};
 ghost use Rattle.refs_binding.specs.Binding.{BindsByScope, BindsQualified};
 ghost use Rattle.refs_binding.specs.Indexed.{IsNumbered, IsPackageNumbered, IsIndexed};
-ghost use Rattle.refs_binding.specs.Packages.{IsTableAs};
 ghost use Rattle.refs_binding.specs.Steps.{IsDeclarationResult};
 ghost use Rattle.refs_binding.specs.Uses.{IsPackage, IsBoundTo};
 ghost use Rattle.refs_binding.specs.Workspaces.{known_in, ExportsAs, IsExportedNumber, BindsMember, FindsDeclaration, FindsDeclarationAt, FindsDeclarationIn};
@@ -14,28 +13,11 @@ use crate::identifier_at_byte::{identifier_at, named_by};
 use crate::own_name::declaration_by_name;
 use crate::used_member::declaration_by_member;
 use base_files::{Path, Refusal};
-use go_scope::table::ScopeTable;
-use refs_binding::indexed::{Indexed, Numbered, known_of, unit_of};
-use refs_binding::{
-    Declaration, FaultlessWorkspace, declaration_in_scope, path_of, read_table, seen_by,
-};
+use refs_binding::indexed::{Indexed, Numbered, known_of};
+use refs_binding::{Declaration, FaultlessWorkspace, PackageReader, declaration_in_scope, path_of};
 use std::alloc::{AllocError, Global};
-use types_declared::{ExportTable, Index, Package};
+use types_declared::{Index, Package};
 use types_info::qualifying_path;
-
-/// Returns the number of the declaration that a package exports under a name, by its table and by what it sees of others.
-fn exported_by(
-    at: Numbered<'_>,
-    seen: &ExportTable,
-    table: &ScopeTable<'_>,
-    name: &[u8],
-) -> Option<usize>
-    requires numbered { IsNumbered at }
-    requires table { IsTableAs at.workspace.now.graph (known_in at.workspace.now.findings) at.number table.now seen.now }
-    ensures { IsExportedNumber at.entry.workspace.now.graph (known_in at.entry.workspace.now.findings) at.entry.number name.now result }
-{
-    exported_as(unit_of(at, seen, table), name)
-}
 
 /// Reads the package of a number, and returns the number of the declaration that it exports under a name.
 fn exported_number(
@@ -46,9 +28,9 @@ fn exported_number(
     requires { IsNumbered at }
     ensures { IfOk result (IsExportedNumber at.entry.workspace.now.graph (known_in at.entry.workspace.now.findings) at.entry.number name.now) }
 {
-    let seen = seen_by(alloc, at.workspace, at.number)?;
-    let table = read_table(alloc, at.workspace, &seen, at.number)?;
-    Ok(exported_by(at, &seen, &table, name))
+    let reader = PackageReader::of(alloc, at)?;
+    let table = reader.table(alloc)?;
+    Ok(exported_as(reader.unit(&table), name))
 }
 
 /// Returns the declaration that the package of a path exports under a name.
@@ -170,40 +152,21 @@ pub fn declaration_in_package(
     }
 }
 
-/// Returns the declaration of the identifier at a byte of a file of the package of a number, by its index.
-fn declaration_found(
+/// Returns the declaration of the identifier at a byte of a file of the package of a number.
+fn declaration_by(
     alloc: Global,
     at: Numbered<'_>,
     unit: Package<'_>,
-    index: &Index<'_>,
     file: &Path,
     offset: usize,
 ) -> Result<Declaration, Refusal>
     requires numbered { IsNumbered at }
     requires unit { IsPackageNumbered at (package_of unit) }
-    requires index { IsIndexOf (package_of unit) index.now }
     ensures { FindsDeclarationAt at.entry.workspace.now.graph (known_in at.entry.workspace.now.findings) at.entry.number file.now offset result }
 {
-    let of = known_of(at, unit, index);
-    declaration_in_package(alloc, at.workspace, &of, file, offset)
-}
-
-/// Returns the declaration of the identifier at a byte of a file of a numbered package, by the package's table and by what it sees.
-fn declaration_by(
-    alloc: Global,
-    at: Numbered<'_>,
-    seen: &ExportTable,
-    table: &ScopeTable<'_>,
-    file: &Path,
-    offset: usize,
-) -> Result<Declaration, Refusal>
-    requires numbered { IsNumbered at }
-    requires table { IsTableAs at.workspace.now.graph (known_in at.workspace.now.findings) at.number table.now seen.now }
-    ensures { FindsDeclarationAt at.entry.workspace.now.graph (known_in at.entry.workspace.now.findings) at.entry.number file.now offset result }
-{
-    let unit = unit_of(at, seen, table);
     let index = Index::of(alloc, unit)?;
-    declaration_found(alloc, at, unit, &index, file, offset)
+    let of = known_of(at, unit, &index);
+    declaration_in_package(alloc, at.workspace, &of, file, offset)
 }
 
 /// Reads the package of a number, and returns the declaration of the identifier at a byte of one of its files.
@@ -216,9 +179,9 @@ fn declaration_in(
     requires { IsNumbered at }
     ensures { FindsDeclarationAt at.entry.workspace.now.graph (known_in at.entry.workspace.now.findings) at.entry.number file.now offset result }
 {
-    let seen = seen_by(alloc, at.workspace, at.number)?;
-    let table = read_table(alloc, at.workspace, &seen, at.number)?;
-    declaration_by(alloc, at, &seen, &table, file, offset)
+    let reader = PackageReader::of(alloc, at)?;
+    let table = reader.table(alloc)?;
+    declaration_by(alloc, at, reader.unit(&table), file, offset)
 }
 
 /// Returns the declaration of the identifier at a byte of a file, or a refusal. The offset is in bytes, from 0.

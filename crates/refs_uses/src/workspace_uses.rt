@@ -3,12 +3,11 @@ ghost use Rattle.std.specs.Prelude.{◌≡◌, ◌<◌, Some, length, option_map
 ghost use Rattle.base_files.specs.Packages.{package_paths};
 ghost use Rattle.base_files.specs.Path.{folder};
 ghost use Rattle.go_scope.specs.Named.{name_value};
-ghost use Rattle.types_declared.specs.PackageView.{package_of, IsIndexOf};
+ghost use Rattle.types_declared.specs.PackageView.{package_of};
 ghost use Rattle.workspace_check.specs.Found.{AreFindings};
 ghost use Rattle.refs_binding.specs.declared.declaration.Declaration.TheVariants.{Declared};
 ghost use Rattle.refs_binding.specs.Indexed.{IsNumbered, IsPackageNumbered, IsIndexed};
 ghost use Rattle.refs_uses.specs.Sought.{IsSought};
-ghost use Rattle.refs_binding.specs.Packages.{IsTableAs};
 ghost use Rattle.refs_binding.specs.Steps.{AddsPlaces};
 ghost use Rattle.refs_binding.specs.Uses.{IsUseOf, AnswersUses, AnswersUsesAt};
 ghost use Rattle.refs_binding.specs.Workspaces.{known_in, name_bytes, IsExportedUnder, IsUseAt, ListsFound, AnswersUsesIn};
@@ -22,12 +21,11 @@ use crate::qualified_abroad::{add_abroad, path_abroad};
 use crate::sorting::places;
 use crate::uses_in_package::add_uses_in_package;
 use base_files::{Path, Refusal};
-use go_scope::table::ScopeTable;
-use refs_binding::indexed::{Indexed, Numbered, known_of, unit_of};
-use refs_binding::{Declaration, FaultlessWorkspace, PlaceKey, read_table, refuse_faults, seen_by};
+use refs_binding::indexed::{Indexed, Numbered, known_of};
+use refs_binding::{Declaration, FaultlessWorkspace, PackageReader, PlaceKey, refuse_faults};
 use refs_lookup::declaration_in_package;
 use std::alloc::{AllocError, Global};
-use types_declared::{ExportTable, Index, Package};
+use types_declared::{Index, Package};
 use types_expr::symbol::SharedPath;
 use workspace_check::Findings;
 use workspace_graph::Graph;
@@ -48,42 +46,22 @@ fn add_known_uses(
     add_uses_in_package(alloc, spots, of, sought)
 }
 
-/// Adds the places of a package's identifiers that are bound to a declaration, by the package's index.
-fn add_indexed_uses(
-    alloc: Global,
-    spots: &mut Vec<PlaceKey>,
-    at: Numbered<'_>,
-    unit: Package<'_>,
-    index: &Index<'_>,
-    sought: &Sought<'_>,
-) -> Result<(), AllocError>
-    requires numbered { IsNumbered at }
-    requires unit { IsPackageNumbered at (package_of unit) }
-    requires index { IsIndexOf (package_of unit) index.now }
-    ensures { OnOk result (AddsPlaces spots.old.items spots.new.items
-        (IsUseAt at.entry.workspace.now.graph (known_in at.entry.workspace.now.findings) sought.now.declaration.now (name_value sought.now.name) at.entry.number)) }
-{
-    let of = known_of(at, unit, index);
-    add_known_uses(alloc, spots, at, &of, sought)
-}
-
-/// Adds the places of a package's identifiers that are bound to a declaration, by its table and by what it sees of others.
+/// Adds the places of a package's identifiers that are bound to a declaration.
 fn add_uses_by(
     alloc: Global,
     spots: &mut Vec<PlaceKey>,
     at: Numbered<'_>,
-    seen: &ExportTable,
-    table: &ScopeTable<'_>,
+    unit: Package<'_>,
     sought: &Sought<'_>,
 ) -> Result<(), AllocError>
     requires numbered { IsNumbered at }
-    requires table { IsTableAs at.workspace.now.graph (known_in at.workspace.now.findings) at.number table.now seen.now }
+    requires unit { IsPackageNumbered at (package_of unit) }
     ensures { OnOk result (AddsPlaces spots.old.items spots.new.items
         (IsUseAt at.entry.workspace.now.graph (known_in at.entry.workspace.now.findings) sought.now.declaration.now (name_value sought.now.name) at.entry.number)) }
 {
-    let unit = unit_of(at, seen, table);
     let index = Index::of(alloc, unit)?;
-    add_indexed_uses(alloc, spots, at, unit, &index, sought)
+    let of = known_of(at, unit, &index);
+    add_known_uses(alloc, spots, at, &of, sought)
 }
 
 /// Reads a package, and adds the places of its identifiers that are bound to a declaration.
@@ -97,9 +75,9 @@ fn add_package_uses(
     ensures { OnOk result (AddsPlaces spots.old.items spots.new.items
         (IsUseAt at.entry.workspace.now.graph (known_in at.entry.workspace.now.findings) sought.now.declaration.now (name_value sought.now.name) at.entry.number)) }
 {
-    let seen = seen_by(alloc, at.workspace, at.number)?;
-    let table = read_table(alloc, at.workspace, &seen, at.number)?;
-    add_uses_by(alloc, spots, at, &seen, &table, sought)
+    let reader = PackageReader::of(alloc, at)?;
+    let table = reader.table(alloc)?;
+    add_uses_by(alloc, spots, at, reader.unit(&table), sought)
 }
 
 /// Adds the places of a package's identifiers that are bound to a declaration. Does not read the package for a field or method of another
@@ -371,42 +349,22 @@ fn uses_known(
     }
 }
 
-/// Returns the uses of the identifier at a byte of a file of a package, by the package's index.
-fn uses_indexed(
+/// Returns the uses of the identifier at a byte of a file of the package of a number.
+fn uses_by(
     alloc: Global,
     at: Numbered<'_>,
     unit: Package<'_>,
-    index: &Index<'_>,
     path: &Path,
     offset: usize,
 ) -> Result<Places, Refusal>
     requires numbered { IsNumbered at }
     requires folder { slice_get (package_paths at.workspace.now.graph) at.number ≡ Some (folder path.now) }
     requires unit { IsPackageNumbered at (package_of unit) }
-    requires index { IsIndexOf (package_of unit) index.now }
     ensures { AnswersUsesAt at.entry.workspace.now.graph path.now offset result }
 {
-    let of = known_of(at, unit, index);
-    uses_known(alloc, at, &of, path, offset)
-}
-
-/// Returns the uses of the identifier at a byte of a file of a package, by its table and by what it sees of others.
-fn uses_by(
-    alloc: Global,
-    at: Numbered<'_>,
-    seen: &ExportTable,
-    table: &ScopeTable<'_>,
-    path: &Path,
-    offset: usize,
-) -> Result<Places, Refusal>
-    requires numbered { IsNumbered at }
-    requires folder { slice_get (package_paths at.workspace.now.graph) at.number ≡ Some (folder path.now) }
-    requires table { IsTableAs at.workspace.now.graph (known_in at.workspace.now.findings) at.number table.now seen.now }
-    ensures { AnswersUsesAt at.entry.workspace.now.graph path.now offset result }
-{
-    let unit = unit_of(at, seen, table);
     let index = Index::of(alloc, unit)?;
-    uses_indexed(alloc, at, unit, &index, path, offset)
+    let of = known_of(at, unit, &index);
+    uses_known(alloc, at, &of, path, offset)
 }
 
 /// Reads the package of a number once, and returns the uses of the identifier at a byte of one of its files.
@@ -420,9 +378,9 @@ fn uses_of_package(
     requires folder { slice_get (package_paths at.workspace.now.graph) at.number ≡ Some (folder path.now) }
     ensures { AnswersUsesAt at.entry.workspace.now.graph path.now offset result }
 {
-    let seen = seen_by(alloc, at.workspace, at.number)?;
-    let table = read_table(alloc, at.workspace, &seen, at.number)?;
-    uses_by(alloc, at, &seen, &table, path, offset)
+    let reader = PackageReader::of(alloc, at)?;
+    let table = reader.table(alloc)?;
+    uses_by(alloc, at, reader.unit(&table), path, offset)
 }
 
 /// Returns the uses of the identifier at a byte of a file of a workspace without faults.

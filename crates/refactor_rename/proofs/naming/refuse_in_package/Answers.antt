@@ -1,19 +1,19 @@
 -- The answers to the goals of `naming::refuse_in_package`.
 use Rattle.std.proofs.Common.{subst}
-use Rattle.std.specs.Prelude.{map}
-use Rattle.go_ast.specs.SourceFile.{source_of}
-use Rattle.types_info.specs.PackageOf.{package_in}
-use Rattle.types_declared.specs.ExportTablesView.{export_data_in}
+use Rattle.types_declared.specs.PackageView.{package_of}
 use Rattle.refs_binding.specs.Workspaces.{known_in}
-use Rattle.refs_binding.proofs.Units.{unit_at, one_at}
+use Rattle.refs_binding.proofs.PackageReaders.{package_read}
+use Rattle.refs_binding.proofs.Units.{one_at}
 use Rattle.refactor_rename.specs.Naming.{RefusesNameIn}
 use Rattle.refactor_rename.proofs.naming.refuse_in_package.Goals as goal
+
+pub of-requires : goal.of-requires
+of-requires c = record { in_range = c.requires }
 
 pub returns : goal.returns
 returns c = λ p is.
     let w = c.args.workspace.now.graph in
     let known = known_in c.args.workspace.now.findings in
-    let q = package_in c.path_of-path.result.now (map source_of c.trees-files.result.now) c.in_ok-table.table (export_data_in c.in_ok-seen.seen) in
-    let at = unit_at w known c.args.number c.path_of-path.result.now c.trees-files.result.now c.in_ok-seen.seen c.in_ok-table.table c.requires
-    c.path_of-path.ensures c.trees-files.ensures c.in_ok-seen.ensures c.in_ok-table.ensures in
-    subst (λ x. RefusesNameIn x c.args.declaration.now c.args.name.now c.refuse_by.result) (one_at w known c.args.number q p at is) c.refuse_by.ensures
+    let q = package_of c.unit.result in
+    let at = package_read _ c.in_ok-reader.reader q c.in_ok-reader.ensures.at c.unit.ensures in
+    subst (λ x. RefusesNameIn x c.args.declaration.now c.args.name.now c.refuse_in_unit.result) (one_at w known c.args.number q p at is) c.refuse_in_unit.ensures

@@ -1,8 +1,8 @@
 -- The answers to the goals of `declaration_at_byte::declaration_in`.
+use Rattle.types_declared.specs.PackageView.{package_of}
+use Rattle.refs_binding.proofs.PackageReaders.{package_read}
 use Rattle.refs_lookup.proofs.declaration_at_byte.declaration_in.Goals as goal
 
-pub seen_by-requires : goal.seen_by-requires
-seen_by-requires c = c.requires.in_range
-
-pub read_table-requires : goal.read_table-requires
-read_table-requires c = record { in_range = c.requires.in_range; seen = c.in_ok-seen.ensures }
+pub declaration_by-requires-clause-unit : goal.declaration_by-requires-clause-unit
+declaration_by-requires-clause-unit c =
+    package_read c.args.at c.in_ok-reader.reader (package_of c.unit.result) c.in_ok-reader.ensures.at c.unit.ensures

@@ -1,8 +1,8 @@
--- The answers to the goals of `declaration_at_byte::declaration_found`.
+-- The answers to the goals of `declaration_at_byte::declaration_by`.
 use Rattle.types_declared.specs.PackageView.{package_of}
 use Rattle.refs_binding.specs.Workspaces.{known_in}
 use Rattle.refs_lookup.proofs.Asking.{in_package}
-use Rattle.refs_lookup.proofs.declaration_at_byte.declaration_found.Goals as goal
+use Rattle.refs_lookup.proofs.declaration_at_byte.declaration_by.Goals as goal
 
 pub returns : goal.returns
 returns c =
