@@ -18,10 +18,11 @@ use Rattle.refs_index.specs.Corresponding.{predeclared}
 use Rattle.refactor_conflict.specs.BoundAfter.{HasBecome}
 use Rattle.refactor_conflict.specs.Staying.{StaysByPackage, StaysByScope}
 use Rattle.law_renamed_scopes.proofs.OwnNames.{counted, in_universe}
+use Rattle.law_scoped_packages.proofs.There.{packages_there}
 use Rattle.law_local_renames.specs.BoundThere.{ArePackagesThere, NamesStayBound}
 use Rattle.law_local_renames.specs.LocalRenames.{IsLocalRename}
 use Rattle.law_local_renames.proofs.KeptExports.{exports_stay}
-use Rattle.law_local_renames.proofs.KeptFields.{selectors}
+use Rattle.law_local_renames.proofs.KeptSelectors.{selectors}
 use Rattle.law_local_renames.proofs.KeptScopes.{others_keep}
 
 module _ (w : Workspace) (known : Verdicts) (p : Package) (n : ℕ) (name : List ℕ) (s : FileChanges) (h : IsLocalRename w known p n name s)
@@ -84,6 +85,11 @@ module _ (w : Workspace) (known : Verdicts) (p : Package) (n : ℕ) (name : List
         becomes (Field f) k now = absurd k
         becomes (Method f) k now = absurd k
 
-pub names_bound : NamesStayBound
-names_bound w known p n name s h there x is u place begins =
+pub names_bound_there : (w : Workspace) (known : Verdicts) (p : Package) (n : ℕ) (name : List ℕ) (s : FileChanges) → IsLocalRename w known p n name s →
+    ArePackagesThere w known (revision_of w s) → (x : Package) → IsPackage w known x → (u : ℕ) (place : Place) → BeginsAt x place.path place.offset u →
+    StaysByPackage w known (revision_of w s) x u place × ((x ≡ p → ⊥) → StaysByScope w known (revision_of w s) x u place)
+names_bound_there w known p n name s h there x is u place begins =
     (by_package w known p n name s h there x is u place begins, by_scope w known p n name s h there x is u place begins)
+
+pub names_bound : NamesStayBound
+names_bound w known p n name s h = names_bound_there w known p n name s h (packages_there w known (Declared p.path n) name s h.rename)

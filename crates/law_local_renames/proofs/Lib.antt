@@ -1,8 +1,7 @@
 -- The lemmas of this crate.
 pub mod NumbersInOrder
 pub mod KeptNames
-pub mod SeenDefinitions
-pub mod KeptFields
+pub mod KeptSelectors
 pub mod KeptScopes
 pub mod KeptExports
 pub mod KeptBound

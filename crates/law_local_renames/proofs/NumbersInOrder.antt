@@ -33,16 +33,10 @@ use Rattle.refs_binding.specs.Uses.{IsPackage}
 use Rattle.refs_binding.proofs.PlaceOrder.{place_cmp_total, place_cmp_exact, place_is}
 use Rattle.refs_lookup.proofs.OnePlace.{names_of, laid_of, same_layout, same_size, same_files, one_begins}
 use Rattle.refactor_conflict.proofs.Firsts.{behind}
+use Rattle.law_scoped_packages.proofs.RisingOffsets.{starts_from}
 use Rattle.law_local_renames.specs.Numbers.{NumbersFollowPlaces}
 
 -- tokens begin one behind another
-
-starts_from : (from to : ℕ) (ts : List Piece) → FollowFrom from ts to → (j : ℕ) (b : Piece) → slice_get ts j ≡ Some b → from ≤ b.span.start
-starts_from from to [] h j b at = absurd (none-some b at)
-starts_from from to (t ∷ ts) h zero b at = subst (λ (p : Piece). from ≤ p.span.start) (same_Some t b at) h.0
-starts_from from to (t ∷ ts) h (suc j) b at =
-    let rest : t.span.end ≤ b.span.start = starts_from t.span.end to ts h.2 j b at in
-    omega (arith, h.0, h.1, rest)
 
 starts_rise : (from to : ℕ) (ts : List Piece) → FollowFrom from ts to → (i j : ℕ) (a b : Piece) → i < j → slice_get ts i ≡ Some a → slice_get ts j ≡ Some b →
     a.span.start ≤ b.span.start

@@ -1,7 +1,6 @@
 -- The definitions of this crate.
 pub mod Numbers
 pub mod LocalRenames
-pub mod FieldsStay
 pub mod OtherPackages
 pub mod BoundThere
 pub mod LocalConflicts

@@ -1,5 +1,5 @@
 -- A plain rename of a declaration that is not package-level: which names change, and which stay.
-use Rattle.std.specs.Prelude.{ℕ, ◌≡◌, ◌<◌, ◌↔◌, List}
+use Rattle.std.specs.Prelude.{ℕ, ◌≡◌, ◌<◌, List}
 use Rattle.base_files.specs.Workspace.{Workspace}
 use Rattle.base_files.specs.declared.place.Place.{Place}
 use Rattle.base_edits.specs.EditSet.{FileChanges}
@@ -7,12 +7,10 @@ use Rattle.base_edits.specs.RevisionsOfEdits.{revision_of}
 use Rattle.go_scope.specs.declared.model.Position.{Position}
 use Rattle.go_scope.specs.Bindings as scopes
 use Rattle.go_scope.specs.Table.{LiesAt}
-use Rattle.types_declared.specs.Definitions.{PlacedField, IsFieldOf, IsMethodOf}
-use Rattle.types_declared.specs.Package.{Package, PlacedFunction, spelled}
+use Rattle.types_declared.specs.Package.{Package, spelled}
 use Rattle.workspace_check.specs.Verdicts.{Verdicts}
 use Rattle.refs_binding.specs.declared.declaration.Declaration.TheVariants.{Declared}
 use Rattle.refs_binding.specs.Uses.{IsPackage, IsBoundTo}
-use Rattle.refactor_after.specs.NamesAfter.{IsFieldAfter, IsMethodAfter}
 use Rattle.law_renamed_packages.specs.Layouts.{IsToken}
 use Rattle.law_renamed_packages.specs.Renames.{IsPlainRename}
 
@@ -40,12 +38,3 @@ IsApart p n x at = (u : ℕ) → u < x.size → LiesAt x.layout at u → x ≡ p
 abbrev pub OtherNamesStay : Type 0
 OtherNamesStay = OfLocalRenames (λ w known p n s. (x : Package) → IsPackage w known x → (at : Position) (place : Place) → IsToken x at place →
     IsApart p n x at → (revision_of w s).called place (spelled x at.file at.index) ≡ spelled x at.file at.index)
-
--- So all fields and methods of the workspace have the names that they had.
-abbrev pub FieldNamesStay : Type 0
-FieldNamesStay = OfLocalRenames (λ w known p n s. (x : Package) → IsPackage w known x → (definition : ℕ) (name : List ℕ) (rank : ℕ) →
-    IsFieldAfter (revision_of w s) x definition name rank ↔ ((f : PlacedField) × IsFieldOf x definition name rank f))
-
-abbrev pub MethodNamesStay : Type 0
-MethodNamesStay = OfLocalRenames (λ w known p n s. (x : Package) → IsPackage w known x → (definition : ℕ) (name : List ℕ) (rank : ℕ) →
-    IsMethodAfter (revision_of w s) x definition name rank ↔ ((f : PlacedFunction) × IsMethodOf x definition name rank f))

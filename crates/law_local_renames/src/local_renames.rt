@@ -1,8 +1,7 @@
 //! Laws of the numbers of identifiers, and of renames of declarations that are not package-level.
 ghost use Rattle.law_local_renames.specs.BoundThere.{NamesStayBound};
-ghost use Rattle.law_local_renames.specs.FieldsStay.{FieldsStay};
 ghost use Rattle.law_local_renames.specs.LocalConflicts.{LocalConflictsAreOfScopes};
-ghost use Rattle.law_local_renames.specs.LocalRenames.{OwnScopesAloneBind, OtherNamesStay, FieldNamesStay, MethodNamesStay};
+ghost use Rattle.law_local_renames.specs.LocalRenames.{OwnScopesAloneBind, OtherNamesStay};
 ghost use Rattle.law_local_renames.specs.OtherPackages.{OtherPackagesKeepScopes, ExportsStay, SelectorsKeepNames};
 ghost use Rattle.law_local_renames.specs.Numbers.{NumbersFollowPlaces};
 
@@ -15,13 +14,6 @@ pub fn numbers_follow_places()
 pub fn local_renames_keep_names()
     ensures bind { OwnScopesAloneBind }
     ensures names { OtherNamesStay }
-    ensures fields { FieldNamesStay }
-    ensures methods { MethodNamesStay }
-{}
-
-/// When such a declaration is renamed, each field and each use of a field stays bound.
-pub fn local_renames_keep_fields()
-    ensures { FieldsStay }
 {}
 
 /// Other packages keep their scopes, each package exports what it exported, and selectors of qualified identifiers keep their names.
@@ -31,12 +23,12 @@ pub fn local_renames_keep_other_packages()
     ensures selectors { SelectorsKeepNames }
 {}
 
-/// Where each package is there after the rename, names behind packages stay bound, and so do names that scopes of other packages bind.
+/// Names behind packages stay bound, and so do names that scopes of other packages bind.
 pub fn local_renames_keep_bound_names()
     ensures { NamesStayBound }
 {}
 
-/// Where each package is there after the rename, and methods stay, only what scopes of the declaring package bind can be lost or captured.
+/// Only what scopes of the declaring package bind can be lost or captured.
 pub fn local_conflicts_are_of_scopes()
     ensures { LocalConflictsAreOfScopes }
 {}

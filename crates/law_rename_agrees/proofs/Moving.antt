@@ -58,7 +58,7 @@ module _ (w : Workspace) (known : Verdicts) (d : Declaration) (name : List ℕ) 
   there : (path : List ℕ) → Contains (package_paths w) path → Contains (package_paths (edited s w)) path
   there path has = subst (λ ps. Contains ps path) (sym (new_paths w known d name s kept.rename)) has
 
-  named_at : (p : Package) → IsPackage w known p → (after p.path).export_data.name ≡ (known p.path).export_data.name
+  pub named_at : (p : Package) → IsPackage w known p → (after p.path).export_data.name ≡ (known p.path).export_data.name
   named_at p is =
       let new = data_of (edited s w) after kept.right kept.sound p.path (there p.path is.of_workspace) in
       let old = data_of w known kept.rename.rename.right kept.rename.rename.sound p.path is.of_workspace in
@@ -74,7 +74,7 @@ module _ (w : Workspace) (known : Verdicts) (d : Declaration) (name : List ℕ) 
       let p = package_there w kept.rename.rename.sound known kept.rename.rename.right path has in
       subst (λ q. (after q).export_data.name ≡ (known q).export_data.name) p.1.1 (named_at p.0 p.1.0)
 
-kept_below : KeptAreSoundBelow
+pub kept_below : KeptAreSoundBelow
 kept_below w known d name s after kept path = record {
   faultless = λ q on.
       faultless (edited s w) after kept.right kept.sound q (there w known d name s after kept q (to_package w path q on.imported));

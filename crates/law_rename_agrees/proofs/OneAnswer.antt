@@ -1,5 +1,5 @@
 -- A rename has one first conflict at most.
-use Rattle.std.proofs.Common.{ℕ, suc, ◌≡◌, ◌⊎◌, inl, inr, List, refl, sym, ap, subst, ◌∙◌, arith}
+use Rattle.std.proofs.Common.{ℕ, ◌≡◌, ◌⊎◌, inl, inr, refl, sym, ap, subst, ◌∙◌}
 use Rattle.std.specs.Prelude.{Option, Some, None}
 use Rattle.base_files.specs.Workspace.{Workspace}
 use Rattle.base_files.specs.declared.place.Place.{Place}
@@ -7,9 +7,6 @@ use Rattle.base_edits.specs.Revisions.{Revision}
 use Rattle.base_edits.specs.RevisionsOfEdits.{revision_of}
 use Rattle.go_scope.specs.WellFormed.{WellFormed}
 use Rattle.types_declared.specs.Package.{Package, spelled}
-use Rattle.types_declared.specs.Written.{BindsToken, ImportsPath}
-use Rattle.types_declared.proofs.Naming.{one_binding, one_import_path}
-use Rattle.types_info.specs.QualifiedIdentifiers.{IsQualifiedByPath}
 use Rattle.workspace_check.specs.Verdicts.{Verdicts}
 use Rattle.workspace_check.proofs.OnePackage.{layout_formed}
 use Rattle.refs_binding.specs.declared.declaration.Declaration.{Declaration}
@@ -23,7 +20,7 @@ use Rattle.refs_binding.proofs.PlaceOrder.{neither_before}
 use Rattle.refs_binding.proofs.Units.{one_package}
 use Rattle.refs_lookup.proofs.OneDeclaration.{one_declaration}
 use Rattle.refs_lookup.proofs.OnePlace.{one_begins}
-use Rattle.refs_binding.proofs.Excluding.{not_both}
+use Rattle.refs_binding.proofs.Excluding.{not_both, one_behind}
 use Rattle.refs_lookup.proofs.NamedMembers.{name_not_scope, name_not_package}
 use Rattle.refs_lookup.proofs.UsedMembers.{member_not_scope, member_not_name}
 use Rattle.refs_lookup.proofs.BoundUsedMembers.{member_not_package}
@@ -46,18 +43,8 @@ use Rattle.refactor_conflict.proofs.OneMember.{one_member_after}
 use Rattle.refactor_conflict.proofs.OnePlace.{only_place}
 use Rattle.law_rename_agrees.specs.ConflictsByTables.{TellsFirstOf, HasOneAnswer}
 use Rattle.law_rename_agrees.proofs.OneMemberUse.{selects_alike}
-use Rattle.law_rename_agrees.proofs.Premises.{MoveApart, DeclarationsMoveApart}
-
--- A qualified identifier is qualified by one path.
-one_behind : (p : Package) → WellFormed p.layout → (u : ℕ) (path other : List ℕ) → IsQualifiedByPath p u path → IsQualifiedByPath p u other → path ≡ other
-one_behind p formed u path other h k =
-    let file = (p.layout.place u).file in
-    let at : (p.layout.place u).index ≡ suc (suc h.before) = h.behind_dot in
-    let so : (p.layout.place u).index ≡ suc (suc k.before) = k.behind_dot in
-    let before : k.before ≡ h.before = omega arith in
-    let bound : BindsToken p file h.before k.named.import = subst (λ t. BindsToken p file t k.named.import) before k.named.binds in
-    let import : k.named.import ≡ h.named.import = one_binding p formed file h.before k.named.import h.named.import bound h.named.binds in
-    one_import_path p h.named.import path other h.named.imports (subst (λ i. ImportsPath p i other) import k.named.imports)
+use Rattle.law_scoped_packages.specs.Apart.{MoveApart}
+use Rattle.law_scoped_packages.proofs.MovedApart.{move_apart}
 
 module _ (w : Workspace) (known : Verdicts) where
   abbrev Known : Package → Type 0
@@ -212,5 +199,5 @@ module _ (w : Workspace) (known : Verdicts) where
     one_told_first (Some c) None h k = absurd (not_staying w known r c h.0 (k c.used))
     one_told_first (Some c) (Some d) h k = ap Some (one_first c d h k)
 
-pub one_answer : DeclarationsMoveApart → HasOneAnswer
-one_answer apart w known d name s rename x y h k = one_told_first w known (revision_of w s) (apart w known d name s rename) x y h k
+pub one_answer : HasOneAnswer
+one_answer w known d name s rename x y h k = one_told_first w known (revision_of w s) (move_apart w known d name s rename) x y h k

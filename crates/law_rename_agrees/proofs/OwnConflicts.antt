@@ -6,7 +6,6 @@ use Rattle.base_files.specs.Workspace.{Workspace}
 use Rattle.base_files.specs.declared.place.Place.{Place}
 use Rattle.base_edits.specs.Revisions.{Revision}
 use Rattle.base_edits.specs.RevisionsOfEdits.{revision_of}
-use Rattle.go_scope.specs.declared.model.Position.{Position}
 use Rattle.go_scope.specs.Bindings.{Layout, Names, Counts, IsBoundTo, use_bound, own}
 use Rattle.go_scope.specs.FileSites.{universe}
 use Rattle.go_scope.proofs.Nests.{nests}
@@ -16,17 +15,16 @@ use Rattle.law_rename.proofs.AfterRename.{declared_before}
 use Rattle.law_rename.proofs.Captured.{told}
 use Rattle.law_rename.proofs.Conflicts.{captures, loses}
 use Rattle.law_rename.proofs.Exactness.{exact_at}
-use Rattle.types_declared.specs.Laid.{literal_of}
 use Rattle.types_declared.specs.Package.{Package}
 use Rattle.workspace_check.specs.Verdicts.{Verdicts}
 use Rattle.refs_binding.specs.declared.declaration.Declaration.{Declaration}
 use Rattle.refs_binding.specs.declared.declaration.Declaration.TheVariants.{Predeclared, Declared, Field, Method}
 use Rattle.refs_binding.specs.Binding.{IsPredeclared, BindsByScope}
-use Rattle.refs_binding.specs.DeclaringPlaces.{TokenAt, IsDeclaredAt}
+use Rattle.refs_binding.specs.DeclaringPlaces.{IsDeclaredAt}
 use Rattle.refs_binding.specs.Identifiers.{BeginsAt}
 use Rattle.refs_binding.specs.Uses.{IsPackage}
 use Rattle.refs_index.specs.Becoming.{IsSamePredeclared}
-use Rattle.refs_index.specs.Corresponding.{predeclared, stands}
+use Rattle.refs_index.specs.Corresponding.{predeclared}
 use Rattle.refs_index.proofs.Becoming.{StandBoth, by_cases}
 use Rattle.refactor_after.specs.ScopedPackages.{IsScopedIn}
 use Rattle.refactor_after.specs.ScopeBindings.{IsScopeUse}
@@ -37,9 +35,13 @@ use Rattle.refactor_conflict.specs.declared.conflict.Capturer.{Capturer}
 use Rattle.refactor_conflict.proofs.BoundAfter.{counted_use}
 use Rattle.refactor_conflict.proofs.OnePlace.{only_place}
 use Rattle.law_renamed_packages.specs.Layouts.{IsRelaid}
-use Rattle.law_renamed_scopes.specs.Scopes.{OwnRenamesAreRenames}
+use Rattle.law_renamed_scopes.proofs.OwnNames.{own_renames}
 use Rattle.law_rename_agrees.specs.ConflictsByTables.{IsNumbered, WouldTurn, OwnConflictsAreTold}
-use Rattle.law_rename_agrees.proofs.Premises.{MoveApart, DeclarationsMoveApart, HasMovedTokens, ScopedPackagesAreRelaid, DeclarationsHavePlaces}
+use Rattle.law_scoped_packages.specs.Apart.{MoveApart, DeclarationsMoveApart}
+use Rattle.law_scoped_packages.specs.ScopedPackages.{HasMovedTokens, ScopedPackagesAreRelaid}
+use Rattle.law_scoped_packages.proofs.MovedApart.{move_apart}
+use Rattle.law_scoped_packages.proofs.ScopedAfter.{scoped_relaid}
+use Rattle.law_scoped_packages.proofs.There.{becomes_itself as declared_again}
 use Rattle.law_rename_agrees.proofs.ScopedPlaces.{bound_there}
 
 -- The declaration that has a number in the scopes of a package.
@@ -104,33 +106,15 @@ module _ (w : Workspace) (known : Verdicts) (r : Revision) (apart : MoveApart w 
   number_after u (Method s) h = absurd h
 
   -- what counts before and after the change has become what has its number
-  pub becomes_itself : DeclarationsHavePlaces → (n : ℕ) (d : Declaration) → IsNumbered p n d → Counts p.layout p.names n → Counts p.layout q.names n → B d d
-  becomes_itself have n (Predeclared m) h before after = predeclared
-  becomes_itself have n (Declared path m) h before after =
-      let l = p.layout in
-      let place = have w known p is n before h.2 in
-      let at : Position = l.place (literal_of l n) in
-      let token : TokenAt q at (r.moved place.0) = moved.tokens at place.0 place.1 in
-      let there : TokenAt q (q.layout.place (literal_of q.layout n)) (r.moved place.0) =
-      subst (λ (k : Layout). TokenAt q (k.place (literal_of k n)) (r.moved place.0)) (sym relaid.layout) token in
+  pub becomes_itself : (n : ℕ) (d : Declaration) → IsNumbered p n d → Counts p.layout p.names n → Counts p.layout q.names n → B d d
+  becomes_itself n (Predeclared m) h before after = predeclared
+  becomes_itself n (Declared path m) h before after =
       let counted : Counts q.layout q.names n = subst (λ (k : Layout). Counts k q.names n) (sym relaid.layout) after in
-      let old : IsDeclaredAt (IsPackage w known) (Declared path n) place.0 =
-      record {
-        inside = p;
-        is_package = is;
-        of_path = sym h.0;
-        holds = record { at = at; is_at = record { own = h.2; counts = before; stands = refl }; begins = place.1 };
-      } in
-      let new : IsDeclaredAt (IsScopedIn r.after) (Declared path n) (r.moved place.0) =
-      record {
-        inside = q;
-        is_package = scoped;
-        of_path = relaid.path ∙ sym h.0;
-        holds = record { at = q.layout.place (literal_of q.layout n); is_at = record { own = h.2; counts = counted; stands = refl }; begins = there };
-      } in
-      subst (λ k. B (Declared path k) (Declared path k)) (sym h.1) (stands place.0 old new)
-  becomes_itself have n (Field s) h before after = absurd h
-  becomes_itself have n (Method s) h before after = absurd h
+      subst (λ z. B (Declared z m) (Declared z m)) (sym h.0)
+      (subst (λ k. B (Declared p.path k) (Declared p.path k)) (sym h.1)
+      (declared_again w known r p q is scoped relaid moved n h.2 before counted))
+  becomes_itself n (Field s) h before after = absurd h
+  becomes_itself n (Method s) h before after = absurd h
 
   -- and nothing else has become that
   nowhere : (e : Declaration) (n : ℕ) → e ≡ Predeclared n → (place : Place) → IsDeclaredAt (IsScopedIn r.after) e place → ⊥
@@ -150,7 +134,7 @@ module _ (w : Workspace) (known : Verdicts) (r : Revision) (apart : MoveApart w 
           (only_place r.after e (counted_use r.after place e used) (r.moved s.place) (r.moved t.place) s.new t.new)
 
 -- the conflicts of one identifier
-module _ (w : Workspace) (known : Verdicts) (r : Revision) (apart : MoveApart w known r) (have : DeclarationsHavePlaces) (p q : Package)
+module _ (w : Workspace) (known : Verdicts) (r : Revision) (apart : MoveApart w known r) (p q : Package)
     (is : IsPackage w known p) (scoped : IsScopedIn r.after q) (relaid : IsRelaid r p q) (moved : HasMovedTokens r p q)
     (n : ℕ) (name : List ℕ) (renames : Renames p.layout p.names n name q.names) (place : Place) (u : ℕ)
     (begins : BeginsAt p place.path place.offset u) (old : Declaration) (was : BindsByScope p u old) where
@@ -185,7 +169,7 @@ module _ (w : Workspace) (known : Verdicts) (r : Revision) (apart : MoveApart w 
 
   now_is : (c : ℕ) (d : Declaration) → IsNumbered p c d → IsBoundTo p.layout q.names u c → Bec d d
   now_is c d h b =
-      becomes_itself w known r apart p q is scoped relaid moved have c d h (counts_before c b) (counts_of p.layout q.names u c b)
+      becomes_itself w known r apart p q is scoped relaid moved c d h (counts_before c b) (counts_of p.layout q.names u c b)
 
   found : (e : Declaration) → E e → (c : ℕ) × (IsNumbered p c e × IsBoundTo p.layout q.names u c)
   found e h = number_after w known r apart p q is scoped relaid moved u e (bound_there r.after q scoped (r.moved place) u after_begins e h)
@@ -255,12 +239,15 @@ module _ (w : Workspace) (known : Verdicts) (r : Revision) (apart : MoveApart w 
         renames.renaming u lost).bound_to_none c (is_taken c k).now_bound),
   )
 
-pub own_conflicts_told : OwnRenamesAreRenames → ScopedPackagesAreRelaid → DeclarationsMoveApart → DeclarationsHavePlaces → OwnConflictsAreTold
-own_conflicts_told own_renames relaid apart have w known p n name s rename is place u begins old was by =
+own_conflicts_by : ScopedPackagesAreRelaid → DeclarationsMoveApart → OwnConflictsAreTold
+own_conflicts_by relaid apart w known p n name s rename is place u begins old was by =
     let r = revision_of w s in
     let q = relaid w known (Declared p.path n) name s rename p is in
     let renames = own_renames w known p.path n name s rename p q.0 is refl q.1.1.0 in
     let far = apart w known (Declared p.path n) name s rename.rename in (
-      to_turn w known r far have p q.0 is q.1.0 q.1.1.0 q.1.1.1 n name renames place u begins old was by,
-      from_turn w known r far have p q.0 is q.1.0 q.1.1.0 q.1.1.1 n name renames place u begins old was by,
+      to_turn w known r far p q.0 is q.1.0 q.1.1.0 q.1.1.1 n name renames place u begins old was by,
+      from_turn w known r far p q.0 is q.1.0 q.1.1.0 q.1.1.1 n name renames place u begins old was by,
     )
+
+pub own_conflicts_told : OwnConflictsAreTold
+own_conflicts_told = own_conflicts_by scoped_relaid move_apart

@@ -3,16 +3,11 @@ use Rattle.std.specs.Prelude.{ℕ, ◌≡◌, ◌⊎◌, List, []}
 use Rattle.base_files.specs.Workspace.{Workspace}
 use Rattle.base_files.specs.declared.place.Place.{Place}
 use Rattle.base_edits.specs.EditSet.{FileChanges, edited}
-use Rattle.base_edits.specs.Revisions.{Revision}
 use Rattle.base_edits.specs.RevisionsOfEdits.{revision_of}
-use Rattle.go_scope.specs.declared.model.Position.{Position}
-use Rattle.go_scope.specs.Bindings.{Counts}
-use Rattle.types_declared.specs.Laid.{literal_of}
 use Rattle.types_declared.specs.Package.{Package}
 use Rattle.workspace_check.specs.Verdicts.{Verdicts, AreVerdicts}
 use Rattle.refs_binding.specs.declared.declaration.Declaration.{Declaration}
-use Rattle.refs_binding.specs.Binding.{IsPredeclared, BindsByMember, DeclaresMember}
-use Rattle.refs_binding.specs.DeclaringPlaces.{TokenAt, IsDeclaredAt}
+use Rattle.refs_binding.specs.Binding.{BindsByMember, DeclaresMember}
 use Rattle.refs_binding.specs.Identifiers.{BeginsAt}
 use Rattle.refs_binding.specs.Uses.{IsPackage, IsUseOf}
 use Rattle.refs_places.specs.Identified.{IsIdentifierAt}
@@ -21,51 +16,15 @@ use Rattle.refactor_preserve.specs.BoundToOne.{IsBoundToOne}
 use Rattle.law_same_bindings.specs.SameBindings.{IsBoundAlike}
 use Rattle.refactor_after.specs.ScopedPackages.{IsScopedIn}
 use Rattle.law_renamed_packages.specs.Layouts.{IsRelaid, AreSoundBelow}
-use Rattle.law_renamed_packages.specs.Renames.{IsRename, IsPlainRename}
+use Rattle.law_renamed_packages.specs.Renames.{IsPlainRename}
 use Rattle.law_renamed_packages.specs.MovedExports.{AreMovedBelow}
 use Rattle.workspace_check.specs.FaultLists.{ListsFaults}
 use Rattle.types_info.specs.QualifiedIdentifiers.{IsQualifiedByPath}
+pub use Rattle.law_scoped_packages.specs.Apart.{MoveApart, DeclarationsMoveApart}
+pub use Rattle.law_scoped_packages.specs.ScopedPackages.{HasMovedTokens, ScopedPackagesAreRelaid, DeclarationsHavePlaces, HasSameScopes}
+pub use Rattle.law_scoped_packages.specs.ScopedPackages.{FaultlessPackagesAreScoped}
 use Rattle.refactor_conflict.specs.Staying.{StaysByMember, StaysByName, NoneIsLost}
 use Rattle.refactor_preserve.specs.Preserved.{KeepsBindings}
-
--- The change moves no two declarations to one place.
-abbrev pub MoveApart : Workspace → Verdicts → Revision → Type 0
-MoveApart w known r = (c d : Declaration) (a b : Place) → IsDeclaredAt (IsPackage w known) c a → IsDeclaredAt (IsPackage w known) d b →
-    r.moved a ≡ r.moved b → c ≡ d
-
--- No rename moves two declarations to one place.
-abbrev pub DeclarationsMoveApart : Type 0
-DeclarationsMoveApart = (w : Workspace) (known : Verdicts) (d : Declaration) (name : List ℕ) (s : FileChanges) → IsRename w known d name s →
-    MoveApart w known (revision_of w s)
-
--- Each token of the package `q` begins where the change moves the token of this position in `p`. Names stay names.
-pub record HasMovedTokens (r : Revision) (p q : Package) : Type 0 where
-  pub tokens : (at : Position) (place : Place) → TokenAt p at place → TokenAt q at (r.moved place)
-  pub names : (u : ℕ) (place : Place) → BeginsAt p place.path place.offset u → BeginsAt q (r.moved place).path (r.moved place).offset u
-
--- By scopes each package is there after a plain rename, relaid, with its tokens moved. This asks for no verdict.
-abbrev pub ScopedPackagesAreRelaid : Type 0
-ScopedPackagesAreRelaid = (w : Workspace) (known : Verdicts) (d : Declaration) (name : List ℕ) (s : FileChanges) → IsPlainRename w known d name s →
-    (p : Package) → IsPackage w known p →
-    (q : Package) × (IsScopedIn (edited s w) q × (IsRelaid (revision_of w s) p q × HasMovedTokens (revision_of w s) p q))
-
--- A declaration of a package's own scopes has a place.
-abbrev pub DeclarationsHavePlaces : Type 0
-DeclarationsHavePlaces = (w : Workspace) (known : Verdicts) (p : Package) → IsPackage w known p → (d : ℕ) → Counts p.layout p.names d →
-    (IsPredeclared d → ⊥) → (place : Place) × TokenAt p (p.layout.place (literal_of p.layout d)) place
-
--- The package `o` has the files and the scopes of `q`.
-pub record HasSameScopes (q o : Package) : Type 0 where
-  pub path : o.path ≡ q.path
-  pub layout : o.layout ≡ q.layout
-  pub names : o.names ≡ q.names
-  pub size : o.size ≡ q.size
-  pub files : o.files ≡ q.files
-
--- In a workspace without faults each package that is checked has the scopes that it has without checking.
-abbrev pub FaultlessPackagesAreScoped : Type 0
-FaultlessPackagesAreScoped = (x : Workspace) (known : Verdicts) → AreVerdicts x known → ListsFaults x [] → (q : Package) → IsPackage x known q →
-    (o : Package) × (IsScopedIn x o × HasSameScopes q o)
 
 -- A plain rename keeps all bindings, and brings no fault.
 pub record IsKeptRename (w : Workspace) (known : Verdicts) (d : Declaration) (name : List ℕ) (s : FileChanges) (after : Verdicts) : Type 0 where

@@ -1,21 +1,15 @@
 -- A plain rename that preserves bindings loses and captures no identifier.
 use Rattle.std.proofs.Common.{ℕ, ◌≡◌, inl, inr, List, [], ◌∷◌, map, refl, sym, ap, subst, ◌∙◌}
-use Rattle.std.specs.Prelude.{Option, Some, None, Contains, slice_get, unwrap_or}
+use Rattle.std.specs.Prelude.{Option, Some, None, Contains, slice_get}
 use Rattle.std.proofs.lemmas.Option.{none-some}
 use Rattle.base_lemmas.proofs.Elements.{first_in}
 use Rattle.base_files.specs.Packages.{package_files}
 use Rattle.base_files.specs.Path.{folder}
 use Rattle.base_files.specs.Workspace.{Workspace}
 use Rattle.base_files.specs.declared.place.Place.{Place}
-use Rattle.base_edits.specs.EditSet.{FileChanges, change_of, edited}
-use Rattle.base_edits.specs.Fits.{path_by_change}
+use Rattle.base_edits.specs.EditSet.{FileChanges, edited}
 use Rattle.base_edits.specs.Revisions.{Revision}
 use Rattle.base_edits.specs.RevisionsOfEdits.{revision_of}
-use Rattle.base_edits.specs.declared.change.FileChange.{FileChange}
-use Rattle.base_edits.specs.declared.change.Fate.{Fate}
-use Rattle.base_edits.specs.declared.change.Fate.TheVariants.{Stays as InPlace}
-use Rattle.base_edits.specs.EditSet.{path_by}
-use Rattle.base_edits.proofs.Changes.{change_found}
 use Rattle.go_ast.specs.SourceFile.{SourceFile, FileParts, source_of}
 use Rattle.go_scope.specs.declared.model.Purpose.{Purpose}
 use Rattle.go_scope.specs.declared.model.Purpose.TheVariants as purpose
@@ -52,7 +46,7 @@ use Rattle.refactor_conflict.specs.BoundAfter.{HasBecome, IsBoundByScopes, IsBou
 use Rattle.refactor_conflict.specs.Staying.{StaysBound, NoneIsLost}
 use Rattle.refactor_conflict.proofs.CorrespondingPlaces.{not_predeclared}
 use Rattle.law_renamed_packages.specs.Layouts.{IsRelaid}
-use Rattle.law_renamed_packages.specs.Renames.{IsRename}
+pub use Rattle.law_scoped_packages.proofs.PathsStay.{keeps_path}
 use Rattle.law_rename_agrees.specs.Agreement.{PlainPreservedLosesNone}
 use Rattle.law_rename_agrees.proofs.Premises.{HasMovedTokens, KeptPackagesAreRelaid, HasSameScopes, FaultlessPackagesAreScoped}
 use Rattle.law_rename_agrees.proofs.Premises.{IsKeptRename, SelectorsStayQualified, KeptMembersStay}
@@ -136,18 +130,6 @@ module _ (q o : Package) (same : HasSameScopes q o) where
     };
     begins = subst (λ fs. TokenBegins (slice_get fs h.at.file) h.at.index place) (sym same.files) h.begins;
   }
-
--- A rename leaves each file at its path.
-by_stays : (f : Fate) (path : List ℕ) → f ≡ InPlace → unwrap_or (path_by f path) path ≡ path
-by_stays f path e = ap (λ g. unwrap_or (path_by g path) path) e
-
-module _ (w : Workspace) (known : Verdicts) (d : Declaration) (name : List ℕ) (s : FileChanges) (rename : IsRename w known d name s) where
-  by_change : (path : List ℕ) (o : Option FileChange) → change_of s path ≡ o → unwrap_or (path_by_change o path) path ≡ path
-  by_change path None e = refl
-  by_change path (Some c) e = by_stays c.fate path (rename.edits.edits.only c (change_found s.changed path c e).0).stays
-
-  pub keeps_path : (place : Place) → ((revision_of w s).moved place).path ≡ place.path
-  keeps_path place = by_change place.path (change_of s place.path) refl
 
 -- a declaration is declared in the folder of its package
 token_file : (o : Option SourceFile) (token : ℕ) (place : Place) → TokenBegins o token place → (f : SourceFile) × ((o ≡ Some f) × (f.path ≡ place.path))

@@ -1,36 +1,24 @@
 -- The identifiers of a package after a change, by its scopes: one begins at a place, and what the scopes of the workspace bind there it is
 -- bound to.
-use Rattle.std.proofs.Common.{ℕ, zero, suc, ◌≡◌, ◌<◌, List, [], length, map, refl, ap, sym, subst, ◌∙◌}
-use Rattle.std.specs.Prelude.{Option, Some, None, Contains, slice_get}
-use Rattle.std.proofs.lemmas.Option.{none-some, same_Some}
-use Rattle.base_lemmas.proofs.Elements.{first_in, later_in}
-use Rattle.base_files.specs.Path.{folder}
+use Rattle.std.proofs.Common.{ℕ, ◌≡◌, ◌<◌, List, length, map, ap, sym, subst, ◌∙◌}
+use Rattle.std.specs.Prelude.{Option, slice_get}
 use Rattle.base_files.specs.Workspace.{Workspace}
 use Rattle.base_files.specs.declared.place.Place.{Place}
-use Rattle.go_ast.specs.SourceFile.{SourceFile, FileParts, source_of}
-use Rattle.workspace_graph.specs.Parsed.{AreParsed, none, tree}
+use Rattle.go_ast.specs.SourceFile.{SourceFile, source_of}
 use Rattle.go_scope.specs.Bindings.{Layout, IsIdentifier}
 use Rattle.go_scope.specs.Named.{with_names}
 use Rattle.go_scope.specs.Packages.{ScopedPackage, scoped, layout_in}
 use Rattle.law_tokens.proofs.HeldBytes.{one_named_begins}
 use Rattle.law_tokens.proofs.OwnPaths.{own_paths, package_sources}
 use Rattle.types_declared.specs.Package.{Package}
-use Rattle.workspace_check.proofs.PackageFiles.{in_folder}
 use Rattle.refs_binding.specs.declared.declaration.Declaration.{Declaration}
 use Rattle.refs_binding.specs.Binding.{BindsByScope}
-use Rattle.refs_binding.specs.Identifiers.{NameBegins, BeginsAt, file_of}
+use Rattle.refs_binding.specs.Identifiers.{NameBegins, BeginsAt}
 use Rattle.refs_binding.proofs.Files.{place_of_name}
 use Rattle.refactor_after.specs.ScopedPackages.{IsScopedIn}
 use Rattle.refactor_after.specs.ScopeBindings.{IsScopeUse}
 use Rattle.refactor_after.proofs.OneScoped.{one_scoped}
-
--- a file lies in the folder of its package
-entry_of : {es : List (List ℕ × List ℕ)} {ts : List FileParts} → AreParsed es ts [] → (i : ℕ) (s : SourceFile) → slice_get (map source_of ts) i ≡ Some s →
-    (e : List ℕ × List ℕ) × (Contains es e × (s.path ≡ e.0))
-entry_of none i s at = absurd (none-some s at)
-entry_of (tree {e = e} {es = es} {t = t} is rest) zero s at =
-    (e, (first_in e es, ap (λ (z : SourceFile). z.path) (sym (same_Some (source_of t) s at)) ∙ is.of_path))
-entry_of (tree {e = e} {es = es} is rest) (suc i) s at = let r = entry_of rest i s at in (r.0, (later_in e es r.0 r.1.0, r.1.1))
+use Rattle.law_renamed_scopes.proofs.Apart.{scoped_in_folder}
 
 abbrev Begins : List SourceFile → Layout → List ℕ → ℕ → ℕ → Type 0
 Begins files l path offset u = IsIdentifier l u × NameBegins (slice_get files (l.place u).file) (l.place u).index path offset
@@ -52,7 +40,7 @@ module _ (w : Workspace) (p : Package) (h : IsScopedIn w p) where
   same_files : p.files ≡ map source_of h.files
   same_files = ap (λ (x : Package). x.files) h.is_package.is_package
 
-  -- one identifier begins at a place, and its file lies in the folder of the package
+  -- one identifier begins at a place
   begins_laid : (file : List ℕ) (offset u : ℕ) → BeginsAt p file offset u → Begins (map source_of h.files) (layout_in table_of) file offset u
   begins_laid file offset u a =
       subst (λ l. Begins (map source_of h.files) l file offset u) same_layout (subst (λ fs. Begins fs p.layout file offset u) same_files (a.0.1, a.1))
@@ -67,20 +55,11 @@ module _ (w : Workspace) (p : Package) (h : IsScopedIn w p) where
       (x.0, place_of_name h.files (l.place u).file (l.place u).index file offset x.1)
       (y.0, place_of_name h.files (l.place v).file (l.place v).index file offset y.1)
 
-  by_file : (k token : ℕ) (o : Option SourceFile) (file : List ℕ) (offset : ℕ) → slice_get p.files k ≡ o → NameBegins o token file offset → folder file ≡ p.path
-  by_file k token None file offset e n = absurd n
-  by_file k token (Some f) file offset e n =
-      let r = entry_of h.parsed k f (subst (λ fs. slice_get fs k ≡ Some f) same_files e) in
-      ap folder (sym n.1 ∙ r.1.1) ∙ in_folder w p.path r.0 r.1.0
-
-  pub scoped_folder : (file : List ℕ) (offset u : ℕ) → BeginsAt p file offset u → folder file ≡ p.path
-  scoped_folder file offset u b = by_file (p.layout.place u).file (p.layout.place u).index (file_of p u) file offset refl b.1
-
 -- Of two packages in which an identifier begins at one place, both are one, and so are the identifiers.
 pub same_use : (w : Workspace) (p q : Package) → IsScopedIn w p → IsScopedIn w q → (place : Place) (u v : ℕ) → BeginsAt p place.path place.offset u →
     BeginsAt q place.path place.offset v → (q ≡ p) × (v ≡ u)
 same_use w p q a b place u v x y =
-    let paths : q.path ≡ p.path = sym (scoped_folder w q b place.path place.offset v y) ∙ scoped_folder w p a place.path place.offset u x in
+    let paths : q.path ≡ p.path = scoped_in_folder w q b place.path place.offset v y ∙ sym (scoped_in_folder w p a place.path place.offset u x) in
     let same : q ≡ p = one_scoped w q p b a paths in
     (same, one_scoped_begins w p a place.path place.offset v u (subst (λ (z : Package). BeginsAt z place.path place.offset v) same y) x)
 

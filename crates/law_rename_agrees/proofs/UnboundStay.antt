@@ -47,7 +47,7 @@ module _ (w : Workspace) (sound : ListsFaults w []) (known : Verdicts) (right : 
   no_member_fault f h =
       no_fault_later w sound known right p is f (inr ((λ g inner. no_fault_later w sound known right p is g (inl inner)), inl h))
 
-  field_counts : (rank : ℕ) (f : PlacedField) → slice_get (package_fields p) rank ≡ Some f →
+  pub field_counts : (rank : ℕ) (f : PlacedField) → slice_get (package_fields p) rank ≡ Some f →
       IsCountingField p f.definition (spelled p f.file f.name) rank f
   field_counts rank f has =
       let own : IsFieldOf p f.definition (spelled p f.file f.name) rank f = record { has_rank = has; of_struct = refl; named = refl } in
@@ -64,7 +64,7 @@ module _ (w : Workspace) (sound : ListsFaults w []) (known : Verdicts) (right : 
       }))) in
       record { is_field = own; first = λ other g lt h. counted (λ c. c.first other g lt h) }
 
-  method_counts : (definition rank : ℕ) (name : List ℕ) (f : PlacedFunction) → IsMethodOf p definition name rank f →
+  pub method_counts : (definition rank : ℕ) (name : List ℕ) (f : PlacedFunction) → IsMethodOf p definition name rank f →
       IsCountingMethod p definition name rank f
   method_counts definition rank name f own =
       let counted : (IsCountingMethod p definition name rank f → ⊥) → ⊥ =
@@ -89,7 +89,7 @@ module _ (w : Workspace) (sound : ListsFaults w []) (known : Verdicts) (right : 
     lies : (at : Position) → LiesAt q.layout at u → LiesAt p.layout at u
     lies at h = subst (λ (l : Layout). LiesAt l at u) relaid.layout h
 
-    declared_before : (e : Declaration) → DeclaresMember q u e → DeclaresMember p u e
+    pub declared_before : (e : Declaration) → DeclaresMember q u e → DeclaresMember p u e
     declared_before (Predeclared n) h = absurd h
     declared_before (Declared path n) h = absurd h
     declared_before (Field s) h =

@@ -1,15 +1,12 @@
 -- Conflicts of a rename by what is kept of a workspace: its tables, the paths of its imports, its member uses, and what its definitions
 -- have. No text is asked, and no token but those of identifiers.
-use Rattle.std.specs.Prelude.{ℕ, ◌≡◌, ◌↔◌, false, List, Option, Some, None, MatchOption}
+use Rattle.std.specs.Prelude.{ℕ, ◌≡◌, ◌↔◌, List, Option, Some, None, MatchOption}
 use Rattle.base_files.specs.Workspace.{Workspace}
 use Rattle.base_files.specs.declared.place.Place.{Place}
 use Rattle.base_edits.specs.EditSet.{FileChanges}
-use Rattle.types_declared.specs.Laid.{is_exported}
 use Rattle.types_expr.specs.Types.{PlainType, Underlying}
 use Rattle.types_expr.specs.Judge.{MemberUse}
-use Rattle.law_rename.specs.Renaming.{WouldCapture, HasNoConflictAt, Renames}
-use Rattle.law_rename.specs.Seen.{IsExportedAs}
-use Rattle.go_scope.specs.Bindings.{Names}
+use Rattle.law_rename.specs.Renaming.{WouldCapture, HasNoConflictAt}
 use Rattle.types_declared.specs.Package.{Package, PlacedFunction}
 use Rattle.types_declared.specs.Written.{ImportsPath}
 use Rattle.types_declared.specs.Definitions.{HasUnderlying, PlacedField, IsFieldOf, IsMethodOf}
@@ -18,12 +15,12 @@ use Rattle.workspace_check.specs.Verdicts.{Verdicts}
 use Rattle.refs_binding.specs.declared.declaration.Declaration.{Declaration}
 use Rattle.refs_binding.specs.declared.declaration.Declaration.TheVariants.{Predeclared, Declared}
 use Rattle.refs_binding.specs.Identifiers.{BeginsAt}
-use Rattle.refs_binding.specs.Binding.{BindsByScope, BindsQualified, IsPredeclared}
+use Rattle.refs_binding.specs.Binding.{BindsByScope, IsPredeclared}
 use Rattle.refs_binding.specs.Uses.{IsPackage}
 use Rattle.refs_binding.specs.DeclaringPlaces.{IsDeclaredAt}
 use Rattle.base_edits.specs.Revisions.{Revision}
 use Rattle.base_edits.specs.RevisionsOfEdits.{revision_of}
-use Rattle.refactor_conflict.specs.BoundAfter.{HasBecome, IsBoundByScopes, IsBoundByPackage}
+use Rattle.refactor_conflict.specs.BoundAfter.{HasBecome, IsBoundByScopes}
 use Rattle.refactor_conflict.specs.Conflicts.{IsConflict, IsCapturer, LostOrCaptured}
 use Rattle.refactor_conflict.specs.Staying.{NoneIsLost, NoneIsLostBefore}
 use Rattle.refactor_conflict.specs.declared.conflict.Conflict.{Conflict}
@@ -98,18 +95,3 @@ OwnConflictsAreTold = (w : Workspace) (known : Verdicts) (p : Package) (n : ℕ)
     (old : Declaration) → BindsByScope p u old → (by : Option Capturer) →
     LostOrCaptured (HasBecome w known (revision_of w s)) (IsPackage w known) (IsBoundByScopes (revision_of w s) place) old by ↔
     WouldTurn w known p n name u by
-
--- What stands in another package behind the name of the one that declares: it is lost where the new name is not exported, and captured
--- where the new name is repeated there and another declaration counts.
-abbrev pub WouldTurnBehind : Workspace → Verdicts → (own : Package) → (n : ℕ) → (name : List ℕ) → (used : List ℕ) → (old : ℕ) → Option Capturer → Type 0
-WouldTurnBehind w known own n name used old None = (old ≡ n) × (is_exported name ≡ false)
-WouldTurnBehind w known own n name used old (Some by) =
-    (after : Names) → Renames own.layout own.names n name after → (e : ℕ) × (IsExportedAs own.layout after used e × ((e ≡ old → ⊥)
-    × IsCapturer (IsPackage w known) (Declared own.path e) by))
-
-abbrev pub OutsideConflictsAreTold : Type 0
-OutsideConflictsAreTold = (w : Workspace) (known : Verdicts) (own : Package) (n : ℕ) (name : List ℕ) (s : FileChanges) →
-    IsPlainRename w known (Declared own.path n) name s → IsPackage w known own → (p : Package) → IsPackage w known p → (place : Place) (u : ℕ) →
-    BeginsAt p place.path place.offset u → (old : ℕ) → BindsQualified (IsPackage w known) p u (Declared own.path old) → (by : Option Capturer) →
-    LostOrCaptured (HasBecome w known (revision_of w s)) (IsPackage w known) (IsBoundByPackage w (revision_of w s) place p u) (Declared own.path old) by ↔
-    WouldTurnBehind w known own n name ((revision_of w s).called place (p.names u)) old by

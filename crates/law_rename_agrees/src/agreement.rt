@@ -1,5 +1,6 @@
 //! Laws of renames: identifiers judged one by one agree with the edited workspace.
 ghost use Rattle.law_rename_agrees.specs.Agreement.{AgreementTellsConflicts, CheckedNoneLostPreserves, HalvesAgree};
+ghost use Rattle.law_rename_agrees.specs.ConflictsByTables.{HasOneAnswer, OwnConflictsAreTold};
 
 /// Where each of two halves implies the other, no identifier is lost or captured exactly where bindings are preserved. The first half alone
 /// gives that what is reported of a rename that does not preserve bindings is a conflict.
@@ -12,4 +13,14 @@ pub fn halves_agree()
 /// that has verdicts.
 pub fn none_lost_preserves()
     ensures { CheckedNoneLostPreserves }
+{}
+
+/// What a plain rename does to an identifier that the scopes of the declaring package bind is told by the old names.
+pub fn own_conflicts_are_told()
+    ensures { OwnConflictsAreTold }
+{}
+
+/// A rename has one first conflict at most.
+pub fn one_first_conflict_is_told()
+    ensures { HasOneAnswer }
 {}

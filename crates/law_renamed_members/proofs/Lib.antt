@@ -4,8 +4,8 @@ pub mod NewNames
 pub mod FirstOf
 pub mod CountingMembers
 pub mod DefinitionsAfter
-mod MembersAfterwards
-mod UsesOfMembers
+pub mod MembersAfterwards
+pub mod UsesOfMembers
 pub mod WorldsAlike
 pub mod SeenAfter
 pub mod StayingMembers

@@ -23,15 +23,15 @@ kept : {X : Type 0} (b : Bool) (x y : X) → (if b then Some x else None) ≡ So
 kept true x y e = e
 kept false x y e = absurd (none-some y e)
 
-kept_seen : {X : Type 0} (b : Bool) (x y : X) → (if b then Some x else None) ≡ Some y → b ≡ true
+pub kept_seen : {X : Type 0} (b : Bool) (x y : X) → (if b then Some x else None) ≡ Some y → b ≡ true
 kept_seen true x y e = refl
 kept_seen false x y e = absurd (none-some y e)
 
-field_there : (own : List ℕ) (o : Option Field) (f : Field) → seen_field own o ≡ Some f → o ≡ Some f
+pub field_there : (own : List ℕ) (o : Option Field) (f : Field) → seen_field own o ≡ Some f → o ≡ Some f
 field_there own None f e = absurd (none-some f e)
 field_there own (Some g) f e = kept (is_seen own g.symbol g.exported) g f e
 
-method_there : (own : List ℕ) (o : Option Method) (m : Method) → seen_method own o ≡ Some m → o ≡ Some m
+pub method_there : (own : List ℕ) (o : Option Method) (m : Method) → seen_method own o ≡ Some m → o ≡ Some m
 method_there own None m e = absurd (none-some m e)
 method_there own (Some n) m e = kept (is_seen own n.symbol n.exported) n m e
 

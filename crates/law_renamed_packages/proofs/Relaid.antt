@@ -36,7 +36,7 @@ use Rattle.types_declared.specs.Package.{Package, ExportData, spelled, spelled_a
 use Rattle.types_declared.specs.PackageNames.{IsPackageName, ArePackageNames}
 use Rattle.types_declared.specs.ExportTablesView.{no_export_data}
 use Rattle.types_info.specs.PackageOf.{package_in}
-use Rattle.workspace_check.specs.Verdicts.{Verdicts, AreVerdicts, BuildsOn, IsSeenAs, seen, unseen, AreSeen, IsPackageIn}
+use Rattle.workspace_check.specs.Verdicts.{Verdicts, BuildsOn, IsSeenAs, seen, unseen, AreSeen, IsPackageIn}
 use Rattle.workspace_check.proofs.Closed.{to_package}
 use Rattle.workspace_check.proofs.OneList.{is_faultless}
 use Rattle.workspace_check.proofs.OneVerdict.{one_verdict}
@@ -158,7 +158,7 @@ module _ (s : FileChanges) (ts : List FileParts) (each : (k : ℕ) (t : FilePart
   }
 
 module _ (w : Workspace) (before after : Verdicts) (d : Declaration) (name : List ℕ) (s : FileChanges) (h : IsPlainRename w before d name s)
-    (right : AreVerdicts (edited s w) after) (p : Package) (is : IsPackage w before p) (sound : AreSoundBelow w before after p.path) where
+    (p : Package) (is : IsPackage w before p) (sound : AreSoundBelow w before after p.path) where
   abbrev ts : List FileParts
   ts = is.is_checked.files
 
@@ -452,7 +452,12 @@ module _ (w : Workspace) (before after : Verdicts) (d : Declaration) (name : Lis
     other_names = other_names_are;
   }
 
+-- The verdicts of afterwards need not be right: of them only names, and that there are no faults, count.
+pub relaid_by : (w : Workspace) (before after : Verdicts) (d : Declaration) (name : List ℕ) (s : FileChanges) → IsPlainRename w before d name s →
+    (p : Package) → IsPackage w before p → AreSoundBelow w before after p.path →
+    (q : Package) × (IsPackage (edited s w) after q × IsRelaid (revision_of w s) p q)
+relaid_by w before after d name s h p is sound =
+    (new w before after d name s h p is sound, (new_package w before after d name s h p is sound, relaid w before after d name s h p is sound))
+
 pub packages_are : PackagesAreRelaid
-packages_are w before after d name s h right p is sound =
-    let q = new w before after d name s h right p is sound in
-    (q, (new_package w before after d name s h right p is sound, relaid w before after d name s h right p is sound))
+packages_are w before after d name s h right p is sound = relaid_by w before after d name s h p is sound

@@ -6,6 +6,7 @@ use Rattle.base_files.specs.Packages.{package_paths}
 use Rattle.base_files.specs.Workspace.{Workspace}
 use Rattle.base_files.specs.declared.place.Place.{Place}
 use Rattle.base_edits.specs.EditSet.{FileChanges, edited}
+use Rattle.base_edits.specs.Revisions.{Revision}
 use Rattle.base_edits.specs.RevisionsOfEdits.{revision_of}
 use Rattle.go_scope.specs.declared.model.Block.TheVariants.{Universe}
 use Rattle.go_scope.specs.declared.model.Block.TheVariants.{Package as PackageBlock}
@@ -37,12 +38,13 @@ use Rattle.types_expr.specs.World.{Means as Stands}
 use Rattle.types_info.specs.QualifiedIdentifiers.{IsQualifiedByPath}
 use Rattle.types_info.specs.Uniqueness.{TokensRise}
 use Rattle.types_info.proofs.OneMeaning.{has_one_meaning}
-use Rattle.workspace_check.specs.Verdicts.{Verdict, Verdicts, AreVerdicts, BuildsOn, IsSeenAs, IsVerdict, follows, seen, unseen}
-use Rattle.workspace_check.proofs.Closed.{in_closure_then, to_package}
+use Rattle.workspace_check.specs.Verdicts.{Verdict, Verdicts, AreVerdictsBelow, BuildsOn, IsSeenAs, IsVerdict, follows, seen, unseen}
+use Rattle.workspace_check.proofs.Closed.{to_package}
 use Rattle.workspace_check.proofs.OneList.{is_faultless}
 use Rattle.workspace_check.proofs.OnePackage.{files_in_order, layout_formed, one_checked}
 use Rattle.workspace_check.proofs.OneVerdict.{one_verdict, right_below, verdict_by}
 use Rattle.workspace_check.proofs.SameImports.{builds_by, imports_back}
+use Rattle.workspace_check.proofs.Underway.{builds_then}
 use Rattle.refs_binding.specs.declared.declaration.Declaration.{Declaration}
 use Rattle.refs_binding.specs.declared.declaration.Declaration.TheVariants.{Predeclared, Declared, Field, Method}
 use Rattle.refs_binding.specs.Binding.{IsQualifiedUse, by_scope, by_package, by_member, by_name}
@@ -56,8 +58,8 @@ use Rattle.law_renamed_packages.specs.Layouts.{IsRelaid}
 use Rattle.law_renamed_packages.specs.MovedExports.{AreMovedBelow}
 use Rattle.law_renamed_packages.specs.Renames.{IsPlainRename}
 use Rattle.law_renamed_packages.proofs.Packages.{same_imports}
-use Rattle.law_renamed_packages.proofs.Relaid.{packages_are}
-use Rattle.law_renamed_scopes.specs.Scopes.{PackagesAreBoundAlike}
+use Rattle.law_renamed_packages.proofs.Relaid.{relaid_by}
+use Rattle.law_renamed_scopes.specs.Scopes.{PackagesAreBoundAlike, ScopedNamesStay, NamedPackagesAreBoundAlike}
 use Rattle.law_renamed_scopes.proofs.FilesAfter.{imports_stay, imports_were}
 use Rattle.law_renamed_scopes.proofs.KeptBindings.{keeps_others, predeclared_stay}
 use Rattle.law_renamed_scopes.proofs.NameTokens.{is_named}
@@ -65,7 +67,7 @@ use Rattle.law_renamed_scopes.proofs.OwnNames.{counted, in_universe, member_is_n
 use Rattle.law_renamed_scopes.proofs.Renamed.{bound_is_called, others_are_kept, scope_number}
 use Rattle.law_renamed_scopes.proofs.OwnNames.{own_renames}
 use Rattle.law_renamed_scopes.proofs.SameBindings.{bindings}
-use Rattle.law_renamed_scopes.proofs.ScopedAgain.{scopes_again}
+use Rattle.law_renamed_scopes.proofs.ScopedAgain.{scopes_below}
 use Rattle.law_renamed_scopes.proofs.Standing.{begins_there, named_stands}
 
 -- what is seen of a package below that has no faults
@@ -79,12 +81,6 @@ unseen_is : (w : Workspace) (known : Verdicts) (r q : List ℕ) (n : Option (Lis
     (BuildsOn w r q → ⊥) → i ≡ no_export_data q
 unseen_is w known r q _ _ (seen on faultless) never = absurd (never on)
 unseen_is w known r q _ _ (unseen none) never = refl
-
-builds_then : (w : Workspace) (p q r : List ℕ) → BuildsOn w p q → BuildsOn w q r → BuildsOn w p r
-builds_then w p q r a b = record {
-  imported = in_closure_then w p q r a.imported b.imported;
-  not_back = λ back. a.not_back (in_closure_then w q r p b.imported back);
-}
 
 -- the export under a name
 
@@ -134,7 +130,7 @@ spelled_selected w known p is u lt role =
     ∙ sym (spelled_so w known p.path p is.is_checked u lt (ap is_implied role) (ap may_declare role) x.source x.of_rank)
 
 module _ (w : Workspace) (before after : Verdicts) (d : Declaration) (name : List ℕ) (s : FileChanges) (h : IsPlainRename w before d name s)
-    (right : AreVerdicts (edited s w) after) (lost : NoneIsLost w before (revision_of w s)) where
+    (lost : ScopedNamesStay w before (revision_of w s)) where
   abbrev v : Workspace
   v = edited s w
 
@@ -151,9 +147,10 @@ module _ (w : Workspace) (before after : Verdicts) (d : Declaration) (name : Lis
       (before_faultless c.path has) in
       subst (λ y. IsExportData y (before c.path).export_data) (one_checked w before c.path x.checked c x.is_package is.is_checked) x.is_export_data
 
-  new_exports : (b : Package) → IsPackage v after b → (after b.path).faulty ≡ false → IsExportData b (after b.path).export_data
-  new_exports b also faultless =
-      let x = (verdict_by v b.path after (after b.path) (right_below v after right b.path) (right b.path also.of_workspace)).has_export_data faultless in
+  new_exports : (b : Package) → IsPackage v after b → AreVerdictsBelow v b.path after → IsVerdict v b.path (after b.path) → (after b.path).faulty ≡ false →
+      IsExportData b (after b.path).export_data
+  new_exports b also below right faultless =
+      let x = (verdict_by v b.path after (after b.path) below right).has_export_data faultless in
       subst (λ y. IsExportData y (after b.path).export_data) (one_checked v after b.path x.checked b x.is_package also.is_checked) x.is_export_data
 
   moved_then : (p r : List ℕ) → BuildsOn w p r → AreMovedBelow w before after p → AreMovedBelow w before after r
@@ -165,8 +162,11 @@ module _ (w : Workspace) (before after : Verdicts) (d : Declaration) (name : Lis
     moved = λ q more. under.moved q (builds_then w p r q on more);
   }
 
-  module _ (p q : Package) (is : IsPackage w before p) (also : IsPackage v after q) (relaid : IsRelaid (revision_of w s) p q)
-      (under : AreMovedBelow w before after p.path) where
+  module _ (p q : Package) (right : AreVerdictsBelow v p.path after) (is : IsPackage w before p) (also : IsPackage v after q)
+      (relaid : IsRelaid (revision_of w s) p q) (under : AreMovedBelow w before after p.path) where
+    right_too : AreVerdictsBelow v q.path after
+    right_too = subst (λ path. AreVerdictsBelow v path after) (sym relaid.path) right
+
     -- what is seen of the packages below
 
     builds_after : (r : List ℕ) → BuildsOn w p.path r → BuildsOn v q.path r
@@ -215,7 +215,7 @@ module _ (w : Workspace) (before after : Verdicts) (d : Declaration) (name : Lis
       builds_c = subst (BuildsOn w p.path) (sym use_of.of_path) on
 
       relaid_c : (b : Package) × (IsPackage v after b × IsRelaid (revision_of w s) c b)
-      relaid_c = packages_are w before after d name s h right c use_of.is_package (moved_then p.path c.path builds_c under).sound
+      relaid_c = relaid_by w before after d name s h c use_of.is_package (moved_then p.path c.path builds_c under).sound
 
       module _ (b : Package) (is_b : IsPackage v after b) (relaid_b : IsRelaid (revision_of w s) c b) where
         alike : IsBoundAlike c b
@@ -265,6 +265,15 @@ module _ (w : Workspace) (before after : Verdicts) (d : Declaration) (name : Lis
         faultless_b : (after b.path).faulty ≡ false
         faultless_b = ap (λ r. (after r).faulty) (relaid_b.path ∙ use_of.of_path) ∙ under.sound.faultless path on
 
+        builds_b : BuildsOn v p.path b.path
+        builds_b = subst (BuildsOn v p.path) (sym relaid_b.path) (builds_by w v (same_imports w before d name s h) p.path c.path builds_c)
+
+        is_right_b : IsVerdict v b.path (after b.path)
+        is_right_b = right b.path builds_b
+
+        right_b : AreVerdictsBelow v b.path after
+        right_b = λ o more. right o (builds_then v p.path b.path o builds_b more)
+
         f : Option Export
         f = (before c.path).export_data.exported (p.names u)
 
@@ -277,7 +286,7 @@ module _ (w : Workspace) (before after : Verdicts) (d : Declaration) (name : Lis
 
         g_is : IsExported b (q.names u) g
         unfolding g
-        g_is = (new_exports b is_b faultless_b).exported (q.names u)
+        g_is = (new_exports b is_b right_b is_right_b faultless_b).exported (q.names u)
 
         both : (e : Export) → (f ≡ Some e) ↔ (g ≡ Some e)
         both e = (
@@ -399,7 +408,7 @@ module _ (w : Workspace) (before after : Verdicts) (d : Declaration) (name : Lis
         trees = relaid.trees;
         bindings = bindings w before d name s h p q is relaid
             (keeps_others w before after d name s h p q is also relaid
-            (scopes_again w before after d name s h right p q is also relaid.path under.sound) lost);
+            (scopes_below w before after d name s h p q right_too is also relaid.path under.sound) lost);
         predeclared = predeclared_stay w before after d name s h p q is also relaid;
         imports = λ x path. (
           imports_stay w before after d name s h p q is also relaid.path relaid.layout x path,
@@ -411,14 +420,38 @@ module _ (w : Workspace) (before after : Verdicts) (d : Declaration) (name : Lis
       }
 
   -- along the imports
-  alike_by : (path : List ℕ) (x : Verdict) → IsVerdict w path x → (p q : Package) → IsPackage w before p → IsPackage v after q → p.path ≡ path →
-      IsRelaid (revision_of w s) p q → AreMovedBelow w before after p.path → IsBoundAlike p q
-  alike_by path x (follows known below by) p q is also e relaid under =
-      bound_alike p q is also relaid under
+  alike_by : (path : List ℕ) (x : Verdict) → IsVerdict w path x → (p q : Package) → AreVerdictsBelow v p.path after → IsPackage w before p →
+      IsPackage v after q → p.path ≡ path → IsRelaid (revision_of w s) p q → AreMovedBelow w before after p.path → IsBoundAlike p q
+  alike_by path x (follows known below by) p q right is also e relaid under =
+      bound_alike p q right is also relaid under
       (λ r on c b is_c is_b here relaid_c.
-      alike_by r (known r) (below r (subst (λ z. BuildsOn w z r) e on)) c b is_c is_b here relaid_c
-      (moved_then p.path c.path (subst (BuildsOn w p.path) (sym here) on) under))
+      let builds : BuildsOn w p.path c.path = subst (BuildsOn w p.path) (sym here) on in
+      let then : BuildsOn v p.path c.path = builds_by w v (same_imports w before d name s h) p.path c.path builds in
+      alike_by r (known r) (below r (subst (λ z. BuildsOn w z r) e on)) c b (λ o more. right o (builds_then v p.path c.path o then more)) is_c is_b here
+      relaid_c (moved_then p.path c.path builds under))
+
+-- by right verdicts on what the package builds on alone
+named_below : (w : Workspace) (before after : Verdicts) (d : Declaration) (name : List ℕ) (s : FileChanges) → IsPlainRename w before d name s →
+    ScopedNamesStay w before (revision_of w s) → (p q : Package) → AreVerdictsBelow (edited s w) p.path after → IsPackage w before p →
+    IsPackage (edited s w) after q → IsRelaid (revision_of w s) p q → AreMovedBelow w before after p.path → IsBoundAlike p q
+named_below w before after d name s h lost p q right is also relaid under =
+    alike_by w before after d name s h lost p.path (before p.path) (h.rename.right p.path is.of_workspace) p q right is also refl relaid under
+
+names_stay : (w : Workspace) (before : Verdicts) (r : Revision) → NoneIsLost w before r → ScopedNamesStay w before r
+names_stay w before r none place p is u begins =
+    let stays = none place p is u begins in record { by_scope = stays.by_scope; by_package = stays.by_package }
+
+pub alike_below : (w : Workspace) (before after : Verdicts) (d : Declaration) (name : List ℕ) (s : FileChanges) → IsPlainRename w before d name s →
+    NoneIsLost w before (revision_of w s) → (p q : Package) → AreVerdictsBelow (edited s w) p.path after → IsPackage w before p →
+    IsPackage (edited s w) after q → IsRelaid (revision_of w s) p q → AreMovedBelow w before after p.path → IsBoundAlike p q
+alike_below w before after d name s h none p q right is also relaid under =
+    named_below w before after d name s h (names_stay w before (revision_of w s) none) p q right is also relaid under
+
+-- by right verdicts on all packages
+pub named_packages_alike : NamedPackagesAreBoundAlike
+named_packages_alike w before after d name s h right lost p q is also relaid under =
+    named_below w before after d name s h lost p q (right_below (edited s w) after right p.path) is also relaid under
 
 pub packages_alike : PackagesAreBoundAlike
-packages_alike w before after d name s h right lost p q is also relaid under =
-    alike_by w before after d name s h right lost p.path (before p.path) (h.rename.right p.path is.of_workspace) p q is also refl relaid under
+packages_alike w before after d name s h right none p q is also relaid under =
+    alike_below w before after d name s h none p q (right_below (edited s w) after right p.path) is also relaid under

@@ -34,12 +34,12 @@ use Rattle.refs_index.specs.Corresponding.{Corresponds}
 use Rattle.refs_index.proofs.Becoming.{by_cases}
 use Rattle.refactor_after.specs.ScopeBindings.{IsScopeUse}
 use Rattle.refactor_after.specs.ScopedPackages.{IsScopedIn}
-use Rattle.refactor_conflict.specs.Staying.{NoneIsLost}
 use Rattle.law_faultless.proofs.Declared.{given, old_site, new_site, role_is, kept, may_within, told_identifies, told_universe}
 use Rattle.law_faultless.proofs.FilesDecided.{IsGlobal}
 use Rattle.law_faultless.proofs.Numbers.{OfKind, IsTold, IsKept, universal, plain, laid}
 use Rattle.law_renamed_packages.specs.Layouts.{IsRelaid}
 use Rattle.law_renamed_packages.specs.Renames.{IsPlainRename}
+use Rattle.law_renamed_scopes.specs.Scopes.{ScopedNamesStay}
 use Rattle.law_renamed_scopes.proofs.Apart.{name_token, one_of_literal, one_stands, literal_stands, scoped_in_folder}
 use Rattle.law_renamed_scopes.proofs.FilesAfter.{path_stays, token_moves}
 use Rattle.law_renamed_scopes.proofs.OwnNames.{bound_within}
@@ -196,7 +196,7 @@ module _ (w : Workspace) (before after : Verdicts) (d : Declaration) (name : Lis
         by_new (Field x) b place old new = absurd b
         by_new (Method x) b place old new = absurd b
 
-    module _ (lost : NoneIsLost w before (revision_of w s)) where
+    module _ (lost : ScopedNamesStay w before (revision_of w s)) where
       -- afterwards the scopes of the package bind the identifier
       bound_after : (u : ℕ) (place : Place) → BeginsAt p place.path place.offset u → IsPlain l u → (f : Declaration) →
           IsScopeUse (edited s w) f (moved s place) → BindsByScope (scoped_of q) u f

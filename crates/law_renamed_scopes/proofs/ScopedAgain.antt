@@ -32,13 +32,14 @@ use Rattle.types_declared.specs.Package.{Package, ExportData}
 use Rattle.types_declared.specs.PackageNames.{ArePackageNames}
 use Rattle.types_declared.specs.ExportTablesView.{no_export_data}
 use Rattle.types_info.specs.PackageOf.{package_in}
-use Rattle.workspace_check.specs.Verdicts.{Verdicts, AreVerdicts, BuildsOn, IsPackageIn, IsSeenAs, seen, unseen}
+use Rattle.workspace_check.specs.Verdicts.{Verdicts, AreVerdicts, AreVerdictsBelow, BuildsOn, IsPackageIn, IsSeenAs, seen, unseen}
 use Rattle.workspace_check.proofs.Closed.{to_package}
 use Rattle.workspace_check.proofs.Importing.{literal_path}
 use Rattle.workspace_check.proofs.OnePackage.{one_sources}
 use Rattle.workspace_check.proofs.OneVerdict.{right_below, verdict_by}
 use Rattle.workspace_check.proofs.PackageFiles.{entry_at}
 use Rattle.workspace_check.proofs.SameImports.{builds_by}
+use Rattle.workspace_check.proofs.Underway.{builds_then}
 use Rattle.refs_binding.specs.declared.declaration.Declaration.{Declaration}
 use Rattle.refs_binding.specs.Uses.{IsPackage}
 use Rattle.refs_lookup.proofs.HeaderStrings.{is_import_literal}
@@ -113,8 +114,8 @@ module _ (v : Workspace) (path : List ℕ) (files : List FileParts) (parsed : Ar
       record { entry = entry.0; of_package = entry.1.0; file = f; parsed = entry.1.1; imports = literal_path f place.index r found stated }
 
 module _ (w : Workspace) (before after : Verdicts) (d : Declaration) (name : List ℕ) (s : FileChanges) (h : IsPlainRename w before d name s)
-    (right : AreVerdicts (edited s w) after) (p q : Package) (is : IsPackage w before p) (also : IsPackage (edited s w) after q) (path : q.path ≡ p.path)
-    (sound : AreSoundBelow w before after p.path) where
+    (p q : Package) (right : AreVerdictsBelow (edited s w) q.path after) (is : IsPackage w before p) (also : IsPackage (edited s w) after q)
+    (path : q.path ≡ p.path) (sound : AreSoundBelow w before after p.path) where
   abbrev v : Workspace
   v = edited s w
 
@@ -133,7 +134,8 @@ module _ (w : Workspace) (before after : Verdicts) (d : Declaration) (name : Lis
       Some (after r).export_data.name ≡ o
   seen_faultless r on faultless o clause =
       let has = to_package v q.path r on.imported in
-      let x = (verdict_by v r after (after r) (right_below v after right r) (right r has)).has_export_data faultless in
+      let below : AreVerdictsBelow v r after = λ o more. right o (builds_then v q.path r o on more) in
+      let x = (verdict_by v r after (after r) below (right r on)).has_export_data faultless in
       ap Some (x.is_export_data.name ∙ ap package_name (same_files v after r x.checked x.is_package))
       ∙ sym (clause_is v r o x.is_package.files x.is_package.parsed has clause)
 
@@ -161,8 +163,8 @@ module _ (w : Workspace) (before after : Verdicts) (d : Declaration) (name : Lis
         unknown = one.unknown;
       }
 
-  pub scopes_again : (x : Package) → IsScopedIn v x → x.path ≡ q.path → x ≡ scoped_of q
-  scopes_again x is_x e =
+  pub scopes_below : (x : Package) → IsScopedIn v x → x.path ≡ q.path → x ≡ scoped_of q
+  scopes_below x is_x e =
       let again : Package = package_in q.path (map source_of files) own.is_package.laid no_export_data in
       let scopes : IsScopedIn v again = record {
         of_workspace = also.of_workspace;
@@ -181,3 +183,10 @@ module _ (w : Workspace) (before after : Verdicts) (d : Declaration) (name : Lis
         };
       } in
       one_scoped v x again is_x scopes e ∙ sym (ap scoped_of own.is_package.is_package)
+
+-- the same by right verdicts on all packages
+pub scopes_again : (w : Workspace) (before after : Verdicts) (d : Declaration) (name : List ℕ) (s : FileChanges) → IsPlainRename w before d name s →
+    AreVerdicts (edited s w) after → (p q : Package) → IsPackage w before p → IsPackage (edited s w) after q → q.path ≡ p.path →
+    AreSoundBelow w before after p.path → (x : Package) → IsScopedIn (edited s w) x → x.path ≡ q.path → x ≡ scoped_of q
+scopes_again w before after d name s h right p q is also path sound x is_x e =
+    scopes_below w before after d name s h p q (right_below (edited s w) after right q.path) is also path sound x is_x e

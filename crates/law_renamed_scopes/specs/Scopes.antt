@@ -5,11 +5,13 @@ use Rattle.base_edits.specs.EditSet.{FileChanges, edited}
 use Rattle.base_edits.specs.RevisionsOfEdits.{revision_of}
 use Rattle.go_scope.specs.Bindings.{IsBoundTo}
 use Rattle.types_declared.specs.Package.{Package}
+use Rattle.base_files.specs.declared.place.Place.{Place}
+use Rattle.base_edits.specs.Revisions.{Revision}
 use Rattle.workspace_check.specs.Verdicts.{Verdicts, AreVerdicts}
 use Rattle.refs_binding.specs.declared.declaration.Declaration.{Declaration}
 use Rattle.refs_binding.specs.declared.declaration.Declaration.TheVariants.{Declared}
 use Rattle.refs_binding.specs.Uses.{IsPackage}
-use Rattle.refactor_conflict.specs.Staying.{NoneIsLost}
+use Rattle.refactor_conflict.specs.Staying.{NoneIsLost, NamesStayIn}
 use Rattle.law_rename.specs.Renaming.{Renames}
 use Rattle.law_same_bindings.specs.SameBindings.{IsBoundAlike}
 use Rattle.law_renamed_packages.specs.Renames.{IsPlainRename}
@@ -32,4 +34,14 @@ OtherScopesStay = (w : Workspace) (before : Verdicts) (d : Declaration) (name : 
 abbrev pub PackagesAreBoundAlike : Type 0
 PackagesAreBoundAlike = (w : Workspace) (before after : Verdicts) (d : Declaration) (name : List ℕ) (s : FileChanges) → IsPlainRename w before d name s →
     AreVerdicts (edited s w) after → NoneIsLost w before (revision_of w s) → (p q : Package) → IsPackage w before p →
+    IsPackage (edited s w) after q → IsRelaid (revision_of w s) p q → AreMovedBelow w before after p.path → IsBoundAlike p q
+
+-- Each identifier that scopes bind stays bound, and so does each selector of a qualified identifier.
+abbrev pub ScopedNamesStay : Workspace → Verdicts → Revision → Type 0
+ScopedNamesStay w known r = (place : Place) (p : Package) → IsPackage w known p → NamesStayIn w known r p place
+
+-- Each package is bound as it was where these identifiers stay bound.
+abbrev pub NamedPackagesAreBoundAlike : Type 0
+NamedPackagesAreBoundAlike = (w : Workspace) (before after : Verdicts) (d : Declaration) (name : List ℕ) (s : FileChanges) → IsPlainRename w before d name s →
+    AreVerdicts (edited s w) after → ScopedNamesStay w before (revision_of w s) → (p q : Package) → IsPackage w before p →
     IsPackage (edited s w) after q → IsRelaid (revision_of w s) p q → AreMovedBelow w before after p.path → IsBoundAlike p q

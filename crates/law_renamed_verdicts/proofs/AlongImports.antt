@@ -23,7 +23,8 @@ use Rattle.workspace_check.specs.declared.fault.FileFault.{FileFault}
 use Rattle.workspace_check.specs.Earlier.{HaveSameImports}
 use Rattle.workspace_check.specs.FaultLists.{IsFaultOfSome, ListsFaults}
 use Rattle.workspace_check.specs.Faults.{fault_cmp, placed_in}
-use Rattle.workspace_check.specs.Verdicts.{Verdicts, AreVerdicts, BuildsOn, IsStateOf, is_missing, is_on_cycle, is_faulty, is_good, AreStates, IsReadFault}
+use Rattle.workspace_check.specs.Verdicts.{Verdicts, AreVerdicts, AreVerdictsBelow, BuildsOn, IsStateOf}
+use Rattle.workspace_check.specs.Verdicts.{is_missing, is_on_cycle, is_faulty, is_good, AreStates, IsReadFault}
 use Rattle.workspace_check.specs.Verdicts.{IsPackageIn, IsInnerFault, IsFaultBy, IsVerdictBy, IsVerdict, follows}
 use Rattle.workspace_check.proofs.Closed.{from_package, to_package}
 use Rattle.workspace_check.proofs.FaultFiles.{in_outer, some_source}
@@ -37,15 +38,18 @@ use Rattle.refs_binding.specs.Uses.{IsPackage}
 use Rattle.refs_lookup.proofs.OnePlace.{same_files}
 use Rattle.refactor_conflict.specs.Staying.{NoneIsLost}
 use Rattle.law_same_bindings.proofs.Alike.{of_bound}
-use Rattle.law_renamed_packages.specs.Layouts.{AreSoundBelow, PackagesAreRelaid, IsRelaid}
+use Rattle.law_renamed_packages.specs.Layouts.{AreSoundBelow, IsRelaid}
 use Rattle.law_renamed_packages.specs.MovedExports.{AreMovedBelow}
 use Rattle.law_renamed_packages.specs.Renames.{IsPlainRename}
 use Rattle.law_renamed_packages.proofs.Packages.{package_there, new_parts, new_trees, to_imports, same_imports}
-use Rattle.law_renamed_scopes.specs.Scopes.{OwnRenamesAreRenames, OtherScopesStay, PackagesAreBoundAlike}
+use Rattle.law_renamed_packages.proofs.Relaid.{relaid_by}
+use Rattle.law_renamed_scopes.specs.Scopes.{OwnRenamesAreRenames, OtherScopesStay}
+use Rattle.law_renamed_scopes.proofs.BoundAlike.{alike_below}
 use Rattle.law_renamed_members.specs.MembersMoved.{AreSeenAfter, SeenDefinitionsFollow, ExportedDefinitionsFollow}
-use Rattle.law_renamed_verdicts.specs.VerdictsStay.{IsPackageAfter, NoFaultComes, IsMovedVerdict, VerdictsStayAbove, VerdictsStay, PlainWorkspaceStaysSound}
+use Rattle.law_renamed_verdicts.specs.VerdictsStay.{IsPackageAfter, IsMovedVerdict, VerdictsStayAbove, VerdictsStay, PlainWorkspaceStaysSound}
 use Rattle.law_renamed_verdicts.proofs.DeclaredNames.{level_names}
 use Rattle.law_renamed_verdicts.proofs.ExportsMove.{exports_move}
+use Rattle.law_renamed_verdicts.proofs.NoFaults.{NoFaultComesBelow}
 use Rattle.law_renamed_verdicts.proofs.OuterFaults.{new_sources, name_stays, no_outer_fault}
 
 closed_by : (v w : Workspace) → HaveSameImports v w → (p q : List ℕ) → IsInClosure v p q → IsInClosure w p q
@@ -56,11 +60,9 @@ closed_by v w same p r (through {q = m} i rest) = through ((same.imports p m (fr
 abbrev HaveMovedBelow : Workspace → (before after : Verdicts) → Revision → List ℕ → Type 0
 HaveMovedBelow w before after r path = (q : List ℕ) → BuildsOn w path q → IsMovedVerdict w before after r q
 
-module _ (relay : PackagesAreRelaid) (bind : PackagesAreBoundAlike) (own_renames : OwnRenamesAreRenames) (others_stay : OtherScopesStay)
-    (seen_follow : SeenDefinitionsFollow) (exported_follow : ExportedDefinitionsFollow) (no_fault_comes : NoFaultComes)
-    (w : Workspace) (before after : Verdicts)
-    (d : Declaration) (name : List ℕ) (s : FileChanges) (plain : IsPlainRename w before d name s) (right : AreVerdicts (edited s w) after)
-    (none : NoneIsLost w before (revision_of w s)) where
+module _ (own_renames : OwnRenamesAreRenames) (others_stay : OtherScopesStay) (seen_follow : SeenDefinitionsFollow)
+    (exported_follow : ExportedDefinitionsFollow) (no_fault_comes : NoFaultComesBelow) (w : Workspace) (before after : Verdicts) (d : Declaration)
+    (name : List ℕ) (s : FileChanges) (plain : IsPlainRename w before d name s) (none : NoneIsLost w before (revision_of w s)) where
   abbrev x : Workspace
   x = edited s w
 
@@ -73,14 +75,15 @@ module _ (relay : PackagesAreRelaid) (bind : PackagesAreBoundAlike) (own_renames
   same_back : HaveSameImports x w
   same_back = imports_back w x same
 
-  module _ (p : Package) (was : IsPackage w before p) (below : HaveMovedBelow w before after (revision_of w s) p.path) where
+  module _ (p : Package) (was : IsPackage w before p) (right : AreVerdictsBelow (edited s w) p.path after)
+      (below : HaveMovedBelow w before after (revision_of w s) p.path) where
     sound_below : AreSoundBelow w before after p.path
     sound_below = record { faultless = λ q on. (below q on).sound; named = λ q on. (below q on).name }
 
-    relaid : (q : Package) × (IsPackage x after q × IsRelaid (revision_of w s) p q)
-    relaid = relay w before after d name s plain right p was sound_below
+    pub relaid : (q : Package) × (IsPackage x after q × IsRelaid (revision_of w s) p q)
+    relaid = relaid_by w before after d name s plain p was sound_below
 
-    abbrev q : Package
+    abbrev pub q : Package
     q = relaid.0
 
     moved_below : AreMovedBelow w before after p.path
@@ -104,12 +107,12 @@ module _ (relay : PackagesAreRelaid) (bind : PackagesAreBoundAlike) (own_renames
         })
         (λ o on. (below o on).definitions)
 
-    here : IsPackageAfter w before after s p q
+    pub here : IsPackageAfter w before after s p q
     here = record {
       was = was;
       is = relaid.1.0;
       relaid = relaid.1.1;
-      bound = bind w before after d name s plain right none p q was relaid.1.0 relaid.1.1 moved_below;
+      bound = alike_below w before after d name s plain none p q right was relaid.1.0 relaid.1.1 moved_below;
       seen = seen;
     }
 
@@ -142,6 +145,10 @@ module _ (relay : PackagesAreRelaid) (bind : PackagesAreBoundAlike) (own_renames
           at = refl;
         }))
 
+    pub no_later : (f : Fault) → IsLaterFault q f → ⊥
+    no_later f l =
+        no_fault_comes w before after d name s plain none p q (subst (λ path. AreVerdictsBelow x path after) (sym relaid.1.1.path) right) here f l
+
     no_read : (f : FileFault) → IsReadFault x after p.path f → ⊥
     no_read f r = by_stage r.is_fault
       where
@@ -158,25 +165,16 @@ module _ (relay : PackagesAreRelaid) (bind : PackagesAreBoundAlike) (own_renames
             let one : inner.checked ≡ q =
             one_checked x after p.path inner.checked q inner.is_package
             (subst (λ path. IsPackageIn x after path q) relaid.1.1.path checked.is_checked) in
-            no_fault_comes w before after d name s plain right none p q here r.fault
+            no_later r.fault
             (subst (λ c. IsLaterFault c r.fault) one inner.is_fault)
 
-    no_fault_now : (f : FileFault) → IsFaultBy x after p.path f → ⊥
+    pub no_fault_now : (f : FileFault) → IsFaultBy x after p.path f → ⊥
     no_fault_now f (inl u) = none_unread x p.path (map (new_parts s) was.is_checked.files) (new_trees w before d name s plain p was) f u
     no_fault_now f (inr r) = no_read f r
 
-    has_now : Contains (package_paths x) p.path
-    has_now = subst (λ ps. Contains ps p.path) same.paths was.of_workspace
-
-    by : IsVerdictBy x after p.path (after p.path)
-    by = verdict_by x p.path after (after p.path) (right_below x after right p.path) (right p.path has_now)
-
-    faultless : (after p.path).faulty ≡ false
-    faultless = without_faults x after p.path (after p.path) by no_fault_now (after p.path).faulty refl
-
     -- export data
 
-    old_data : IsExportData p (before p.path).export_data
+    pub old_data : IsExportData p (before p.path).export_data
     old_data =
         let b = verdict_by w p.path before (before p.path) (right_below w before plain.rename.right p.path) (plain.rename.right p.path was.of_workspace) in
         let known =
@@ -184,41 +182,50 @@ module _ (relay : PackagesAreRelaid) (bind : PackagesAreBoundAlike) (own_renames
         let has = b.has_export_data (known.faulty ∙ is_faultless w sound p.path was.of_workspace) in
         subst (λ c. IsExportData c (before p.path).export_data) (one_checked w before p.path has.checked p has.is_package was.is_checked) has.is_export_data
 
-    q_checked : IsPackageIn x after p.path q
+    pub q_checked : IsPackageIn x after p.path q
     q_checked = subst (λ path. IsPackageIn x after path q) relaid.1.1.path relaid.1.0.is_checked
 
-    new_data : IsExportData q (after p.path).export_data
-    new_data =
-        let has = by.has_export_data faultless in
-        subst (λ c. IsExportData c (after p.path).export_data) (one_checked x after p.path has.checked q has.is_package q_checked) has.is_export_data
-
-    files_now : q.files ≡ new_sources s was.is_checked.files
+    pub files_now : q.files ≡ new_sources s was.is_checked.files
     files_now = same_files x after p.path q q_checked ∙ one_sources q_checked.parsed (new_trees w before d name s plain p was)
 
-    pub moved : IsMovedVerdict w before after (revision_of w s) p.path
-    moved = record {
-      sound = faultless;
-      name = new_data.name ∙ ap package_name files_now ∙ name_stays w before d name s plain p was ∙ sym old_data.name;
-      exported =
-          exports_move p q (of_bound p q here.bound) (layout_formed x after p.path q q_checked) (files_in_order x after p.path q q_checked)
-          (before p.path).export_data (after p.path).export_data old_data new_data name
-          (level_names own_renames others_stay w before d name s plain p q was relaid.1.1);
-      definitions =
-          exported_follow w before (revision_of w s) p q was relaid.1.1 here.bound seen (before p.path).export_data (after p.path).export_data old_data
-          new_data;
-    }
+    -- what follows of a right verdict on the package itself
+    module _ (is : IsVerdict x p.path (after p.path)) where
+      by : IsVerdictBy x after p.path (after p.path)
+      by = verdict_by x p.path after (after p.path) right is
 
-  pub stays_above : (path : List ℕ) → Contains (package_paths w) path → HaveMovedBelow w before after (revision_of w s) path →
+      faultless : (after p.path).faulty ≡ false
+      faultless = without_faults x after p.path (after p.path) by no_fault_now (after p.path).faulty refl
+
+      new_data : IsExportData q (after p.path).export_data
+      new_data =
+          let has = by.has_export_data faultless in
+          subst (λ c. IsExportData c (after p.path).export_data) (one_checked x after p.path has.checked q has.is_package q_checked) has.is_export_data
+
+      pub moved : IsMovedVerdict w before after (revision_of w s) p.path
+      moved = record {
+        sound = faultless;
+        name = new_data.name ∙ ap package_name files_now ∙ name_stays w before d name s plain p was ∙ sym old_data.name;
+        exported =
+            exports_move p q (of_bound p q here.bound) (layout_formed x after p.path q q_checked) (files_in_order x after p.path q q_checked)
+            (before p.path).export_data (after p.path).export_data old_data new_data name
+            (level_names own_renames others_stay w before d name s plain p q was relaid.1.1);
+        definitions =
+            exported_follow w before (revision_of w s) p q was relaid.1.1 here.bound seen (before p.path).export_data (after p.path).export_data old_data
+            new_data;
+      }
+
+  pub stays_above : AreVerdicts x after → (path : List ℕ) → Contains (package_paths w) path → HaveMovedBelow w before after (revision_of w s) path →
       IsMovedVerdict w before after (revision_of w s) path
-  stays_above path has below =
+  stays_above right path has below =
       let p = package_there w sound before plain.rename.right path has in
+      let has_now : Contains (package_paths x) p.0.path = subst (λ ps. Contains ps p.0.path) same.paths p.1.0.of_workspace in
       subst (IsMovedVerdict w before after (revision_of w s)) p.1.1
-      (moved p.0 p.1.0 (subst (HaveMovedBelow w before after (revision_of w s)) (sym p.1.1) below))
+      (moved p.0 p.1.0 (right_below x after right p.0.path) (subst (HaveMovedBelow w before after (revision_of w s)) (sym p.1.1) below)
+      (right p.0.path has_now))
 
-pub verdicts_stay_above : PackagesAreRelaid → PackagesAreBoundAlike → OwnRenamesAreRenames → OtherScopesStay → SeenDefinitionsFollow →
-    ExportedDefinitionsFollow → NoFaultComes → VerdictsStayAbove
-verdicts_stay_above relay bind own_renames others_stay seen_follow exported_follow no_fault_comes w before after d name s plain right none =
-    stays_above relay bind own_renames others_stay seen_follow exported_follow no_fault_comes w before after d name s plain right none
+pub verdicts_stay_above : OwnRenamesAreRenames → OtherScopesStay → SeenDefinitionsFollow → ExportedDefinitionsFollow → NoFaultComesBelow → VerdictsStayAbove
+verdicts_stay_above own_renames others_stay seen_follow exported_follow no_fault_comes w before after d name s plain right none =
+    stays_above own_renames others_stay seen_follow exported_follow no_fault_comes w before after d name s plain none right
 
 -- along the imports
 pub along : (w : Workspace) (P : List ℕ → Type 0) → ((path : List ℕ) → Contains (package_paths w) path → ((q : List ℕ) → BuildsOn w path q → P q) → P path) →

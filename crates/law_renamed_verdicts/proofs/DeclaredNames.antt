@@ -21,6 +21,7 @@ use Rattle.refs_binding.specs.DeclaringPlaces.{InHomePackage}
 use Rattle.refactor_rename.specs.Naming.{IsTopLevelIn}
 use Rattle.refactor_rename.specs.NewName.{IsReserved}
 use Rattle.law_faultless.proofs.Declared.{may_within}
+use Rattle.law_rename.specs.Renaming.{Renames}
 use Rattle.law_renamed_packages.specs.Layouts.{IsRelaid}
 use Rattle.law_renamed_packages.specs.Renames.{IsPlainRename}
 use Rattle.law_renamed_scopes.specs.Scopes.{OwnRenamesAreRenames, OtherScopesStay}
@@ -69,48 +70,68 @@ bound_to_other : (l : Layout) (names : Names) (u m : ℕ) → Counts l names u �
 bound_to_other l names u m counts apart (use_bound used at) = use_or_declares l names u used counts.declares
 bound_to_other l names u m counts apart (own e c) = apart e
 
+-- whether a declaration is one of the scopes of the package at a path
+declared_here : (d : Declaration) (path : List ℕ) → ((m : ℕ) × (d ≡ Declared path m)) ⊎ ((m : ℕ) → d ≡ Declared path m → ⊥)
+declared_here (Predeclared n) path = inr (λ m e. cc)
+declared_here (Field f) path = inr (λ m e. cc)
+declared_here (Method f) path = inr (λ m e. cc)
+declared_here (Declared other n) path = elim (cases_bytes other path) [
+  | inl same ↦ inl (n, ap (λ x. Declared x n) same)
+  | inr apart ↦ inr (λ m e. apart cc)
+]
+
+same_number : (path : List ℕ) (m n : ℕ) → Declared path m ≡ Declared path n → m ≡ n
+same_number path m n e = cc
+
+-- whether it is one of the block of the package
+pub is_level_of : (d : Declaration) (p : Package) → ((m : ℕ) × ((d ≡ Declared p.path m) × IsPackageLevel p.layout m))
+    ⊎ ((m : ℕ) → d ≡ Declared p.path m → IsPackageLevel p.layout m → ⊥)
+is_level_of d p = elim (declared_here d p.path) [
+  | inr none ↦ inr (λ m e level. none m e)
+  | inl here ↦ elim (level_or_not (block_of (p.layout.role here.0))) [
+    | inl level ↦ inl (here.0, (here.1, level))
+    | inr inner ↦ inr (λ m e level. inner (subst (IsPackageLevel p.layout) (same_number p.path m here.0 (sym e ∙ here.1)) level))
+  ]
+]
+
 module _ (own_renames : OwnRenamesAreRenames) (others_stay : OtherScopesStay) (w : Workspace) (before : Verdicts) (d : Declaration) (name : List ℕ)
     (s : FileChanges) (plain : IsPlainRename w before d name s) (p q : Package) (was : IsPackage w before p) (relaid : IsRelaid (revision_of w s) p q) where
-  -- not a declaration of this package
-  elsewhere : ((n : ℕ) → d ≡ Declared p.path n → ⊥) → HasLevelNames p q name
-  elsewhere other = all_stay (λ u level counts. others_stay w before d name s plain p q was other relaid u u (own refl counts))
+  renames_here : (m : ℕ) → d ≡ Declared p.path m → Renames p.layout p.names m name q.names
+  renames_here m e = own_renames w before p.path m name s (subst (λ x. IsPlainRename w before x name s) e plain) p q was refl relaid
 
-  here : (m : ℕ) → d ≡ Declared p.path m → HasLevelNames p q name
-  here m e =
-      let renames = own_renames w before p.path m name s (subst (λ x. IsPlainRename w before x name s) e plain) p q was refl relaid in
+  kept_here : (m : ℕ) → d ≡ Declared p.path m → (u : ℕ) → (u ≡ m → ⊥) → Counts p.layout p.names u → q.names u ≡ p.names u
+  kept_here m e u apart c = (renames_here m e).renaming.kept u (bound_to_other p.layout p.names u m c apart)
+
+  pub moves_level : (m : ℕ) → d ≡ Declared p.path m → IsPackageLevel p.layout m → MovesLevelName p q name m
+  moves_level m e level =
+      let renames = renames_here m e in
       let counts = renames.all_count m renames.declared in
-      let kept : (u : ℕ) → (u ≡ m → ⊥) → Counts p.layout p.names u → q.names u ≡ p.names u =
-      λ u apart c. renames.renaming.kept u (bound_to_other p.layout p.names u m c apart) in
-      elim (level_or_not (block_of (p.layout.role m))) [
-        | inl level ↦
-            let within = may_within w before p.path p was.is_checked m renames.declared.may in
-            one_moves m (record {
-              level = level;
-              within = within;
-              counts = counts;
-              now = renames.renaming.renamed m (own refl counts);
-              other = renames.other_name;
-              others = λ u apart l c. kept u apart c;
-              allowed = λ reserved. plain.rename.allowed (
-                subst (λ x. InHomePackage (IsPackage w before) x (λ c. IsTopLevelIn c x)) (sym e)
-                    (record { inside = p; is_package = was; of_path = refl; holds = (within, inl level) }),
-                reserved,
-              );
-            })
-        | inr inner ↦ all_stay (λ u level c. kept u (λ same. inner (subst (IsPackageLevel p.layout) same level)) c)
-      ]
+      let within = may_within w before p.path p was.is_checked m renames.declared.may in
+      record {
+        level = level;
+        within = within;
+        counts = counts;
+        now = renames.renaming.renamed m (own refl counts);
+        other = renames.other_name;
+        others = λ u apart l c. kept_here m e u apart c;
+        allowed = λ reserved. plain.rename.allowed (
+          subst (λ x. InHomePackage (IsPackage w before) x (λ c. IsTopLevelIn c x)) (sym e)
+              (record { inside = p; is_package = was; of_path = refl; holds = (within, inl level) }),
+          reserved,
+        );
+      }
 
-  by_declaration : (x : Declaration) → d ≡ x → HasLevelNames p q name
-  by_declaration (Predeclared n) e = elsewhere (λ m same. let z : Predeclared n ≡ Declared p.path m = sym e ∙ same in cc)
-  by_declaration (Field f) e = elsewhere (λ m same. let z : Field f ≡ Declared p.path m = sym e ∙ same in cc)
-  by_declaration (Method f) e = elsewhere (λ m same. let z : Method f ≡ Declared p.path m = sym e ∙ same in cc)
-  by_declaration (Declared path n) e = elim (cases_bytes path p.path) [
-    | inl same ↦ here n (e ∙ ap (λ x. Declared x n) same)
-    | inr apart ↦ elsewhere (λ m same. let z : Declared path n ≡ Declared p.path m = sym e ∙ same in apart cc)
+  pub keeps_levels : ((m : ℕ) → d ≡ Declared p.path m → IsPackageLevel p.layout m → ⊥) → KeepsLevelNames p q
+  keeps_levels none u level counts = elim (declared_here d p.path) [
+    | inr other ↦ others_stay w before d name s plain p q was other relaid u u (own refl counts)
+    | inl here ↦ kept_here here.0 here.1 u (λ same. none here.0 here.1 (subst (IsPackageLevel p.layout) same level)) counts
   ]
 
   pub level_names : HasLevelNames p q name
-  level_names = by_declaration d refl
+  level_names = elim (is_level_of d p) [
+    | inl one ↦ one_moves one.0 (moves_level one.0 one.1.0 one.1.1)
+    | inr none ↦ all_stay (keeps_levels none)
+  ]
 
 -- none of them is called `init`
 pub none_is_init : (p q : Package) (name : List ℕ) → WellFormed p.layout → HasLevelNames p q name → NoneIsInit p.layout p.size p.names →

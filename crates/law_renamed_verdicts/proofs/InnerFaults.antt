@@ -15,7 +15,7 @@ use Rattle.types_check.specs.Check.{exports_in}
 use Rattle.types_resolve.specs.Scoping.{IsQualified, IsQualifiedFault, IsScopeFault, IsUnknownFault, qualified_fault, fault_at}
 use Rattle.types_resolve.specs.StatementMarks.{IsMarkFault}
 use Rattle.types_resolve.specs.Stages.{IsInnerFault}
-use Rattle.workspace_check.specs.Verdicts.{Verdicts, AreVerdicts, IsPackageIn}
+use Rattle.workspace_check.specs.Verdicts.{Verdicts, AreVerdictsBelow, IsPackageIn}
 use Rattle.refs_binding.proofs.Spelled.{selected_spelled}
 use Rattle.law_same_bindings.specs.SameBindings.{IsBoundAlike}
 use Rattle.law_renamed_verdicts.proofs.ScopeFaults.{NoneIsInit, no_scope_fault, no_mark_fault}
@@ -62,8 +62,8 @@ was_exported p b u d path lt qualified of_path fine =
     )) in
     some_of ((p.export_data_of path).exported (p.names u)) both.1
 
-module _ (w x : Workspace) (before after : Verdicts) (right : AreVerdicts x after) (p q : Package) (was : IsPackageIn w before p.path p)
-    (is : IsPackageIn x after q.path q) (alike : IsBoundAlike p q)
+module _ (w x : Workspace) (before after : Verdicts) (p q : Package) (right : AreVerdictsBelow x q.path after)
+    (was : IsPackageIn w before p.path p) (is : IsPackageIn x after q.path q) (alike : IsBoundAlike p q)
     (fine : (f : Fault) → IsInnerFault p.files (exports_in p) (laid_of p) f → ⊥) where
   abbrev new : Laid
   new = record { layout = p.layout; names = q.names; size = p.size }

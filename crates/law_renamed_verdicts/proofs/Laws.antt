@@ -5,13 +5,11 @@ use Rattle.law_renamed_members.proofs.DefinitionsAfter.{exported_definition}
 use Rattle.law_renamed_members.proofs.SeenAfter.{seen_follow}
 use Rattle.law_renamed_members.proofs.WorldsAlike.{worlds_stay}
 use Rattle.law_renamed_members.specs.MembersMoved.{FieldsFollow, MethodsFollow, ExportedDefinitionsFollow}
-use Rattle.law_renamed_packages.proofs.Relaid.{packages_are}
-use Rattle.law_renamed_scopes.proofs.BoundAlike.{packages_alike}
 use Rattle.law_renamed_scopes.proofs.OwnNames.{own_renames}
 use Rattle.law_renamed_scopes.proofs.Renamed.{others_stay}
 use Rattle.law_renamed_verdicts.specs.VerdictsStay.{FoundStays, NoFaultComes, VerdictsStayAbove, VerdictsStay, PlainWorkspaceStaysSound}
 use Rattle.law_renamed_verdicts.proofs.Found.{found_stays}
-use Rattle.law_renamed_verdicts.proofs.NoFaults.{no_fault_comes}
+use Rattle.law_renamed_verdicts.proofs.NoFaults.{NoFaultComesBelow, no_fault_below, no_fault_comes}
 use Rattle.law_renamed_verdicts.proofs.AlongImports.{verdicts_stay_above, verdicts_stay, plain_workspace_stays_sound}
 use Rattle.law_same_bindings.proofs.Alike.{of_bound}
 
@@ -21,18 +19,21 @@ fields w known r p q is relaid definition name rank = counting_field w known r p
 methods : MethodsFollow
 methods w known r p q is relaid alike seen definition name rank h = counting_method w known r p q is relaid (of_bound p q alike) seen definition name rank h
 
-exported : ExportedDefinitionsFollow
+pub exported : ExportedDefinitionsFollow
 exported w known r p q is relaid alike seen i j before after rank =
     exported_definition w known r p q is relaid (of_bound p q alike) seen i j before after rank
 
 pub found : FoundStays
 found = found_stays worlds_stay files_ask
 
+pub no_fault_by : NoFaultComesBelow
+no_fault_by = no_fault_below found fields methods own_renames others_stay
+
 pub no_fault : NoFaultComes
-no_fault = no_fault_comes found fields methods own_renames others_stay
+no_fault = no_fault_comes no_fault_by
 
 pub above : VerdictsStayAbove
-above = verdicts_stay_above packages_are packages_alike own_renames others_stay seen_follow exported no_fault
+above = verdicts_stay_above own_renames others_stay seen_follow exported no_fault_by
 
 pub each : VerdictsStay
 each = verdicts_stay above

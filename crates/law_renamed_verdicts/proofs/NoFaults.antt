@@ -10,8 +10,9 @@ use Rattle.types_members.specs.MemberFaults.{IsMemberFault}
 use Rattle.types_resolve.specs.Stages.{IsInnerFault}
 use Rattle.types_check.specs.Check.{exports_in, IsLaterFault}
 use Rattle.types_check.specs.TypeFaults.{IsTypeFault}
-use Rattle.workspace_check.specs.Verdicts.{Verdicts, AreVerdicts}
+use Rattle.workspace_check.specs.Verdicts.{Verdicts, AreVerdictsBelow}
 use Rattle.workspace_check.proofs.OnePackage.{layout_formed}
+use Rattle.workspace_check.proofs.OneVerdict.{right_below}
 use Rattle.refs_binding.specs.declared.declaration.Declaration.{Declaration}
 use Rattle.refs_lookup.proofs.Faultless.{no_fault_later}
 use Rattle.refactor_conflict.specs.Staying.{NoneIsLost}
@@ -29,7 +30,8 @@ use Rattle.law_renamed_verdicts.proofs.ScopeFaults.{NoneIsInit, none_was_init, a
 
 module _ (found : FoundStays) (fields : FieldsFollow) (methods : MethodsFollow) (own_renames : OwnRenamesAreRenames) (others_stay : OtherScopesStay)
     (w : Workspace) (before after : Verdicts) (d : Declaration) (name : List ℕ) (s : FileChanges) (plain : IsPlainRename w before d name s)
-    (right : AreVerdicts (edited s w) after) (none : NoneIsLost w before (revision_of w s)) (p q : Package) (here : IsPackageAfter w before after s p q) where
+    (none : NoneIsLost w before (revision_of w s)) (p q : Package) (right : AreVerdictsBelow (edited s w) q.path after)
+    (here : IsPackageAfter w before after s p q) where
   was_fine : (f : Fault) → IsLaterFault p f → ⊥
   was_fine = no_fault_later w plain.rename.sound before plain.rename.right p here.was
 
@@ -54,7 +56,7 @@ module _ (found : FoundStays) (fields : FieldsFollow) (methods : MethodsFollow) 
       (none_was_init p.layout p.size p.names q.names here.bound.bindings (λ f h. fine_inner f (inl (inl h)))) counted
 
   no_inner : (f : Fault) → IsInnerFault q.files (exports_in q) (laid_of q) f → ⊥
-  no_inner = no_inner_fault w (edited s w) before after right p q here.was.is_checked here.is.is_checked here.bound fine_inner no_init
+  no_inner = no_inner_fault w (edited s w) before after p q right here.was.is_checked here.is.is_checked here.bound fine_inner no_init
 
   no_member : (f : Fault) → IsMemberFault q f → ⊥
   no_member =
@@ -71,6 +73,16 @@ module _ (found : FoundStays) (fields : FieldsFollow) (methods : MethodsFollow) 
   no_later f (inr (_, inl m)) = no_member f m
   no_later f (inr (_, inr (_, t))) = no_type f t
 
-pub no_fault_comes : FoundStays → FieldsFollow → MethodsFollow → OwnRenamesAreRenames → OtherScopesStay → NoFaultComes
-no_fault_comes found fields methods own_renames others_stay w before after d name s plain right none p q here =
-    no_later found fields methods own_renames others_stay w before after d name s plain right none p q here
+-- No fault comes to a package by right verdicts on what it builds on.
+abbrev pub NoFaultComesBelow : Type 0
+NoFaultComesBelow = (w : Workspace) (before after : Verdicts) (d : Declaration) (name : List ℕ) (s : FileChanges) → IsPlainRename w before d name s →
+    NoneIsLost w before (revision_of w s) → (p q : Package) → AreVerdictsBelow (edited s w) q.path after → IsPackageAfter w before after s p q →
+    (fault : Fault) → IsLaterFault q fault → ⊥
+
+pub no_fault_below : FoundStays → FieldsFollow → MethodsFollow → OwnRenamesAreRenames → OtherScopesStay → NoFaultComesBelow
+no_fault_below found fields methods own_renames others_stay w before after d name s plain none p q right here =
+    no_later found fields methods own_renames others_stay w before after d name s plain none p q right here
+
+pub no_fault_comes : NoFaultComesBelow → NoFaultComes
+no_fault_comes comes w before after d name s plain right none p q here =
+    comes w before after d name s plain none p q (right_below (edited s w) after right q.path) here

@@ -15,9 +15,9 @@ use Rattle.types_declared.specs.Package.{Package, Export, ExportData, laid_of}
 use Rattle.types_declared.specs.Written.{BindsToken}
 use Rattle.types_check.specs.Exports.{IsExport, IsExported}
 use Rattle.types_resolve.specs.Scoping.{IsQualified}
-use Rattle.workspace_check.specs.Verdicts.{Verdicts, AreVerdicts, IsSeenAs, seen, unseen, IsPackageIn}
-use Rattle.workspace_check.proofs.Closed.{to_package}
-use Rattle.workspace_check.proofs.OneVerdict.{right_below, verdict_by}
+use Rattle.workspace_check.specs.Verdicts.{Verdicts, AreVerdictsBelow, IsSeenAs, seen, unseen, IsPackageIn}
+use Rattle.workspace_check.proofs.OneVerdict.{verdict_by}
+use Rattle.workspace_check.proofs.Underway.{builds_then}
 use Rattle.law_same_bindings.specs.SameBindings.{IsSelectedAt}
 use Rattle.law_faultless.proofs.Declared.{given, old_site, new_site, role_is, kept, told_identifies}
 use Rattle.law_faultless.proofs.Numbers.{IsTold, OfKind, IsKept, universal, plain, laid}
@@ -83,11 +83,11 @@ module _ (w : Workspace) (known : Verdicts) (path : List ℕ) (p : Package) (h :
     }
 
   -- what the package sees another export has an exported name
-  module _ (right : AreVerdicts w known) where
+  module _ (right : AreVerdictsBelow w path known) where
     seen_exported : (q : List ℕ) (n : Option (List ℕ)) (i : ExportData) → IsSeenAs w known path q n i → (name : List ℕ) (e : Export) →
         i.exported name ≡ Some e → is_exported name ≡ true
     seen_exported q _ _ (seen on is) name e at =
-        let by = verdict_by w q known (known q) (right_below w known right q) (right q (to_package w path q on.imported)) in
+        let by = verdict_by w q known (known q) (λ o more. right o (builds_then w path q o on more)) (right q on) in
         let has = by.has_export_data is in
         let x : IsExport has.checked name e = subst (IsExported has.checked name) at (has.is_export_data.exported name) in
         ap is_exported (sym x.named) ∙ x.by_declaration.seen.exported

@@ -1,0 +1,130 @@
+-- Uses and declaring identifiers of members stay bound under the rename of a field or method, unless they are at stake.
+use Rattle.std.proofs.Common.{ℕ, ◌≡◌, ◌⊎◌, inl, inr, List, [], subst, refl}
+use Rattle.std.specs.Prelude.{◌↔◌}
+use Rattle.base_files.specs.Workspace.{Workspace}
+use Rattle.base_files.specs.declared.place.Place.{Place}
+use Rattle.base_edits.specs.EditSet.{FileChanges}
+use Rattle.base_edits.specs.Revisions.{Revision}
+use Rattle.base_edits.specs.RevisionsOfEdits.{revision_of}
+use Rattle.types_declared.proofs.ByteKeys.{cases_bytes}
+use Rattle.types_declared.specs.Package.{Package}
+use Rattle.workspace_check.specs.FaultLists.{ListsFaults}
+use Rattle.workspace_check.specs.Verdicts.{Verdicts, AreVerdicts}
+use Rattle.refs_binding.specs.declared.declaration.Declaration.{Declaration}
+use Rattle.refs_binding.specs.declared.declaration.Declaration.TheVariants.{Predeclared, Declared, Field, Method}
+use Rattle.refs_binding.specs.Binding.{DeclaresMember}
+use Rattle.refs_binding.specs.Identifiers.{BeginsAt}
+use Rattle.refs_binding.specs.Uses.{IsPackage}
+use Rattle.refactor_conflict.specs.Staying.{StaysAt, StaysByMember, StaysByName}
+use Rattle.law_kept_members.specs.NamesAfterwards.{IsMember, spelled_there}
+use Rattle.law_kept_members.specs.Reaching.{Reaches, home_of}
+use Rattle.law_kept_members.proofs.Called.{same_or_other, used_is_member, declared_is_member}
+use Rattle.law_kept_members.proofs.OtherMembers.{use_kept, name_kept, use_kept_everywhere, name_kept_everywhere}
+use Rattle.law_kept_members.proofs.SeenStructs.{reached_then}
+use Rattle.law_kept_members.proofs.UsersReach.{reached}
+use Rattle.law_member_conflicts.specs.AtStake.{IsAtStake, StakeStays, StakesStayAt, OthersStay, OtherMembersStay, StakesDecide, FirstMemberConflict}
+use Rattle.law_member_conflicts.specs.MemberRenames.{IsMemberRename}
+use Rattle.law_member_conflicts.specs.OutsidePackages.{OtherPackagesKeepMembers}
+use Rattle.law_member_conflicts.proofs.ScopesKept.{members_decide}
+
+home_declares : (x : Package) (u : ℕ) (e : Declaration) → DeclaresMember x u e → home_of e ≡ x.path
+home_declares x u (Predeclared n) b = absurd b
+home_declares x u (Declared path n) b = absurd b
+home_declares x u (Field f) b = b.0
+home_declares x u (Method f) b = b.0
+
+module _ (w : Workspace) (known : Verdicts) (d : Declaration) (name : List ℕ) (s : FileChanges) (h : IsMemberRename w known d name s) where
+  abbrev r : Revision
+  r = revision_of w s
+
+  abbrev sound : ListsFaults w []
+  sound = h.rename.rename.sound
+
+  abbrev right : AreVerdicts w known
+  right = h.rename.rename.right
+
+  -- identifiers that are not at stake
+
+  module _ (x : Package) (is : IsPackage w known x) (u : ℕ) (place : Place) (begins : BeginsAt x place.path place.offset u) where
+    abbrev m : List ℕ
+    m = spelled_there x u
+
+    others : OthersStay w known r d name x u place
+    others = record {
+      used = λ old was free.
+          use_kept_everywhere w known d name s h.rename x is u place begins (λ e member same new. free (inr new)) old (λ e. free (inl e)) was;
+      declared = λ old declares free.
+          name_kept_everywhere w known d name s h.rename x is u place begins (λ e member same new. free (inr new)) old (λ e. free (inl e)) declares;
+    }
+
+    -- in a package that does not reach that of the renamed member
+    module _ (outside : Reaches w x.path (home_of d) → ⊥) where
+      abbrev Reached : List ℕ → Type 0
+      Reached q = Reaches w x.path q
+
+      reached_on : (p q : List ℕ) → Reached p → Reaches w p q → Reached q
+      reached_on p q (inl same) k = subst (λ o. Reaches w o q) same k
+      reached_on p q (inr on) k = reached_then w x.path p on q k
+
+      never : (e : Declaration) → IsMember e → e ≡ d → Reached (home_of e) → m ≡ name → ⊥
+      never e member same a new = outside (subst (λ k. Reached (home_of k)) same a)
+
+      used_outside : StaysByMember w known r x u place
+      used_outside old was =
+          use_kept w known d name s h.rename x is u place begins Reached reached_on (inl refl) never old
+          (λ same. outside (subst (λ k. Reached (home_of k)) same (reached w sound known right x is u old was))) was
+
+      declared_outside : StaysByName w known r x u place
+      declared_outside old declares =
+          name_kept w known d name s h.rename x is u place begins Reached reached_on (inl refl) never old
+          (λ same. outside (subst (λ k. Reached (home_of k)) same (inl (home_declares x u old declares)))) declares
+
+    -- whether an identifier is at stake
+    at_stake_or_not : (e : Declaration) → IsMember e → IsAtStake d name x u e ⊎ (IsAtStake d name x u e → ⊥)
+    at_stake_or_not e member = elim (same_or_other e d member) [
+      | inl same ↦ inl (inl same)
+      | inr apart ↦ elim (cases_bytes m name) [
+        | inl new ↦ inl (inr new)
+        | inr other ↦ inr (λ k. elim k [ inl same ↦ apart same | inr new ↦ other new ])
+      ]
+    ]
+
+    -- so those at stake decide
+
+    used_all : StakeStays w known r d name x u place → StaysByMember w known r x u place
+    used_all k old was = elim (at_stake_or_not old (used_is_member x u old was)) [ inl stake ↦ k.used old was stake | inr free ↦ others.used old was free ]
+
+    declared_all : StakeStays w known r d name x u place → StaysByName w known r x u place
+    declared_all k old declares = elim (at_stake_or_not old (declared_is_member x u old declares)) [
+      | inl stake ↦ k.declared old declares stake
+      | inr free ↦ others.declared old declares free
+    ]
+
+  decide : (place : Place) → StaysAt w known r place ↔ StakesStayAt w known r d name place
+  decide place =
+      let members = members_decide w known d name s h place in (
+        (λ k x is u begins.
+            let n = members.0 k x is in
+            record { used = λ old was stake. n.0 u begins old was; declared = λ old declares stake. n.1 u begins old declares }),
+        (λ k. members.1 (λ x is. (
+          (λ u begins. used_all x is u place begins (k x is u begins)),
+          (λ u begins. declared_all x is u place begins (k x is u begins)),
+        ))),
+      )
+
+pub others_stay : OtherMembersStay
+others_stay w known d name s h x is u place begins = others w known d name s h x is u place begins
+
+pub outside : OtherPackagesKeepMembers
+outside w known d name s h x is away u place begins =
+    (used_outside w known d name s h x is u place begins away, declared_outside w known d name s h x is u place begins away)
+
+pub stakes_decide : StakesDecide
+stakes_decide w known d name s h place = decide w known d name s h place
+
+pub first_conflict : FirstMemberConflict
+first_conflict w known d name s h =
+    let at = decide w known d name s h in (
+      (λ end. ((λ k place lt. (at place).0 (k place lt)), (λ k place lt. (at place).1 (k place lt)))),
+      ((λ k place. (at place).0 (k place)), (λ k place. (at place).1 (k place))),
+    )

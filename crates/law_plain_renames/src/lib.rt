@@ -1,0 +1,8 @@
+//! Laws of renames in which no import gains a name, without the premise that the edited workspace has verdicts: it has. There is no code that
+//! runs.
+//!
+//! Crates above rely on: `none_lost_preserves` and the laws of `known`. No crate does so yet.
+#![tactic(auto)]
+
+pub mod known;
+pub mod plain;

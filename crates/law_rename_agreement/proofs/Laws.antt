@@ -1,0 +1,26 @@
+-- The laws of this crate, from the two halves of the agreement.
+use Rattle.base_edits.specs.RevisionsOfEdits.{revision_of}
+use Rattle.refactor_conflict.specs.Conflicts.{a_conflict, an_identifier}
+use Rattle.refactor_conflict.proofs.ConflictsDiffer.{not_staying}
+use Rattle.law_rename_agrees.specs.Agreement.{PlainPreservedLosesNone}
+use Rattle.law_rename_agrees.proofs.Moving.{preserved_follows}
+use Rattle.law_plain_renames.proofs.PlainRenames.{preserves}
+use Rattle.law_rename_agreement.specs.Agreement.{ConflictsRefuse, PlainConflictsAreTold, PlainRenamesAgree}
+use Rattle.law_rename_agreement.proofs.KeptMembers.{kept_members_stay}
+use Rattle.law_rename_agreement.proofs.KeptNames.{selectors_stay}
+
+pub preserved_loses_none : PlainPreservedLosesNone
+preserved_loses_none = preserved_follows selectors_stay kept_members_stay
+
+pub plain_renames_agree : PlainRenamesAgree
+plain_renames_agree w known d name s plain = (preserves w known d name s plain, preserved_loses_none w known d name s plain)
+
+pub conflicts_refuse : ConflictsRefuse
+conflicts_refuse w known d name s plain c conflict before = (
+  (λ keeps. not_staying w known (revision_of w s) c conflict (preserved_loses_none w known d name s plain keeps c.used)),
+  a_conflict conflict before,
+)
+
+pub conflicts_told : PlainConflictsAreTold
+conflicts_told w known d name s plain lost c (a_conflict conflict before) = conflict
+conflicts_told w known d name s plain lost c (an_identifier first none) = absurd (lost (preserves w known d name s plain none))

@@ -1,0 +1,5 @@
+-- The definitions of this crate.
+pub mod ScopeRenames
+pub mod Others
+pub mod Behind
+pub mod ScopeConflicts

@@ -1,0 +1,4 @@
+-- The lemmas of this crate.
+pub mod NewMembers
+pub mod NewExports
+pub mod NewVerdicts
