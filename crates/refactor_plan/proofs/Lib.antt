@@ -1,5 +1,7 @@
 -- The lemmas of this crate.
 pub mod Proposed
+pub mod DecidedRenames
+pub mod UsedMembers
 pub mod Planned
 pub mod Keeping
 pub mod MovePlanned

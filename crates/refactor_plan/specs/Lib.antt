@@ -2,6 +2,7 @@
 pub mod Plan
 pub mod Proposals
 pub mod Steps
+pub mod Decided
 pub mod Laws
 pub mod Requests
 pub mod MovePlan

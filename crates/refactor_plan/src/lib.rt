@@ -6,7 +6,9 @@
 #![tactic(auto)]
 
 pub mod admitted_plans;
+mod decided;
 pub mod exports;
+mod kept_known;
 pub mod laws;
 mod move_plan;
 mod plan;

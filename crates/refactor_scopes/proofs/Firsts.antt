@@ -1,10 +1,10 @@
 -- The first of several numbers, and the first of several conflicts.
 use Rattle.std.proofs.Common.{ℕ, ◌⊎◌, ◌↔◌, inl, inr, List, Option, Some, None, arith}
 use Rattle.std.proofs.lemmas.Bool.{cond_both, leb-true, leb-false}
-use Rattle.go_scope.specs.Bindings.{Layout, Names, IsIdentifier}
+use Rattle.go_scope.specs.Bindings.{Layout, Names}
 use Rattle.law_rename.specs.Renaming.{HasNoConflictAt}
 use Rattle.refactor_scopes.specs.declared.outcomes.ScopeConflict.{ScopeConflict}
-use Rattle.refactor_scopes.specs.Conflicts.{FirstConflictAmong, first_conflict_of}
+use Rattle.refactor_scopes.specs.Conflicts.{FirstConflictAmong, IsWritten, first_conflict_of}
 use Rattle.refactor_scopes.specs.Numbers.{IsFirstNumber, earlier}
 
 module _ (K J : ℕ → Type 0) where
@@ -42,6 +42,6 @@ module _ (l : Layout) (names : Names) (d : ℕ) (y : List ℕ) (K J : ℕ → Ty
   }
 
   -- of all identifiers of which J holds, those of which K doesn't hold have no conflict
-  pub among_all : (c : Option ScopeConflict) → ((u : ℕ) → IsIdentifier l u → J u → (K u → ⊥) → HasNoConflictAt l names d y u) → Among K c → Among J c
+  pub among_all : (c : Option ScopeConflict) → ((u : ℕ) → IsWritten l u → J u → (K u → ⊥) → HasNoConflictAt l names d y u) → Among K c → Among J c
   among_all None rest h = λ u id j. either_way u (h u id) (rest u id j)
   among_all (Some m) rest h = (h.0, h.1, λ u lt id j. either_way u (h.2 u lt id) (rest u id j))

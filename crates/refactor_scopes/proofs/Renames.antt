@@ -3,23 +3,27 @@ use Rattle.std.proofs.Common.{ℕ, ◌≡◌, ◌<◌, ◌≤◌, inl, inr, List
 use Rattle.std.specs.Prelude.{⊤, MatchOption}
 use Rattle.std.proofs.lemmas.Bool.{cases_lt, true≢false, false≢true}
 use Rattle.std.proofs.lemmas.Option.{slice_get_past}
+use Rattle.go_scope.specs.declared.model.Block.TheVariants.{Universe, File, Inner}
 use Rattle.go_scope.specs.declared.model.Role.{Role}
 use Rattle.go_scope.specs.declared.model.Role.TheVariants.{Use, Declaring, LeftName, Implied, NotLexical}
 use Rattle.go_scope.specs.declared.model.Purpose.TheVariants.{Blank}
-use Rattle.go_scope.specs.Bindings.{Declares, IsIdentifier, IsUse, may_declare, is_use, is_left_name, is_implied}
+use Rattle.go_scope.specs.Bindings.{Declares, IsIdentifier, IsImport, IsUse, block_of, may_declare, is_use, is_left_name, is_implied}
 use Rattle.go_scope.specs.Packages.{layout_in, names_in}
 use Rattle.go_scope.specs.Site.{Site, or_blank, sites_layout}
+use Rattle.go_scope.specs.WellFormed.{WellFormed}
 use Rattle.law_rename.specs.Renaming.{HasNoConflictAt}
+use Rattle.refactor_scopes.specs.declared.outcomes.RenameOutcome.{RenameOutcome}
+use Rattle.refactor_scopes.specs.declared.outcomes.ScopeConflict.{ScopeConflict}
 use Rattle.refactor_scopes.specs.declared.scope_rename.ScopeRename.{ScopeRename}
-use Rattle.refactor_scopes.specs.Conflicts.{IsConflictAt, IsScopeRename, IsUseOf}
-use Rattle.refactor_scopes.specs.Outcomes.{IsOutcome, conflict_outcome}
+use Rattle.refactor_scopes.specs.Conflicts.{FirstConflictAmong, IsConflictAt, IsScopeRename, IsUseOf, IsWritten}
+use Rattle.refactor_scopes.specs.Outcomes.{IsOutcome, IsOutcomeConflict, conflict_outcome}
 use Rattle.refactor_scopes.proofs.Listing.{at_place, place_of, read_at}
 use Rattle.refactor_scopes.proofs.Nearest.{Nearest}
 use Rattle.refactor_scopes.proofs.OutcomeLaws.{kept_none}
 use Rattle.go_scope.proofs.Nesting.{Nested}
 
 -- what the role of a `_` is not, stands within the list
-within_by : (K : Role → Bool) → K (NotLexical Blank) ≡ false → (sites : List Site) (d : ℕ) → K ((sites_layout sites).role d) ≡ true → d < length sites
+pub within_by : (K : Role → Bool) → K (NotLexical Blank) ≡ false → (sites : List Site) (d : ℕ) → K ((sites_layout sites).role d) ≡ true → d < length sites
 within_by K not sites d is = elim (cases_lt d (length sites)) [
   | inl lt ↦ lt
   | inr ge ↦ absurd (true≢false (sym is ∙ ap (λ s. K (or_blank s).role) (slice_get_past sites d ge) ∙ not))
@@ -38,6 +42,13 @@ no_left_implied (Declaring b n) is = refl
 no_left_implied (LeftName b n) is = refl
 no_left_implied (Implied b n) is = absurd (false≢true is)
 no_left_implied (NotLexical p) is = refl
+
+no_use_block : (r : Role) → is_use r ≡ true → (f : ℕ) → block_of r ≡ File f → ⊥
+no_use_block Use is f e = let z : Universe ≡ File f = e in cc
+no_use_block (Declaring b n) is f e = absurd (false≢true is)
+no_use_block (LeftName b n) is f e = absurd (false≢true is)
+no_use_block (Implied b n) is f e = absurd (false≢true is)
+no_use_block (NotLexical p) is f e = absurd (false≢true is)
 
 module _ (r : ScopeRename) (is : IsScopeRename r) where
   abbrev names : ℕ → List ℕ
@@ -60,8 +71,14 @@ module _ (r : ScopeRename) (is : IsScopeRename r) where
   use_identifier u (inl i) = no_use_implied ((layout_in r.table.now).role u) i
   use_identifier u (inr i) = no_left_implied ((layout_in r.table.now).role u) i.0
 
-  pub own_identifier : (u : ℕ) → IsUseOf (layout_in r.table.now) names r.declaration u → IsIdentifier (layout_in r.table.now) u
-  own_identifier u own = use_identifier u own.is_use
+  use_no_import : WellFormed (layout_in r.table.now) → (u : ℕ) → IsUse (layout_in r.table.now) names u → IsImport (layout_in r.table.now) u → ⊥
+  use_no_import formed u (inl i) import = no_use_block ((layout_in r.table.now).role u) i import.0 import.1
+  use_no_import formed u (inr i) import =
+      let b = formed.left_inner u i.0 in
+      let z : File import.0 ≡ Inner b.0 b.1 b.2 = sym import.1 ∙ b.3 in cc
+
+  pub own_written : WellFormed (layout_in r.table.now) → (u : ℕ) → IsUseOf (layout_in r.table.now) names r.declaration u → IsWritten (layout_in r.table.now) u
+  own_written formed u own = (use_identifier u own.is_use, λ import same. use_no_import formed u own.is_use import)
 
   pub named_there : (i : ℕ) → i < length r.named.items → (get_or r.named.items i 0 < size) × (names (get_or r.named.items i 0) ≡ r.name.now)
   named_there i within = at_place (λ u. names u ≡ r.name.now) size r.named.items is.named i within
@@ -101,3 +118,23 @@ module _ (r : ScopeRename) (is : IsScopeRename r) where
       IsConflictAt (layout_in r.table.now) names r.declaration r.name.now u by
   conflict_by u None h = h
   conflict_by u (Some c) h = h
+
+  -- the outcome at the declaring identifier of what is renamed, as a conflict
+  pub first_own : (outcome : RenameOutcome) (o : Option ScopeConflict) → IsOutcomeConflict (layout_in r.table.now) r.declaration outcome o →
+      IsOutcome (layout_in r.table.now) names r.declaration r.name.now r.declaration outcome →
+      FirstConflictAmong (layout_in r.table.now) names r.declaration r.name.now (λ u. u ≡ r.declaration) o
+  first_own outcome None h is_outcome = λ u written same.
+      let W : ℕ → Type 0 = λ v. IsWritten (layout_in r.table.now) v in
+      let H : ℕ → Type 0 = λ v. HasNoConflictAt (layout_in r.table.now) names r.declaration r.name.now v in
+      let O : RenameOutcome → Type 0 = λ v. IsOutcome (layout_in r.table.now) names r.declaration r.name.now r.declaration v in
+      subst H (sym same) (subst O (h (subst W same written)) is_outcome)
+  first_own outcome (Some c) h is_outcome =
+      let W : ℕ → Type 0 = λ v. IsWritten (layout_in r.table.now) v in
+      let C : ℕ → Type 0 = λ v. IsConflictAt (layout_in r.table.now) names r.declaration r.name.now v c.by in
+      let O : RenameOutcome → Type 0 = λ v. IsOutcome (layout_in r.table.now) names r.declaration r.name.now r.declaration v in
+      let same : c.identifier ≡ r.declaration = h.1 in (
+        subst W (sym same) h.0,
+        subst C (sym same) (conflict_by r.declaration c.by (subst O h.2 is_outcome)),
+        (λ u lt written own. let L : ℕ → Type 0 = λ v. v < c.identifier in
+            let less : r.declaration < c.identifier = subst L own lt in absurd (omega (arith, less, same))),
+      )

@@ -1,9 +1,10 @@
 -- The conflicts of a rename in the scopes of a package, by the old names.
 use Rattle.std.specs.Prelude.{ℕ, ◌≡◌, ◌<◌, List, Option, Some, None, length, if◌then◌else◌, nat_le}
-use Rattle.go_scope.specs.Bindings.{Layout, Names, AllCount, BindsAt, Declares, Displaces, InScope, IsIdentifier, IsUse}
+use Rattle.go_scope.specs.Bindings.{Layout, Names, AllCount, BindsAt, Declares, Displaces, InScope, IsIdentifier, IsImport, IsUse}
 use Rattle.go_scope.specs.Packages.{layout_in, names_in}
 use Rattle.go_scope.specs.Table.{Precedes}
 use Rattle.law_rename.specs.Renaming.{WouldCapture, WouldLose, HasNoConflictAt}
+use Rattle.types_declared.specs.Laid.{literal_of}
 use Rattle.refactor_scopes.specs.declared.outcomes.ScopeConflict.{ScopeConflict}
 use Rattle.refactor_scopes.specs.declared.scope_rename.ScopeRename.{ScopeRename}
 use Rattle.refactor_scopes.specs.Numbers.{ListsNumbers}
@@ -13,11 +14,15 @@ abbrev pub IsConflictAt : Layout → Names → (d : ℕ) → (y : List ℕ) → 
 IsConflictAt l names d y u None = WouldLose l names d y u
 IsConflictAt l names d y u (Some c) = WouldCapture l names d y u c
 
+-- `u` is an identifier that a file has: no predeclared name, and no import without a name, which its string literal declares.
+abbrev pub IsWritten : Layout → (u : ℕ) → Type 0
+IsWritten l u = IsIdentifier l u × (IsImport l u → literal_of l u ≡ u → ⊥)
+
 -- The first identifier of those of which `K` holds that the rename captures or loses, or that there is none.
 abbrev pub FirstConflictAmong : Layout → Names → (d : ℕ) → (y : List ℕ) → (K : ℕ → Type 0) → Option ScopeConflict → Type 0
-FirstConflictAmong l names d y K None = (u : ℕ) → IsIdentifier l u → K u → HasNoConflictAt l names d y u
-FirstConflictAmong l names d y K (Some c) = IsIdentifier l c.identifier × IsConflictAt l names d y c.identifier c.by ×
-    ((u : ℕ) → u < c.identifier → IsIdentifier l u → K u → HasNoConflictAt l names d y u)
+FirstConflictAmong l names d y K None = (u : ℕ) → IsWritten l u → K u → HasNoConflictAt l names d y u
+FirstConflictAmong l names d y K (Some c) = IsWritten l c.identifier × IsConflictAt l names d y c.identifier c.by ×
+    ((u : ℕ) → u < c.identifier → IsWritten l u → K u → HasNoConflictAt l names d y u)
 
 -- The first identifier of all that the rename captures or loses, or that there is none.
 abbrev pub TellsConflict : Layout → Names → (d : ℕ) → (y : List ℕ) → Option ScopeConflict → Type 0

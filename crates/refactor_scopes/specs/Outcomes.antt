@@ -1,7 +1,8 @@
 -- What a rename does to one identifier, by the old names.
 use Rattle.std.specs.Prelude.{ℕ, ◌≡◌, List, Option, Some, None}
-use Rattle.go_scope.specs.Bindings.{Layout, Names, IsIdentifier}
+use Rattle.go_scope.specs.Bindings.{Layout, Names}
 use Rattle.law_rename.specs.Renaming.{WouldCapture, WouldLose, HasNoConflictAt}
+use Rattle.refactor_scopes.specs.Conflicts.{IsWritten}
 use Rattle.refactor_scopes.specs.declared.outcomes.ScopeConflict.{ScopeConflict}
 use Rattle.refactor_scopes.specs.declared.outcomes.RenameOutcome.{RenameOutcome}
 use Rattle.refactor_scopes.specs.declared.outcomes.RenameOutcome.TheVariants.{Kept, Captured, Lost}
@@ -17,7 +18,7 @@ abbrev pub conflict_outcome : Option ℕ → RenameOutcome
 conflict_outcome None = Lost
 conflict_outcome (Some c) = Captured c
 
--- The conflict that an outcome is at the identifier `u`, or none where it stays bound. What is no identifier of a file has no conflict.
+-- The conflict that an outcome is at the identifier `u`, or none where it stays bound. What no file has as an identifier has no conflict.
 abbrev pub IsOutcomeConflict : Layout → (u : ℕ) → RenameOutcome → Option ScopeConflict → Type 0
-IsOutcomeConflict l u outcome None = IsIdentifier l u → outcome ≡ Kept
-IsOutcomeConflict l u outcome (Some c) = IsIdentifier l u × (c.identifier ≡ u) × (outcome ≡ conflict_outcome c.by)
+IsOutcomeConflict l u outcome None = IsWritten l u → outcome ≡ Kept
+IsOutcomeConflict l u outcome (Some c) = IsWritten l u × (c.identifier ≡ u) × (outcome ≡ conflict_outcome c.by)

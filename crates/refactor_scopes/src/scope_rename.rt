@@ -2,7 +2,7 @@
 ghost use Rattle.std.specs.Prelude.{ℕ, ◌≡◌, ◌<◌, ◌↔◌, length, IfOk, IsTrue, MatchOption};
 ghost use Rattle.go_scope.specs.Bindings.{AllCount, Declares, Displaces};
 ghost use Rattle.go_scope.specs.Packages.{layout_in, names_in};
-ghost use Rattle.refactor_scopes.specs.Conflicts.{first_conflict_of, FirstConflictAmong, IsDisplacer, IsScopeRename, TellsConflict};
+ghost use Rattle.refactor_scopes.specs.Conflicts.{first_conflict_of, FirstConflictAmong, IsDisplacer, IsScopeRename, IsWritten, TellsConflict};
 ghost use Rattle.refactor_scopes.specs.Outcomes.{IsOutcomeConflict, IsOutcome};
 
 use crate::numbers::{named, uses_of};
@@ -11,6 +11,7 @@ use crate::outcomes::{RenameOutcome, ScopeConflict, named_outcome};
 use crate::own_uses::own_use_conflict;
 use go_scope::table::{DeclId, ScopeTable};
 use std::alloc::{AllocError, Global};
+use types_declared::{is_import, literal_of};
 
 /// The rename of a declaration of a package: the package's scopes, the declaration, its new name, the uses of the declaration, and the
 /// identifiers that have the new name already.
@@ -69,13 +70,20 @@ fn own_outcome(rename: &ScopeRename<'_>) -> RenameOutcome
     }
 }
 
-/// The conflict that an outcome is at an identifier, if it is one. A name that the language declares, or an import's package, is no
-/// identifier of a file.
+/// Whether a file has this identifier. A predeclared name and an import without a name are in none.
+fn is_written(table: &ScopeTable<'_>, u: usize) -> bool
+    requires { u < length table.now.sites }
+    ensures { IsTrue result ↔ IsWritten (layout_in table.now) u }
+{
+    !table.role(u).is_implied() && !(is_import(table, u) && literal_of(table, u) == u)
+}
+
+/// The conflict that an outcome is at an identifier, if it is one. What no file has as an identifier has no conflict.
 fn conflict_at(table: &ScopeTable<'_>, u: usize, outcome: RenameOutcome) -> Option<ScopeConflict>
     requires { u < length table.now.sites }
     ensures { IsOutcomeConflict (layout_in table.now) u outcome result }
 {
-    if table.role(u).is_implied() {
+    if !is_written(table, u) {
         return None;
     }
     match outcome {

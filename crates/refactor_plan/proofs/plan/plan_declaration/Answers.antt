@@ -1,23 +1,9 @@
 -- The answers to the goals of `plan::plan_declaration`.
-use Rattle.std.proofs.Common.{inr, ap, sym, subst, ◌∙◌}
-use Rattle.refs_binding.specs.Workspaces.{known_in}
-use Rattle.workspace_snapshot.specs.declared.change.Change.{Change}
-use Rattle.refactor_preserve.specs.Planned.{change_in}
-use Rattle.refactor_plan.specs.Proposals.{proposed_change, PlansChange}
-use Rattle.refactor_plan.specs.Requests.{byte_place}
+use Rattle.std.proofs.Common.{inr}
 use Rattle.refactor_plan.proofs.plan.plan_declaration.Goals as goal
 
-pub plan_change-requires-clause-is_change : goal.plan_change-requires-clause-is_change
-plan_change-requires-clause-is_change c =
-    let e = c.in_ok-change.ensures in
-    e ∙ sym (ap (λ (x : Change). proposed_change c.args.snapshot.now x.kind x.edits) e)
-
 pub returns-clause-planned : goal.returns-clause-planned
-returns-clause-planned c =
-    let planned =
-    subst (λ (x : Change). PlansChange c.args.snapshot.now (known_in c.args.found.now.findings) (byte_place c.args.asked.now) x.kind x.edits
-    (change_in c.plan_change.result)) c.in_ok-change.ensures c.plan_change.ensures.planned in
-    inr (c.in_ok-edits.edits, (c.in_ok-edits.ensures.edits, (c.in_ok-edits.ensures.fits, planned)))
+returns-clause-planned c = inr (c.in_ok-edits.edits, (c.in_ok-edits.ensures.edits, (c.in_ok-edits.ensures.fits, c.plan_by_kind.ensures.planned)))
 
 pub returns-clause-known : goal.returns-clause-known
-returns-clause-known c = c.plan_change.ensures.known
+returns-clause-known c = c.plan_by_kind.ensures.known

@@ -2,6 +2,7 @@
 use Rattle.refs_binding.specs.Workspaces.{known_in}
 use Rattle.refs_binding.proofs.Units.{list_of_sound}
 use Rattle.refactor_plan.proofs.Planned.{name_refused, declaration_planned}
+use Rattle.refactor_plan.proofs.UsedMembers.{member_used}
 use Rattle.refactor_preserve.specs.Planned.{change_in}
 use Rattle.refactor_plan.proofs.plan.plan_named.Goals as goal
 
@@ -25,3 +26,16 @@ returns-in-Ok-clause-planned c =
 
 pub returns-in-Ok-clause-known : goal.returns-in-Ok-clause-known
 returns-in-Ok-clause-known c = c.plan_declaration.ensures.known
+
+pub plan_declaration-requires-clause-legal : goal.plan_declaration-requires-clause-legal
+plan_declaration-requires-clause-legal c =
+    let w = c.args.snapshot.now.files in
+    let found = c.args.found.now.findings in
+    record {
+      form = c.requires.form;
+      renamable = c.in-Ok.ensures.0;
+      allowed = c.in-Ok.ensures.1;
+      other = c.in-Ok.ensures.2;
+      used = member_used w (list_of_sound w found c.requires.sound) (known_in found) c.requires.sound.findings.right c.args.asked.now.path.now
+          c.args.asked.now.offset c.args.declaration.now c.requires.has;
+    }

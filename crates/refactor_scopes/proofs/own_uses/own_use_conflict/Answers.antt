@@ -3,7 +3,7 @@ use Rattle.go_scope.specs.Packages.{layout_in, names_in}
 use Rattle.go_scope.proofs.Nests.{nests}
 use Rattle.law_rename.proofs.Conflicts.{none_holds}
 use Rattle.refactor_scopes.proofs.OutcomeLaws.{kept_own_use, captured_own_use}
-use Rattle.refactor_scopes.proofs.Renames.{own_identifier}
+use Rattle.refactor_scopes.proofs.Renames.{own_written}
 use Rattle.refactor_scopes.proofs.own_uses.own_use_conflict.Goals as goal
 
 pub returns-in-None : goal.returns-in-None
@@ -29,7 +29,7 @@ returns-in-Some-binding_of_name c =
     let nested = nests l c.is_well_formed.ensures in
     let own = c.in-Some.ensures.0.0 in
     let taken = c.in-Some.ensures.0.1 in (
-      own_identifier r c.requires c.in-Some.identifier own,
+      own_written r c.requires c.is_well_formed.ensures c.in-Some.identifier own,
       captured_own_use l nested names r.declaration r.name.now c.requires.declares c.requires.other_name c.requires.all_count c.in-Some.identifier taken.0
           c.in-Some-binding_of_name.c own taken.1 c.in-Some-binding_of_name.ensures,
       (λ u lt id mine. kept_own_use l nested names r.declaration r.name.now c.requires.declares c.requires.other_name u mine

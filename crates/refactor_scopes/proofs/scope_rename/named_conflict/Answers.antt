@@ -1,12 +1,11 @@
 -- The answers to the goals of `scope_rename::named_conflict`.
 use Rattle.std.proofs.Common.{ℕ, ◌≡◌, ◌<◌, length, get_or, sym, subst, arith, inl, inr}
 use Rattle.std.proofs.lemmas.Bool.{cases_lt}
-use Rattle.go_scope.specs.Bindings.{IsIdentifier}
 use Rattle.go_scope.specs.Packages.{layout_in, names_in}
 use Rattle.go_scope.proofs.Nests.{nests}
 use Rattle.law_rename.specs.Renaming.{HasNoConflictAt}
 use Rattle.refactor_scopes.specs.declared.outcomes.RenameOutcome.{RenameOutcome}
-use Rattle.refactor_scopes.specs.Conflicts.{IsConflictAt}
+use Rattle.refactor_scopes.specs.Conflicts.{IsConflictAt, IsWritten}
 use Rattle.refactor_scopes.specs.Outcomes.{IsOutcome}
 use Rattle.refactor_scopes.proofs.Listing.{read_at, stands_before}
 use Rattle.refactor_scopes.proofs.Renames.{conflict_by, named_at, named_listed, none_beyond}
@@ -39,8 +38,8 @@ loop-i-preserved c = λ j lt id.
       | inl less ↦ c.loop-i.invariant j less id
       | inr ge ↦
           let same : j ≡ i = omega arith in
-          let I : ℕ → Type 0 = λ v. IsIdentifier l (get_or r.named.items v 0) in
-          let J : ℕ → Type 0 = λ v. IsIdentifier l v in
+          let I : ℕ → Type 0 = λ v. IsWritten l (get_or r.named.items v 0) in
+          let J : ℕ → Type 0 = λ v. IsWritten l v in
           let O : RenameOutcome → Type 0 = λ v. IsOutcome l names r.declaration r.name.now c.index-u.result.now v in
           let H : ℕ → Type 0 = λ v. HasNoConflictAt l names r.declaration r.name.now v in
           let G : ℕ → Type 0 = λ v. HasNoConflictAt l names r.declaration r.name.now (get_or r.named.items v 0) in
@@ -57,7 +56,7 @@ returns-in-Some c =
     let read = read_at r.named.items i c.index-u.result.now within c.index-u.ensures in
     let at = named_at r c.requires i c.index-u.result.now within c.index-u.ensures in
     let same = c.in-Some.ensures.1 in
-    let I : ℕ → Type 0 = λ v. IsIdentifier l v in
+    let I : ℕ → Type 0 = λ v. IsWritten l v in
     let O : RenameOutcome → Type 0 = λ v. IsOutcome l names r.declaration r.name.now c.index-u.result.now v in
     let K : ℕ → Type 0 = λ v. IsConflictAt l names r.declaration r.name.now v c.in-Some.conflict.by in
     let H : ℕ → Type 0 = λ v. HasNoConflictAt l names r.declaration r.name.now v in (
@@ -84,7 +83,7 @@ returns c = λ u id named.
       | inl within ↦
           let place = named_listed r c.requires u within named in
           let inside : place.0 < length r.named.items = place.1 in
-          let I : ℕ → Type 0 = λ v. IsIdentifier l v in
+          let I : ℕ → Type 0 = λ v. IsWritten l v in
           let H : ℕ → Type 0 = λ v. HasNoConflictAt l (names_in r.table.now) r.declaration r.name.now v in
           subst H place.2 (c.loop-i.invariant place.0 (omega (arith, inside, c.loop-i-test.false, c.len-i-end.ensures, r.named.ok.0)) (subst I (sym place.2)
           id))

@@ -1,0 +1,43 @@
+-- What is decided of the rename of a declaration of scopes by the workspace before it.
+use Rattle.std.specs.Prelude.{ℕ, ◌≡◌, List, Option, Some, None, IsTrue}
+use Rattle.base_files.specs.Workspace.{Workspace}
+use Rattle.types_declared.specs.Package.{Package}
+use Rattle.workspace_check.specs.Verdicts.{Verdicts}
+use Rattle.refs_binding.specs.Uses.{IsPackage}
+use Rattle.refs_binding.specs.Workspaces.{IsPackageAt}
+use Rattle.refactor_conflict.specs.declared.conflict.Conflict.{Conflict}
+use Rattle.law_known_verdicts.specs.KnownVerdicts.{IsHiddenIn}
+use Rattle.law_scope_conflicts.specs.ScopeConflicts.{FirstConflictBehind, FirstOwnConflict, earlier_conflict}
+use Rattle.refactor_decide.specs.Own.{CanRename}
+use Rattle.refactor_decide.specs.declared.decision.ScopeDecision.{ScopeDecision}
+
+-- The first conflict of the rename: the earlier one of the first in the scopes of the package and the first behind the package's name.
+pub record IsFirstOfBoth (w : Workspace) (known : Verdicts) (p : Package) (n : ℕ) (name : List ℕ) (told : Option Conflict) : Type 0 where
+  pub own : Option Conflict
+  pub behind : Option Conflict
+  pub first_own : FirstOwnConflict (IsPackage w known) p n name own
+  pub first_behind : FirstConflictBehind (IsPackage w known) p n name behind
+  pub is_told : told ≡ earlier_conflict own behind
+
+-- The declaration of the package has another name, and no import without a name gains one. The decision has the first conflict, and says
+-- where other packages see the declaration under neither name.
+pub record Decides (w : Workspace) (known : Verdicts) (p : Package) (n : ℕ) (name : List ℕ) (d : ScopeDecision) : Type 0 where
+  pub can : CanRename p n name
+  pub first : IsFirstOfBoth w known p n name d.conflict
+  pub hidden : IsTrue d.is_hidden → IsHiddenIn p n name
+
+-- A decision, or none where the package has no such declaration with another name, or it is an import without a name.
+abbrev pub DecidesIn : Workspace → Verdicts → Package → (n : ℕ) → (name : List ℕ) → Option ScopeDecision → Type 0
+DecidesIn w known p n name None = CanRename p n name → ⊥
+DecidesIn w known p n name (Some d) = Decides w known p n name d
+
+-- The same for the package of a number.
+pub record DecidesAt (w : Workspace) (known : Verdicts) (number n : ℕ) (name : List ℕ) (found : Option ScopeDecision) : Type 0 where
+  pub inside : Package
+  pub is_package : IsPackageAt w known number inside
+  pub decides : DecidesIn w known inside n name found
+
+-- The same for the package at a path; none also where there is no such package.
+abbrev pub DecidesRename : Workspace → Verdicts → (path : List ℕ) → (n : ℕ) → (name : List ℕ) → Option ScopeDecision → Type 0
+DecidesRename w known path n name None = (p : Package) → IsPackage w known p → p.path ≡ path → CanRename p n name → ⊥
+DecidesRename w known path n name (Some d) = (p : Package) × (IsPackage w known p × ((p.path ≡ path) × Decides w known p n name d))

@@ -1,0 +1,36 @@
+-- The first conflict of a rename in the scopes of the declaring package, by its place.
+use Rattle.std.specs.Prelude.{ℕ, ◌≡◌, ◌<◌, List, Option, Some, None}
+use Rattle.base_files.specs.declared.place.Place.{Place}
+use Rattle.go_scope.specs.Bindings.{Declares}
+use Rattle.types_declared.specs.Package.{Package}
+use Rattle.refs_binding.specs.Binding.{IsPredeclared}
+use Rattle.refs_binding.specs.Identifiers.{BeginsAt}
+use Rattle.refactor_conflict.specs.declared.conflict.Conflict.{Conflict}
+use Rattle.refactor_rename.specs.Literals.{IsUnnamedImport}
+use Rattle.refactor_scopes.specs.declared.outcomes.ScopeConflict.{ScopeConflict}
+use Rattle.refactor_scopes.specs.Conflicts.{TellsConflict}
+use Rattle.refactor_decide.specs.Capturers.{NamesEach}
+
+-- `n` declares in the package `p`, is not predeclared, has another name, and is no import without a name.
+pub record CanRename (p : Package) (n : ℕ) (name : List ℕ) : Type 0 where
+  pub within : n < p.size
+  pub own : IsPredeclared n → ⊥
+  pub declares : Declares p.layout p.names n
+  pub other_name : p.names n ≡ name → ⊥
+  pub has_name : IsUnnamedImport p n → ⊥
+
+-- The conflict by number, by the place where its identifier begins; none where it begins nowhere.
+abbrev pub IsPlaced : Package → ScopeConflict → Option Conflict → Type 0
+IsPlaced p told None = (place : Place) → BeginsAt p place.path place.offset told.identifier → ⊥
+IsPlaced p told (Some c) = BeginsAt p c.used.path c.used.offset told.identifier × NamesEach p told.by c.by
+
+-- The first conflict that the scopes of the package tell, by its place, or none where there is none.
+abbrev pub IsPlacedIfAny : Package → Option ScopeConflict → Option Conflict → Type 0
+IsPlacedIfAny p None c = c ≡ None
+IsPlacedIfAny p (Some told) c = IsPlaced p told c
+
+-- The first conflict by number, and the same by its place.
+pub record TellsOwn (p : Package) (n : ℕ) (name : List ℕ) (c : Option Conflict) : Type 0 where
+  pub told : Option ScopeConflict
+  pub first : TellsConflict p.layout p.names n name told
+  pub placed : IsPlacedIfAny p told c

@@ -1,0 +1,93 @@
+-- What a rename of a field or method does to members, by the laws of such renames.
+use Rattle.std.proofs.Common.{ℕ, ◌≡◌, ◌⊎◌, inl, inr, List, sym, refl, ◌∙◌}
+use Rattle.std.specs.Prelude.{Option, Some, None}
+use Rattle.base_files.specs.Workspace.{Workspace}
+use Rattle.base_edits.specs.EditSet.{FileChanges}
+use Rattle.base_edits.specs.Revisions.{Revision}
+use Rattle.base_edits.specs.RevisionsOfEdits.{revision_of}
+use Rattle.types_declared.specs.Package.{Package, symbol_in, spelled}
+use Rattle.workspace_check.specs.Verdicts.{Verdicts}
+use Rattle.refs_binding.specs.declared.declaration.Declaration.{Declaration}
+use Rattle.refs_binding.specs.declared.declaration.Declaration.TheVariants.{Field, Method}
+use Rattle.refs_binding.specs.Uses.{IsPackage}
+use Rattle.refactor_conflict.specs.Conflicts.{Takes, HoldsBefore, IsConflict}
+use Rattle.refactor_conflict.specs.Staying.{MembersStayIn, DeclaringNamesStayIn}
+use Rattle.refactor_conflict.specs.declared.conflict.Conflict.{Conflict}
+use Rattle.refactor_conflict.proofs.KeepingFirst.{taken}
+use Rattle.law_member_conflicts.specs.AtStake.{OtherMembersStay}
+use Rattle.law_member_conflicts.specs.KeptScopes.{MemberConflictsAreOfMembers}
+use Rattle.law_member_conflicts.specs.MemberRenames.{IsMemberRename}
+use Rattle.law_kept_members.specs.NamesAfterwards.{IsCalledAfter, gets_name, keeps_name, spelled_there, MembersAreCalled, FieldNamesAfter, MethodNamesAfter}
+use Rattle.law_rename_agrees.specs.ConflictsByTables.{TellsFirstOf}
+use Rattle.refactor_members.specs.Renames.{RenamesMember}
+use Rattle.refactor_members.proofs.NamesStay.{case_field, case_method}
+
+module _ (w : Workspace) (known : Verdicts) (d : Declaration) (name : List ℕ) (s : FileChanges) (rename : IsMemberRename w known d name s) where
+  abbrev r : Revision
+  r = revision_of w s
+
+  -- A member that is called by the new name is the renamed one, or had the name.
+  is_called : (e : Declaration) (old : List ℕ) → IsCalledAfter d name e old name → (e ≡ d) ⊎ (old ≡ name)
+  is_called e old (gets_name same new) = inl same
+  is_called e old (keeps_name other new) = inr (sym new)
+
+  had_called : (e : Declaration) (old : List ℕ) → (e ≡ d) ⊎ (e ≡ d → ⊥) → (e ≡ d) ⊎ (old ≡ name) → IsCalledAfter d name e old name
+  had_called e old choice (inl same) = gets_name same refl
+  had_called e old (inl same) (inr had) = gets_name same refl
+  had_called e old (inr other) (inr had) = keeps_name other (sym had)
+
+  -- The name of a member that is neither stays another.
+  not_at_stake : (e : Declaration) (old new : List ℕ) → IsCalledAfter d name e old new → (new ≡ name → ⊥) → (e ≡ d) ⊎ (old ≡ name) → ⊥
+  not_at_stake e old new (gets_name same is) not k = not is
+  not_at_stake e old new (keeps_name other is) not (inl same) = other same
+  not_at_stake e old new (keeps_name other is) not (inr had) = not (is ∙ had)
+
+  pub renames_member : MembersAreCalled → FieldNamesAfter → MethodNamesAfter → OtherMembersStay → RenamesMember w known r d name
+  renames_member called fields methods others = record {
+    fields = λ x is definition rank. (
+      (λ after.
+          let c = (fields w known d name s rename.rename x is definition name rank).0 after in
+          record {
+            field = c.field;
+            has_rank = c.has_rank;
+            of_struct = c.of_struct;
+            named = is_called (Field (symbol_in x rank)) (spelled x c.field.file c.field.name) c.called;
+          }),
+      (λ n. (fields w known d name s rename.rename x is definition name rank).1 (record {
+        field = n.field;
+        has_rank = n.has_rank;
+        of_struct = n.of_struct;
+        called = had_called (Field (symbol_in x rank)) (spelled x n.field.file n.field.name) (case_field (symbol_in x rank) d) n.named;
+      })),
+    );
+    methods = λ x is definition rank. (
+      (λ after.
+          let c = (methods w known d name s rename.rename x is definition name rank).0 after in
+          record {
+            method = c.method;
+            has_rank = c.has_rank;
+            of_type = c.of_type;
+            named = is_called (Method (symbol_in x rank)) (spelled x c.method.file c.method.function.name) c.called;
+          }),
+      (λ n. (methods w known d name s rename.rename x is definition name rank).1 (record {
+        method = n.method;
+        has_rank = n.has_rank;
+        of_type = n.of_type;
+        called = had_called (Method (symbol_in x rank)) (spelled x n.method.file n.method.function.name) (case_method (symbol_in x rank) d) n.named;
+      })),
+    );
+    used = λ x is u place begins old was not.
+        let c = called w known d name s rename.rename x is u place begins old (inl was) in
+        (others w known d name s rename x is u place begins).used old was
+        (not_at_stake old (spelled_there x u) (r.called place (spelled_there x u)) c not);
+    declared = λ x is u place begins old was other not.
+        (others w known d name s rename x is u place begins).declared old was (λ k. elim k [ inl same ↦ other same | inr had ↦ not had ]);
+  }
+
+  -- The first conflict, where what is bound otherwise stays.
+  pub first_told : MemberConflictsAreOfMembers → (told : Option Conflict) → Takes (IsConflict w known r) None told →
+      HoldsBefore (λ place. (p : Package) → IsPackage w known p → MembersStayIn w known r p place × DeclaringNamesStayIn w known r p place) told →
+      TellsFirstOf w known r told
+  first_told decide None takes stay = λ place. (decide w known d name s rename place).1 (stay place tt)
+  first_told decide (Some c) takes stay =
+      (taken (IsConflict w known r) c takes, λ place before. (decide w known d name s rename place).1 (stay place before))

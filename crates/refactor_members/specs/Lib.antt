@@ -1,0 +1,4 @@
+-- The definitions of this crate.
+pub mod Renames
+pub mod Naming
+pub mod Judging

@@ -1,0 +1,49 @@
+-- Fields and methods that have the new name of a rename, and what is known of a package that is judged.
+use Rattle.std.specs.Prelude.{ℕ, ◌≡◌, List, Option, Some, None, Contains, map, MatchOption, if◌then◌else◌, nat_le}
+use Rattle.base_files.specs.Workspace.{Workspace}
+use Rattle.go_ast.specs.SourceFile.{source_of}
+use Rattle.types_expr.specs.declared.symbol.Symbol.{Symbol}
+use Rattle.types_declared.specs.Package.{Package}
+use Rattle.types_declared.specs.Definitions.{AreDefinitions}
+use Rattle.types_info.specs.MemberUses.{AreMemberUses, AreUsesIn, uses_in}
+use Rattle.types_expr.specs.Judge.{MemberUse}
+use Rattle.workspace_check.specs.Verdicts.{Verdicts}
+use Rattle.refs_binding.specs.Members.{definitions_known}
+use Rattle.refs_binding.specs.Uses.{IsPackage}
+use Rattle.refactor_after.specs.MembersAfter.{IsFirst}
+use Rattle.refactor_after.specs.OldPlaces.{field_at, method_at}
+pub use Rattle.law_rename_agrees.specs.ConflictsByTables.{HasField, HasMethod}
+use Rattle.refactor_members.specs.declared.member_rename.MemberRename.{MemberRename}
+use Rattle.refactor_members.specs.declared.judged_uses.PackageUses.{PackageUses}
+
+-- The first rank of which `Old` holds, or `None` where it holds of none.
+abbrev pub IsFirstOld : (ℕ → Type 0) → Option ℕ → Type 0
+IsFirstOld Old found = MatchOption found ((rank : ℕ) → Old rank → ⊥) (IsFirst Old)
+
+-- The renamed member is the field of this rank in the package of the type definition `of`, in the struct that this writes.
+abbrev pub IsRenamedField : MemberRename → (of : Symbol) → (rank : ℕ) → Type 0
+IsRenamedField m of rank = (m.definition ≡ Some of.rank) × (m.member.now ≡ field_at of.package rank)
+
+-- The renamed member is the method of this rank in the package of the type definition `of`, and one of its methods.
+abbrev pub IsRenamedMethod : MemberRename → (of : Symbol) → (rank : ℕ) → Type 0
+IsRenamedMethod m of rank = (m.definition ≡ Some of.rank) × (m.member.now ≡ method_at of.package rank)
+
+-- The lesser of two ranks, where there are any.
+abbrev pub lesser_rank : Option ℕ → Option ℕ → Option ℕ
+lesser_rank None b = b
+lesser_rank (Some m) None = Some m
+lesser_rank (Some m) (Some n) = if nat_le m n then Some m else Some n
+
+-- `of` has the trees of the package `p`, the type definitions that it knows, and its uses of members.
+pub record IsKnownOf (w : Workspace) (known : Verdicts) (p : Package) (of : PackageUses) : Type 0 where
+  pub is_package : IsPackage w known p
+  pub files : map source_of of.files.now ≡ p.files
+  pub path : of.types.path.now ≡ p.path
+  pub definitions : AreDefinitions p (definitions_known of.types)
+  pub members : AreMemberUses p (map uses_in of.members.now)
+
+-- The use of a member is one of those in the file.
+pub record IsUseIn (p : Package) (file : ℕ) (x : MemberUse) : Type 0 where
+  pub uses : List MemberUse
+  pub judged : AreUsesIn p file uses
+  pub among : Contains uses x

@@ -1,0 +1,100 @@
+-- The rename of a field or method, by the old names: what has the new name after it, and what it leaves alone.
+use Rattle.std.specs.Prelude.{ℕ, ◌≡◌, ◌⊎◌, ◌↔◌, List, Some, slice_get}
+use Rattle.base_files.specs.Workspace.{Workspace}
+use Rattle.base_files.specs.declared.place.Place.{Place}
+use Rattle.base_edits.specs.Revisions.{Revision}
+use Rattle.base_edits.specs.RevisionsOfEdits.{revision_of}
+use Rattle.types_declared.specs.Package.{Package, PlacedFunction, package_functions, symbol_in, spelled}
+use Rattle.types_declared.specs.Definitions.{PlacedField, package_fields}
+use Rattle.types_members.specs.MethodsView.{IsOwner}
+use Rattle.workspace_graph.specs.Search.{IsMarked}
+use Rattle.workspace_check.specs.Verdicts.{Verdicts}
+use Rattle.refs_binding.specs.declared.declaration.Declaration.{Declaration}
+use Rattle.refs_binding.specs.declared.declaration.Declaration.TheVariants.{Predeclared, Declared, Field, Method}
+use Rattle.refs_binding.specs.Binding.{BindsByMember, DeclaresMember}
+use Rattle.refs_binding.specs.DeclaringPlaces.{InHomePackage}
+use Rattle.refs_binding.specs.Identifiers.{BeginsAt}
+use Rattle.refs_binding.specs.Uses.{IsPackage}
+use Rattle.refs_binding.specs.Workspaces.{known_in, IsPackageAt}
+use Rattle.refactor_after.specs.NamesAfter.{IsFieldAfter, IsMethodAfter}
+use Rattle.refactor_after.specs.MembersAfter.{CountsAfter}
+use Rattle.refactor_after.specs.MembersFound.{IsRankFound}
+use Rattle.refactor_conflict.specs.BoundAfter.{IsBoundByMember}
+use Rattle.refactor_conflict.specs.Staying.{MembersStayIn, DeclaringNamesStayIn}
+use Rattle.refactor_members.specs.declared.member_rename.MemberRename.{MemberRename}
+
+-- The field of this rank is in the struct that the type definition writes. It is the renamed member `d`, or has the new name already.
+pub record IsFieldNamed (d : Declaration) (name : List ℕ) (x : Package) (definition rank : ℕ) : Type 0 where
+  pub field : PlacedField
+  pub has_rank : slice_get (package_fields x) rank ≡ Some field
+  pub of_struct : field.definition ≡ definition
+  pub named : (Field (symbol_in x rank) ≡ d) ⊎ (spelled x field.file field.name ≡ name)
+
+-- The function of this rank is a method of the type definition. It is the renamed member `d`, or has the new name already.
+pub record IsMethodNamed (d : Declaration) (name : List ℕ) (x : Package) (definition rank : ℕ) : Type 0 where
+  pub method : PlacedFunction
+  pub has_rank : slice_get (package_functions x) rank ≡ Some method
+  pub of_type : IsOwner x method definition
+  pub named : (Method (symbol_in x rank) ≡ d) ⊎ (spelled x method.file method.function.name ≡ name)
+
+-- The field of this rank is in the struct that the type definition writes.
+pub record IsFieldOfDefinition (x : Package) (rank definition : ℕ) : Type 0 where
+  pub field : PlacedField
+  pub has_rank : slice_get (package_fields x) rank ≡ Some field
+  pub of_struct : field.definition ≡ definition
+
+-- The function of this rank is a method of the type definition.
+pub record IsMethodOfDefinition (x : Package) (rank definition : ℕ) : Type 0 where
+  pub method : PlacedFunction
+  pub has_rank : slice_get (package_functions x) rank ≡ Some method
+  pub of_type : IsOwner x method definition
+
+-- The type definition of this rank, in the package `x` of the field or method, has it.
+abbrev pub IsDefinitionIn : Package → Declaration → (definition : ℕ) → Type 0
+IsDefinitionIn x (Predeclared n) definition = ⊥
+IsDefinitionIn x (Declared path n) definition = ⊥
+IsDefinitionIn x (Field s) definition = IsFieldOfDefinition x s.rank definition
+IsDefinitionIn x (Method s) definition = IsMethodOfDefinition x s.rank definition
+
+-- The type definition of this rank, in the package of the field or method, has it.
+abbrev pub IsDefinitionOf : (Package → Type 0) → Declaration → (definition : ℕ) → Type 0
+IsDefinitionOf Known d definition = InHomePackage Known d (λ x. IsDefinitionIn x d definition)
+
+-- What a rename of the field or method `d` to `name` does to members. Just those have the name after it that had it, and `d`. Uses and
+-- declaring identifiers of other members stay.
+pub record RenamesMember (w : Workspace) (known : Verdicts) (r : Revision) (d : Declaration) (name : List ℕ) : Type 0 where
+  pub fields : (x : Package) → IsPackage w known x → (definition rank : ℕ) → IsFieldAfter r x definition name rank ↔ IsFieldNamed d name x definition rank
+  pub methods : (x : Package) → IsPackage w known x → (definition rank : ℕ) → IsMethodAfter r x definition name rank ↔ IsMethodNamed d name x definition rank
+  pub used : (x : Package) → IsPackage w known x → (u : ℕ) (place : Place) → BeginsAt x place.path place.offset u → (old : Declaration)
+      (was : BindsByMember x u old) → (r.called place (spelled x (x.layout.place u).file (x.layout.place u).index) ≡ name → ⊥) →
+      IsBoundByMember (IsPackage w known) r place x u old was old
+  pub declared : (x : Package) → IsPackage w known x → (u : ℕ) (place : Place) → BeginsAt x place.path place.offset u → (old : Declaration) →
+      DeclaresMember x u old → (old ≡ d → ⊥) → (spelled x (x.layout.place u).file (x.layout.place u).index ≡ name → ⊥) → CountsAfter (IsPackage w known) r old
+
+-- The workspace before the rename.
+abbrev pub workspace_before : MemberRename → Workspace
+workspace_before m = m.workspace.now.graph
+
+-- Its findings.
+abbrev pub verdicts_in : MemberRename → Verdicts
+verdicts_in m = known_in m.workspace.now.findings
+
+-- Its packages.
+abbrev pub packages_before : MemberRename → Package → Type 0
+packages_before m = IsPackage (workspace_before m) (verdicts_in m)
+
+-- The change that the rename makes.
+abbrev pub rename_revision : MemberRename → Revision
+rename_revision m = revision_of (workspace_before m) m.moves.now
+
+-- In the package of a number, the uses and the declaring identifiers of members at the place stay bound.
+abbrev pub MembersStayInNumber : MemberRename → ℕ → Place → Type 0
+MembersStayInNumber m number place = (p : Package) → IsPackageAt (workspace_before m) (verdicts_in m) number p →
+    MembersStayIn (workspace_before m) (verdicts_in m) (rename_revision m) p place × DeclaringNamesStayIn (workspace_before m) (verdicts_in m) (rename_revision m) p place
+
+-- The rename has the type definition of its member, and renames it by its edits. In packages that are not marked members stay.
+pub record KnowsRename (m : MemberRename) : Type 0 where
+  pub same : m.edits.now ≡ m.moves.now
+  pub others : (number : ℕ) → (IsMarked m.reaching.now number → ⊥) → (place : Place) → MembersStayInNumber m number place
+  pub definition : IsRankFound (IsDefinitionOf (packages_before m) m.member.now) m.definition
+  pub renames : RenamesMember (workspace_before m) (verdicts_in m) (rename_revision m) m.member.now m.name.now

@@ -1,0 +1,7 @@
+-- The invariants of the loops of `kept_known::known_but`.
+use Rattle.std.proofs.Common.{◌≡◌, length}
+use Rattle.law_known_verdicts.specs.KnownVerdicts.{HoldVerdictsBut}
+use Rattle.refactor_plan.proofs.kept_known.known_but.Given as goal
+
+abbrev pub invariant-loop-number : goal.invariant-loop-number
+invariant-loop-number l = (length l.rest.verdicts.items ≡ l.number) × HoldVerdictsBut l.dropped l.known.verdicts.items l.rest.verdicts.items
