@@ -1,5 +1,6 @@
 -- The lemmas of this crate.
 pub mod GainsLaws
+pub mod HeldLaws
 pub mod CallLaws
 pub mod UnitLaws
 pub mod PairLaws

@@ -11,29 +11,41 @@ use Rattle.history_machine.specs.declared.event.Event.TheVariants.{Look}
 use Rattle.history_machine.specs.declared.event.Reply.{Reply}
 use Rattle.history_machine.specs.declared.event.Reply.TheVariants.{Looked}
 use Rattle.history_machine.specs.declared.view.View.{View}
-use Rattle.history_machine.specs.JournalSteps.{IsTurnedAway}
+use Rattle.history_machine.specs.Machine.{Machine}
+use Rattle.history_machine.specs.Step.{HasRoom, refused}
 use Rattle.server_shared.specs.declared.receipt.Receipt.{Receipt}
-use Rattle.server_shared.specs.Steps.{IsReceiptOf}
+use Rattle.server_shared.specs.Held.{MayLackRoom, jobs_in_hand}
+use Rattle.server_shared.specs.Steps.{IsReceiptOf, IsReplayed, TurnsAway}
 
--- The event is one step of a book, at this index of the journal, and the seat gains its receipt. Without an index the event is turned away,
--- and the seat gains none.
-abbrev pub Calls : List Receipt → Event → Reply → Option ℕ → List Receipt → Type 0
-Calls old event reply (Some index) new =
-    (receipt : Receipt) × (receipt.index ≡ index) × IsReceiptOf event reply receipt × (new ≡ old ++ receipt ∷ [])
-Calls old event reply None new = IsTurnedAway event reply × (new ≡ old)
+-- The event is turned away at a seat with these receipts: memory is wanting, and the seat has no room for one more. It never lacks room
+-- where a Job in hand is given back. Or a book turns the event away: memory
+-- is wanting, or its journal, of at most `most` entries, has no room.
+abbrev pub IsTurnedAwayAt : ℕ → List Receipt → Event → Reply → Type 0
+IsTurnedAwayAt most old event reply = ((reply ≡ refused event Memory) × MayLackRoom event (jobs_in_hand old)) ⊎ TurnsAway most event reply
+
+-- The event is one step of a book, at this index of the journal, and the seat gains its receipt. Without an index the event is turned
+-- away, and the seat gains none. The journal has at most `most` entries.
+abbrev pub Calls : ℕ → List Receipt → Event → Reply → Option ℕ → List Receipt → Type 0
+Calls most old event reply (Some index) new =
+    (receipt : Receipt) × (receipt.index ≡ index) × IsReceiptOf most event reply receipt × (new ≡ old ++ receipt ∷ [])
+Calls most old event reply None new = IsTurnedAwayAt most old event reply × (new ≡ old)
 
 -- the event is called at the seat, and gets this reply
-abbrev pub CallsWith : List Receipt → Event → Reply → List Receipt → Type 0
-CallsWith old event reply new = (index : Option ℕ) × Calls old event reply index new
+abbrev pub CallsWith : ℕ → List Receipt → Event → Reply → List Receipt → Type 0
+CallsWith most old event reply new = (index : Option ℕ) × Calls most old event reply index new
 
--- the refusal is for want of memory, or of room in the journal
-abbrev pub IsLack : Refusal → Type 0
-IsLack refusal = (refusal ≡ Memory) ⊎ (refusal ≡ JournalFull)
+-- Some book, whose journal has at most `most` entries, has no room for the event's entry. Its content is the replay of its journal.
+abbrev pub MayFill : ℕ → Event → Type 0
+MayFill most event = (book : Machine) × (book.limits.journal ≡ most) × IsReplayed book × ¬ (HasRoom book event)
+
+-- the refusal of a look is for want of memory; or the journal of a book, of at most `most` entries, has no room
+abbrev pub IsLack : ℕ → Refusal → Type 0
+IsLack most refusal = (refusal ≡ Memory) ⊎ ((refusal ≡ JournalFull) × MayFill most Look)
 
 -- The seat gains the receipt of a look that shows this view. Or the look is turned away, and the seat gains none.
-abbrev pub Looks : List Receipt → Result View Refusal → List Receipt → Type 0
-Looks old (Ok view) new = (index : ℕ) × Calls old Look (Looked view) (Some index) new
-Looks old (Err refusal) new = IsLack refusal × (new ≡ old)
+abbrev pub Looks : ℕ → List Receipt → Result View Refusal → List Receipt → Type 0
+Looks most old (Ok view) new = (index : ℕ) × Calls most old Look (Looked view) (Some index) new
+Looks most old (Err refusal) new = IsLack most refusal × (new ≡ old)
 
 -- the receipt is of a look
 abbrev pub IsLook : Receipt → Type 0
@@ -48,10 +60,10 @@ abbrev pub IsBuilt : View → Type 0
 IsBuilt view = (number : ℕ) → number < length (package_paths view.snapshot.files) → IsFinishedAt view.finished number
 
 -- The seat gains the receipts of looks. The last shows a view in which each package is finished, or a look is turned away.
-abbrev pub LooksUntilBuilt : List Receipt → Result View Refusal → List Receipt → Type 0
-LooksUntilBuilt old (Ok view) new =
-    (looks : List Receipt) × All IsLook looks × ((index : ℕ) × Calls (old ++ looks) Look (Looked view) (Some index) new) × IsBuilt view
-LooksUntilBuilt old (Err refusal) new = (looks : List Receipt) × All IsLook looks × (new ≡ old ++ looks) × IsLack refusal
+abbrev pub LooksUntilBuilt : ℕ → List Receipt → Result View Refusal → List Receipt → Type 0
+LooksUntilBuilt most old (Ok view) new =
+    (looks : List Receipt) × All IsLook looks × ((index : ℕ) × Calls most (old ++ looks) Look (Looked view) (Some index) new) × IsBuilt view
+LooksUntilBuilt most old (Err refusal) new = (looks : List Receipt) × All IsLook looks × (new ≡ old ++ looks) × IsLack most refusal
 
 -- The seat gains receipts, each with the property P.
 abbrev pub Gains : (Receipt → Type 0) → List Receipt → List Receipt → Type 0

@@ -1,7 +1,9 @@
 -- The definitions of this crate.
+pub mod Held
 pub mod Call
 pub mod Settled
 pub mod Reserved
 pub mod Steps
 pub mod SettledBook
 pub mod Working
+pub mod Waking

@@ -14,8 +14,8 @@ use Rattle.server_shared.specs.declared.receipt.Receipt.{Receipt}
 use Rattle.server_shared.specs.Call.{CallsWith}
 
 -- the event is called at the seat, whatever its reply
-abbrev pub CallsEvent : List Receipt → Event → List Receipt → Type 0
-CallsEvent old event new = (reply : Reply) × CallsWith old event reply new
+abbrev pub CallsEvent : ℕ → List Receipt → Event → List Receipt → Type 0
+CallsEvent most old event new = (reply : Reply) × CallsWith most old event reply new
 
 -- the reply brings the Job back
 abbrev pub ComesBack : Reply → Type 0
@@ -23,30 +23,33 @@ ComesBack (Back refusal job unit) = ⊤
 ComesBack reply = ⊥
 
 -- after this reply to a delivery the Job is given back if it came back; else nothing more is called
-abbrev pub AfterSeatDelivery : List Receipt → JobRecord → Reply → List Receipt → Type 0
-AfterSeatDelivery old job (Back refusal back unit) new = CallsEvent old (GiveBack job) new
-AfterSeatDelivery old job reply new = new ≡ old
+abbrev pub AfterSeatDelivery : ℕ → List Receipt → JobRecord → Reply → List Receipt → Type 0
+AfterSeatDelivery most old job (Back refusal back unit) new = CallsEvent most old (GiveBack job) new
+AfterSeatDelivery most old job reply new = new ≡ old
 
 -- what was built for the Job is delivered; a Job that comes back is given back
-abbrev pub DeliversAtSeat : List Receipt → JobRecord → List Receipt → Type 0
-DeliversAtSeat old job new =
+abbrev pub DeliversAtSeat : ℕ → List Receipt → JobRecord → List Receipt → Type 0
+DeliversAtSeat most old job new =
     (built : Built) × IsBuiltOf job built
-    × ((reply : Reply) × (mid : List Receipt) × CallsWith old (Deliver job built) reply mid × AfterSeatDelivery mid job reply new)
+    × ((reply : Reply) × (mid : List Receipt) × CallsWith most old (Deliver job built) reply mid × AfterSeatDelivery most mid job reply new)
 
--- The Job is built and delivered, or given back unbuilt.
-abbrev pub HandsIn : List Receipt → JobRecord → List Receipt → Type 0
-HandsIn old job new = DeliversAtSeat old job new ⊎ CallsEvent old (GiveBack job) new
+-- The Job is built and delivered, or given back unbuilt. Each Job that was taken is so handed in once: it is delivered, given back, or
+-- retired after giving it back failed. A Job in hand is not retired for want of memory at the seat (`MayLackRoom`): some book turned it
+-- away, and in that book the Job was not out. No clause ties this book to the one that handed the Job out:
+-- no fact spans two takings of the lock.
+abbrev pub HandsIn : ℕ → List Receipt → JobRecord → List Receipt → Type 0
+HandsIn most old job new = DeliversAtSeat most old job new ⊎ CallsEvent most old (GiveBack job) new
 
 -- a Take is refused; or a Job is taken and handed in
-abbrev pub WorksOnce : List Receipt → List Receipt → Type 0
-WorksOnce old new =
-    ((refusal : Refusal) × CallsWith old Take (Refused refusal) new)
-    ⊎ ((job : JobRecord) × (mid : List Receipt) × CallsWith old Take (Taken job) mid × HandsIn mid job new)
+abbrev pub WorksOnce : ℕ → List Receipt → List Receipt → Type 0
+WorksOnce most old new =
+    ((refusal : Refusal) × CallsWith most old Take (Refused refusal) new)
+    ⊎ ((job : JobRecord) × (mid : List Receipt) × CallsWith most old Take (Taken job) mid × HandsIn most mid job new)
 
 -- So many times, one after another, a Take is refused, or a Job is taken and handed in.
-abbrev pub WorksOften : ℕ → List Receipt → List Receipt → Type 0
-WorksOften zero old new = new ≡ old
-WorksOften (suc n) old new = (mid : List Receipt) × WorksOften n old mid × WorksOnce mid new
+abbrev pub WorksOften : ℕ → ℕ → List Receipt → List Receipt → Type 0
+WorksOften most zero old new = new ≡ old
+WorksOften most (suc n) old new = (mid : List Receipt) × WorksOften most n old mid × WorksOnce most mid new
 
 -- whether a worker's events are of this kind
 abbrev pub is_work : EntryKind → Bool

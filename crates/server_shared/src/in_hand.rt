@@ -28,7 +28,7 @@ pub(crate) fn take<L: Opening, R: Wait>(
     shared: &Shared<L>,
     seat: &mut Seat<L>,
 ) -> Option<InHand>
-    ensures { MatchOption result ((refusal : WhyRefused) × CallsWith seat.old Take (Refused refusal) seat.new) (λ hand. CallsWith seat.old Take (Taken hand.job) seat.new) }
+    ensures { MatchOption result ((refusal : WhyRefused) × CallsWith L.most seat.old Take (Refused refusal) seat.new) (λ hand. CallsWith L.most seat.old Take (Taken hand.job) seat.new) }
 {
     match shared.send(rt, seat, Taking) {
         Ok(job) => Some(InHand { job }),
@@ -62,7 +62,7 @@ impl InHand {
         seat: &mut Seat<L>,
         built: Built,
     ) -> Result<(), InHand>
-        ensures { (reply : Reply) × CallsWith seat.old (Deliver self.job built) reply seat.new × MatchResult result (λ _. ¬ (ComesBack reply)) (λ hand. ComesBack reply × (hand.job ≡ self.job)) }
+        ensures { (reply : Reply) × CallsWith L.most seat.old (Deliver self.job built) reply seat.new × MatchResult result (λ _. ¬ (ComesBack reply)) (λ hand. ComesBack reply × (hand.job ≡ self.job)) }
     {
         let InHand { job } = self;
         match shared.send(rt, seat, HandingIn::Deliver(job, built)) {
@@ -77,7 +77,7 @@ impl InHand {
 
     /// Gives the Job back. Where the book doesn't take it, it is retired.
     pub fn give_back<L: Opening, R: Wait>(self, rt: &R, shared: &Shared<L>, seat: &mut Seat<L>)
-        ensures { CallsEvent seat.old (GiveBack self.job) seat.new }
+        ensures { CallsEvent L.most seat.old (GiveBack self.job) seat.new }
     {
         let InHand { job } = self;
         match shared.send(rt, seat, HandingIn::GiveBack(job)) {

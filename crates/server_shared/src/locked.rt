@@ -1,9 +1,12 @@
 //! The state under the lock of a shared book.
-ghost use Rattle.std.specs.Prelude.{◌≡◌, ◌+◌, ◌<◌, ◌≤◌, ◌↔◌, [], length, vec_len, is_some, IfSome, IsOk, if◌then◌else◌};
+ghost use Rattle.std.specs.Prelude.{◌≡◌, ◌+◌, ◌<◌, ◌≤◌, ◌↔◌, [], length, vec_len, is_some, IfSome, IsOk, IsTrue, MatchOption, if◌then◌else◌};
 ghost use Rattle.workspace_check.specs.Found.{KnowsVerdicts};
-ghost use Rattle.history_machine.specs.JournalSteps.{IsTurnedAway, JournalStep};
+ghost use Rattle.base_files.specs.declared.refusal.Refusal.TheVariants.{Memory};
+ghost use Rattle.history_machine.specs.JournalSteps.{JournalStep};
 ghost use Rattle.history_machine.specs.MayReply.{MayReply};
+ghost use Rattle.history_machine.specs.Step.{refused};
 ghost use Rattle.server_shared.specs.Steps.{IsReplayed, IsReceiptOrNone, ReceiptStep};
+ghost use Rattle.server_shared.specs.Waking.{CountsDone, MayWake};
 ghost use Rattle.server_shared.specs.SettledBook.{book_in};
 ghost use Rattle.server_shared.specs.Settled.{IsSettled, receipt_count};
 
@@ -37,26 +40,30 @@ pub struct Locked<L: Opening> {
     ghost one_each: { rest.parts ≡ free },
     ghost none_yet: { rest.amount ≡ 0 },
     ghost from_is: { from ≡ L.from },
+    ghost most_is: { book.limits.journal ≡ L.most },
 }
 
 /// Makes one step of a book, and returns a copy of the entry that it adds.
 fn step_book<Q: Question>(book: &mut Book, question: Q) -> (Q::Answer, Option<Entry>)
     ensures step { JournalStep book.old (Q.event question) (Q.reply result.0) result.1 book.new }
     ensures kind { MayReply (Q.event question) (Q.reply result.0) }
+    ensures most { book.new.limits.journal ≡ book.old.limits.journal }
 {
     book.journal_step(question)
 }
 
 /// The answer to an event that is turned away for want of memory for its receipt.
 pub fn turn_away<Q: Question>(question: Q, error: AllocError) -> Q::Answer
-    ensures turned { IsTurnedAway (Q.event question) (Q.reply result) }
+    ensures turned { Q.reply result ≡ refused (Q.event question) Memory }
     ensures kind { MayReply (Q.event question) (Q.reply result) }
 {
     question.refuse(Refusal::from(error))
 }
 
 /// Whether an entry's event may give others something to do: it was answered `Done`, and changed the workspace or handed a Job in.
-pub fn may_wake(line: &Line) -> bool {
+pub fn may_wake(line: &Line) -> bool
+    ensures { IsTrue result ↔ MayWake line.now }
+{
     match (line.kind, line.out) {
         (EntryKind::Look | EntryKind::Log | EntryKind::Take, _) => false,
         (_, Told::Done(_)) => true,
@@ -85,6 +92,8 @@ impl<L: Opening> Locked<L> {
     ) -> (Q::Answer, Option<Receipt>)
         requires { 0 < share.old.parts }
         ensures step { ReceiptStep self.old.book (Q.event question) (Q.reply result.0) result.1 self.new.book }
+        ensures stopped { self.new.is_stopped ≡ self.old.is_stopped }
+        ensures done { MatchOption result.1 (self.new.done ≡ self.old.done) (λ receipt. CountsDone receipt.entry.line self.old.done self.new.done) }
         ensures kind { MayReply (Q.event question) (Q.reply result.0) }
         ensures amount { share.new.amount ≡ share.old.amount + (if is_some result.1 then 1 else 0) }
         ensures parts { share.new.parts ≡ share.old.parts }
@@ -116,7 +125,7 @@ impl<L: Opening> Locked<L> {
         question: Q,
     ) -> (Q::Answer, Option<Receipt>)
         requires { 0 < share.old.parts }
-        ensures step { IsReceiptOrNone (Q.event question) (Q.reply result.0) result.1 }
+        ensures step { IsReceiptOrNone L.most (Q.event question) (Q.reply result.0) result.1 }
         ensures kind { MayReply (Q.event question) (Q.reply result.0) }
         ensures amount { share.new.amount ≡ share.old.amount + (if is_some result.1 then 1 else 0) }
         ensures parts { share.new.parts ≡ share.old.parts }
@@ -127,13 +136,19 @@ impl<L: Opening> Locked<L> {
     /// Has the book keep the findings of the packages of `files`, if these are the current files. It is no event.
     pub fn learn(&mut self, files: &Graph, known: Known)
         requires { KnowsVerdicts files.now known }
-        ensures { self.new.book ≡ self.old.book }
+        ensures book { self.new.book ≡ self.old.book }
+        ensures stopped { self.new.is_stopped ≡ self.old.is_stopped }
+        ensures done { self.new.done ≡ self.old.done }
     {
         self.book.learn(files, known);
     }
 
     /// Stops the workers.
-    pub fn stop(&mut self) {
+    pub fn stop(&mut self)
+        ensures stopped { IsTrue self.new.is_stopped }
+        ensures book { self.new.book ≡ self.old.book }
+        ensures done { self.new.done ≡ self.old.done }
+    {
         self.is_stopped = true;
     }
 

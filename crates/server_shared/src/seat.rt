@@ -1,5 +1,6 @@
 //! A seat at a shared book.
 ghost use Rattle.std.specs.Prelude.{◌≡◌, ◌+◌, ◌<◌, ◌≤◌, [], length, vec_len, vec_capacity, IfOk, IsOk};
+ghost use Rattle.server_shared.specs.Held.{jobs_left};
 ghost use Rattle.server_shared.specs.Reserved.{IsGiveBack, receipts_needed};
 
 use crate::opening::Opening;
@@ -21,12 +22,13 @@ pub struct Seat<L: Opening> {
 impl<L: Opening> Model for Seat<L> {
     ghost use Rattle.std.specs.Prelude.{◌≡◌, ◌+◌, ◌≤◌, List, length, vec_len, vec_capacity};
     ghost use Rattle.server_shared.specs.declared.receipt.Receipt.{Receipt};
+    ghost use Rattle.server_shared.specs.Held.{jobs_in_hand};
 
     ghost Value = { List Receipt };
 
     ghost view = { λ s. s.receipts.items };
 
-    ghost invariant = { λ s. (s.share.parts ≡ 1) × (s.share.amount ≡ length s.receipts.items) × (vec_len s.receipts + s.jobs ≤ vec_capacity s.receipts) };
+    ghost invariant = { λ s. (s.share.parts ≡ 1) × (s.share.amount ≡ length s.receipts.items) × (vec_len s.receipts + s.jobs ≤ vec_capacity s.receipts) × (s.jobs ≡ jobs_in_hand s.receipts.items) };
 }
 
 impl<L: Opening> Seat<L> {
@@ -101,8 +103,10 @@ pub fn reserve(receipts: &mut Vec<Receipt>, jobs: u64, kind: EntryKind) -> Resul
 
 /// How many Jobs are in hand after an event with this line, before which there was room for `needed` receipts.
 pub fn jobs_after(jobs: u64, needed: u64, line: &Line) -> u64
-    requires { 0 < needed }
-    ensures { result < needed }
+    requires kind { needed ≡ receipts_needed line.now.kind jobs }
+    requires positive { 0 < needed }
+    ensures room { result < needed }
+    ensures left { result ≡ jobs_left line.now.kind line.now.out jobs }
 {
     let in_hand = match (line.kind, line.out) {
         (EntryKind::Take, Told::Done(_)) => jobs.saturating_add(1),

@@ -39,6 +39,7 @@ impl<L: Opening> Shared<L> {
         requires parts { blank.parts ≡ L.parts }
         requires seats { blank.parts ≡ seats }
         requires from { length book.journal ≡ L.from }
+        requires most { book.limits.journal ≡ L.most }
         ensures { result.from ≡ length book.journal }
     {
         let from = book.journal().len() as u64;
@@ -73,7 +74,7 @@ impl<L: Opening> Shared<L> {
         seat: &mut Seat<L>,
         question: Q,
     ) -> (Q::Answer, Option<u64>)
-        ensures receipt { Calls seat.old (Q.event question) (Q.reply result.0) result.1 seat.new }
+        ensures receipt { Calls L.most seat.old (Q.event question) (Q.reply result.0) result.1 seat.new }
         ensures kind { MayReply (Q.event question) (Q.reply result.0) }
     {
         let needed = match reserve(&mut seat.receipts, seat.jobs, question.kind()) {
@@ -98,7 +99,7 @@ impl<L: Opening> Shared<L> {
         question: Q,
     ) -> (Q::Answer, Option<Receipt>)
         requires { 0 < share.old.parts }
-        ensures step { IsReceiptOrNone (Q.event question) (Q.reply result.0) result.1 }
+        ensures step { IsReceiptOrNone L.most (Q.event question) (Q.reply result.0) result.1 }
         ensures kind { MayReply (Q.event question) (Q.reply result.0) }
         ensures amount { share.new.amount ≡ share.old.amount + (if is_some result.1 then 1 else 0) }
         ensures parts { share.new.parts ≡ share.old.parts }
@@ -119,7 +120,7 @@ impl<L: Opening> Shared<L> {
 
     /// Makes one event of the book at a seat, and returns the answer.
     pub fn send<R: Wait, Q: Question>(&self, rt: &R, seat: &mut Seat<L>, question: Q) -> Q::Answer
-        ensures replies { CallsWith seat.old (Q.event question) (Q.reply result) seat.new }
+        ensures replies { CallsWith L.most seat.old (Q.event question) (Q.reply result) seat.new }
         ensures kind { MayReply (Q.event question) (Q.reply result) }
     {
         let (answer, _index) = self.call(rt, seat, question);
@@ -179,7 +180,7 @@ impl<L: Opening> Shared<L> {
     /// Looks at the current state, again and again, until a view shows that every package is finished. Between two looks it waits for an
     /// event that is answered `Done`.
     pub fn wait_built<R: Wait>(&self, rt: &R, seat: &mut Seat<L>) -> Result<View, Refusal>
-        ensures { LooksUntilBuilt seat.old result seat.new }
+        ensures { LooksUntilBuilt L.most seat.old result seat.new }
     {
         for _ in rt.forever() {
             let seen = self.done_count(rt);
@@ -194,7 +195,7 @@ impl<L: Opening> Shared<L> {
 
     /// Looks at the current state.
     pub(crate) fn look<R: Wait>(&self, rt: &R, seat: &mut Seat<L>) -> Result<View, Refusal>
-        ensures { Looks seat.old result seat.new }
+        ensures { Looks L.most seat.old result seat.new }
     {
         self.send(rt, seat, Looking)
     }

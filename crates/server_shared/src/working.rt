@@ -21,7 +21,7 @@ pub fn worker<L: Opening, R: Wait, G: Gate>(
     seat: &mut Seat<L>,
     gate: &G,
 )
-    ensures works { (turns : ℕ) × WorksOften turns seat.old seat.new }
+    ensures works { (turns : ℕ) × WorksOften L.most turns seat.old seat.new }
     ensures gains { Gains IsWork seat.old seat.new }
 {
     for _ in rt.forever() {
@@ -44,7 +44,7 @@ fn hand_in<L: Opening, R: Wait, G: Gate>(
     gate: &G,
     hand: InHand,
 )
-    ensures { HandsIn seat.old hand.job seat.new }
+    ensures { HandsIn L.most seat.old hand.job seat.new }
 {
     gate.taken(hand.ticket());
     match hand.build(alloc) {
@@ -65,7 +65,7 @@ fn deliver<L: Opening, R: Wait>(
     built: Built,
 )
     requires { IsBuiltOf hand.job built }
-    ensures { DeliversAtSeat seat.old hand.job seat.new }
+    ensures { DeliversAtSeat L.most seat.old hand.job seat.new }
 {
     match hand.deliver(rt, shared, seat, built) {
         Ok(()) => {}

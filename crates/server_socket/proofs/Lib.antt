@@ -2,3 +2,4 @@
 mod Lifts
 pub mod Captures
 mod ServedLaws
+mod SessionLaws

@@ -3,3 +3,4 @@ pub mod Served
 pub mod Session
 pub mod SeatStep
 pub mod SeatWait
+pub mod Turns

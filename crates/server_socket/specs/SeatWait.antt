@@ -12,5 +12,5 @@ number_shown (Err refusal) = Err refusal
 
 -- The seat gains the receipts of looks. The last look shows that every package is finished, and the outcome is its state's number. Or a
 -- look is turned away, and the outcome is its refusal.
-abbrev pub WaitsUntilBuilt : List Receipt → Result ℕ Refusal → List Receipt → Type 0
-WaitsUntilBuilt old outcome new = (shown : Result View Refusal) × LooksUntilBuilt old shown new × (outcome ≡ number_shown shown)
+abbrev pub WaitsUntilBuilt : ℕ → List Receipt → Result ℕ Refusal → List Receipt → Type 0
+WaitsUntilBuilt most old outcome new = (shown : Result View Refusal) × LooksUntilBuilt most old shown new × (outcome ≡ number_shown shown)

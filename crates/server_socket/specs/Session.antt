@@ -1,5 +1,5 @@
 -- Sessions at a seat.
-use Rattle.std.specs.Prelude.{ℕ, List, Option, Result}
+use Rattle.std.specs.Prelude.{◌≡◌, ℕ, zero, suc, List, Option, Result}
 use Rattle.base_files.specs.declared.limits.Limits.{Limits}
 use Rattle.server_shared.specs.declared.receipt.Receipt.{Receipt}
 use Rattle.server_socket.specs.SeatStep.{CallsAtSeat}
@@ -8,6 +8,18 @@ use Rattle.server_session.specs.declared.exchange.SessionFault.{SessionFault}
 use Rattle.server_session.specs.Conversing.{Converses}
 
 -- The session ended with this result: its messages are answered by calls and waits at the seat alone, in their order. `before` is what the
--- reader had left at first, `held` and `holds` what the writer held before and after; `old` and `new` are the seat's receipts.
-abbrev pub ConversesAtSeat : Limits → (before held holds : Option (List ℕ)) → (old new : List Receipt) → Result (Unit {0}) SessionFault → Type 0
-ConversesAtSeat limits before held holds old new result = Converses CallsAtSeat WaitsUntilBuilt limits before held holds old new result
+-- reader had left at first, `held` and `holds` what the writer held before and after; `old` and `new` are the seat's receipts. The journal
+-- has `most` entries at most.
+abbrev pub ConversesAtSeat : ℕ → Limits → (before held holds : Option (List ℕ)) → (old new : List Receipt) → Result (Unit {0}) SessionFault → Type 0
+ConversesAtSeat most limits before held holds old new result = Converses (CallsAtSeat most) (WaitsUntilBuilt most) limits before held holds old new result
+
+-- A session is held at the seat to its end, whatever is read and written in it.
+abbrev pub HoldsSession : ℕ → (old new : List Receipt) → Type 0
+HoldsSession most old new =
+    (limits : Limits) × (before : Option (List ℕ)) × (held : Option (List ℕ)) × (holds : Option (List ℕ)) × (result : Result (Unit {0}) SessionFault)
+    × ConversesAtSeat most limits before held holds old new result
+
+-- So many sessions are held at the seat, one after another, and nothing else is called there.
+abbrev pub HoldsSessions : ℕ → ℕ → (old new : List Receipt) → Type 0
+HoldsSessions most zero old new = new ≡ old
+HoldsSessions most (suc n) old new = (mid : List Receipt) × HoldsSessions most n old mid × HoldsSession most mid new

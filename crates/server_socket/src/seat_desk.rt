@@ -24,9 +24,9 @@ impl<'a, L: Opening, R: Wait> Desk for SeatDesk<'a, L, R> {
     ghost use Rattle.server_socket.specs.SeatWait.{WaitsUntilBuilt};
 
     // The desk keeps its seat.
-    ghost steps = { λ old event reply new. (new.seat.ghost_name ≡ old.seat.ghost_name) × CallsAtSeat old.seat.now event reply new.seat.now };
+    ghost steps = { λ old event reply new. (new.seat.ghost_name ≡ old.seat.ghost_name) × CallsAtSeat L.most old.seat.now event reply new.seat.now };
 
-    ghost waits = { λ old outcome new. (new.seat.ghost_name ≡ old.seat.ghost_name) × WaitsUntilBuilt old.seat.now outcome new.seat.now };
+    ghost waits = { λ old outcome new. (new.seat.ghost_name ≡ old.seat.ghost_name) × WaitsUntilBuilt L.most old.seat.now outcome new.seat.now };
 
     // Other seats change the book too, so nothing is known of the current files.
     ghost sees = { λ _ _. ⊤ };

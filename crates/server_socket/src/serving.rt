@@ -105,6 +105,7 @@ fn serve_in<L: Opening + Send + Sync, R: Threads + Wait + Sync, G: Gate + Sync>(
     requires parts { blank.parts ≡ L.parts }
     requires seats { blank.parts ≡ words.now.workers + words.now.sessions }
     requires from { L.from ≡ 0 }
+    requires most { L.most ≡ 1000000 }
     ensures { Serves (words.now.workers + words.now.sessions) result }
 {
     let count = threads_of(words);

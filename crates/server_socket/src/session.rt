@@ -25,7 +25,7 @@ pub fn session_at_seat<L: Opening, W: Wait, I: Read + Drop, O: Write>(
     connection: Connection<I, O>,
     limits: Limits,
 ) -> (Result<(), SessionFault>, O)
-    ensures { ConversesAtSeat limits (I.remaining connection.input) (O.contents connection.output) (O.contents result.1) seat.old seat.new result.0 }
+    ensures { ConversesAtSeat L.most limits (I.remaining connection.input) (O.contents connection.output) (O.contents result.1) seat.old seat.new result.0 }
 {
     let Connection { input, output } = connection;
     let mut held = SeatDesk { rt, shared, seat };

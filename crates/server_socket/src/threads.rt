@@ -1,4 +1,7 @@
 //! The threads of a server.
+ghost use Rattle.std.specs.Prelude.{◌≡◌, ℕ, MatchResult};
+ghost use Rattle.server_socket.specs.Session.{HoldsSession, HoldsSessions};
+
 use crate::session::{Connection, session_at_seat};
 use crate::turns::Turns;
 use base_files::Limits;
@@ -27,7 +30,9 @@ fn serve_connection<L: Opening, R: Wait>(
     shared: &Shared<L>,
     seat: &mut Seat<L>,
     stream: &UnixStream,
-) -> io::Result<Result<(), SessionFault>> {
+) -> io::Result<Result<(), SessionFault>>
+    ensures { MatchResult result (λ _. HoldsSession L.most seat.old seat.new) (λ _. seat.new ≡ seat.old) }
+{
     let input = BufReader::new(alloc, stream)?;
     let output = BufWriter::new(alloc, stream)?;
     let connection = Connection { input, output };
@@ -42,7 +47,9 @@ fn take_turns<L: Opening, R: Wait>(
     shared: &Shared<L>,
     seat: &mut Seat<L>,
     turns: &Turns,
-) {
+)
+    ensures { (sessions : ℕ) × HoldsSessions L.most sessions seat.old seat.new }
+{
     for _ in rt.forever() {
         match turns.next(rt) {
             Some(stream) => {

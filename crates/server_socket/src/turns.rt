@@ -1,4 +1,7 @@
 //! The turns at accepting connections, and when they end.
+ghost use Rattle.std.specs.Prelude.{◌≡◌, IsTrue, MatchOption};
+ghost use Rattle.server_socket.specs.Turns.{AcceptsNone, AcceptsOne};
+
 use std::os::unix::net::{UnixListener, UnixStream};
 use std::sync::{Mutex, Wait};
 
@@ -14,7 +17,9 @@ pub(crate) struct Accepting {
 
 impl Accepting {
     /// Waits for the next connection, and accepts it. Returns `None` where none is to be accepted any more. After a failure none is.
-    fn next(&mut self) -> Option<UnixStream> {
+    fn next(&mut self) -> Option<UnixStream>
+        ensures { MatchOption result (AcceptsNone self.old self.new) (λ _. AcceptsOne self.old self.new) }
+    {
         if self.is_over || self.left == Some(0) {
             return None;
         }
@@ -32,7 +37,11 @@ impl Accepting {
     }
 
     /// Ends accepting.
-    pub(crate) fn end(&mut self) {
+    pub(crate) fn end(&mut self)
+        ensures over { IsTrue self.new.is_over }
+        ensures left { self.new.left ≡ self.old.left }
+        ensures failed { self.new.has_failed ≡ self.old.has_failed }
+    {
         self.is_over = true;
     }
 }

@@ -1,7 +1,13 @@
--- A step gives a reply that its event may get.
+-- A step gives a reply that its event may get, and keeps the limit of the journal.
 use Rattle.history_machine.proofs.Replies.{may_reply}
+use Rattle.server_shared.proofs.StepLaws.{keeps_most}
 use Rattle.server_shared.proofs.locked.step_book.Goals as goal
 
 pub returns-clause-kind : goal.returns-clause-kind
 returns-clause-kind g c =
     may_reply c.args.book.now (g.Q.Question.event c.args.question) (g.Q.Question.reply c.journal_step.result.0) c.journal_step.new.self c.journal_step.ensures.0
+
+pub returns-clause-most : goal.returns-clause-most
+returns-clause-most g c =
+    keeps_most c.args.book.now (g.Q.Question.event c.args.question) (g.Q.Question.reply c.journal_step.result.0) c.journal_step.new.self
+    c.journal_step.ensures.0

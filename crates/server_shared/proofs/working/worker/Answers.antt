@@ -14,4 +14,4 @@ loop-preserved g c =
     (suc c.loop.invariant.0, (c.loop.seat, c.loop.invariant.1, inl refused))
 
 pub returns-in_default-clause-gains : goal.returns-in_default-clause-gains
-returns-in_default-clause-gains g c = often_gains c.loop.invariant.0 c.args.seat.now c.loop.seat c.loop.invariant.1
+returns-in_default-clause-gains g c = often_gains g.L.Opening.most c.loop.invariant.0 c.args.seat.now c.loop.seat c.loop.invariant.1

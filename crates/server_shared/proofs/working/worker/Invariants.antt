@@ -4,4 +4,4 @@ use Rattle.server_shared.specs.Working.{WorksOften}
 use Rattle.server_shared.proofs.working.worker.Given as goal
 
 abbrev pub invariant-loop : goal.invariant-loop
-invariant-loop g l = (turns : ℕ) × WorksOften turns l.fn.seat l.seat
+invariant-loop g l = (turns : ℕ) × WorksOften g.L.Opening.most turns l.fn.seat l.seat

@@ -6,7 +6,7 @@ use Rattle.server_socket.proofs.Lifts.{conversed}
 use Rattle.server_socket.proofs.session.session_at_seat.Goals as goal
 
 pub returns : goal.returns
-returns g c = conversed _ _ CallsAtSeat WaitsUntilBuilt (λ d. d.seat.ghost_name) (λ d. d.seat.now) (λ old asked reply new h. h) (λ old told new h. h)
+returns g c = conversed _ _ (CallsAtSeat g.L.Opening.most) (WaitsUntilBuilt g.L.Opening.most) (λ d. d.seat.ghost_name) (λ d. d.seat.now) (λ old asked reply new h. h) (λ old told new h. h)
     c.args.limits (g.I.Read.remaining c.args.connection.input) (g.O.Write.contents c.args.connection.output) _
     (record { rt = c.args.rt; shared = c.args.shared; seat = record { ref_ptr = c.args.seat.ref_ptr; ghost_name = _; now = c.args.seat.now } })
     c.converse.new.desk _ c.converse.ensures _ _ refl (search rules)
