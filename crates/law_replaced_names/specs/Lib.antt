@@ -1,0 +1,3 @@
+-- The definitions of this crate.
+pub mod Replaced
+pub mod SourcesBy

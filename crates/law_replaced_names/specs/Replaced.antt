@@ -1,0 +1,71 @@
+-- Objects in which the names of declarations are replaced.
+use Rattle.std.specs.Prelude.{ℕ, ◌==◌, ◌&&◌, Bool, if◌then◌else◌, List, Option, map, option_map}
+use Rattle.std.specs.Cmp.Lexicographic.{pointwise}
+use Rattle.types_expr.specs.declared.symbol.Symbol.{Symbol}
+use Rattle.build_object.specs.Lines.{GlobalName, FunctionName, Plain, Method, Initializer, Line}
+use Rattle.build_object.specs.Lines as line
+use Rattle.build_object.specs.Objects.{Object, Function, Declaration, TypeOf, Variable, FunctionOf}
+use Rattle.build_object.specs.ObjectText.{object_text}
+
+-- By what the names of package-level declarations, and those of functions and methods, are replaced.
+pub record Replaced : Type 0 where
+  pub global : GlobalName → GlobalName
+  pub function : FunctionName → FunctionName
+
+-- A line of code with these names.
+abbrev pub line_by : Replaced → Line → Line
+line_by r (line.Global g) = line.Global (r.global g)
+line_by r (line.GlobalAddress g) = line.GlobalAddress (r.global g)
+line_by r (line.Call f n) = line.Call (r.function f) n
+line_by r other = other
+
+-- A function with these names.
+abbrev pub function_by : Replaced → Function → Function
+function_by r f = record { name = r.function f.name; parameters = f.parameters; results = f.results; slots = f.slots; code = map (line_by r) f.code }
+
+-- A declaration with these names.
+abbrev pub declaration_by : Replaced → Declaration → Declaration
+declaration_by r (TypeOf name definition) = TypeOf (r.global name) definition
+declaration_by r (Variable name t value) = Variable (r.global name) t value
+declaration_by r (FunctionOf f) = FunctionOf (function_by r f)
+
+-- An object with these names.
+abbrev pub object_by : Replaced → Object → Object
+object_by r o = record { path = o.path; name = o.name; imports = o.imports; declarations = map (declaration_by r) o.declarations }
+
+-- The text of an object with these names, where `names` are the old names of type definitions.
+abbrev pub text_by : Replaced → (names : Symbol → Option GlobalName) → Object → List ℕ
+text_by r names o = object_text (λ s. option_map r.global (names s)) (object_by r o)
+
+-- Whether the bytes are the same.
+abbrev pub same_bytes : List ℕ → List ℕ → Bool
+same_bytes a b = pointwise ◌==◌ a b
+
+-- The package-level declaration `old` of the package at the path is called `new`. All others keep their names.
+abbrev pub renamed_global : (path old new : List ℕ) → GlobalName → GlobalName
+renamed_global path old new g = if same_bytes g.path path && same_bytes g.name old then record { path = path; name = new } else g
+
+-- The name of a function, where package-level declarations are called so. The name of a method has that of its type.
+abbrev pub function_of_global : (GlobalName → GlobalName) → FunctionName → FunctionName
+function_of_global by (Plain g) = Plain (by g)
+function_of_global by (Method g name) = Method (by g) name
+function_of_global by (Initializer path k) = Initializer path k
+
+-- The package-level declaration `old` of the package at the path is called `new`.
+abbrev pub of_global : (path old new : List ℕ) → Replaced
+of_global path old new = record { global = renamed_global path old new; function = function_of_global (renamed_global path old new) }
+
+-- The method `old` of the type of this name is called `new`, in the package at the path. All others keep their names.
+abbrev pub renamed_method : (path type_name old new : List ℕ) → FunctionName → FunctionName
+renamed_method path type_name old new (Plain g) = Plain g
+renamed_method path type_name old new (Method g name) =
+    if same_bytes g.path path && (same_bytes g.name type_name && same_bytes name old) then Method g new else Method g name
+renamed_method path type_name old new (Initializer other k) = Initializer other k
+
+-- The method `old` of the type of this name is called `new`, in the package at the path.
+abbrev pub of_method : (path type_name old new : List ℕ) → Replaced
+of_method path type_name old new = record { global = λ g. g; function = renamed_method path type_name old new }
+
+-- Nothing is replaced.
+abbrev pub of_none : Replaced
+of_none = record { global = λ g. g; function = λ f. f }
