@@ -1,7 +1,7 @@
 //! Laws of renames in which no import gains a name, without the premise that the edited workspace has verdicts: it has. There is no code that
 //! runs.
 //!
-//! Crates above rely on: `none_lost_preserves` and the laws of `known`. No crate does so yet.
+//! Crates above rely on: `none_lost_preserves` and the laws of `known`.
 #![tactic(auto)]
 
 pub mod known;
