@@ -1,7 +1,7 @@
 -- The elements of lists that functions make of other lists.
-use Rattle.std.proofs.Common.{zero, suc, ◌≡◌, ◌<◌, ◌⊎◌, inl, inr, List, [], ◌∷◌, length, map, Option, Some, None, refl, sym, ap, subst, ◌∙◌, ⊎_elim, arith}
+use Rattle.std.proofs.Common.{◌≡◌, List, [], ◌∷◌, map, Option, Some, None, refl, sym, ap, subst, ◌∙◌, ⊎_elim}
 use Rattle.std.specs.List.{Contains, filter_map, cons_option}
-use Rattle.base_lemmas.proofs.Elements.{nothing_in, first_in, later_in, first_or_later, is_mapped}
+use Rattle.base_lemmas.proofs.Elements.{nothing_in, first_in, later_in, first_or_later}
 
 -- the first, or one behind it
 

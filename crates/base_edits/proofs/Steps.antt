@@ -6,7 +6,7 @@ use Rattle.base_files.specs.Workspace.{Workspace}
 use Rattle.base_edits.specs.Edits.{AreInOrder, LieWithin, edited_from}
 use Rattle.base_edits.specs.EditSet.{FileChanges, edited}
 use Rattle.base_edits.specs.Fits.{Fits, HasSpans}
-use Rattle.base_edits.specs.Inverse.{AreChanges, IsInverse, reversed, reversed_from, inverse}
+use Rattle.base_edits.specs.Inverse.{AreChanges, IsInverse, reversed_from, inverse}
 use Rattle.base_edits.specs.Made.{made}
 use Rattle.base_edits.specs.Moved.{moved_offset}
 use Rattle.base_edits.specs.PassedEdits.{ArePast, moved_from, PassedEdits}

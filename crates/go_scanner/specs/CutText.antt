@@ -21,3 +21,8 @@ token_at c i = get_or (tokens_in c) i (semicolon 0)
 pub record IsCutText (text : List ℕ) (pieces tokens : List Piece) : Type 0 where
   pub cut : IsCut text pieces
   pub tokens_are : tokens ≡ tokens_of text pieces
+
+-- the text has a cut, and `tokens` are its tokens
+pub record HasTokens (text : List ℕ) (tokens : List Piece) : Type 0 where
+  pub pieces : List Piece
+  pub is : IsCutText text pieces tokens

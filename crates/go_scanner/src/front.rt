@@ -1,10 +1,11 @@
 //! Scans one piece: the class and length of the piece at the start of some bytes, by their first byte.
-ghost use Rattle.std.specs.Prelude.{◌≡◌, ◌<◌, length, MatchBool, slice_index, true};
+ghost use Rattle.std.specs.Prelude.{◌≡◌, ◌<◌, ℕ, length, MatchBool, MatchOption, slice_index, true};
 ghost use Rattle.std.specs.Char.{is_digit};
 ghost use Rattle.bstr.specs.Find.{OccursAt};
 ghost use Rattle.bstr.specs.Utf8.{decoded};
 ghost use Rattle.go_scanner.specs.Families.{IsFront, starts_word, begins_with_letter, MayBeOperator};
-ghost use Rattle.go_scanner.specs.Pieces.{spoils_number, IsFraction};
+ghost use Rattle.go_scanner.specs.Pieces.{Stands, spoils_number, IsFraction};
+ghost use Rattle.go_scanner.specs.declared.piece.Class.TheVariants.{Name};
 ghost use Rattle.go_scanner.specs.Trivia.{is_blank, line_opening, comment_opening};
 
 use crate::characters::{continues_name, is_letter};
@@ -151,5 +152,23 @@ pub fn front(bytes: &[u8]) -> Result<(Class, usize), TextFault>
         [b'`', ..] => raw_string(bytes),
         [b'A'..=b'Z' | b'a'..=b'z' | b'_' | 0x80..=0xFF, ..] => word(bytes),
         _ => operator(bytes),
+    }
+}
+
+/// The length of the name at the start of some bytes. `None` where no name begins there, as where a keyword does.
+pub fn name_len(bytes: &[u8]) -> Option<usize>
+    ensures { MatchOption result ((n : ℕ) → Stands bytes.now Name n → ⊥) (Stands bytes.now Name) }
+{
+    if bytes.is_empty() {
+        return None;
+    }
+    match front(bytes) {
+        Ok((class, size)) => {
+            match class {
+                Class::Name => Some(size),
+                _ => None,
+            }
+        }
+        Err(_) => None,
     }
 }

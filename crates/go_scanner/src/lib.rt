@@ -23,6 +23,7 @@ mod trivia;
 mod words;
 
 pub use characters::{continues_name, is_letter};
+pub use front::name_len;
 pub use integers::integer_value;
 pub use keywords::Keyword;
 pub use operators::Operator;

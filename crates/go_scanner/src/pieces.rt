@@ -3,11 +3,11 @@ ghost use Rattle.std.specs.Prelude.{◌≡◌, ◌<◌, ◌≤◌, ◌-◌, leng
 ghost use Rattle.go_scanner.specs.Cuts.{IsCut, bytes_of};
 ghost use Rattle.go_scanner.specs.TokenValues.{HasTokenValue};
 ghost use Rattle.go_scanner.specs.Spans.{IsTokenText, AreInOrder};
-ghost use Rattle.go_scanner.specs.CutText.{IsCutText, token_at, tokens_in};
+ghost use Rattle.go_scanner.specs.CutText.{HasTokens, IsCutText, token_at, tokens_in};
 
 use crate::piece::{Class, Piece};
 use crate::string_values::string_value;
-use crate::trail::Trail;
+use crate::trail::{Trail, pieces_of};
 use base_files::{FileText, Span};
 use std::alloc::{AllocError, Global};
 use std::marker::Model;
@@ -40,6 +40,17 @@ fn part(text: &[u8], span: Span) -> &[u8]
 }
 
 impl Pieces {
+    /// Joins a file with its tokens, where others than `scan` know them.
+    pub fn of_tokens(file: FileText, tokens: Vec<Piece>) -> Pieces
+        requires { HasTokens file tokens.items }
+        ensures text { result.text ≡ file }
+        ensures cut { IsCut result.text result.pieces }
+        ensures tokens { tokens_in result ≡ tokens.items }
+    {
+        let pieces = pieces_of(&file, &tokens);
+        Pieces::new(file, pieces, tokens)
+    }
+
     /// Joins a file with its pieces and tokens.
     pub(crate) fn new(file: FileText, pieces: Trail<Piece>, tokens: Vec<Piece>) -> Pieces
         requires { IsCutText file pieces.items tokens.items }

@@ -2,7 +2,10 @@
 ghost use Rattle.std.specs.Prelude.{◌≡◌, List, [], ◌∷◌, ◌++◌};
 ghost use Rattle.std.specs.Borrow.{ftrue};
 ghost use Rattle.std.specs.Coded.{coded_list};
+ghost use Rattle.go_scanner.specs.CutText.{HasTokens, IsCutText};
 
+use crate::piece::Piece;
+use base_files::FileText;
 use std::marker::{Model, PhantomData};
 
 /// The items that a loop has passed, for contracts and proofs. It takes no memory, and its methods do nothing at run time.
@@ -30,4 +33,12 @@ impl<T> Trail<T> {
     {
         Trail { of: PhantomData }
     }
+}
+
+/// The pieces of a text whose tokens are given. They follow from the text, and only proofs keep them.
+pub fn pieces_of(_text: &FileText, _tokens: &Vec<Piece>) -> Trail<Piece>
+    requires { HasTokens _text.now _tokens.now.items }
+    ensures { IsCutText _text.now result.items _tokens.now.items }
+{
+    Trail { of: PhantomData }
 }

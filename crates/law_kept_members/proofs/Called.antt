@@ -15,7 +15,7 @@ use Rattle.go_scanner.specs.CutText.{tokens_in}
 use Rattle.go_ast.specs.SourceFile.{SourceFile, offset_at, offset_of, spelling_of}
 use Rattle.go_scope.specs.declared.model.Position.{Position}
 use Rattle.go_scope.specs.Table.{LiesAt}
-use Rattle.law_rename.specs.Trees.{renamed_file}
+use Rattle.go_respelled.specs.Trees.{renamed_file}
 use Rattle.types_expr.specs.declared.symbol.Symbol.{Symbol}
 use Rattle.types_expr.specs.World.{Member, AField, AMethod, ABrokenMethod}
 use Rattle.types_declared.proofs.ByteKeys.{cases_bytes}

@@ -34,8 +34,8 @@ use Rattle.go_ast.specs.SourceFile.{IsSourceFile, SourceFile, offset_at, offset_
 use Rattle.go_ast.specs.Tree.{ImportTree, ImportsTree, Item}
 use Rattle.go_ast.specs.WellFormed.{Any, IsFile, IsGroup, IsImports, IsSeparated}
 use Rattle.types_declared.specs.Files.{imports_in}
-use Rattle.law_rename.proofs.Places.{begins_behind}
-use Rattle.law_rename.proofs.Spelled.{held_at}
+use Rattle.go_respelled.proofs.Places.{begins_behind}
+use Rattle.go_respelled.proofs.Spelled.{held_at}
 use Rattle.law_rename.specs.Around.{AroundImport, AroundItem, alone, among, bare_import, file_with, group_with, imports_with}
 use Rattle.law_rename.specs.Put.{IsNoWord, NoWordEndsAt}
 use Rattle.law_rename.proofs.Behind.{LiesBehind}

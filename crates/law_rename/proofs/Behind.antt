@@ -13,8 +13,8 @@ use Rattle.base_lemmas.proofs.EachElement.{all_append}
 use Rattle.go_scanner.specs.declared.piece.Piece.{Piece}
 use Rattle.go_scanner.specs.Cuts.{bytes_of}
 use Rattle.go_scanner.specs.Spans.{CoversFrom, starts}
-use Rattle.law_rename.specs.Literals.{shifted}
-use Rattle.law_rename.proofs.Spelled.{held_at}
+use Rattle.go_respelled.specs.Literals.{shifted}
+use Rattle.go_respelled.proofs.Spelled.{held_at}
 
 -- where pieces lie
 

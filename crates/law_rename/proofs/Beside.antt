@@ -15,11 +15,11 @@ use Rattle.base_edits.specs.declared.edit.Edit.{Edit}
 use Rattle.base_edits.proofs.EditedText.{length_range}
 use Rattle.base_edits.proofs.MovedPlaces.{moves_all, step_past, stop_before}
 use Rattle.go_ast.specs.SourceFile.{SourceFile, offset_at, offset_of}
-use Rattle.law_rename.specs.Renamings.{AreNameEdits, IsNameEdit}
-use Rattle.law_rename.specs.Trees.{renamed_file}
-use Rattle.law_rename.proofs.Many.{edited_split, have_bytes}
-use Rattle.law_rename.proofs.Offsets.{HaveBytes, order_from}
-use Rattle.law_rename.proofs.Trees.{offset_moved}
+use Rattle.go_respelled.specs.Renamings.{AreNameEdits, IsNameEdit}
+use Rattle.go_respelled.specs.Trees.{renamed_file}
+use Rattle.go_respelled.proofs.Many.{edited_split, have_bytes}
+use Rattle.go_respelled.proofs.Offsets.{HaveBytes, order_from}
+use Rattle.go_respelled.proofs.Trees.{offset_moved}
 use Rattle.law_rename.specs.Named.{NamePut, after_put, before_put, put_bytes}
 use Rattle.law_rename.specs.MayGain.{MayGain, inserted}
 

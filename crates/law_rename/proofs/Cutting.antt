@@ -13,7 +13,7 @@ use Rattle.go_scanner.specs.Tokens.{semicolon, tokens_of, line_ends}
 use Rattle.go_scanner.proofs.ContextLemmas.{stands_before}
 use Rattle.go_scanner.proofs.CutLemmas.{CutsUpTo-push}
 use Rattle.go_scanner.proofs.OneCutLemmas.{one_cut, one_piece}
-use Rattle.law_rename.specs.Literals.{literal_at, HasLiteralAt}
+use Rattle.go_respelled.specs.Literals.{literal_at, HasLiteralAt}
 use Rattle.law_rename.proofs.Quoting.{quoted_literal, quoted_encoded}
 
 pub quoted_stands : (least : ℕ) (path rest : List ℕ) → IsPath least path →

@@ -8,7 +8,7 @@ use Rattle.go_scanner.specs.declared.piece.Class.{Class}
 use Rattle.go_scanner.specs.declared.piece.Class.TheVariants as class
 use Rattle.go_scanner.specs.declared.piece.Piece.{Piece}
 use Rattle.go_scanner.specs.Tokens.{line_ends, tokens_of}
-use Rattle.law_rename.specs.Literals.{piece_at}
+use Rattle.go_respelled.specs.Literals.{piece_at}
 use Rattle.go_scope.specs.declared.model.Block.TheVariants as blocks
 use Rattle.go_scope.specs.declared.model.Role.{Role}
 use Rattle.go_scope.specs.declared.model.Role.TheVariants.{Use, Declaring, NotLexical}

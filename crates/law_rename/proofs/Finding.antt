@@ -20,7 +20,7 @@ use Rattle.go_scanner.specs.CutText.{CutText, tokens_in}
 use Rattle.go_scanner.specs.Pieces.{IsPiece}
 use Rattle.go_scanner.specs.TokenValues.{IsStringClass}
 use Rattle.go_scanner.proofs.SpanLemmas.{covers_at, cut_covers}
-use Rattle.law_rename.specs.Literals.{piece_at}
+use Rattle.go_respelled.specs.Literals.{piece_at}
 use Rattle.go_ast.specs.declared.syntax.Kind.{Kind}
 use Rattle.go_ast.specs.declared.syntax.Kind.TheVariants as kind
 use Rattle.go_ast.specs.declared.syntax.Token.{Token}
@@ -29,9 +29,9 @@ use Rattle.go_ast.specs.Kinds.{kind_of, kind_of_keyword, kind_of_operator, kinds
 use Rattle.go_ast.specs.SourceFile.{IsSourceFile, SourceFile, offset_at, offset_of}
 use Rattle.go_ast.specs.Tree.{ImportTree}
 use Rattle.types_declared.specs.Files.{imports_in}
-use Rattle.law_rename.proofs.Places.{Parts, parts}
-use Rattle.law_rename.proofs.Spelled.{held_at}
-use Rattle.law_rename.proofs.Trees.{each_token}
+use Rattle.go_respelled.proofs.Places.{Parts, parts}
+use Rattle.go_respelled.proofs.Spelled.{held_at}
+use Rattle.go_respelled.proofs.Trees.{each_token}
 use Rattle.law_rename.specs.Around.{AroundImport, bare_import, file_with}
 use Rattle.law_rename.specs.Named.{NamePut, before_put, literal_piece}
 use Rattle.law_rename.specs.Put.{IsNoWord, NoWordEndsAt}

@@ -17,10 +17,10 @@ use Rattle.go_scanner.specs.TokenValues.{IsStringClass}
 use Rattle.go_scanner.specs.Tokens.{ends_line, ends_line_by, ends_statement, is_trivia, line_ends, semicolon, tokens_of}
 use Rattle.go_scanner.proofs.IntegerLemmas.{by_test}
 use Rattle.go_scanner.proofs.SpanLemmas.{cut_covers, tokens_in_order}
-use Rattle.law_rename.specs.Literals.{piece_at, shifted}
+use Rattle.go_respelled.specs.Literals.{piece_at, shifted}
 use Rattle.go_ast.specs.declared.syntax.Token.{Token}
 use Rattle.go_ast.specs.Kinds.{kind_of, kinds_from, kinds_of}
-use Rattle.law_rename.proofs.Trees.{each_token}
+use Rattle.go_respelled.proofs.Trees.{each_token}
 use Rattle.law_rename.specs.Named.{MayPut, NamePut, after_put, before_put, later, literal_piece, moved_behind, name_piece, name_token, put_bytes}
 use Rattle.law_rename.specs.Named.{put_pieces, with_one_at}
 use Rattle.law_rename.specs.Put.{NoWordEndsAt, name_and_blank}

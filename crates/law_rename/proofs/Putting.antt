@@ -25,12 +25,12 @@ use Rattle.go_scanner.specs.TokenValues.{IsStringClass}
 use Rattle.go_scanner.proofs.AsciiLemmas.{ascii_read}
 use Rattle.go_scanner.proofs.ContextLemmas.{stands_before}
 use Rattle.go_scanner.proofs.CutLemmas.{CutsUpTo-push}
-use Rattle.law_rename.specs.Literals.{piece_at, shifted}
-use Rattle.law_rename.proofs.Joining.{no_zero, put_in}
+use Rattle.go_respelled.specs.Literals.{piece_at, shifted}
+use Rattle.go_respelled.proofs.Joining.{no_zero, put_in}
 use Rattle.law_rename.proofs.Replacing.{Opens, no_mark, opens, quote_small}
-use Rattle.law_rename.proofs.Seams.{EndAlikeAt, EndsAlike, MayReplace, all_end_alike, cut_kept, front_utf8, is_open}
-use Rattle.law_rename.proofs.Leading.{stands_behind}
-use Rattle.law_rename.proofs.Names.{behind_utf8, first_byte, no_name_mark, word_encoded}
+use Rattle.go_respelled.proofs.Seams.{EndAlikeAt, EndsAlike, MayReplace, all_end_alike, cut_kept, front_utf8, is_open}
+use Rattle.go_respelled.proofs.Leading.{stands_behind}
+use Rattle.go_respelled.proofs.Names.{behind_utf8, first_byte, no_name_mark, word_encoded}
 use Rattle.law_rename.specs.Put.{IsNoWord, NoWordEndsAt, name_and_blank}
 
 -- a blank

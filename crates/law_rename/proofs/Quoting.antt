@@ -10,7 +10,7 @@ use Rattle.go_scanner.specs.Strings.{are_string_parts, IsString}
 use Rattle.go_scanner.specs.StringValues.{part_value, HasStringValue}
 use Rattle.go_scanner.specs.Cuts.{IsWellEncoded}
 use Rattle.go_scanner.proofs.StringValueLemmas.{one_string_value}
-use Rattle.law_rename.specs.Literals.{IsLiteralOf}
+use Rattle.go_respelled.specs.Literals.{IsLiteralOf}
 use Rattle.law_rename.proofs.PathBytes.{is_own, path_bytes, own_small, own_some, own_plain}
 
 -- one part for each byte

@@ -11,10 +11,10 @@ use Rattle.go_scanner.specs.Cuts.{IsCut, CutsUpTo, byte_order_mark}
 use Rattle.go_scanner.specs.StringValues.{IsStringPiece}
 use Rattle.base_files.specs.Path.{IsPath}
 use Rattle.go_scanner.proofs.AsciiLemmas.{ascii_read}
-use Rattle.law_rename.specs.Literals.{HasLiteralAt}
+use Rattle.go_respelled.specs.Literals.{HasLiteralAt}
 use Rattle.law_rename.proofs.Quoting.{quoted_literal}
 use Rattle.law_rename.proofs.Cutting.{quoted_in_cut}
-use Rattle.law_rename.proofs.Seams.{EndsAlike, MayReplace, all_end_alike, cut_kept, is_free}
+use Rattle.go_respelled.proofs.Seams.{EndsAlike, MayReplace, all_end_alike, cut_kept, is_free}
 
 abbrev pub IsQuote : ℕ → Type 0
 IsQuote b = (b ≡ 34) ⊎ (b ≡ 96)

@@ -15,12 +15,12 @@ use Rattle.go_scanner.specs.Cuts.{IsCut, CutsUpTo}
 use Rattle.go_scanner.specs.StringValues.{IsStringPiece}
 use Rattle.go_scanner.proofs.ContextLemmas.{stands_before}
 use Rattle.go_scanner.proofs.OneCutLemmas.{one_piece}
-use Rattle.law_rename.specs.Literals.{literal_at, shifted}
+use Rattle.go_respelled.specs.Literals.{literal_at, shifted}
 use Rattle.law_rename.proofs.Quoting.{quoted_literal, quoted_encoded}
 use Rattle.law_rename.proofs.Cutting.{quoted_stands}
 use Rattle.law_rename.proofs.Replacing.{IsQuote, quote_small, opens, before_stays}
-use Rattle.law_rename.proofs.Seams.{front_utf8}
-use Rattle.law_rename.proofs.Joining.{no_zero, recut}
+use Rattle.go_respelled.proofs.Seams.{front_utf8}
+use Rattle.go_respelled.proofs.Joining.{no_zero, recut}
 
 -- how long the literal is that was there
 

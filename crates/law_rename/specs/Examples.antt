@@ -8,7 +8,7 @@ use Rattle.go_scanner.specs.CutText.{CutText, tokens_in}
 use Rattle.go_scanner.specs.Tokens.{line_ends, semicolon, tokens_of}
 use Rattle.base_edits.specs.declared.edit.Edit.{Edit}
 use Rattle.go_ast.specs.Kinds.{kinds_from, kinds_of}
-use Rattle.law_rename.specs.Renamings.{recut}
+use Rattle.go_respelled.specs.Renamings.{recut}
 
 -- A piece by its class and its ends.
 abbrev piece : Class → ℕ → ℕ → Piece

@@ -1,8 +1,5 @@
 -- The definitions of this crate.
-pub mod Literals
 mod Examples
-pub mod Renamings
-pub mod Trees
 pub mod Renumbered
 pub mod Around
 pub mod Named

@@ -7,7 +7,7 @@ use Rattle.go_scanner.specs.CutText.{CutText}
 use Rattle.go_scanner.specs.Cuts.{IsCut}
 use Rattle.go_scanner.specs.Pieces.{IsPiece}
 use Rattle.go_scanner.specs.TokenValues.{IsStringClass}
-use Rattle.law_rename.specs.Literals.{piece_at, shifted}
+use Rattle.go_respelled.specs.Literals.{piece_at, shifted}
 use Rattle.go_ast.specs.declared.syntax.Token.{Token}
 use Rattle.go_ast.specs.Kinds.{kind_of_name}
 use Rattle.law_rename.specs.Put.{NoWordEndsAt, name_and_blank}

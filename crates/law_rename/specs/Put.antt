@@ -4,7 +4,7 @@ use Rattle.std.specs.List.{All}
 use Rattle.go_scanner.specs.declared.piece.Class.{Class}
 use Rattle.go_scanner.specs.declared.piece.Class.TheVariants.{Blank, Integer, Keyword, Name}
 use Rattle.go_scanner.specs.declared.piece.Piece.{Piece}
-use Rattle.law_rename.specs.Literals.{piece_at}
+use Rattle.go_respelled.specs.Literals.{piece_at}
 
 -- A piece of this class is no name, no keyword and no number.
 pub record IsNoWord (class : Class) : Type 0 where

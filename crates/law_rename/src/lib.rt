@@ -9,7 +9,6 @@ pub mod bare_imports;
 pub mod gained;
 pub mod named_import;
 pub mod quoted;
-pub mod recut;
 pub mod renumbered;
 pub mod renumbered_sites;
 pub mod rescoped;

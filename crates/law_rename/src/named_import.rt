@@ -7,7 +7,7 @@ ghost use Rattle.go_scanner.specs.CutText.{tokens_in};
 ghost use Rattle.go_scanner.specs.Cuts.{IsCut};
 ghost use Rattle.go_scanner.specs.Pieces.{IsPiece};
 ghost use Rattle.go_scanner.specs.TokenValues.{IsStringClass};
-ghost use Rattle.law_rename.specs.Literals.{piece_at, shifted};
+ghost use Rattle.go_respelled.specs.Literals.{piece_at, shifted};
 ghost use Rattle.go_ast.specs.declared.syntax.Kind.TheVariants as kind;
 ghost use Rattle.go_ast.specs.Kinds.{kind_of_name, kinds_of};
 ghost use Rattle.go_ast.specs.WellFormed.{IsTreeOf};

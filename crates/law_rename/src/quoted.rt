@@ -8,7 +8,7 @@ ghost use Rattle.go_scanner.specs.Cuts.{IsCut, CutsUpTo};
 ghost use Rattle.go_scanner.specs.Pieces.{Stands};
 ghost use Rattle.go_scanner.specs.StringValues.{IsStringPiece};
 ghost use Rattle.go_scanner.specs.Tokens.{semicolon};
-ghost use Rattle.law_rename.specs.Literals.{IsLiteralOf, literal_at, HasLiteralAt, shifted};
+ghost use Rattle.go_respelled.specs.Literals.{IsLiteralOf, literal_at, HasLiteralAt, shifted};
 
 /// A path in double quotes is a string piece, and the path is its only value.
 pub fn quoted_path_is_literal()

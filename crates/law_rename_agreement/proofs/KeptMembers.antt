@@ -9,7 +9,7 @@ use Rattle.base_edits.specs.Revisions.{Revision}
 use Rattle.base_edits.specs.RevisionsOfEdits.{revision_of}
 use Rattle.go_ast.specs.SourceFile.{spelling_of}
 use Rattle.go_scope.specs.declared.model.Position.{Position}
-use Rattle.law_rename.specs.Trees.{renamed_file}
+use Rattle.go_respelled.specs.Trees.{renamed_file}
 use Rattle.types_stmt.specs.Checked.{Checked}
 use Rattle.types_stmt.specs.Declarations.{check_file}
 use Rattle.types_declared.specs.Package.{Package, spelled, spelled_at}

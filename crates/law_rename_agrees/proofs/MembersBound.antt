@@ -7,7 +7,7 @@ use Rattle.base_edits.specs.EditSet.{FileChanges, change_of, edited}
 use Rattle.base_edits.specs.Moved.{edits_by}
 use Rattle.base_edits.specs.RevisionsOfEdits.{revision_of}
 use Rattle.law_faultless.proofs.PackageWorlds.{have_all_worlds}
-use Rattle.law_rename.specs.Trees.{renamed_file}
+use Rattle.go_respelled.specs.Trees.{renamed_file}
 use Rattle.law_same_bindings.specs.SameBindings.{IsBoundAlike}
 use Rattle.types_declared.specs.Package.{Package}
 use Rattle.workspace_check.specs.Verdicts.{Verdicts}

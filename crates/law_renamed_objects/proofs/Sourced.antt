@@ -46,8 +46,8 @@ use Rattle.law_tokens.specs.Roles.{IsOfKind}
 use Rattle.law_tokens.proofs.OwnPaths.{part_at}
 use Rattle.law_faultless.proofs.DeclaringNames.{AllOf, back}
 use Rattle.law_faultless.proofs.Numbers.{OfKind, file_kinds}
-use Rattle.law_rename.proofs.Spelled.{token_kept}
-use Rattle.law_rename.specs.Renamings.{replaced_piece}
+use Rattle.go_respelled.proofs.Spelled.{token_kept}
+use Rattle.go_respelled.specs.Renamings.{replaced_piece}
 use Rattle.law_same_bindings.proofs.Alike.{Alike, of_bound, tokens, turned, selected, is_predeclared}
 use Rattle.law_member_uses.specs.MemberUses.{IsAlike}
 use Rattle.law_member_uses.proofs.Agreement.{only_members_differ}

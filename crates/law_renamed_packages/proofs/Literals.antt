@@ -14,10 +14,10 @@ use Rattle.go_scanner.specs.TokenValues.{IsStringClass}
 use Rattle.go_scanner.specs.Tokens.{semicolon}
 use Rattle.go_ast.specs.SourceFile.{SourceFile, IsSourceFile, spelling_at, spelling_of}
 use Rattle.base_edits.specs.declared.edit.Edit.{Edit}
-use Rattle.law_rename.specs.Renamings.{AreNameEdits, moved_piece, replaced_piece}
-use Rattle.law_rename.specs.Trees.{renamed_file}
-use Rattle.law_rename.proofs.MovedTokens.{tokens_moved}
-use Rattle.law_rename.proofs.Spelled.{token_kept}
+use Rattle.go_respelled.specs.Renamings.{AreNameEdits, moved_piece, replaced_piece}
+use Rattle.go_respelled.specs.Trees.{renamed_file}
+use Rattle.go_respelled.proofs.MovedTokens.{tokens_moved}
+use Rattle.go_respelled.proofs.Spelled.{token_kept}
 use Rattle.workspace_graph.specs.Packages.{ImportsPath}
 use Rattle.types_declared.specs.Files.{HasLiteral}
 

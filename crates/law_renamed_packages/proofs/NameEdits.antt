@@ -21,9 +21,9 @@ use Rattle.base_edits.specs.EditSet.{FileChanges, change_of}
 use Rattle.base_edits.specs.Moved.{edits_by}
 use Rattle.base_edits.specs.declared.edit.Edit.{Edit}
 use Rattle.go_scope.specs.Table.{LiesAt}
-use Rattle.law_rename.specs.Renamings.{AreNameEdits, replaced_piece}
-use Rattle.law_rename.specs.Trees.{KeepKinds}
-use Rattle.law_rename.proofs.ByTokens.{edits_of_tokens}
+use Rattle.go_respelled.specs.Renamings.{AreNameEdits, replaced_piece}
+use Rattle.go_respelled.specs.Trees.{KeepKinds}
+use Rattle.go_respelled.proofs.ByTokens.{edits_of_tokens}
 use Rattle.types_declared.specs.Package.{Package}
 use Rattle.workspace_check.specs.Verdicts.{Verdicts}
 use Rattle.refs_binding.specs.declared.declaration.Declaration.{Declaration}

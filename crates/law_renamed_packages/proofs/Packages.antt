@@ -16,9 +16,9 @@ use Rattle.workspace_graph.specs.Packages.{IsParsed, ImportsPath, PackageImports
 use Rattle.workspace_graph.specs.Parsed.{AreParsed, none, tree}
 use Rattle.workspace_graph.proofs.ByPath.{has_file}
 use Rattle.workspace_graph.proofs.OneFile.{one_file}
-use Rattle.law_rename.specs.Renamings.{AreNameEdits, recut}
-use Rattle.law_rename.specs.Trees.{KeepKinds}
-use Rattle.law_rename.proofs.Trees.{file_stays}
+use Rattle.go_respelled.specs.Renamings.{AreNameEdits, recut}
+use Rattle.go_respelled.specs.Trees.{KeepKinds}
+use Rattle.go_respelled.proofs.Trees.{file_stays}
 use Rattle.types_declared.specs.Package.{Package}
 use Rattle.workspace_check.specs.Earlier.{HaveSameImports}
 use Rattle.workspace_check.specs.FaultLists.{ListsFaults}

@@ -24,10 +24,10 @@ use Rattle.go_scope.specs.Packages.{ScopedPackage, scoped, layout_in}
 use Rattle.go_scope.specs.Site.{Site, or_blank, sites_layout}
 use Rattle.go_scope.specs.SpelledFiles.{spelled_file}
 use Rattle.law_rename.specs.Respelled.{Spelling, respelled, respelled_files, KeepsRoles, KeepAllRoles}
-use Rattle.law_rename.specs.Renamings.{AreNameEdits, moved_piece}
-use Rattle.law_rename.specs.Trees.{renamed_file}
+use Rattle.go_respelled.specs.Renamings.{AreNameEdits, moved_piece}
+use Rattle.go_respelled.specs.Trees.{renamed_file}
 use Rattle.law_rename.proofs.Laid.{layout_stays, package_respelled}
-use Rattle.law_rename.proofs.MovedTokens.{tokens_moved}
+use Rattle.go_respelled.proofs.MovedTokens.{tokens_moved}
 use Rattle.law_tokens.proofs.OwnPaths.{part_at, package_sources}
 use Rattle.law_same_bindings.specs.SameBindings.{trees_of, paths_of}
 use Rattle.types_declared.specs.Files.{HasLiteral}

@@ -17,10 +17,10 @@ use Rattle.go_scanner.specs.CutText.{tokens_in}
 use Rattle.go_scanner.proofs.SpanLemmas.{cut_covers}
 use Rattle.go_ast.specs.SourceFile.{SourceFile, IsSourceFile, offset_at, offset_of, spelling_of}
 use Rattle.go_scope.proofs.Uniqueness.{same_or_not}
-use Rattle.law_rename.specs.Renamings.{AreNameEdits, IsNameEdit, replaced_piece}
-use Rattle.law_rename.specs.Trees.{renamed_file}
-use Rattle.law_rename.proofs.Places.{begins_behind}
-use Rattle.law_rename.proofs.Spelled.{token_kept, token_put}
+use Rattle.go_respelled.specs.Renamings.{AreNameEdits, IsNameEdit, replaced_piece}
+use Rattle.go_respelled.specs.Trees.{renamed_file}
+use Rattle.go_respelled.proofs.Places.{begins_behind}
+use Rattle.go_respelled.proofs.Spelled.{token_kept, token_put}
 use Rattle.types_declared.specs.Package.{Package}
 use Rattle.workspace_check.specs.Verdicts.{Verdicts}
 use Rattle.workspace_check.proofs.PackageFiles.{at_rank}

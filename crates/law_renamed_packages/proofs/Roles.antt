@@ -17,7 +17,7 @@ use Rattle.go_scope.specs.FileSites.{func_role}
 use Rattle.go_scope.specs.Site.{Source}
 use Rattle.law_tokens.proofs.Ordered.{one_stands}
 use Rattle.law_rename.specs.Respelled.{KeepsRole, KeepsRoles}
-use Rattle.law_rename.specs.Trees.{renamed_file}
+use Rattle.go_respelled.specs.Trees.{renamed_file}
 use Rattle.types_declared.specs.Package.{Package}
 use Rattle.types_info.proofs.DeclKinds.{Holds}
 use Rattle.workspace_check.specs.Verdicts.{Verdicts}

@@ -7,8 +7,8 @@ use Rattle.go_ast.specs.SourceFile.{SourceFile}
 use Rattle.base_edits.specs.EditSet.{FileChanges, edited, change_of}
 use Rattle.base_edits.specs.Moved.{edits_by}
 use Rattle.go_scope.specs.declared.model.Position.{Position}
-use Rattle.law_rename.specs.Renamings.{AreNameEdits}
-use Rattle.law_rename.specs.Trees.{KeepKinds}
+use Rattle.go_respelled.specs.Renamings.{AreNameEdits}
+use Rattle.go_respelled.specs.Trees.{KeepKinds}
 use Rattle.types_declared.specs.Package.{Package, spelled}
 use Rattle.law_same_bindings.specs.SameBindings.{trees_of, paths_of}
 use Rattle.workspace_check.specs.Verdicts.{Verdicts, AreVerdicts, BuildsOn}

@@ -15,8 +15,8 @@ use Rattle.go_ast.specs.SourceFile.{SourceFile, FileParts, source_of, offset_of}
 use Rattle.go_scope.specs.declared.model.Position.{Position}
 use Rattle.go_scope.specs.Bindings.{Layout, block_of}
 use Rattle.workspace_graph.specs.Parsed.{AreParsed}
-use Rattle.law_rename.specs.Trees.{renamed_file}
-use Rattle.law_rename.proofs.Trees.{offset_moved}
+use Rattle.go_respelled.specs.Trees.{renamed_file}
+use Rattle.go_respelled.proofs.Trees.{offset_moved}
 use Rattle.law_tokens.proofs.OwnPaths.{part_at}
 use Rattle.types_declared.specs.Files.{HasLiteral}
 use Rattle.types_declared.specs.Laid.{literal_of}

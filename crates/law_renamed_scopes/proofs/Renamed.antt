@@ -14,7 +14,7 @@ use Rattle.base_edits.specs.RevisionsOfEdits.{revision_of, new_name_at, replaces
 use Rattle.base_edits.specs.declared.edit.Edit.{Edit}
 use Rattle.go_scope.specs.Bindings as scopes
 use Rattle.go_scope.specs.FileSites.{universe}
-use Rattle.law_rename.specs.Trees.{renamed_file}
+use Rattle.go_respelled.specs.Trees.{renamed_file}
 use Rattle.law_rename.proofs.Exactness.{same_bytes}
 use Rattle.types_declared.specs.Package.{Package}
 use Rattle.workspace_check.specs.Verdicts.{Verdicts}

@@ -22,7 +22,7 @@ use Rattle.refs_lookup.proofs.NamedMembers.{name_member}
 use Rattle.refs_lookup.proofs.UsedMembers.{link_role}
 use Rattle.law_faultless.proofs.Scoped.{in_order}
 use Rattle.law_faultless.proofs.TypesBound.{Stands, Kept, all_kept}
-use Rattle.law_rename.specs.Trees.{renamed_file}
+use Rattle.go_respelled.specs.Trees.{renamed_file}
 use Rattle.law_renamed_packages.specs.Renames.{IsPlainRename}
 use Rattle.law_renamed_packages.proofs.NameEdits.{IsBoundToken}
 use Rattle.law_renamed_packages.proofs.Replaced.{edits, replaced_or_not, old_spelled, token_bound}

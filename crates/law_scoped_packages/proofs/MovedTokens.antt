@@ -13,9 +13,9 @@ use Rattle.go_scanner.specs.declared.piece.Piece.{Piece}
 use Rattle.go_ast.specs.SourceFile.{SourceFile, source_of, offset_of}
 use Rattle.go_scope.specs.declared.model.Position.{Position}
 use Rattle.go_scope.specs.Bindings.{Layout, IsIdentifier}
-use Rattle.law_rename.specs.Renamings.{moved_piece}
-use Rattle.law_rename.specs.Trees.{renamed_file}
-use Rattle.law_rename.proofs.MovedTokens.{tokens_moved}
+use Rattle.go_respelled.specs.Renamings.{moved_piece}
+use Rattle.go_respelled.specs.Trees.{renamed_file}
+use Rattle.go_respelled.proofs.MovedTokens.{tokens_moved}
 use Rattle.types_declared.specs.Laid.{literal_of}
 use Rattle.types_declared.specs.Package.{Package}
 use Rattle.workspace_check.specs.Verdicts.{Verdicts}

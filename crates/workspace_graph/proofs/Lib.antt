@@ -1,5 +1,6 @@
 -- The lemmas of this crate.
 pub mod LinkRows
+pub mod RowCounts
 pub mod Reached
 pub mod SearchSteps
 pub mod OrderedPackages

@@ -1,5 +1,5 @@
 //! The packages that packages reach along links, and the way back.
-ghost use Rattle.std.specs.Prelude.{◌≡◌, ◌<◌, ◌↔◌, ℕ, length, IfOk, IsTrue};
+ghost use Rattle.std.specs.Prelude.{◌≡◌, ◌<◌, ◌↔◌, ℕ, [], length, count_by, vec_capacity, IfOk, IsTrue};
 ghost use Rattle.std.specs.List.{All, Contains};
 ghost use Rattle.std.specs.List.Sorted.{IsStrictlyIncreasing};
 ghost use Rattle.workspace_graph.specs.Imports.{AreLinked, AreImporterRows, LinkTable, Reaches};
@@ -10,13 +10,35 @@ use crate::link_rows::LinkRows;
 use crate::package_list::PackageList;
 use crate::packages_below::PackagesBelow;
 use crate::search::{reach, visit};
+use base_files::list_as_long;
 use std::alloc::{AllocError, Global};
 
-/// The numbers of the marked packages, in increasing order. `room` is their expected number.
-fn marked(alloc: Global, marks: &[bool], room: usize) -> Result<PackageList, AllocError>
+/// How many packages are marked.
+fn mark_count(marks: &[bool]) -> usize
+    ensures { result ≡ count_by (λ m. m) marks.now }
+{
+    let mut count = 0;
+    for number in 0..marks.len() {
+        if marks[number] {
+            count += 1;
+        }
+    }
+    count
+}
+
+/// An empty list with room for the marked packages.
+fn list_of_marked(alloc: Global, marks: &[bool]) -> Result<Vec<usize>, AllocError>
+    ensures items { IfOk result (λ list. list.items ≡ []) }
+    ensures room { IfOk result (λ list. vec_capacity list ≡ count_by (λ m. m) marks.now) }
+{
+    Vec::with_capacity(alloc, mark_count(marks))
+}
+
+/// The numbers of the marked packages, in increasing order.
+fn marked(alloc: Global, marks: &[bool]) -> Result<PackageList, AllocError>
     ensures { IfOk result (ListsMarked marks.now (length marks.now)) }
 {
-    let mut list = Vec::with_capacity(alloc, room)?;
+    let mut list = list_of_marked(alloc, marks)?;
     for (number, mark) in marks.iter().enumerate() {
         if *mark {
             list.push(number)?;
@@ -25,24 +47,16 @@ fn marked(alloc: Global, marks: &[bool], room: usize) -> Result<PackageList, All
     Ok(PackageList::from_numbers(list))
 }
 
-/// Marks of the packages that a package reaches, and their number.
-#[derive(Drop)]
-struct Reached {
-    marks: Vec<bool>,
-    count: usize,
-}
-
 /// Marks the packages that a package reaches, itself among them.
-fn reached_from(alloc: Global, imports: &LinkRows, number: usize) -> Result<Reached, AllocError>
+fn reached_from(alloc: Global, imports: &LinkRows, number: usize) -> Result<Vec<bool>, AllocError>
     requires linked { AreLinked imports.now }
     requires number { number < length imports.now }
-    ensures size { IfOk result (λ reached. length reached.marks.items ≡ length imports.now) }
-    ensures reached { IfOk result (λ reached. (q : ℕ) → IsMarked reached.marks.items q ↔ Reaches imports.now number q) }
+    ensures size { IfOk result (λ reached. length reached.items ≡ length imports.now) }
+    ensures reached { IfOk result (λ reached. (q : ℕ) → IsMarked reached.items q ↔ Reaches imports.now number q) }
 {
     let mut marks = vec![in alloc; false; imports.len()]?;
-    let found = visit(alloc, imports, &mut marks, number)?;
-    let count = found.len();
-    Ok(Reached { marks, count })
+    visit(alloc, imports, &mut marks, number)?;
+    Ok(marks)
 }
 
 /// The packages that a package reaches, itself among them, in increasing order.
@@ -56,7 +70,7 @@ pub(crate) fn closure_of(
     ensures { IfOk result (IsClosureList imports.now number) }
 {
     let reached = reached_from(alloc, imports, number)?;
-    marked(alloc, &reached.marks, reached.count)
+    marked(alloc, &reached)
 }
 
 /// Marks each package that has no mark, and removes the other marks.
@@ -100,7 +114,7 @@ pub(crate) fn back_marks(
     ensures { IfOk result (λ marks. UnmarksBelow imports.now number marks.items) }
 {
     let reached = reached_from(alloc, imports, number)?;
-    back_from(alloc, importers, reached.marks, number)
+    back_from(alloc, importers, reached, number)
 }
 
 /// The packages without a mark in `back`, in increasing order: by the marks of `back_marks`, those that a package reaches and that do not
@@ -110,7 +124,7 @@ fn built_on_by(alloc: Global, back: &[bool]) -> Result<PackageList, AllocError>
 {
     let mut marks = Vec::from_slice(alloc, back)?;
     flip(&mut marks);
-    marked(alloc, &marks, back.len())
+    marked(alloc, &marks)
 }
 
 /// Whether none of the packages is marked.
@@ -126,20 +140,15 @@ fn none_marked(marks: &[bool], numbers: &[usize]) -> bool
     true
 }
 
-/// The marked packages without `one`, in increasing order. `room` is their expected number.
-fn marked_but(
-    alloc: Global,
-    marks: Vec<bool>,
-    room: usize,
-    one: usize,
-) -> Result<PackageList, AllocError>
+/// The marked packages without `one`, in increasing order.
+fn marked_but(alloc: Global, marks: Vec<bool>, one: usize) -> Result<PackageList, AllocError>
     requires { one < length marks.items }
     ensures each { IfOk result (λ rest. (q : ℕ) → Contains rest q ↔ (IsMarked marks.items q × (q ≡ one → ⊥))) }
     ensures rising { IfOk result IsStrictlyIncreasing }
 {
     let mut marks = marks;
     marks[one] = false;
-    marked(alloc, &marks, room)
+    marked(alloc, &marks)
 }
 
 /// Marks for `count` packages, of which only `one` is marked.
@@ -153,14 +162,14 @@ fn one_marked(alloc: Global, count: usize, one: usize) -> Result<Vec<bool>, Allo
 }
 
 /// The marked packages without `one`, and marks of all packages, of which only `one` is marked.
-fn rest_marked(alloc: Global, reached: Reached, one: usize) -> Result<PackagesBelow, AllocError>
-    requires { one < length reached.marks.items }
-    ensures each { IfOk result (λ found. (q : ℕ) → Contains found.built_on q ↔ (IsMarked reached.marks.items q × (q ≡ one → ⊥))) }
+fn rest_marked(alloc: Global, reached: Vec<bool>, one: usize) -> Result<PackagesBelow, AllocError>
+    requires { one < length reached.items }
+    ensures each { IfOk result (λ found. (q : ℕ) → Contains found.built_on q ↔ (IsMarked reached.items q × (q ≡ one → ⊥))) }
     ensures rising { IfOk result (λ found. IsStrictlyIncreasing found.built_on) }
     ensures back { IfOk result (λ found. (q : ℕ) → IsMarked found.back.items q ↔ (q ≡ one)) }
 {
-    let back = one_marked(alloc, reached.marks.len(), one)?;
-    let built_on = marked_but(alloc, reached.marks, reached.count, one)?;
+    let back = one_marked(alloc, reached.len(), one)?;
+    let built_on = marked_but(alloc, reached, one)?;
     Ok(PackagesBelow { built_on, back })
 }
 
@@ -179,10 +188,10 @@ pub(crate) fn below(
     ensures back { IfOk result (λ found. MarksWayBack imports.now number found.back.items) }
 {
     let reached = reached_from(alloc, imports, number)?;
-    if none_marked(&reached.marks, importers.row(number)) {
+    if none_marked(&reached, importers.row(number)) {
         return rest_marked(alloc, reached, number);
     }
-    let back = back_from(alloc, importers, reached.marks, number)?;
+    let back = back_from(alloc, importers, reached, number)?;
     let built_on = built_on_by(alloc, &back)?;
     Ok(PackagesBelow { built_on, back })
 }
@@ -193,7 +202,7 @@ fn without(alloc: Global, numbers: &[usize], one: usize) -> Result<PackageList, 
     ensures each { IfOk result (λ rest. (q : ℕ) → Contains rest q ↔ (Contains numbers.now q × (q ≡ one → ⊥))) }
     ensures rising { IfOk result IsStrictlyIncreasing }
 {
-    let mut rest = Vec::with_capacity(alloc, numbers.len())?;
+    let mut rest = list_as_long(alloc, numbers)?;
     for number in numbers {
         if *number != one {
             rest.push(*number)?;

@@ -1,6 +1,6 @@
 //! Computes the links after one package was inserted, from the links before. The other packages keep their rows, with shifted numbers,
 //! unless they import the new package.
-ghost use Rattle.std.specs.Prelude.{◌≡◌, ◌+◌, ◌^◌, ◌<◌, ◌≤◌, ◌↔◌, ℕ, List, length, slice_get, slice_index, Some, IfOk, IsTrue, MatchOption, OnOk};
+ghost use Rattle.std.specs.Prelude.{◌≡◌, ◌+◌, ◌^◌, ◌<◌, ◌≤◌, ◌↔◌, ℕ, List, length, slice_get, slice_index, sum_by, Some, IfOk, IsTrue, MatchOption, OnOk};
 ghost use Rattle.std.specs.List.{Contains};
 ghost use Rattle.std.specs.List.Sorted.{IsStrictlyIncreasing, IsStrictlySortedBy};
 ghost use Rattle.base_files.specs.Workspace.{path_cmp};
@@ -223,8 +223,10 @@ fn add_next(growing: Growing<'_>, index: usize, rows: &mut LinkRows) -> Result<u
     Ok(past(growing.linked, index, stop))
 }
 
-/// About how many numbers all rows have after the insertion.
-fn number_count(growing: Growing<'_>) -> usize {
+/// About how many numbers all rows have after the insertion: those before, those of the new row, and one more in each row that gains one.
+fn number_count(growing: Growing<'_>) -> usize
+    ensures { result ≤ sum_by (λ row. length row) growing.entry.before.now + length growing.entry.own.now + length growing.entry.linked.now }
+{
     let before = growing.before.number_count();
     let more = growing.own.len().saturating_add(growing.linked.len());
     before.saturating_add(more)

@@ -1,5 +1,5 @@
 //! Links in two lists: the rows of all packages one behind another, and the bounds of the rows.
-ghost use Rattle.std.specs.Prelude.{◌≡◌, ◌<◌, ◌≤◌, ◌+◌, ◌-◌, ◌^◌, ◌++◌, ℕ, [], ◌∷◌, length, map, take, drop, slice_index_or, slice_range, IfOk, IsTrue, OnOk};
+ghost use Rattle.std.specs.Prelude.{◌≡◌, ◌<◌, ◌≤◌, ◌+◌, ◌-◌, ◌^◌, ◌++◌, ℕ, [], ◌∷◌, length, map, take, drop, sum_by, slice_index_or, slice_range, IfOk, IsTrue, OnOk};
 ghost use Rattle.std.specs.List.{All, insert};
 ghost use Rattle.workspace_graph.specs.Imports.{row_of};
 ghost use Rattle.workspace_graph.specs.LinkRows.{last_bound};
@@ -175,8 +175,10 @@ impl LinkRows {
     }
 
     /// The number of numbers in all rows.
-    pub(crate) fn number_count(&self) -> usize {
-        last_of(&self.bounds)
+    pub(crate) fn number_count(&self) -> usize
+        ensures { result ≡ sum_by (λ row. length row) self.now }
+    {
+        last_of(&self.bounds) - self.bounds[0]
     }
 
     /// The number of rows.

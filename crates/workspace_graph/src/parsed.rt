@@ -9,6 +9,7 @@ use crate::faulty_file::FaultyFile;
 use base_files::{FileText, Path};
 use go_ast::FileTree;
 use go_parser::{ParseRefusal, parse_file, parse_file_sharing};
+use go_respelled::respelled;
 use go_scanner::TextFault;
 use std::alloc::{AllocError, Global};
 
@@ -35,7 +36,25 @@ fn faulty(path: &Path, text: &FileText, fault: TextFault) -> Result<ParsedFile, 
     Ok(ParsedFile::Faulty(file))
 }
 
-/// Parses a file. Where its tokens are of the same kinds as those of `like`, both share their tree.
+/// Parses a file. Where its text differs from that of `like` in names alone, its tokens are those of `like`, moved. Where the tokens are of
+/// the same kinds, both share their tree.
+fn read_like(
+    alloc: Global,
+    path: &Path,
+    text: &FileText,
+    like: &FileTree,
+) -> Result<FileTree, ParseRefusal>
+    ensures path { IfOk result (λ file. file.path ≡ path.now) }
+    ensures text { IfOk result (λ file. file.cut.text ≡ text.now) }
+    ensures refused { IfErr result (IsRefusalOfText text.now) }
+{
+    match respelled(alloc, path, text, like)? {
+        Some(file) => Ok(file),
+        None => parse_file_sharing(alloc, path, text, like),
+    }
+}
+
+/// Parses a file. It may share tokens and tree with `like`.
 fn read(
     alloc: Global,
     path: &Path,
@@ -48,7 +67,7 @@ fn read(
 {
     match like {
         None => parse_file(alloc, path, text),
-        Some(like) => parse_file_sharing(alloc, path, text, like),
+        Some(like) => read_like(alloc, path, text, like),
     }
 }
 

@@ -1,5 +1,5 @@
 //! Computes which packages each package imports, by number.
-ghost use Rattle.std.specs.Prelude.{◌≡◌, IfOk, IsTrue, OnOk, Some, slice_get};
+ghost use Rattle.std.specs.Prelude.{◌≡◌, length, sum_by, IfOk, IsTrue, MatchOption, OnOk, Some, slice_get};
 ghost use Rattle.std.specs.List.{AllZip};
 ghost use Rattle.std.specs.List.Sorted.{IsStrictlyIncreasing, IsStrictlySortedBy};
 ghost use Rattle.base_files.specs.Workspace.{path_cmp};
@@ -106,7 +106,9 @@ fn earlier_row<'a>(earlier: Option<EarlierGraph<'a>>, path: &[u8], near: usize) 
 }
 
 /// The number of links in an earlier graph, or 0 where there is none.
-fn earlier_count(earlier: Option<EarlierGraph<'_>>) -> usize {
+fn earlier_count(earlier: Option<EarlierGraph<'_>>) -> usize
+    ensures { MatchOption earlier.entry (result ≡ 0) (λ graph. result ≡ sum_by (λ row. length row) graph.links.now) }
+{
     match earlier {
         Some(earlier) => earlier.links.import_rows().number_count(),
         None => 0,

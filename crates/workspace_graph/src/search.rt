@@ -4,6 +4,7 @@ ghost use Rattle.workspace_graph.specs.Imports.{AreLinked, Imports};
 ghost use Rattle.workspace_graph.specs.Search.{ListsNewMarks, MarksFound, Visits, AreClosedMarks, MarksReached};
 
 use crate::link_rows::LinkRows;
+use base_files::list_as_long;
 use std::alloc::{AllocError, Global};
 
 /// Marks a package and adds it to `found`, unless it is marked.
@@ -53,7 +54,7 @@ pub(crate) fn visit(
     requires start { start < length links.now }
     ensures { IfOk result (λ found. Visits links.now start marks.old.items found.items marks.new.items) }
 {
-    let mut found = Vec::with_capacity(alloc, links.len())?;
+    let mut found = list_as_long(alloc, marks)?;
     note(&mut found, marks, start)?;
     let mut place = 0;
     while place < found.len() {

@@ -1,8 +1,7 @@
 -- The answers to the goals of `moves::text_at`.
-use Rattle.std.proofs.Common.{◌≡◌, ◌≤◌, ◌<◌, ℕ, false, true, inl, inr, length, ap, sym, ◌∙◌}
+use Rattle.std.proofs.Common.{length, ap, sym, ◌∙◌}
 use Rattle.std.specs.Prelude.{Some}
 use Rattle.std.proofs.lemmas.Option.{slice_get-get_or, slice_get_past}
-use Rattle.std.proofs.lemmas.Bool.{cases_lt, false≢true}
 use Rattle.base_lemmas.proofs.Tests.{not_below}
 use Rattle.base_edits.proofs.Called.{no_text, some_text, other_text}
 use Rattle.base_edits.proofs.moves.text_at.Goals as goal

@@ -28,7 +28,7 @@ pub returns-then-none_marked-clause-built_on : goal.returns-then-none_marked-cla
 returns-then-none_marked-clause-built_on c =
     let g = c.args.imports.now in
     let number = c.args.number in
-    let marks = c.in_ok-reached.reached.marks.items in
+    let marks = c.in_ok-reached.reached.items in
     let none : (r : ℕ) → Imports g r number → IsMarked marks r → ⊥ =
     no_importer g c.args.importers.now number c.row.result.now c.requires.back c.row.ensures (IsMarked marks)
     (subst (λ (ms : List Bool). (q : ℕ) → Contains c.row.result.now q → IsMarked ms q → ⊥) c.deref.ensures.value
@@ -41,7 +41,7 @@ pub returns-then-none_marked-clause-back : goal.returns-then-none_marked-clause-
 returns-then-none_marked-clause-back c =
     let g = c.args.imports.now in
     let number = c.args.number in
-    let marks = c.in_ok-reached.reached.marks.items in
+    let marks = c.in_ok-reached.reached.items in
     let none : (r : ℕ) → Imports g r number → IsMarked marks r → ⊥ =
     no_importer g c.args.importers.now number c.row.result.now c.requires.back c.row.ensures (IsMarked marks)
     (subst (λ (ms : List Bool). (q : ℕ) → Contains c.row.result.now q → IsMarked ms q → ⊥) c.deref.ensures.value

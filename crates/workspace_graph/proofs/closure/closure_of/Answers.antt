@@ -10,5 +10,5 @@ pub returns : goal.returns
 returns c =
     let g = c.args.imports.now in
     IfOk-weaker c.marked.result (ListsMarked c.deref.result.now (length c.deref.result.now)) (IsClosureList g c.args.number)
-    (λ numbers held. closed_is g c.args.number c.in_ok-reached.reached.marks.items numbers c.in_ok-reached.ensures.reached
+    (λ numbers held. closed_is g c.args.number c.in_ok-reached.reached.items numbers c.in_ok-reached.ensures.reached
     (subst (λ (ms : List Bool). ListsMarked ms (length ms) numbers) c.deref.ensures.value held)) c.marked.ensures

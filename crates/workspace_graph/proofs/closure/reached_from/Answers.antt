@@ -22,11 +22,11 @@ returns c =
     let number = c.args.number in
     let first = c.in_ok-marks.marks.items in
     let marks = c.visit.new.marks.items in
-    let found = c.in_ok-found.found.items in
+    let found = c.in_ok-visit.field-0.items in
     let is : first ≡ replicate (length g) false = subst (λ (n : ℕ). c.in_ok-marks.marks.items ≡ replicate n false) c.len.ensures
     (c.in_ok-marks.ensures.items_if_clones_equal (search rules)) in
     let none = none_in first (length g) is in
     record {
-      size = c.in_ok-found.ensures.finds.size ∙ ap length is ∙ length-replicate (length g) false;
-      reached = reached_alone g number first marks none (marks_reached g number first found marks c.in_ok-found.ensures (none_closed g first none));
+      size = c.in_ok-visit.ensures.finds.size ∙ ap length is ∙ length-replicate (length g) false;
+      reached = reached_alone g number first marks none (marks_reached g number first found marks c.in_ok-visit.ensures (none_closed g first none));
     }

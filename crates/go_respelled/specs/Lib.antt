@@ -1,0 +1,5 @@
+-- The definitions of this crate.
+pub mod Literals
+pub mod Renamings
+pub mod Trees
+pub mod Replaced

@@ -1,0 +1,52 @@
+-- Edits of a cut text that replace names by names, as the code finds and checks them.
+use Rattle.std.specs.Prelude.{ℕ, ◌≡◌, ◌+◌, ◌-◌, ◌≤◌, List, ◌++◌, length, Some, slice_get}
+use Rattle.std.specs.List.{All, slice_range}
+use Rattle.go_scanner.specs.declared.piece.Class.TheVariants.{Name}
+use Rattle.go_scanner.specs.declared.piece.Piece.{Piece}
+use Rattle.go_scanner.specs.CutText.{CutText, tokens_in}
+use Rattle.go_scanner.specs.Pieces.{IsPiece}
+use Rattle.go_scanner.specs.Spans.{FollowFrom}
+use Rattle.go_ast.specs.Kinds.{kind_of_name}
+use Rattle.base_edits.specs.Edits.{AreInOrder, edited_text}
+use Rattle.base_edits.specs.Moved.{moved_offset}
+use Rattle.base_edits.specs.PassedEdits.{ArePast, PassedEdits}
+use Rattle.base_edits.specs.declared.edit.Edit.{Edit}
+use Rattle.go_respelled.specs.Renamings.{replaced_piece}
+use Rattle.go_respelled.specs.declared.moved.Cursor.{Cursor}
+
+-- The edit replaces a name token by a name. Both are `_`, or neither is.
+pub record ReplacesName (c : CutText) (e : Edit) : Type 0 where
+  pub is_name : IsPiece Name e.text
+  pub token : ℕ
+  pub old : slice_get (tokens_in c) token ≡ Some (replaced_piece e)
+  pub same_kind : kind_of_name e.text ≡ kind_of_name (slice_range c.text e.span.start e.span.end)
+
+-- The edits are in order, and make the new text of the old one.
+pub record Make (old : List ℕ) (edits : List Edit) (new : List ℕ) : Type 0 where
+  pub order : AreInOrder 0 edits
+  pub made : new ≡ edited_text edits old
+
+-- An edit lies at or behind an offset of the old text. The text begins with the bytes before it, and with its new bytes. `rest` follows.
+pub record GoesOn (old : List ℕ) (at : ℕ) (e : Edit) (text rest : List ℕ) : Type 0 where
+  pub behind : at ≤ e.span.start
+  pub order : e.span.start ≤ e.span.end
+  pub within : e.span.end ≤ length old
+  pub is : text ≡ slice_range old at e.span.start ++ (e.text ++ rest)
+
+-- The edits that a cursor has passed.
+abbrev pub passed : Cursor → PassedEdits
+passed c = record { edits = c.edits; old = c.old; new = c.new }
+
+-- The cursor is past just the edits that end at or before an offset.
+pub record IsCursorAt (edits : List Edit) (offset : ℕ) (c : Cursor) : Type 0 where
+  pub past : ArePast edits offset (passed c)
+  pub moves : moved_offset edits offset ≡ c.new + (offset - c.old)
+
+-- The tokens lie in order.
+abbrev pub AreFollowing : List Piece → Type 0
+AreFollowing tokens = (size : ℕ) × FollowFrom 0 tokens size
+
+-- The edits replace names of the old text by names, and make the new text so.
+pub record Respell (old : CutText) (edits : List Edit) (new : List ℕ) : Type 0 where
+  pub make : Make old.text edits new
+  pub names : All (ReplacesName old) edits

@@ -1,0 +1,59 @@
+//! Parsed files in which names are replaced by names.
+ghost use Rattle.std.specs.Prelude.{◌≡◌, IfOk, IfSome, IsTrue};
+ghost use Rattle.go_respelled.specs.Renamings.{recut};
+ghost use Rattle.go_respelled.specs.Replaced.{Respell};
+
+use crate::between::edits_between;
+use crate::edited::make;
+use crate::moved::moved_tokens;
+use crate::name_edits::replace_names;
+use base_edits::Edit;
+use base_files::{FileText, Path};
+use go_ast::FileTree;
+use go_scanner::Pieces;
+use std::alloc::{AllocError, Global};
+
+/// Whether the edits replace names of the old text by names, and make the new text so.
+fn respell(old: &Pieces, edits: &[Edit], new: &[u8]) -> bool
+    ensures { IsTrue result → Respell old.now edits.now new.now }
+{
+    make(old.file().bytes(), edits, new) && replace_names(old, edits)
+}
+
+/// The new text with its tokens, which are those of the old text, moved.
+fn respelled_pieces(
+    alloc: Global,
+    old: &Pieces,
+    edits: &[Edit],
+    new: &FileText,
+) -> Result<Pieces, AllocError>
+    requires { Respell old.now edits.now new.now }
+    ensures { IfOk result (λ made. made ≡ recut edits.now old.now) }
+{
+    let _ = old.file();
+    let tokens = moved_tokens(alloc, old.tokens(), edits)?;
+    Ok(Pieces::of_tokens(new.clone()?, tokens))
+}
+
+/// The parsed file of a text that differs from that of `like` in names alone. It shares the tree of `like`, and its tokens are moved and
+/// not scanned. `None` where the texts differ otherwise.
+pub fn respelled(
+    alloc: Global,
+    path: &Path,
+    text: &FileText,
+    like: &FileTree,
+) -> Result<Option<FileTree>, AllocError>
+    ensures { IfOk result (λ made. IfSome made (λ file. (file.path ≡ path.now) × (file.cut.text ≡ text.now))) }
+{
+    let old = like.pieces();
+    let new = text.bytes();
+    let edits = edits_between(alloc, old, new)?;
+    if !respell(old, &edits, new) {
+        return Ok(None);
+    }
+    let _ = like.file();
+    let pieces = respelled_pieces(alloc, old, &edits, text)?;
+    let path = path.clone()?;
+    let file = like.sharing_tree(alloc, path, pieces)?;
+    Ok(Some(file))
+}

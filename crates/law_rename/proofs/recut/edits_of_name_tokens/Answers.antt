@@ -1,6 +1,0 @@
--- The answers to the goals of `recut::edits_of_name_tokens`.
-use Rattle.law_rename.proofs.ByTokens.{edits_of_tokens}
-use Rattle.law_rename.proofs.recut.edits_of_name_tokens.Goals as goal
-
-pub returns : goal.returns
-returns c = edits_of_tokens

@@ -1,6 +1,0 @@
--- The answers to the goals of `recut::renamed_kinds_stay`.
-use Rattle.law_rename.proofs.Trees.{kinds_stay}
-use Rattle.law_rename.proofs.recut.renamed_kinds_stay.Goals as goal
-
-pub returns : goal.returns
-returns c = kinds_stay

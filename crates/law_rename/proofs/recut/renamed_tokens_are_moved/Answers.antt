@@ -1,6 +1,0 @@
--- The answers to the goals of `recut::renamed_tokens_are_moved`.
-use Rattle.law_rename.proofs.MovedTokens.{tokens_moved}
-use Rattle.law_rename.proofs.recut.renamed_tokens_are_moved.Goals as goal
-
-pub returns : goal.returns
-returns c = tokens_moved
