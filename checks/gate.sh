@@ -4,6 +4,7 @@
 set -u
 cd "$(dirname "$0")/.."
 python3 -B -m checks.gate.memory || exit
+python3 -B -m checks.gate.bounds || exit
 python3 -B -m checks.gate.names || exit
 export PYTHONUNBUFFERED=1
 SECONDS=0

@@ -1,8 +1,8 @@
-"""Lists each place of the crates that answers want of memory where no allocation was refused.
+"""Lists each place of the crates that answers want of memory where no allocation was refused, or a full journal where it has room.
 
     python3 -m checks.gate.memory
 
-Want of memory is `AllocError`, a variant `Memory` or `NoRoom`. A place may make it
+Want of memory is `AllocError`, a variant `Memory` (as `Refusal::Memory`) or `NoRoom`. A place may make it
 
 - in a conversion from an allocation that was refused (`impl From<AllocError> for ..`),
 - in the arm of a match whose pattern is want of memory itself (`ErrorKind::OutOfMemory` as `clap` calls it),
@@ -10,6 +10,8 @@ Want of memory is `AllocError`, a variant `Memory` or `NoRoom`. A place may make
   type tells, or by `map_err` behind such a call,
 - where a thread could not be made (`if !are_made`), for which a server has no other fault,
 - for a sum of lengths that passes what can be addressed (`checked_add(..).ok_or(AllocError)`), as the library does where it grows.
+
+A place may answer `JournalFull` where the journal was asked for room and has none (`if !self.has_room(..)`).
 
 It ends with status 1 where it lists a place.
 """
@@ -19,6 +21,8 @@ import sys
 from checks import TOP
 
 WANT = re.compile(r"\b(?:\w+::(?:Memory|NoRoom)|AllocError)\b")
+FULL = re.compile(r"\b\w+::JournalFull\b")
+ASKED = re.compile(r"if !\w+(\.\w+)*\.has_room\(.*\) \{$")
 REFUSED = r"From<Alloc(?:Error|Failed)\b"
 # calls of the standard library that fail for want of memory alone
 STANDARD = {"BufReader::new", "BufWriter::new", "clone", "collect", "vec"}
@@ -101,12 +105,17 @@ def is_sound(lines, number, crate, answers):
     return False
 
 
-def makes(line):
-    """Whether the line makes want of memory, where it is more than a type, a declaration or a pattern."""
+def is_asked(lines, number):
+    """Whether the place on the line stands where the journal was asked for room and has none."""
+    return any(ASKED.search(line) for line in around(lines, number))
+
+
+def makes(line, what):
+    """Whether the line makes such an answer, where it is more than a type, a declaration or a pattern."""
     value = line.partition("=>")[2] if "=>" in line else line
     value = re.sub(r"\bmatches!\(.*\)", "", value)
     value = re.sub(r"(->|Result<|impl\b|From<|fn \w+(<.*?>)?\().*", "", value)
-    return bool(WANT.search(value))
+    return bool(what.search(value))
 
 
 def main():
@@ -116,12 +125,18 @@ def main():
     for path, text in files.items():
         lines = code_of(text)
         for number, line in enumerate(lines):
-            if makes(line):
+            if makes(line, WANT):
                 places += 1
-                if not is_sound(lines, number, path.parts[-3], answers):
-                    found += 1
-                    print(f"{path.relative_to(root)}:{number + 1}: {line.strip()}")
-    print(f"{places} places make want of memory, {found} of them of no allocation that was refused")
+                wrong = not is_sound(lines, number, path.parts[-3], answers)
+            elif makes(line, FULL):
+                places += 1
+                wrong = not is_asked(lines, number)
+            else:
+                continue
+            if wrong:
+                found += 1
+                print(f"{path.relative_to(root)}:{number + 1}: {line.strip()}")
+    print(f"{places} places answer want of memory or a full journal, {found} of them without cause")
     return 1 if found or not places else 0
 
 

@@ -19,3 +19,4 @@ pub mod ByToken
 pub mod Numbering
 pub mod Contents
 pub mod Named
+pub mod Room

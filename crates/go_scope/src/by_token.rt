@@ -1,10 +1,11 @@
 //! A table of numbers by file and token: each number is found in one step.
-ghost use Rattle.std.specs.Prelude.{◌≡◌, ◌<◌, ◌≤◌, ℕ, None, length, slice_get, IfOk, OnOk};
+ghost use Rattle.std.specs.Prelude.{◌≡◌, ◌<◌, ◌≤◌, ◌+◌, ℕ, None, max, vec_capacity, length, slice_get, IfOk, OnOk};
 ghost use Rattle.go_scope.specs.ByToken.{numbers_in, row_number, row_at, Sets, SetsToken, SetsIfUnset, EntersIdentifier, AreIdentifiers};
 ghost use Rattle.go_scope.specs.Packages.{layout_in};
 
 use crate::identifiers::Identifiers;
 use crate::model::Position;
+use base_files::list_as_long;
 use go_ast::FileTree;
 use std::alloc::{AllocError, Global};
 
@@ -14,14 +15,23 @@ pub struct ByToken {
     rows: Vec<Vec<Option<usize>>>,
 }
 
+/// Makes room in a row for the tokens up to this one.
+fn make_room(row: &mut Vec<Option<usize>>, token: usize) -> Result<(), AllocError>
+    ensures items { row.new.items ≡ row.old.items }
+    ensures room { vec_capacity row.new ≤ max (vec_capacity row.old) (token + 1) }
+{
+    if row.len() <= token {
+        row.reserve_exact((token - row.len()).saturating_add(1))?;
+    }
+    Ok(())
+}
+
 /// Extends a row so that it includes a token.
 fn reach(row: &mut Vec<Option<usize>>, token: usize) -> Result<(), AllocError>
     ensures kept { OnOk result ((t : ℕ) → row_number row.new.items t ≡ row_number row.old.items t) }
     ensures reached { OnOk result (token < length row.new.items) }
 {
-    if row.len() <= token {
-        row.reserve((token - row.len()).saturating_add(1))?;
-    }
+    make_room(row, token)?;
     while row.len() <= token {
         row.push(None)?;
     }
@@ -49,7 +59,7 @@ impl ByToken {
     fn over(alloc: Global, files: &[FileTree]) -> Result<ByToken, AllocError>
         ensures { IfOk result (λ found. (file token : ℕ) → numbers_in found file token ≡ None) }
     {
-        let mut rows = Vec::with_capacity(alloc, files.len())?;
+        let mut rows = list_as_long(alloc, files)?;
         for file in files {
             rows.push(row_of(alloc, file)?)?;
         }

@@ -13,6 +13,7 @@ use crate::identifiers::Identifiers;
 use crate::model::Identifier;
 use crate::numbering::numbers_of;
 use crate::table::DeclId;
+use base_files::list_as_long;
 use std::alloc::{AllocError, Global};
 
 /// For each identifier whether it declares, and the declaration to which it is bound; for each token its identifier.
@@ -41,7 +42,7 @@ fn bindings_of(
     requires declared { AreDeclared identifiers.now names.now declared.now }
     ensures { IfOk result (λ found. AreBindings (layout_of identifiers.now) (numerals names.now) (length identifiers.now) found.items) }
 {
-    let mut found = Vec::with_capacity(alloc, identifiers.len())?;
+    let mut found = list_as_long(alloc, identifiers)?;
     for u in 0..identifiers.len() {
         found.push(bound_to(identifiers, names, declared, u))?;
     }

@@ -6,7 +6,7 @@ ghost use Rattle.go_scope.specs.SpelledFiles.{spelled_file};
 ghost use Rattle.go_scope.specs.Packages.{scoped};
 ghost use Rattle.go_scope.specs.Trees.{AreNumbered};
 
-use crate::capacity::identifier_count;
+use crate::capacity::list_of_identifiers;
 use crate::declarations::add_file;
 use crate::identifiers::Identifiers;
 use crate::model::{Block, Identifier, Position, Role};
@@ -49,7 +49,7 @@ fn identifiers_of<'a>(
     ensures sites { IfOk result (λ v. map site_of v.items ≡ package_sites (map spelled_file files.now)) }
     ensures numbered { IfOk result (λ v. AreNumbered (map spelled_file files.now)) }
 {
-    let mut found = Vec::with_capacity(alloc, identifier_count(files))?;
+    let mut found = list_of_identifiers(alloc, files)?;
     add_universe(&mut found)?;
     for rank in 0..files.len() {
         let tree = &files[rank];

@@ -15,6 +15,7 @@ use crate::model::Identifier;
 use crate::numbering::number_at;
 use crate::outer_blocks::first_outside;
 use crate::resolve::{in_scope, role_at};
+use base_files::list_as_long;
 use std::alloc::{AllocError, Global};
 
 /// For each identifier: its links, whether it declares, and whether it is the first declaration of its name in its block.
@@ -123,8 +124,8 @@ impl DeclaredIn {
         ensures { IfOk result (λ declared. (numbers : List ℕ) → AreDeclaredUpTo identifiers.now numbers 0 declared) }
     {
         let links = Links::new(alloc, identifiers)?;
-        let declaring = Vec::with_capacity(alloc, identifiers.len())?;
-        let leading = Vec::with_capacity(alloc, identifiers.len())?;
+        let declaring = list_as_long(alloc, identifiers)?;
+        let leading = list_as_long(alloc, identifiers)?;
         Ok(DeclaredIn {
             links,
             declaring,

@@ -13,6 +13,7 @@ use crate::model::Identifier;
 use crate::numbering::number_at;
 use crate::outer_blocks::OuterName;
 use crate::resolve::role_at;
+use base_files::list_as_long;
 use indexmap::IndexMap;
 use std::alloc::{AllocError, Global};
 
@@ -36,7 +37,7 @@ impl Links {
     {
         let outer = IndexMap::with_capacity(alloc, name_room(identifiers))?;
         let last = vec![in alloc; None; identifiers.len()]?;
-        let around = Vec::with_capacity(alloc, identifiers.len())?;
+        let around = list_as_long(alloc, identifiers)?;
         Ok(Links {
             outer,
             last,

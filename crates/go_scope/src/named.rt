@@ -7,6 +7,7 @@ use crate::contents::table_contents;
 use crate::identifiers::Identifiers;
 use crate::model::{Block, Identifier, Purpose, Role};
 use crate::table::ScopeTable;
+use base_files::list_as_long;
 use std::alloc::{AllocError, Global};
 
 impl Role {
@@ -58,7 +59,7 @@ fn named_identifiers<'a>(
 ) -> Result<Vec<Identifier<'a>>, AllocError>
     ensures { IfOk result (λ found. map site_of found.items ≡ named_sites (name_given names.now) (map site_of identifiers.now)) }
 {
-    let mut found = Vec::with_capacity(alloc, identifiers.len())?;
+    let mut found = list_as_long(alloc, identifiers)?;
     for u in 0..identifiers.len() {
         found.push(named_identifier(&identifiers[u], name_given(names, u)))?;
     }

@@ -6,6 +6,7 @@ ghost use Rattle.go_scope.specs.Table.{layout_of, names_of, IsFirstOf};
 use crate::capacity::name_room;
 use crate::model::{Identifier, Role};
 use crate::resolve::{name_at, role_at};
+use base_files::list_as_long;
 use indexmap::IndexMap;
 use std::alloc::{AllocError, Global};
 
@@ -79,7 +80,7 @@ pub(crate) fn numbers_of(
     ensures below { IfOk result (λ numbers. AreBelow (length identifiers.now) numbers.items) }
 {
     let mut firsts = IndexMap::with_capacity(alloc, name_room(identifiers))?;
-    let mut numbers = Vec::with_capacity(alloc, identifiers.len())?;
+    let mut numbers = list_as_long(alloc, identifiers)?;
     for u in 0..identifiers.len() {
         numbers.push(next_number(&mut firsts, identifiers, u)?)?;
     }

@@ -1,5 +1,5 @@
 //! The book: the states of a workspace, the Jobs that are out, and the journal of the events.
-ghost use Rattle.std.specs.Prelude.{◌≡◌, ◌+◌, ◌≤◌, ◌↔◌, IfOk, IsTrue, OnErr, OnOk, length, vec_capacity};
+ghost use Rattle.std.specs.Prelude.{◌≡◌, ◌+◌, ◌*◌, ◌≤◌, ◌↔◌, max, IfOk, IsTrue, OnErr, OnOk, length, vec_capacity};
 ghost use Rattle.workspace_check.specs.Found.{KnowsVerdicts};
 ghost use Rattle.history_machine.specs.Machine.{content, opening};
 ghost use Rattle.history_machine.specs.JournalSteps.{JournalStep};
@@ -53,6 +53,20 @@ impl Model for Book {
         × ∥ IsReplay a.content.limits a.journal.items a.content ∥₁ };
 }
 
+/// Makes room for more entries. Where the journal grows it has room for as many again as it has, so that it seldom grows.
+fn grow(journal: &mut Vec<Entry>, needed: usize) -> Result<(), AllocError>
+    requires { needed ≤ 1000002 }
+    ensures items { journal.new.items ≡ journal.old.items }
+    ensures grows { vec_capacity journal.old ≤ vec_capacity journal.new }
+    ensures ok { OnOk result (length journal.new.items + needed ≤ vec_capacity journal.new) }
+    ensures room { vec_capacity journal.new ≤ max (vec_capacity journal.old) (2 * length journal.old.items + needed) }
+{
+    if needed <= journal.capacity() - journal.len() {
+        return Ok(());
+    }
+    journal.reserve_exact(journal.len() + needed)
+}
+
 /// Makes room for the entry of an event, and for the entries that are due for the Jobs out. For the entry of a Job that is out the room was
 /// made when it was taken.
 fn make_room(journal: &mut Vec<Entry>, content: &Content, asked: &Asked) -> Result<(), AllocError>
@@ -60,12 +74,13 @@ fn make_room(journal: &mut Vec<Entry>, content: &Content, asked: &Asked) -> Resu
     ensures items { journal.new.items ≡ journal.old.items }
     ensures grows { vec_capacity journal.old ≤ vec_capacity journal.new }
     ensures ok { OnOk result ((IsTrue asked.now.is_out → ⊥) → length journal.new.items + length content.now.out.jobs + 2 ≤ vec_capacity journal.new) }
+    ensures room { vec_capacity journal.new ≤ max (vec_capacity journal.old) (2 * length journal.old.items + length content.now.out.jobs + 2) }
     ensures err { OnErr result (IsTrue asked.now.is_out → ⊥) }
 {
     if asked.is_out {
         return Ok(());
     }
-    journal.reserve(content.jobs() + 2)
+    grow(journal, content.jobs() + 2)
 }
 
 impl Book {

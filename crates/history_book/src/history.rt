@@ -1,5 +1,5 @@
 //! The states of a workspace, and how a change, an undo and a redo move among them.
-ghost use Rattle.std.specs.Prelude.{◌≡◌, ◌+◌, ◌^◌, ◌<◌, ◌≤◌, IfOk, OnErr, OnOk, length, vec_len};
+ghost use Rattle.std.specs.Prelude.{◌≡◌, ◌+◌, ◌^◌, ◌<◌, ◌≤◌, IfOk, OnErr, OnOk, length, max, vec_capacity, vec_len};
 ghost use Rattle.history_machine.specs.Machine.{newest};
 ghost use Rattle.history_machine.specs.Step.{done};
 ghost use Rattle.history_machine.specs.declared.event.Event.TheVariants.{Redo, Undo};
@@ -23,10 +23,20 @@ pub struct History {
     pub visit: u64,
 }
 
+/// Makes room for one more state.
+fn make_room_for_one(states: &mut Vec<State>) -> Result<(), AllocError>
+    ensures items { states.new.items ≡ states.old.items }
+    ensures ok { OnOk result (vec_len states.new < vec_capacity states.new) }
+    ensures room { vec_capacity states.new ≤ max (vec_capacity states.old) (vec_len states.old + 1) }
+{
+    states.reserve_exact(1)
+}
+
 /// Drops the oldest state where there is one more than `depth`.
 fn keep_newest(states: &mut Vec<State>, depth: usize)
     requires { vec_len states.old ≤ depth + 1 }
-    ensures { states.new.items ≡ newest depth states.old.items }
+    ensures items { states.new.items ≡ newest depth states.old.items }
+    ensures room { vec_capacity states.new ≡ vec_capacity states.old }
 {
     if states.len() > depth {
         drop(states.remove(0));
@@ -42,13 +52,14 @@ impl History {
         requires depth { length self.old.earlier.items + length self.old.later.items ≤ limits.undo_depth }
         ensures depth { length self.new.earlier.items + length self.new.later.items ≤ limits.undo_depth }
         ensures number { IfOk result (λ number. number ≡ self.old.next) }
+        ensures room { vec_capacity self.new.earlier ≤ max (vec_capacity self.old.earlier) (vec_len self.old.earlier + 1) }
         ensures ok { OnOk result (GainsState limits self.old next self.new) }
         ensures err { OnErr result (IsSameHistory self.old self.new) }
     {
-        self.earlier.reserve(1)?;
+        make_room_for_one(&mut self.earlier)?;
         let number = self.next;
         let previous = mem::replace(&mut self.current, next);
-        self.earlier.push(previous).unwrap();
+        self.earlier.push_reserved(previous);
         keep_newest(&mut self.earlier, limits.undo_depth);
         self.later.clear();
         self.next += 1;
@@ -61,6 +72,7 @@ impl History {
         requires { self.old.visit + 1 < 2 ^ 64 }
         ensures moves { AnswersInHistory self.old (Undo basis) (done result) self.new }
         ensures count { length self.new.earlier.items + length self.new.later.items ≡ length self.old.earlier.items + length self.old.later.items }
+        ensures room { vec_capacity self.new.later ≤ max (vec_capacity self.old.later) (vec_len self.old.later + 1) }
     {
         let number = self.current.number;
         if basis != number {
@@ -69,11 +81,11 @@ impl History {
         if self.earlier.is_empty() {
             return Err(Refusal::NothingToUndo);
         }
-        self.later.reserve(1)?;
+        make_room_for_one(&mut self.later)?;
         let previous = self.earlier.pop().unwrap();
         let number = previous.number;
         let left = mem::replace(&mut self.current, previous);
-        self.later.push(left).unwrap();
+        self.later.push_reserved(left);
         self.visit += 1;
         Ok(number)
     }
@@ -83,6 +95,7 @@ impl History {
         requires { self.old.visit + 1 < 2 ^ 64 }
         ensures moves { AnswersInHistory self.old (Redo basis) (done result) self.new }
         ensures count { length self.new.earlier.items + length self.new.later.items ≡ length self.old.earlier.items + length self.old.later.items }
+        ensures room { vec_capacity self.new.earlier ≤ max (vec_capacity self.old.earlier) (vec_len self.old.earlier + 1) }
     {
         let number = self.current.number;
         if basis != number {
@@ -91,11 +104,11 @@ impl History {
         if self.later.is_empty() {
             return Err(Refusal::NothingToRedo);
         }
-        self.earlier.reserve(1)?;
+        make_room_for_one(&mut self.earlier)?;
         let next = self.later.pop().unwrap();
         let number = next.number;
         let left = mem::replace(&mut self.current, next);
-        self.earlier.push(left).unwrap();
+        self.earlier.push_reserved(left);
         self.visit += 1;
         Ok(number)
     }

@@ -12,3 +12,4 @@ pub mod FieldsHad
 pub mod MethodNames
 pub mod Holding
 pub mod Displacing
+pub mod SearchTurns

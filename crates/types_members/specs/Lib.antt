@@ -1,5 +1,6 @@
 -- The definitions of this crate.
 pub mod Cycles
+pub mod SearchSteps
 pub mod MemberFaults
 pub mod FieldsView
 pub mod MemberNames

@@ -1,5 +1,5 @@
 //! Known verdicts on packages of a workspace, and those on all packages before a change.
-ghost use Rattle.std.specs.Prelude.{◌≡◌, ◌<◌, ◌≤◌, ◌↔◌, ◌++◌, [], ◌∷◌, length, IfOk, IfSome, IsTrue, MatchOption, None, OnOk, Some, slice_get};
+ghost use Rattle.std.specs.Prelude.{◌≡◌, ◌<◌, ◌≤◌, ◌↔◌, ◌++◌, [], ◌∷◌, length, max, vec_capacity, IfOk, IfSome, IsTrue, MatchOption, None, OnOk, Some, slice_get};
 ghost use Rattle.std.proofs.Math.ListN.{set};
 ghost use Rattle.base_files.specs.Workspace.{Workspace};
 ghost use Rattle.types_expr.specs.WorldView.{known_at};
@@ -31,6 +31,19 @@ impl KnownVerdict {
     {
         let known = all.known(finding.get().path.path())?;
         Ok(KnownVerdict { finding, known })
+    }
+
+    /// Returns the verdict with this finding, and with the export data that `all` has of the package at its path.
+    pub fn new(
+        alloc: Global,
+        finding: Finding,
+        all: &ExportTable,
+    ) -> Result<KnownVerdict, AllocError>
+        ensures finding { IfOk result (λ one. one.finding ≡ finding) }
+        ensures known { IfOk result (λ one. one.known ≡ known_at all.now.definitions finding.path) }
+    {
+        let finding = SharedFinding::new(alloc, finding)?;
+        KnownVerdict::of(finding, all)
     }
 
     /// The path of the package.
@@ -120,30 +133,32 @@ fn copy_of(verdict: &Option<KnownVerdict>) -> Result<Option<KnownVerdict>, Alloc
     }
 }
 
-/// Clones a list of verdicts, with room for `room` of them.
+/// Clones a list of verdicts, with room for `room` of them if that is more.
 fn copies(
     alloc: Global,
     verdicts: &[Option<KnownVerdict>],
     room: usize,
 ) -> Result<Vec<Option<KnownVerdict>>, AllocError>
-    ensures { IfOk result (λ copies. copies.items ≡ verdicts.now) }
+    ensures items { IfOk result (λ copies. copies.items ≡ verdicts.now) }
+    ensures room { IfOk result (λ copies. vec_capacity copies ≡ max room (length verdicts.now)) }
 {
-    let mut copies = Vec::with_capacity(alloc, room)?;
+    let mut copies = Vec::with_capacity(alloc, room.max(verdicts.len()))?;
     for verdict in verdicts {
-        copies.push(copy_of(verdict)?)?;
+        copies.push_reserved(copy_of(verdict)?);
     }
     Ok(copies)
 }
 
-/// Adds missing verdicts at the end, until the list has at least `count` places.
-fn pad(verdicts: &mut Vec<Option<KnownVerdict>>, count: usize) -> Result<(), AllocError>
-    ensures size { OnOk result (count ≤ length verdicts.new.items) }
-    ensures same { OnOk result (HoldSameVerdicts verdicts.old.items verdicts.new.items) }
+/// Adds missing verdicts at the end, until the list, which has room for them, has at least `count` places.
+fn pad(verdicts: &mut Vec<Option<KnownVerdict>>, count: usize)
+    requires { count ≤ vec_capacity verdicts.old }
+    ensures size { count ≤ length verdicts.new.items }
+    ensures same { HoldSameVerdicts verdicts.old.items verdicts.new.items }
+    ensures room { vec_capacity verdicts.new ≡ vec_capacity verdicts.old }
 {
     for _place in verdicts.len()..count {
-        verdicts.push(None)?;
+        verdicts.push_reserved(None);
     }
-    Ok(())
 }
 
 impl Known {
@@ -162,6 +177,7 @@ impl Known {
     pub fn with_capacity(alloc: Global, count: usize) -> Result<Known, AllocError>
         ensures nothing { IfOk result (λ known. known.verdicts.items ≡ []) }
         ensures right { IfOk result (λ known. (w : Workspace) → KnowsVerdicts w known) }
+        ensures room { IfOk result (λ known. vec_capacity known.verdicts ≡ count) }
     {
         let verdicts = Vec::with_capacity(alloc, count)?;
         Ok(Known {
@@ -196,9 +212,10 @@ impl Known {
     pub fn copy(&self, alloc: Global, count: usize) -> Result<Known, AllocError>
         ensures size { IfOk result (λ copy. count ≤ length copy.verdicts.items) }
         ensures same { IfOk result (λ copy. HoldSameVerdicts self.now.verdicts.items copy.verdicts.items) }
+        ensures room { IfOk result (λ copy. vec_capacity copy.verdicts ≡ max count (length self.now.verdicts.items)) }
     {
         let mut verdicts = copies(alloc, &self.verdicts, count)?;
-        pad(&mut verdicts, count)?;
+        pad(&mut verdicts, count);
         let mut copy = Known {
             verdicts,
             earlier: None,

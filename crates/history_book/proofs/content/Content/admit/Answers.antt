@@ -35,7 +35,7 @@ returns-clause-answer c =
     let after = subst (λ (x : Content). IsStateAfter x.current x.next c.args.change state) c.self.view_is c.in_ok-state.ensures.state in
     let new = content_of c.advance.new.self c.self.inside.limits c.self.inside.out in
     let gone = subst (λ (x : Content). new ≡ changed x state.files state.finished) c.self.view_is (c.in_ok-number.ensures.ok c.self.inside.out) in (
-      (refl, c.requires.base),
+      ((refl, c.requires.base), after.made),
       c.in_ok-number.ensures.number ∙ ap (λ (x : Content). x.next) c.self.view_is,
       (
         state.finished,
