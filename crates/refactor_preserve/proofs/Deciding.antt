@@ -1,6 +1,6 @@
 -- The decision for all that may be known of the packages of two workspaces.
 use Rattle.std.proofs.Common.{ℕ, ◌≡◌, Bool, true, false, List, [], ◌∷◌, refl, sym, ap, subst, ◌∙◌}
-use Rattle.std.specs.Prelude.{IsTrue, ◌↔◌, Err, Option, Some, None, MatchBool}
+use Rattle.std.specs.Prelude.{IsTrue, ◌↔◌, Ok, Err, Option, Some, None, MatchBool}
 use Rattle.std.proofs.lemmas.Bool.{false≢true}
 use Rattle.base_files.specs.Workspace.{Workspace}
 use Rattle.base_files.specs.declared.place.Place.{Place}
@@ -18,6 +18,7 @@ use Rattle.workspace_check.proofs.OneList.{one_whole_list}
 use Rattle.refs_binding.specs.declared.declaration.Declaration.{Declaration}
 use Rattle.refs_binding.specs.declared.declaration.Declaration.TheVariants.{Predeclared, Declared, Field, Method}
 use Rattle.refs_binding.specs.Uses.{IsPackage, HasFirstFault}
+use Rattle.refs_binding.specs.WorkspaceFindings.{WorkspaceFindings}
 use Rattle.refs_binding.specs.Workspaces.{IsFaultless, RefusesFaults, known_in}
 use Rattle.refs_binding.proofs.Units.{list_of_sound}
 use Rattle.base_edits.specs.EditSet.{FileChanges, edited}
@@ -119,6 +120,14 @@ decided w after s found found_after answer sound same sound_after h =
       (λ p. h.1 (same_kept w (revision_of w s) p.before (known_in found) p.after (known_in found_after) p.right sound.findings.right p.right_after
           right_after p.kept)),
     )
+
+-- the same, where the workspace after the change was told to have no fault
+pub as_decided : (w after : Workspace) (s : FileChanges) (found found_after : Findings) (read : WorkspaceFindings) (answer : Bool) → IsFaultless w found →
+    after ≡ edited s w → RefusesFaults after found_after (Ok read) →
+    IsTrue answer ↔ KeepsBindings w (known_in found) (revision_of w s) (known_in read.findings) → IsTrue answer ↔ Preserves w (revision_of w s)
+as_decided w after s found found_after read answer sound same told kept =
+    decided w after s found found_after answer sound same told.0
+    (subst (λ (v : WorkspaceFindings). IsTrue answer ↔ KeepsBindings w (known_in found) (revision_of w s) (known_in v.findings)) told.1 kept)
 
 no_first : (xs : List FileFault) (x : FileFault) → [] ≡ x ∷ xs → ⊥
 no_first xs x e = let z : ⊥ = cc in z

@@ -3,7 +3,6 @@ pub mod Alignment
 pub mod Every
 pub mod Resolving
 pub mod Deciding
-pub mod Laid
 pub mod ReadingOn
 pub mod Unaffected
 pub mod Marked

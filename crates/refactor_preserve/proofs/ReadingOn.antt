@@ -1,5 +1,5 @@
 -- The state of reading after some packages, and after one more.
-use Rattle.std.proofs.Common.{ℕ, ◌≡◌, ◌<◌, ◌⊎◌, inl, inr, List, [], ◌++◌, ◌∷◌, length, ap, sym, subst, refl, ◌∙◌}
+use Rattle.std.proofs.Common.{ℕ, ◌≡◌, ◌<◌, ◌⊎◌, inl, inr, List, [], length, ap, sym, subst, ◌∙◌}
 use Rattle.std.specs.Prelude.{Contains, IfSome, MatchOption, Option, None, Some, slice_get, IsTrue}
 use Rattle.std.specs.Global.{Vec}
 use Rattle.std.specs.BTreeMap.{BTreeMap}
@@ -11,7 +11,6 @@ use Rattle.base_lemmas.proofs.Elements.{nothing_in}
 use Rattle.base_files.specs.Packages.{package_paths}
 use Rattle.workspace_graph.specs.Search.{IsMarked}
 use Rattle.types_declared.proofs.Mentioning.{get_set_same, get_set_other}
-use Rattle.refs_index.specs.KnownExports.{AreSomeExports}
 use Rattle.refs_binding.specs.Bindings.{AddsAll, IsBoundAt, IsBoundAmong}
 use Rattle.refs_binding.specs.Exports.{AreExportsByNameAt}
 use Rattle.refs_binding.specs.Packages.{HoldsOfEach}

@@ -4,7 +4,7 @@ ghost use Rattle.std.specs.Option.{option_copied};
 ghost use Rattle.base_files.specs.declared.place.Place.{Place as At};
 ghost use Rattle.base_edits.specs.EditSet.{edited};
 ghost use Rattle.base_edits.specs.Moved.{moved};
-ghost use Rattle.refs_binding.specs.Workspaces.{IsFaultless, known_in};
+ghost use Rattle.refs_binding.specs.Workspaces.{known_in};
 ghost use Rattle.base_edits.specs.RevisionsOfEdits.{revision_of};
 ghost use Rattle.refactor_preserve.specs.Affected.{AreAffected};
 ghost use Rattle.refactor_preserve.specs.Among.{AreHeld, IsKnownBefore, BecomesAmong, IsKeptAmong, AllCorrespondAmong, AddsNoneAmong, KeepsMarked, AddsMarked, BothGo, IsBoundMarked, AnswersForMarked};
@@ -24,8 +24,6 @@ use base_files::Place;
 use refs_binding::{BoundIdentifier, Declaration, FaultlessWorkspace};
 use refs_index::{are_predeclared, goes_to};
 use std::alloc::{AllocError, Global};
-use workspace_check::Findings;
-use workspace_graph::Graph;
 
 /// Whether both places are known and the first is moved to the second.
 fn both_go(moves: &Moves<'_>, old: Option<&Place>, new: Option<&Place>) -> Result<bool, AllocError>
@@ -292,30 +290,26 @@ fn keeps_marked(
 /// affected.
 pub fn keeps_among(
     alloc: Global,
-    graph: &Graph,
-    found: &Findings,
+    workspace: &FaultlessWorkspace<'_>,
     change: &EditedWorkspace<'_>,
-    found_after: &Findings,
+    after: &FaultlessWorkspace<'_>,
 ) -> Result<Answer, AllocError>
-    requires sound { IsFaultless graph.now found.now }
-    requires after { change.now.after.now ≡ edited change.now.edits.now graph.now }
-    requires marks { HasMarks graph.now change.now }
-    requires sound_after { IsFaultless change.now.after.now found_after.now }
-    ensures { IfOk result (λ answer. AnswersFor answer (KeepsBindings graph.now (known_in found.now) (revision_of graph.now change.now.edits.now) (known_in found_after.now))) }
+    requires after { after.now.graph ≡ change.now.after.now }
+    requires edited { change.now.after.now ≡ edited change.now.edits.now workspace.now.graph }
+    requires marks { HasMarks workspace.now.graph change.now }
+    ensures { IfOk result (λ answer. AnswersFor answer (KeepsBindings workspace.now.graph (known_in workspace.now.findings) (revision_of workspace.now.graph change.now.edits.now) (known_in after.now.findings))) }
 {
-    let affected = affected_by(alloc, graph, change.edits, change.after, change.marks)?;
+    let affected = affected_by(
+        alloc,
+        workspace.graph,
+        change.edits,
+        change.after,
+        change.marks,
+    )?;
     if affected.before.iter().all(|mark| *mark) {
         return Ok(Answer::Unknown);
     }
-    let workspace = FaultlessWorkspace {
-        graph,
-        findings: found,
-    };
-    let workspace_after = FaultlessWorkspace {
-        graph: change.after,
-        findings: found_after,
-    };
-    let before = KnownBefore::of(alloc, &workspace, &affected.before)?;
-    let then = MarkedPackages::of(alloc, &workspace_after, &affected.then)?;
+    let before = KnownBefore::of(alloc, workspace, &affected.before)?;
+    let then = MarkedPackages::of(alloc, after, &affected.then)?;
     keeps_marked(alloc, &before, change.edits, &then)
 }

@@ -1,10 +1,9 @@
 //! Decides whether a change preserves the bindings of a workspace.
-ghost use Rattle.std.specs.Prelude.{◌≡◌, ◌↔◌, [], IsTrue, IfOk, MatchBool};
+ghost use Rattle.std.specs.Prelude.{◌≡◌, ◌↔◌, IsTrue, IfOk, MatchBool};
 ghost use Rattle.base_edits.specs.EditSet.{edited};
-ghost use Rattle.workspace_check.specs.FaultLists.{ListsFaults};
 ghost use Rattle.workspace_check.specs.Found.{AreFindings, IsFound, KnowsVerdicts};
 ghost use Rattle.refs_binding.specs.Packages.{ArePackages};
-ghost use Rattle.refs_binding.specs.Workspaces.{IsFaultless, known_in};
+ghost use Rattle.refs_binding.specs.Workspaces.{known_in};
 ghost use Rattle.refactor_preserve.specs.Marked.{HasMarks};
 ghost use Rattle.refactor_preserve.specs.Preserved.{KeepsBindings, Preserves, FindsPreserved};
 ghost use Rattle.base_edits.specs.RevisionsOfEdits.{revision_of};
@@ -45,69 +44,36 @@ fn keeps_read(
 /// Whether the edits preserve all bindings between two workspaces without faults, by all their packages.
 fn keeps_all_bindings(
     alloc: Global,
-    graph: &Graph,
-    found: &Findings,
+    workspace: &FaultlessWorkspace<'_>,
     edits: &EditSet,
-    after: &Graph,
-    found_after: &Findings,
+    after: &FaultlessWorkspace<'_>,
 ) -> Result<bool, AllocError>
-    requires sound { IsFaultless graph.now found.now }
-    requires after { after.now ≡ edited edits.now graph.now }
-    requires sound_after { IsFaultless after.now found_after.now }
-    ensures { IfOk result (λ kept. IsTrue kept ↔ KeepsBindings graph.now (known_in found.now) (revision_of graph.now edits.now) (known_in found_after.now)) }
+    requires { after.now.graph ≡ edited edits.now workspace.now.graph }
+    ensures { IfOk result (λ kept. IsTrue kept ↔ KeepsBindings workspace.now.graph (known_in workspace.now.findings) (revision_of workspace.now.graph edits.now) (known_in after.now.findings)) }
 {
-    let workspace = FaultlessWorkspace {
-        graph,
-        findings: found,
-    };
-    let workspace_after = FaultlessWorkspace {
-        graph: after,
-        findings: found_after,
-    };
-    let seen = all_seen(alloc, &workspace)?;
-    let before = Packages::of(alloc, &workspace, &seen)?;
-    let seen_after = all_seen(alloc, &workspace_after)?;
-    let then = Packages::of(alloc, &workspace_after, &seen_after)?;
+    let seen = all_seen(alloc, workspace)?;
+    let before = Packages::of(alloc, workspace, &seen)?;
+    let seen_after = all_seen(alloc, after)?;
+    let then = Packages::of(alloc, after, &seen_after)?;
     keeps_read(alloc, &before, edits, &then)
 }
 
 /// Whether a change preserves all bindings between two workspaces without faults, by the affected packages alone where these decide it.
 fn keeps_bindings(
     alloc: Global,
-    graph: &Graph,
-    found: &Findings,
+    workspace: &FaultlessWorkspace<'_>,
     change: &EditedWorkspace<'_>,
-    found_after: &Findings,
+    after: &FaultlessWorkspace<'_>,
 ) -> Result<bool, AllocError>
-    requires sound { IsFaultless graph.now found.now }
-    requires after { change.now.after.now ≡ edited change.now.edits.now graph.now }
-    requires marks { HasMarks graph.now change.now }
-    requires sound_after { IsFaultless change.now.after.now found_after.now }
-    ensures { IfOk result (λ kept. IsTrue kept ↔ KeepsBindings graph.now (known_in found.now) (revision_of graph.now change.now.edits.now) (known_in found_after.now)) }
+    requires after { after.now.graph ≡ change.now.after.now }
+    requires edited { change.now.after.now ≡ edited change.now.edits.now workspace.now.graph }
+    requires marks { HasMarks workspace.now.graph change.now }
+    ensures { IfOk result (λ kept. IsTrue kept ↔ KeepsBindings workspace.now.graph (known_in workspace.now.findings) (revision_of workspace.now.graph change.now.edits.now) (known_in after.now.findings)) }
 {
-    match keeps_among(alloc, graph, found, change, found_after)? {
+    match keeps_among(alloc, workspace, change, after)? {
         Answer::Yes => Ok(true),
         Answer::No => Ok(false),
-        Answer::Unknown => keeps_all_bindings(
-            alloc,
-            graph,
-            found,
-            change.edits,
-            change.after,
-            found_after,
-        ),
-    }
-}
-
-/// Whether the findings of a workspace have no fault.
-fn is_sound(alloc: Global, graph: &Graph, found: &Findings) -> Result<bool, AllocError>
-    requires { AreFindings graph.now found.now }
-    ensures { IfOk result (λ sound. MatchBool sound (IsFaultless graph.now found.now) (ListsFaults graph.now [] → ⊥)) }
-{
-    match refuse_faults(alloc, graph, found) {
-        Ok(_) => Ok(true),
-        Err(Refusal::Memory) => Err(AllocError),
-        Err(_) => Ok(false),
+        Answer::Unknown => keeps_all_bindings(alloc, workspace, change.edits, after),
     }
 }
 
@@ -126,24 +92,23 @@ fn found_after(
     verdicts(alloc, change.after, &kept)
 }
 
-/// Whether a change preserves all bindings and leaves no fault, by the findings before and after it.
+/// Whether a change preserves all bindings and leaves no fault, by the findings after it.
 fn are_preserved(
     alloc: Global,
-    graph: &Graph,
-    found: &Findings,
+    workspace: &FaultlessWorkspace<'_>,
     change: &EditedWorkspace<'_>,
     found_after: &Findings,
 ) -> Result<bool, AllocError>
-    requires sound { IsFaultless graph.now found.now }
-    requires after { change.now.after.now ≡ edited change.now.edits.now graph.now }
-    requires marks { HasMarks graph.now change.now }
+    requires edited { change.now.after.now ≡ edited change.now.edits.now workspace.now.graph }
+    requires marks { HasMarks workspace.now.graph change.now }
     requires found_after { AreFindings change.now.after.now found_after.now }
-    ensures { IfOk result (λ kept. IsTrue kept ↔ Preserves graph.now (revision_of graph.now change.now.edits.now)) }
+    ensures { IfOk result (λ kept. IsTrue kept ↔ Preserves workspace.now.graph (revision_of workspace.now.graph change.now.edits.now)) }
 {
-    if is_sound(alloc, change.after, found_after)? {
-        keeps_bindings(alloc, graph, found, change, found_after)
-    } else {
-        Ok(false)
+    workspace.has_no_faults();
+    match refuse_faults(alloc, change.after, found_after) {
+        Ok(after) => keeps_bindings(alloc, workspace, change, &after),
+        Err(Refusal::Memory) => Err(AllocError),
+        Err(_) => Ok(false),
     }
 }
 
@@ -156,22 +121,21 @@ fn known_if(wanted: bool, found: Found) -> Option<Known>
     if wanted { Some(known) } else { None }
 }
 
-/// Whether a change preserves all bindings and leaves no fault. `Some` has what is known of the packages after it. The findings before and
-/// the marks of the change decide which packages need no new check.
+/// Whether a change preserves all bindings and leaves no fault. `Some` has what is known of the packages after it. The marks of the change
+/// and what is known before it decide which packages need no new check.
 fn preserves_marked(
     alloc: Global,
-    graph: &Graph,
-    found: &Found,
+    workspace: &FaultlessWorkspace<'_>,
+    known: &Known,
     change: &EditedWorkspace<'_>,
 ) -> Result<Option<Known>, AllocError>
-    requires sound { IsFaultless graph.now found.now.findings }
-    requires known { KnowsVerdicts graph.now found.now.known }
-    requires after { change.now.after.now ≡ edited change.now.edits.now graph.now }
-    requires marks { HasMarks graph.now change.now }
-    ensures { IfOk result (FindsPreserved graph.now (revision_of graph.now change.now.edits.now)) }
+    requires known { KnowsVerdicts workspace.now.graph known.now }
+    requires edited { change.now.after.now ≡ edited change.now.edits.now workspace.now.graph }
+    requires marks { HasMarks workspace.now.graph change.now }
+    ensures { IfOk result (FindsPreserved workspace.now.graph (revision_of workspace.now.graph change.now.edits.now)) }
 {
-    let then = found_after(alloc, graph, &found.known, change)?;
-    let kept = are_preserved(alloc, graph, &found.findings, change, &then.findings)?;
+    let then = found_after(alloc, workspace.graph, known, change)?;
+    let kept = are_preserved(alloc, workspace, change, &then.findings)?;
     Ok(known_if(kept, then))
 }
 
@@ -179,22 +143,21 @@ fn preserves_marked(
 /// in folders of which the edit set names files.
 pub fn preserves(
     alloc: Global,
-    graph: &Graph,
-    found: &Found,
+    workspace: &FaultlessWorkspace<'_>,
+    known: &Known,
     change: &MadeChange,
 ) -> Result<Option<Known>, AllocError>
-    requires sound { IsFaultless graph.now found.now.findings }
-    requires known { KnowsVerdicts graph.now found.now.known }
-    requires base { change.now.base ≡ graph.now }
-    requires after { change.now.files ≡ edited change.now.edits graph.now }
-    ensures { IfOk result (FindsPreserved graph.now (revision_of graph.now change.now.edits)) }
+    requires known { KnowsVerdicts workspace.now.graph known.now }
+    requires base { change.now.base ≡ workspace.now.graph }
+    requires edited { change.now.files ≡ edited change.now.edits workspace.now.graph }
+    ensures { IfOk result (FindsPreserved workspace.now.graph (revision_of workspace.now.graph change.now.edits)) }
 {
-    let marks = marks_of(alloc, graph, change)?;
+    let marks = marks_of(alloc, workspace.graph, change)?;
     let made = change.get();
     let marked = EditedWorkspace {
         edits: &made.edits,
         after: &made.files,
         marks: &marks,
     };
-    preserves_marked(alloc, graph, found, &marked)
+    preserves_marked(alloc, workspace, known, &marked)
 }

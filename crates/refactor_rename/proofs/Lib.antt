@@ -2,9 +2,11 @@
 pub mod Words
 pub mod Refusing
 pub mod Literals
-pub mod TreeSearch
+pub mod KeySearch
 pub mod Sources
 pub mod RenamedPaths
 pub mod Changing
 pub mod Searching
 pub mod Editing
+pub mod PlacesHere
+pub mod PlaceEdits

@@ -1,13 +1,22 @@
 -- Refusals for one of three reasons.
-use Rattle.std.proofs.Common.{ℕ, ◌≡◌, List, subst}
+use Rattle.std.proofs.Common.{ℕ, ◌≡◌, inl, inr, List, ap, sym, subst, ◌∙◌}
+use Rattle.std.proofs.lemmas.Option.{none-some, same_Some}
 use Rattle.std.specs.Prelude.{Option, Some, None, MatchOption, Result, Ok, Err}
+use Rattle.base_files.specs.Workspace.{Workspace}
 use Rattle.base_files.specs.declared.refusal.Refusal.{Refusal}
 use Rattle.base_files.specs.declared.refusal.Refusal.TheVariants as refusal
 use Rattle.go_scope.specs.declared.model.Position.{Position}
 use Rattle.types_declared.specs.Package.{Package, spelled}
-use Rattle.refs_binding.specs.DeclaredNames.{HasMemberName}
+use Rattle.workspace_check.specs.Verdicts.{Verdicts}
+use Rattle.refs_binding.specs.declared.declaration.Declaration.{Declaration}
+use Rattle.refs_binding.specs.declared.declaration.Declaration.TheVariants.{Predeclared, Declared, Field, Method}
+use Rattle.refs_binding.specs.DeclaredNames.{HasDeclaredName, HasDeclaredNameIn, HasMemberName}
+use Rattle.refs_binding.specs.DeclaringPlaces.{InPackage, InHomePackage}
+use Rattle.refs_binding.specs.Uses.{IsPackage}
+use Rattle.refs_binding.specs.Workspaces.{IsPackageAt, home_path}
+use Rattle.refs_binding.proofs.PackageNumbers.{in_package, of_package}
 use Rattle.refactor_rename.specs.NewName.{IsReserved}
-use Rattle.refactor_rename.specs.Naming.{RefusesFor}
+use Rattle.refactor_rename.specs.Naming.{IsFixed, IsMainIn, IsPredeclaredName, IsReservedFor, IsTopLevelIn, RefusesFor, RefusesName, RefusesNameIn}
 
 -- two reasons that are one
 pub record Agree (one other : Type 0) : Type 0 where
@@ -67,3 +76,37 @@ member_refused IsAt p rank name one (Some a) r is h =
       back = λ c.
           subst (λ (x : Position). spelled p x.file x.index ≡ name) (one c.at a c.is_at is) c.called;
     }) r h
+
+-- What holds of the package of a number holds of the package of each declaration of it.
+module _ (w : Workspace) (known : Verdicts) (n : ℕ) (p : Package) (is : IsPackageAt w known n p) where
+  abbrev Known : Package → Type 0
+  Known = IsPackage w known
+
+  of_path : (path : List ℕ) → path ≡ p.path → (P : Package → Type 0) → Agree (P p) (InPackage Known path P)
+  of_path path e P = record {
+    there = in_package w known n p path P is (is.has_number ∙ ap Some (sym e));
+    back = of_package w known n p path P is (is.has_number ∙ ap Some (sym e));
+  }
+
+  at_home : (d : Declaration) → home_path d ≡ Some p.path → (P : Package → Type 0) → Agree (P p) (InHomePackage Known d P)
+  at_home (Predeclared m) e P = absurd (none-some p.path e)
+  at_home (Declared path m) e P = of_path path (same_Some path p.path e) P
+  at_home (Field s) e P = of_path s.package (same_Some s.package p.path e) P
+  at_home (Method s) e P = of_path s.package (same_Some s.package p.path e) P
+
+  not_predeclared : (d : Declaration) → home_path d ≡ Some p.path → IsPredeclaredName d → ⊥
+  not_predeclared (Predeclared m) e h = none-some p.path e
+  not_predeclared (Declared path m) e h = h
+  not_predeclared (Field s) e h = h
+  not_predeclared (Method s) e h = h
+
+  -- So a name is refused for a declaration of the package just where it is refused in the package.
+  pub refused_at_home : (d : Declaration) → home_path d ≡ Some p.path → (name : List ℕ) (r : Result (Unit {0}) Refusal) → RefusesNameIn p d name r →
+      RefusesName Known d name r
+  refused_at_home d e name r h =
+      let main = at_home d e (λ q. IsMainIn q d) in
+      let top = at_home d e (λ q. IsTopLevelIn q d) in
+      refuses_as (IsMainIn p d) (IsFixed Known d) (IsTopLevelIn p d × IsReserved name) (IsReservedFor Known d name) (HasDeclaredNameIn p d name)
+      (HasDeclaredName Known d name)
+      (record { there = λ m. inr (main.there m); back = λ f. elim f [ inl named ↦ absurd (not_predeclared d e named) | inr m ↦ main.back m ] })
+      (record { there = λ t. (top.there t.0, t.1); back = λ t. (top.back t.0, t.1) }) (at_home d e (λ q. HasDeclaredNameIn q d name)) r h

@@ -1,5 +1,5 @@
 -- Words and keywords.
-use Rattle.std.proofs.Common.{ℕ, ◌≡◌, Bool, true, false, ◌&&◌, List, [], ◌∷◌, sym, subst, refl}
+use Rattle.std.proofs.Common.{ℕ, ◌≡◌, Bool, true, ◌&&◌, List, [], ◌∷◌, sym, subst, refl}
 use Rattle.std.specs.List.{list_all}
 use Rattle.std.specs.Str.{IsUtf8, chars, bytes_eq, all_scalars}
 use Rattle.std.proofs.lemmas.Bool.{false≢true, and_from, and_parts, or_left}

@@ -6,3 +6,4 @@ pub mod RenameEdits
 pub mod Changes
 pub mod Replacements
 pub mod FileEdits
+pub mod Here

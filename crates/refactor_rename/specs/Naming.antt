@@ -6,7 +6,7 @@ use Rattle.go_scope.specs.Bindings.{IsPackageLevel, IsImport}
 use Rattle.types_declared.specs.Package.{Package}
 use Rattle.refs_binding.specs.declared.declaration.Declaration.{Declaration}
 use Rattle.refs_binding.specs.declared.declaration.Declaration.TheVariants.{Predeclared, Declared, Field, Method}
-use Rattle.refs_binding.specs.DeclaringPlaces.{InPackage, InHomePackage}
+use Rattle.refs_binding.specs.DeclaringPlaces.{InHomePackage}
 use Rattle.refs_binding.specs.DeclaredNames.{HasDeclaredNameIn, HasDeclaredName}
 use Rattle.refactor_rename.specs.NewName.{IsReserved}
 
@@ -54,13 +54,6 @@ RefusesFor fixed reserved called (Err refusal) = ⊥
 -- The first reason against the name `name` for the declaration `d` of the package `p`, or Ok.
 abbrev pub RefusesNameIn : Package → Declaration → List ℕ → Result (Unit {0}) Refusal → Type 0
 RefusesNameIn p d name result = RefusesFor (IsMainIn p d) (IsTopLevelIn p d × IsReserved name) (HasDeclaredNameIn p d name) result
-
--- The first reason against the name `name` for the declaration `d` of the package at this path, or Ok. Ok also where there is no such
--- package.
-abbrev pub RefusesNameOf : (Package → Type 0) → List ℕ → Declaration → List ℕ → Result (Unit {0}) Refusal → Type 0
-RefusesNameOf IsPackage path d name result =
-    RefusesFor (InPackage IsPackage path (λ p. IsMainIn p d)) (InPackage IsPackage path (λ p. IsTopLevelIn p d) × IsReserved name)
-    (InPackage IsPackage path (λ p. HasDeclaredNameIn p d name)) result
 
 -- Ok where `name` is legal for the declaration `d` and not its present name, or the first reason against it: `NotRenamable`, `BadName` or
 -- `Same`.

@@ -1,9 +1,6 @@
 //! The edits of a rename in one file.
-ghost use Rattle.std.specs.Prelude.{◌≡◌, ◌<◌, ◌≤◌, ◌↔◌, ◌++◌, ◌∷◌, [], Contains, IsTrue, IfOk, OnOk, Some, slice_get, length};
-ghost use Rattle.std.specs.declared.cmp.Ordering.TheVariants.{Less, Greater};
-ghost use Rattle.std.specs.Ordering.{is_lt, is_gt};
-ghost use Rattle.std.specs.List.{AllWithin};
-ghost use Rattle.std.specs.List.Sorted.{IsStrictlySortedBy, IsPartitionPoint};
+ghost use Rattle.std.specs.Prelude.{ℕ, ◌≡◌, ◌≤◌, ◌↔◌, ◌++◌, ◌∷◌, [], Contains, IsTrue, IfOk, OnOk, Some, slice_get};
+ghost use Rattle.std.specs.List.Sorted.{IsStrictlySortedBy};
 ghost use Rattle.go_scanner.specs.CutText.{tokens_in};
 ghost use Rattle.go_ast.specs.SourceFile.{source_of};
 ghost use Rattle.refs_binding.specs.Bindings.{AddsAll};
@@ -11,7 +8,9 @@ ghost use Rattle.refs_binding.specs.Places.{place_cmp};
 ghost use Rattle.refactor_rename.specs.Replacements.{EndsImport, FollowsImportWord, IsNameBefore};
 ghost use Rattle.refactor_rename.specs.FileEdits.{IsLiteralAt, ReplacesName, InsertsName, IsEditAt, EndBy, AreFileEdits};
 
+use crate::here::places_in;
 use crate::renamed::{Literal, Renamed};
+use crate::replacing::replacements;
 use base_edits::Edit;
 use base_files::{FileText, Path, Place, Span};
 use go_ast::FileTree;
@@ -26,92 +25,15 @@ fn compare_place(place: &Place, path: &Path, offset: usize) -> Ordering
     place.path.cmp(path).then(place.offset.cmp(&offset))
 }
 
-/// Whether a place is that with this path and offset.
-fn is_place(place: &Place, path: &Path, offset: usize) -> bool
-    ensures { IsTrue result ↔ (place.now ≡ record { path = path.now; offset = offset }) }
-{
-    place.offset == offset && place.path == *path
-}
-
-/// Whether a place is before a path and an offset.
-fn is_before(place: &Place, path: &Path, offset: usize) -> bool
-    ensures { result ≡ is_lt (place_cmp place.now (record { path = path.now; offset = offset })) }
-{
-    compare_place(place, path, offset).is_lt()
-}
-
-/// Whether a place is behind a path and an offset.
-fn is_behind(place: &Place, path: &Path, offset: usize) -> bool
-    ensures { result ≡ is_gt (place_cmp place.now (record { path = path.now; offset = offset })) }
-{
-    compare_place(place, path, offset).is_gt()
-}
-
-/// Whether the place at an index is that with this path and offset.
-fn is_there(places: &[Place], number: usize, path: &Path, offset: usize) -> bool
-    ensures { IsTrue result → Contains places.now (record { path = path.now; offset = offset }) }
-{
-    number < places.len() && is_place(&places[number], path, offset)
-}
-
-/// Whether all places below an index are before a path and an offset.
-fn are_before(places: &[Place], number: usize, path: &Path, offset: usize) -> bool
-    requires sorted { IsStrictlySortedBy place_cmp places.now }
-    requires within { number ≤ length places.now }
-    ensures { IsTrue result → AllWithin (λ p. place_cmp p (record { path = path.now; offset = offset }) ≡ Less) places.now 0 number }
-{
-    number == 0 || is_before(&places[number - 1], path, offset)
-}
-
-/// Whether all places from an index on are behind a path and an offset.
-fn are_behind(places: &[Place], number: usize, path: &Path, offset: usize) -> bool
-    requires { IsStrictlySortedBy place_cmp places.now }
-    ensures { IsTrue result → AllWithin (λ p. place_cmp p (record { path = path.now; offset = offset }) ≡ Greater) places.now number (length places.now) }
-{
-    number >= places.len() || is_behind(&places[number], path, offset)
-}
-
-/// Whether an index parts the places that are before a path and an offset from those behind them.
-fn is_between(places: &[Place], number: usize, path: &Path, offset: usize) -> bool
-    requires { IsStrictlySortedBy place_cmp places.now }
-    ensures { IsTrue result → IsPartitionPoint (λ p. place_cmp p (record { path = path.now; offset = offset }) ≡ Less) (λ p. place_cmp p (record { path = path.now; offset = offset }) ≡ Greater) places.now number }
-{
-    number <= places.len()
-        && are_before(places, number, path, offset)
-        && are_behind(places, number, path, offset)
-}
-
-/// Whether one of the sorted places has this path and offset, by a binary search. Sets `near` to the index behind its answer.
-fn search(places: &[Place], near: &mut usize, path: &Path, offset: usize) -> bool
+/// Whether one of the sorted places has this path and offset.
+fn is_among(places: &[Place], path: &Path, offset: usize) -> bool
     requires { IsStrictlySortedBy place_cmp places.now }
     ensures { IsTrue result ↔ Contains places.now (record { path = path.now; offset = offset }) }
 {
     match places.binary_search_by(|place| compare_place(place, path, offset)) {
-        Ok(number) => {
-            *near = number.saturating_add(1);
-            true
-        }
-        Err(number) => {
-            *near = number;
-            false
-        }
+        Ok(_) => true,
+        Err(_) => false,
     }
-}
-
-/// Whether one of the sorted places has this path and offset. The index `near`, where the last answer ended, is tried first, so queries in
-/// the order of places take no search.
-fn is_among(places: &[Place], near: &mut usize, path: &Path, offset: usize) -> bool
-    requires { IsStrictlySortedBy place_cmp places.now }
-    ensures { IsTrue result ↔ Contains places.now (record { path = path.now; offset = offset }) }
-{
-    if is_there(places, *near, path, offset) {
-        *near = near.saturating_add(1);
-        return true;
-    }
-    if is_between(places, *near, path, offset) {
-        return false;
-    }
-    search(places, near, path, offset)
 }
 
 /// Whether the literal is the token with this number of the file at this path.
@@ -195,7 +117,6 @@ fn add_insertion(
 /// Appends the replacement of a token by the name, if the token is one of the identifiers.
 fn add_replacement(
     edits: &mut Vec<Edit>,
-    near: &mut usize,
     file: &FileTree,
     number: usize,
     token: Piece,
@@ -209,7 +130,7 @@ fn add_replacement(
     ensures adds { OnOk result (AddsAll edits.old.items edits.new.items (ReplacesName (source_of file.now) renamed.now number)) }
 {
     let places = renamed.places.as_slice();
-    if token.class == Class::Name && is_among(places, near, file.path(), token.span.start) {
+    if token.class == Class::Name && is_among(places, file.path(), token.span.start) {
         let text = renamed.name.clone()?;
         edits.push(Edit {
             span: token.span,
@@ -223,7 +144,6 @@ fn add_replacement(
 fn add_edits(
     alloc: Global,
     edits: &mut Vec<Edit>,
-    near: &mut usize,
     file: &FileTree,
     number: usize,
     token: Piece,
@@ -237,27 +157,47 @@ fn add_edits(
     ensures adds { OnOk result (AddsAll edits.old.items edits.new.items (IsEditAt (source_of file.now) renamed.now number)) }
 {
     add_insertion(alloc, edits, file, number, token, renamed)?;
-    add_replacement(edits, near, file, number, token, renamed)
+    add_replacement(edits, file, number, token, renamed)
 }
 
-/// The edits of a rename in a file, in the order of its tokens.
+/// The edits of a rename in a file, token by token.
 pub fn edits_of(alloc: Global, file: &FileTree, renamed: &Renamed) -> Result<Vec<Edit>, AllocError>
     requires { IsStrictlySortedBy place_cmp renamed.now.places }
     ensures { IfOk result (λ edits. AreFileEdits (source_of file.now) renamed.now edits.items) }
 {
     let tokens = file.pieces().tokens();
     let mut edits = Vec::new(alloc);
-    let mut near = 0;
     for number in 0..tokens.len() {
-        add_edits(
-            alloc,
-            &mut edits,
-            &mut near,
-            file,
-            number,
-            tokens[number],
-            renamed,
-        )?;
+        add_edits(alloc, &mut edits, file, number, tokens[number], renamed)?;
     }
     Ok(edits)
+}
+
+/// Whether the literal is a token of the file at this path.
+fn has_literal(literal: &Option<Literal>, path: &Path) -> bool
+    ensures { (number : ℕ) → IsLiteralAt literal.now path.now number → IsTrue result }
+{
+    match literal {
+        None => false,
+        Some(literal) => literal.path == *path,
+    }
+}
+
+/// The edits of a rename in a file, place by place, unless the literal is in the file. The search for the places starts at the index `near`,
+/// where the last answer ended.
+pub(crate) fn edits_near(
+    alloc: Global,
+    file: &FileTree,
+    renamed: &Renamed,
+    near: &mut usize,
+) -> Result<Vec<Edit>, AllocError>
+    requires { IsStrictlySortedBy place_cmp renamed.now.places }
+    ensures { IfOk result (λ edits. AreFileEdits (source_of file.now) renamed.now edits.items) }
+{
+    let path = file.path();
+    if has_literal(&renamed.literal, path) {
+        return edits_of(alloc, file, renamed);
+    }
+    let here = places_in(renamed.places.as_slice(), near, path);
+    replacements(alloc, file, here, &renamed.name)
 }

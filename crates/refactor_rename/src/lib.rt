@@ -2,17 +2,19 @@
 //!
 //! Crates above rely on: `is_new_name` is true exactly for the names that a rename can give. `refuse_name` refuses a name for a declaration
 //! exactly where `RefusesName` says so. `rename_edits` returns exactly the edit set of a rename (`AreRenameEdits`), and it fits the
-//! workspace.
+//! workspace. Both are given the package of the declaration, and read none.
 #![tactic(auto)]
 
 mod changes;
 mod file_edits;
+mod here;
 mod literal;
 mod naming;
 mod new_name;
 mod paths;
 mod renamed;
 mod renaming;
+mod replacing;
 
 pub use file_edits::edits_of;
 pub use literal::literal_of;

@@ -1,21 +1,18 @@
 //! The string literal of an import without a name, which stands for its declaration.
-ghost use Rattle.std.specs.Prelude.{◌<◌, ◌↔◌, length, map, slice_get, IsTrue, IfOk};
-ghost use Rattle.base_files.specs.Packages.{package_paths};
+ghost use Rattle.std.specs.Prelude.{◌≡◌, ◌<◌, ◌↔◌, Some, length, map, slice_get, IsTrue, IfOk};
 ghost use Rattle.go_ast.specs.SourceFile.{source_of};
-ghost use Rattle.types_declared.specs.Package.{Package as Checked};
 ghost use Rattle.types_declared.specs.PackageView.{package_of};
-ghost use Rattle.refs_binding.specs.declared.declaration.Declaration.TheVariants.{Declared};
+ghost use Rattle.refs_binding.specs.Indexed.{IsPackageNumbered};
 ghost use Rattle.refs_binding.specs.Uses.{IsPackage};
-ghost use Rattle.refs_binding.specs.Workspaces.{IsPackageAt, known_in};
+ghost use Rattle.refs_binding.specs.Workspaces.{home_path, known_in};
 ghost use Rattle.refactor_rename.specs.Literals.{IsTokenOf, IsUnnamedImport, IsLiteralIn, IsLiteralOf, IsLiteralFound};
 
 use crate::renamed::Literal;
 use go_ast::FileTree;
+use refs_binding::Declaration;
 use refs_binding::indexed::Numbered;
-use refs_binding::{Declaration, FaultlessWorkspace, PackageReader};
-use std::alloc::{AllocError, Global};
+use std::alloc::AllocError;
 use types_declared::{Package, is_import};
-use types_expr::symbol::SharedPath;
 
 /// Whether a declaration is an import without a name.
 fn is_unnamed(unit: Package<'_>, d: usize) -> bool
@@ -50,48 +47,18 @@ fn literal_in(unit: Package<'_>, d: usize) -> Result<Option<Literal>, AllocError
     }
 }
 
-/// The string literal of the declaration `d` of the package of a number, if it is an import without a name.
-fn literal_at(
-    alloc: Global,
-    workspace: &FaultlessWorkspace<'_>,
-    number: usize,
-    d: usize,
-) -> Result<Option<Literal>, AllocError>
-    requires { number < length (package_paths workspace.now.graph) }
-    ensures { (p : Checked) → IsPackageAt workspace.now.graph (known_in workspace.now.findings) number p → IfOk result (IsLiteralFound (IsLiteralIn p d)) }
-{
-    let at = Numbered { workspace, number };
-    let reader = PackageReader::of(alloc, at)?;
-    let table = reader.table(alloc)?;
-    literal_in(reader.unit(&table), d)
-}
-
-/// The string literal of the declaration `d` of the package at a path, if there is one and `d` is an import without a name.
-fn literal_under(
-    alloc: Global,
-    workspace: &FaultlessWorkspace<'_>,
-    path: &SharedPath,
-    d: usize,
-) -> Result<Option<Literal>, AllocError>
-    ensures { IfOk result (IsLiteralFound (IsLiteralOf (IsPackage workspace.now.graph (known_in workspace.now.findings)) (Declared path.now d))) }
-{
-    workspace.has_no_faults();
-    match workspace.number_of(path.path()) {
-        None => Ok(None),
-        Some(number) => literal_at(alloc, workspace, number, d),
-    }
-}
-
-/// The string literal of a declaration, if it is an import without a name.
+/// The string literal of a declaration of the package of a number, if it is an import without a name.
 pub fn literal_of(
-    alloc: Global,
-    workspace: &FaultlessWorkspace<'_>,
+    at: Numbered<'_>,
+    unit: Package<'_>,
     declaration: &Declaration,
 ) -> Result<Option<Literal>, AllocError>
-    ensures { IfOk result (IsLiteralFound (IsLiteralOf (IsPackage workspace.now.graph (known_in workspace.now.findings)) declaration.now)) }
+    requires unit { IsPackageNumbered at (package_of unit) }
+    requires home { home_path declaration.now ≡ Some (package_of unit).path }
+    ensures { IfOk result (IsLiteralFound (IsLiteralOf (IsPackage at.entry.workspace.now.graph (known_in at.entry.workspace.now.findings)) declaration.now)) }
 {
     match declaration {
-        Declaration::Declared(path, d) => literal_under(alloc, workspace, path, *d),
+        Declaration::Declared(_, d) => literal_in(unit, *d),
         Declaration::Predeclared(_) | Declaration::Field(_) | Declaration::Method(_) => Ok(None),
     }
 }

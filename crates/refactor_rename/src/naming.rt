@@ -1,23 +1,23 @@
 //! Whether a name is legal for a declaration.
-ghost use Rattle.std.specs.Prelude.{ℕ, ◌≡◌, ◌<◌, ◌↔◌, ◌⊎◌, List, length, slice_index_or, MatchOption, IsTrue, codes};
-ghost use Rattle.base_files.specs.Packages.{package_paths};
+ghost use Rattle.std.specs.Prelude.{◌≡◌, ◌<◌, ◌↔◌, ◌⊎◌, ℕ, List, Some, length, slice_index_or, MatchOption, IsTrue, codes};
 ghost use Rattle.go_scope.specs.Bindings.{IsPackageLevel, IsImport};
-ghost use Rattle.types_declared.specs.Package.{Package as Checked, spelled};
-ghost use Rattle.types_declared.specs.PackageView.{package_of};
+ghost use Rattle.types_declared.specs.Package.{spelled};
+ghost use Rattle.types_declared.specs.PackageView.{package_of, IsIndexOf};
 ghost use Rattle.refs_binding.specs.declared.declaration.Declaration.TheVariants.{Declared, Field, Method};
+ghost use Rattle.refs_binding.specs.Indexed.{IsPackageNumbered, IsIndexed};
 ghost use Rattle.refs_binding.specs.Uses.{IsPackage};
-ghost use Rattle.refs_binding.specs.Workspaces.{IsPackageAt, known_in};
+ghost use Rattle.refs_binding.specs.Workspaces.{home_path, known_in};
 ghost use Rattle.refactor_rename.specs.NewName.{IsReserved};
-ghost use Rattle.refactor_rename.specs.Naming.{RefusesFor, RefusesNameIn, RefusesNameOf, RefusesName};
+ghost use Rattle.refactor_rename.specs.Naming.{RefusesFor, RefusesNameIn, RefusesName};
 
 use crate::new_name::is_reserved;
 use base_files::Refusal;
 use go_scope::model::{Block, Position};
-use refs_binding::indexed::Numbered;
-use refs_binding::{Declaration, FaultlessWorkspace, PackageReader, field_places, method_places};
+use refs_binding::indexed::{Indexed, Numbered};
+use refs_binding::{Declaration, field_places, method_places};
 use std::alloc::Global;
 use types_declared::{Index, Package, is_import};
-use types_expr::symbol::{SharedPath, Symbol};
+use types_expr::symbol::Symbol;
 
 /// Whether a declaration is in the package block.
 fn is_package_level(unit: Package<'_>, d: usize) -> bool
@@ -104,13 +104,14 @@ fn place_at(places: &[Option<Position>], rank: usize) -> Option<Position>
 fn refuse_field(
     alloc: Global,
     unit: Package<'_>,
+    index: &Index<'_>,
     symbol: &Symbol,
     name: &[u8],
 ) -> Result<(), Refusal>
+    requires { IsIndexOf (package_of unit) index.now }
     ensures { RefusesNameIn (package_of unit.entry) (Field symbol.now) name.now result }
 {
-    let index = Index::of(alloc, unit)?;
-    let places = field_places(alloc, unit, &index)?;
+    let places = field_places(alloc, unit, index)?;
     refuse_at(unit, place_at(&places, symbol.rank), name)
 }
 
@@ -118,13 +119,14 @@ fn refuse_field(
 fn refuse_method(
     alloc: Global,
     unit: Package<'_>,
+    index: &Index<'_>,
     symbol: &Symbol,
     name: &[u8],
 ) -> Result<(), Refusal>
+    requires { IsIndexOf (package_of unit) index.now }
     ensures { RefusesNameIn (package_of unit.entry) (Method symbol.now) name.now result }
 {
-    let index = Index::of(alloc, unit)?;
-    let places = method_places(alloc, unit, &index)?;
+    let places = method_places(alloc, unit, index)?;
     refuse_at(unit, place_at(&places, symbol.rank), name)
 }
 
@@ -132,73 +134,34 @@ fn refuse_method(
 fn refuse_in_unit(
     alloc: Global,
     unit: Package<'_>,
+    index: &Index<'_>,
     declaration: &Declaration,
     name: &[u8],
 ) -> Result<(), Refusal>
+    requires { IsIndexOf (package_of unit) index.now }
     ensures { RefusesNameIn (package_of unit.entry) declaration.now name.now result }
 {
     match declaration {
         Declaration::Predeclared(_) => Ok(()),
         Declaration::Declared(_, d) => refuse_number(unit, *d, name),
-        Declaration::Field(symbol) => refuse_field(alloc, unit, symbol, name),
-        Declaration::Method(symbol) => refuse_method(alloc, unit, symbol, name),
+        Declaration::Field(symbol) => refuse_field(alloc, unit, index, symbol, name),
+        Declaration::Method(symbol) => refuse_method(alloc, unit, index, symbol, name),
     }
 }
 
-/// Refuses a name for a declaration of the package of a number.
-fn refuse_in_package(
-    alloc: Global,
-    workspace: &FaultlessWorkspace<'_>,
-    number: usize,
-    declaration: &Declaration,
-    name: &[u8],
-) -> Result<(), Refusal>
-    requires { number < length (package_paths workspace.now.graph) }
-    ensures { (p : Checked) → IsPackageAt workspace.now.graph (known_in workspace.now.findings) number p → RefusesNameIn p declaration.now name.now result }
-{
-    let at = Numbered { workspace, number };
-    let reader = PackageReader::of(alloc, at)?;
-    let table = reader.table(alloc)?;
-    refuse_in_unit(alloc, reader.unit(&table), declaration, name)
-}
-
-/// Refuses a name for a declaration of the package at a path, if there is one.
-fn refuse_in_path(
-    alloc: Global,
-    workspace: &FaultlessWorkspace<'_>,
-    path: &SharedPath,
-    declaration: &Declaration,
-    name: &[u8],
-) -> Result<(), Refusal>
-    ensures { RefusesNameOf (IsPackage workspace.now.graph (known_in workspace.now.findings)) path.now declaration.now name.now result }
-{
-    workspace.has_no_faults();
-    match workspace.number_of(path.path()) {
-        None => Ok(()),
-        Some(number) => refuse_in_package(alloc, workspace, number, declaration, name),
-    }
-}
-
-/// Refuses a name that is not legal for a declaration, or that the declaration already has. The reasons, in order: `NotRenamable`,
-/// `BadName`, `Same`.
+/// Refuses a name that is not legal for a declaration of a package, or that the declaration already has. The reasons, in order:
+/// `NotRenamable`, `BadName`, `Same`. The package is given, and not read again.
 pub fn refuse_name(
     alloc: Global,
-    workspace: &FaultlessWorkspace<'_>,
+    at: Numbered<'_>,
+    of: &Indexed<'_>,
     declaration: &Declaration,
     name: &[u8],
 ) -> Result<(), Refusal>
-    ensures { RefusesName (IsPackage workspace.now.graph (known_in workspace.now.findings)) declaration.now name.now result }
+    requires unit { IsPackageNumbered at (package_of of.now.unit) }
+    requires indexed { IsIndexed of.now }
+    requires home { home_path declaration.now ≡ Some (package_of of.now.unit).path }
+    ensures { RefusesName (IsPackage at.entry.workspace.now.graph (known_in at.entry.workspace.now.findings)) declaration.now name.now result }
 {
-    match declaration {
-        Declaration::Predeclared(_) => Err(Refusal::NotRenamable),
-        Declaration::Declared(path, _) => {
-            refuse_in_path(alloc, workspace, path, declaration, name)
-        }
-        Declaration::Field(symbol) => {
-            refuse_in_path(alloc, workspace, &symbol.package, declaration, name)
-        }
-        Declaration::Method(symbol) => {
-            refuse_in_path(alloc, workspace, &symbol.package, declaration, name)
-        }
-    }
+    refuse_in_unit(alloc, of.unit, of.index, declaration, name)
 }

@@ -1,9 +1,11 @@
 //! The edit set that gives a declaration another name.
-ghost use Rattle.std.specs.Prelude.{◌≡◌, IfOk};
+ghost use Rattle.std.specs.Prelude.{◌≡◌, Some, IfOk};
 ghost use Rattle.std.specs.List.Sorted.{IsStrictlySortedBy};
 ghost use Rattle.base_edits.specs.Fits.{Fits};
+ghost use Rattle.types_declared.specs.PackageView.{package_of};
+ghost use Rattle.refs_binding.specs.Indexed.{IsNumbered, IsPackageNumbered, IsIndexed};
 ghost use Rattle.refs_binding.specs.Places.{place_cmp};
-ghost use Rattle.refs_binding.specs.Workspaces.{known_in};
+ghost use Rattle.refs_binding.specs.Workspaces.{home_path, known_in};
 ghost use Rattle.refactor_rename.specs.RenameEdits.{IsRenamedBy, AreEditsOf, AreRenameEdits};
 
 use crate::changes::changes_of;
@@ -11,8 +13,9 @@ use crate::literal::literal_of;
 use crate::renamed::Renamed;
 use base_edits::EditSet;
 use base_files::FileText;
+use refs_binding::indexed::{Indexed, Numbered};
 use refs_binding::{Declaration, FaultlessWorkspace};
-use refs_uses::list_uses;
+use refs_uses::list_uses_from;
 use std::alloc::{AllocError, Global};
 
 /// A file text of these bytes.
@@ -22,18 +25,23 @@ fn text_of(alloc: Global, bytes: &[u8]) -> Result<FileText, AllocError>
     FileText::new(alloc, Vec::from_slice(alloc, bytes)?)
 }
 
-/// The identifiers that are bound to a declaration, its literal where it is an import without a name, and the new name.
+/// The identifiers that are bound to a declaration of a package, its literal where it is an import without a name, and the new name.
 fn renamed_by(
     alloc: Global,
-    workspace: &FaultlessWorkspace<'_>,
+    at: Numbered<'_>,
+    of: &Indexed<'_>,
     declaration: &Declaration,
     name: &[u8],
 ) -> Result<Renamed, AllocError>
-    ensures { IfOk result (IsRenamedBy workspace.now.graph (known_in workspace.now.findings) declaration.now name.now) }
+    requires numbered { IsNumbered at }
+    requires unit { IsPackageNumbered at (package_of of.now.unit) }
+    requires indexed { IsIndexed of.now }
+    requires home { home_path declaration.now ≡ Some (package_of of.now.unit).path }
+    ensures { IfOk result (IsRenamedBy at.entry.workspace.now.graph (known_in at.entry.workspace.now.findings) declaration.now name.now) }
 {
     Ok(Renamed {
-        places: list_uses(alloc, workspace, declaration)?,
-        literal: literal_of(alloc, workspace, declaration)?,
+        places: list_uses_from(alloc, at, of, declaration)?,
+        literal: literal_of(at, of.unit, declaration)?,
         name: text_of(alloc, name)?,
     })
 }
@@ -54,16 +62,22 @@ fn edits_by(
     Ok(edits)
 }
 
-/// The edits that give a declaration another name, at each identifier that is bound to it. The workspace has no fault.
+/// The edits that give a declaration of a package another name, at each identifier that is bound to it. The package is given, and not read
+/// again. The workspace has no fault.
 pub fn rename_edits(
     alloc: Global,
-    workspace: &FaultlessWorkspace<'_>,
+    at: Numbered<'_>,
+    of: &Indexed<'_>,
     declaration: &Declaration,
     name: &[u8],
 ) -> Result<EditSet, AllocError>
-    ensures edits { IfOk result (AreRenameEdits workspace.now.graph (known_in workspace.now.findings) declaration.now name.now) }
-    ensures fits { IfOk result (λ edits. Fits edits workspace.now.graph) }
+    requires numbered { IsNumbered at }
+    requires unit { IsPackageNumbered at (package_of of.now.unit) }
+    requires indexed { IsIndexed of.now }
+    requires home { home_path declaration.now ≡ Some (package_of of.now.unit).path }
+    ensures edits { IfOk result (AreRenameEdits at.entry.workspace.now.graph (known_in at.entry.workspace.now.findings) declaration.now name.now) }
+    ensures fits { IfOk result (λ edits. Fits edits at.entry.workspace.now.graph) }
 {
-    let renamed = renamed_by(alloc, workspace, declaration, name)?;
-    edits_by(alloc, workspace, &renamed)
+    let renamed = renamed_by(alloc, at, of, declaration, name)?;
+    edits_by(alloc, at.workspace, &renamed)
 }

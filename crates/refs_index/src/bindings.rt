@@ -11,7 +11,6 @@ ghost use Rattle.refs_binding.specs.declared.bound_identifier.BoundIdentifier.{B
 ghost use Rattle.refs_binding.specs.declared.declaration.Declaration.{Declaration as Declared};
 ghost use Rattle.refs_binding.specs.Bindings.{AddsAll, IsBoundAt, IsBoundAmong, IsBound, AreBindings, AreBindingsAmong, bound_place};
 ghost use Rattle.refs_index.specs.KnownExports.{KnowsExports};
-ghost use Rattle.refs_binding.specs.Packages.{IsTableAs};
 ghost use Rattle.refs_binding.specs.Places.{place_cmp};
 ghost use Rattle.refs_binding.specs.Uses.{IsUseOf};
 ghost use Rattle.refs_binding.specs.Workspaces.{known_in, IsPackageAt};
@@ -19,13 +18,12 @@ ghost use Rattle.refs_binding.specs.Workspaces.{known_in, IsPackageAt};
 use crate::bound_unit::bind_package;
 use crate::known_exports::KnownExports;
 use base_files::Place;
-use go_scope::table::ScopeTable;
 use refs_binding::bindings::find;
-use refs_binding::indexed::{Numbered, known_of, unit_of};
+use refs_binding::indexed::{Numbered, known_of};
 use refs_binding::{BoundIdentifier, Declaration};
 use std::alloc::{AllocError, Global};
 use std::marker::Model;
-use types_declared::{ExportTable, Index, Package};
+use types_declared::{Index, Package};
 
 /// The bound identifiers of a workspace or of some of its packages, sorted by place, each with its declaration.
 #[derive(Drop)]
@@ -110,25 +108,18 @@ pub fn bind_numbered(
     add_in_order(bound, own)
 }
 
-/// Adds the bound identifiers of the package of a number, by its table and by what it sees of others.
-pub fn bind_laid(
+/// Adds the bound identifiers of the package of a number, sorted by place.
+pub fn bind_read(
     alloc: Global,
     bound: &mut Vec<BoundIdentifier>,
     exports: &KnownExports<'_>,
-    seen: &ExportTable,
-    table: &ScopeTable<'_>,
+    unit: Package<'_>,
     number: usize,
 ) -> Result<(), AllocError>
-    requires in_range { number < length (package_paths exports.now.workspace.now.graph) }
     requires exports { KnowsExports exports.now }
-    requires table { IsTableAs exports.now.workspace.now.graph (known_in exports.now.workspace.now.findings) number table.now seen.now }
+    requires numbered { IsPackageAt exports.now.workspace.now.graph (known_in exports.now.workspace.now.findings) number (package_of unit) }
     ensures { OnOk result (AddsAll bound.old.items bound.new.items (IsBoundAt exports.now.workspace.now.graph (known_in exports.now.workspace.now.findings) number)) }
 {
-    let at = Numbered {
-        workspace: exports.workspace,
-        number,
-    };
-    let unit = unit_of(at, seen, table);
     let index = Index::of(alloc, unit)?;
     bind_numbered(alloc, bound, exports, unit, &index, number)
 }

@@ -6,10 +6,9 @@ ghost use Rattle.refs_binding.specs.Packages.{ArePackages};
 ghost use Rattle.refs_binding.specs.Steps.{IsDeclarationResult};
 ghost use Rattle.refs_binding.specs.Workspaces.{known_in, ExportsAs};
 
-use refs_binding::exports::{numbers, numbers_by};
-use refs_binding::{
-    Declaration, FaultlessWorkspace, Packages, laid_table, path_of, seen_by, trees,
-};
+use refs_binding::exports::numbers;
+use refs_binding::indexed::Numbered;
+use refs_binding::{Declaration, FaultlessWorkspace, PackageReader, Packages, path_of};
 use std::alloc::{AllocError, Global};
 use std::collections::BTreeMap;
 
@@ -36,11 +35,10 @@ pub fn numbers_at(
     requires { number < length (package_paths workspace.now.graph) }
     ensures { IfOk result (AreExportsByNameAt workspace.now.graph (known_in workspace.now.findings) number) }
 {
-    let files = trees(workspace, number);
-    let seen = seen_by(alloc, workspace, number)?;
-    let table = laid_table(alloc, files, &seen)?;
-    let path = path_of(workspace, number);
-    numbers_by(alloc, path, files, &table, &seen)
+    let at = Numbered { workspace, number };
+    let reader = PackageReader::of(alloc, at)?;
+    let table = reader.table(alloc)?;
+    numbers(alloc, reader.unit(&table))
 }
 
 /// Returns for each package, by number, the declarations that it exports, by name.

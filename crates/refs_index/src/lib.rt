@@ -15,7 +15,7 @@ mod known_exports;
 mod workspace_index;
 mod workspace_queries;
 
-pub use bindings::{Bindings, bind_laid, bind_numbered};
+pub use bindings::{Bindings, bind_numbered, bind_read};
 pub use corresponding::{are_predeclared, corresponds, goes_to, is_same};
 pub use known_exports::{KnownExports, all_exports, imported_exports};
 pub use workspace_index::WorkspaceIndex;

@@ -1,4 +1,4 @@
--- The members that a package uses are declared in packages of its closure.
+-- The members that a package uses are declared in packages of its closure, under the names that it writes for them.
 use Rattle.std.proofs.Common.{ℕ, ◌≡◌, ◌==◌, inl, inr, Bool, true, false, List, Option, Some, None, ap, sym, subst, refl, ◌∙◌, if◌then◌else◌}
 use Rattle.std.specs.Prelude.{Contains, slice_get}
 use Rattle.std.specs.Cmp.Lexicographic.{pointwise, bytes_decides}
@@ -12,8 +12,9 @@ use Rattle.types_expr.specs.Types.{PlainType}
 use Rattle.types_expr.specs.World.{Member, AField, Field, Method, Definition, is_seen, seen_field, seen_method, field_of, method_of, a_method, first_member}
 use Rattle.types_expr.specs.World.{field_owner, owner, member_by}
 use Rattle.types_expr.specs.WorldView.{no_definition}
-use Rattle.types_declared.specs.Definitions.{IsDefinition, IsFoundField, IsFoundMethod, AreDefinitions}
-use Rattle.types_declared.specs.Package.{Package, ExportData, PlacedType, package_types, symbol_in}
+use Rattle.types_declared.specs.Definitions.{IsDefinition, PlacedField, IsCountingField, IsCountingMethod, IsFoundField, IsFoundMethod, AreDefinitions}
+use Rattle.types_declared.specs.Laid.{is_exported}
+use Rattle.types_declared.specs.Package.{Package, ExportData, PlacedType, PlacedFunction, package_types, symbol_in}
 use Rattle.types_members.specs.MembersView.{CountsAsField, CountsAsMethod}
 use Rattle.workspace_check.specs.Verdicts.{Verdicts, AreVerdicts, IsSeenAs, seen, unseen, IsPackageIn}
 use Rattle.workspace_check.proofs.Closed.{to_package}
@@ -35,20 +36,34 @@ record IsOwn (Counts : Package → ℕ → Type 0) (c : Package) (s : Symbol) : 
   counts : Counts c s.rank
   is_own : s ≡ symbol_in c s.rank
 
-module _ (c : Package) (definition : ℕ → Definition) (are : AreOwn c definition) (rank : ℕ) (name : List ℕ) where
-  field_by : (f : Field) → IsFoundField c rank name (Some f) → IsOwn CountsAsField c f.symbol
-  field_by f h = record { counts = record { definition = rank; name = name; field = h.0; counting = h.1.0 }; is_own = h.1.2 }
+-- the field of this rank counts and has this name; the mark says whether the name is exported
+pub record IsNamedField (name : List ℕ) (exported : Bool) (c : Package) (rank : ℕ) : Type 0 where
+  pub definition : ℕ
+  pub field : PlacedField
+  pub counting : IsCountingField c definition name rank field
+  pub shown : exported ≡ is_exported name
 
-  signed_method : (m : Method) → IsFoundMethod c rank name (Some m) → IsOwn CountsAsMethod c m.symbol
-  signed_method m h = record { counts = record { definition = rank; name = name; method = h.0; counting = h.1 }; is_own = h.4 }
+-- so has the method
+pub record IsNamedMethod (name : List ℕ) (exported : Bool) (c : Package) (rank : ℕ) : Type 0 where
+  pub definition : ℕ
+  pub method : PlacedFunction
+  pub counting : IsCountingMethod c definition name rank method
+  pub shown : exported ≡ is_exported name
+
+module _ (c : Package) (definition : ℕ → Definition) (are : AreOwn c definition) (rank : ℕ) (name : List ℕ) where
+  field_by : (f : Field) → IsFoundField c rank name (Some f) → IsOwn (IsNamedField name f.exported) c f.symbol
+  field_by f h = record { counts = record { definition = rank; field = h.0; counting = h.1.0; shown = h.1.3 }; is_own = h.1.2 }
+
+  signed_method : (m : Method) → IsFoundMethod c rank name (Some m) → IsOwn (IsNamedMethod name m.exported) c m.symbol
+  signed_method m h = record { counts = record { definition = rank; method = h.0; counting = h.1; shown = h.5 }; is_own = h.4 }
 
   own_field : (o : Option PlacedType) → slice_get (package_types c) rank ≡ o → (f : Field) → (definition rank).field name ≡ Some f →
-      IsOwn CountsAsField c f.symbol
+      IsOwn (IsNamedField name f.exported) c f.symbol
   own_field None at f is = absurd (none-some f (sym (ap (λ (d : Definition). d.field name) (are.beyond rank at)) ∙ is))
   own_field (Some d) at f is = field_by f (subst (IsFoundField c rank name) is ((are.own rank d at).fields name))
 
   own_method : (o : Option PlacedType) → slice_get (package_types c) rank ≡ o → (m : Method) → (definition rank).method name ≡ Some m →
-      IsOwn CountsAsMethod c m.symbol
+      IsOwn (IsNamedMethod name m.exported) c m.symbol
   own_method None at m is = absurd (none-some m (sym (ap (λ (d : Definition). d.method name) (are.beyond rank at)) ∙ is))
   own_method (Some d) at m is = signed_method m (subst (IsFoundMethod c rank name) is ((are.own rank d at).methods name))
 
@@ -104,7 +119,7 @@ module _ (w : Workspace) (known : Verdicts) (right : AreVerdicts w known) (p : P
     own_symbol : s.package ≡ p.path → s ≡ symbol_in p s.rank
     own_symbol e = ap (λ q. record { «package» = q; rank = s.rank }) e
 
-    field_there : (f : Field) → (definitions s).field name ≡ Some f → HasOwner w known p.path CountsAsField f.symbol
+    field_there : (f : Field) → (definitions s).field name ≡ Some f → HasOwner w known p.path (IsNamedField name f.exported) f.symbol
     field_there f e = elim (cases_Bool (pointwise ◌==◌ s.package p.path)) [
       | inl same ↦ (
           let at = own_symbol ((bytes_decides s.package p.path).0 same) in
@@ -116,12 +131,12 @@ module _ (w : Workspace) (known : Verdicts) (right : AreVerdicts w known) (p : P
           let i = p.export_data_of s.package in
           let there : (i.definition s.rank).field name ≡ Some f = subst (λ (d : Definition). d.field name ≡ Some f) (are.imported s.package s.rank away) e in
           let v = sees s.package in
-          seen_table s.package v.0 i v.1 s.rank CountsAsField f.symbol
+          seen_table s.package v.0 i v.1 s.rank (IsNamedField name f.exported) f.symbol
           (λ c table. own_field c i.definition table s.rank name (slice_get (package_types c) s.rank) refl f there)
           (λ none. none-some f (sym (ap (λ (d : Definition). d.field name) none) ∙ there)))
     ]
 
-    method_there : (m : Method) → (definitions s).method name ≡ Some m → HasOwner w known p.path CountsAsMethod m.symbol
+    method_there : (m : Method) → (definitions s).method name ≡ Some m → HasOwner w known p.path (IsNamedMethod name m.exported) m.symbol
     method_there m e = elim (cases_Bool (pointwise ◌==◌ s.package p.path)) [
       | inl same ↦ (
           let at = own_symbol ((bytes_decides s.package p.path).0 same) in
@@ -133,7 +148,7 @@ module _ (w : Workspace) (known : Verdicts) (right : AreVerdicts w known) (p : P
           let i = p.export_data_of s.package in
           let there : (i.definition s.rank).method name ≡ Some m = subst (λ (d : Definition). d.method name ≡ Some m) (are.imported s.package s.rank away) e in
           let v = sees s.package in
-          seen_table s.package v.0 i v.1 s.rank CountsAsMethod m.symbol
+          seen_table s.package v.0 i v.1 s.rank (IsNamedMethod name m.exported) m.symbol
           (λ c table. own_method c i.definition table s.rank name (slice_get (package_types c) s.rank) refl m there)
           (λ none. none-some m (sym (ap (λ (d : Definition). d.method name) none) ∙ there)))
     ]
@@ -147,44 +162,92 @@ module _ (w : Workspace) (known : Verdicts) (right : AreVerdicts w known) (p : P
   IsOwned (declares.Field s) = HasOwner w known p.path CountsAsField s
   IsOwned (declares.Method s) = HasOwner w known p.path CountsAsMethod s
 
-  chosen : {X : Type 0} (b : Bool) (g f : X) → (if b then Some g else None) ≡ Some f → g ≡ f
-  chosen true g f e = same_Some g f e
+  -- the member is declared under this name, and the package sees it; the mark says whether the name is exported
+  abbrev pub IsFieldSeen : (name : List ℕ) → (exported : Bool) → Symbol → Type 0
+  IsFieldSeen name exported s = HasOwner w known p.path (IsNamedField name exported) s × (is_seen p.path s exported ≡ true)
+
+  abbrev pub IsMethodSeen : (name : List ℕ) → (exported : Bool) → Symbol → Type 0
+  IsMethodSeen name exported s = HasOwner w known p.path (IsNamedMethod name exported) s × (is_seen p.path s exported ≡ true)
+
+  -- a declaration of a member is one of a package of the closure under this name, which the package sees
+  abbrev pub IsOwnedAs : List ℕ → Declaration → Type 0
+  IsOwnedAs name (declares.Predeclared n) = ⊥
+  IsOwnedAs name (declares.Declared path n) = ⊥
+  IsOwnedAs name (declares.Field s) = IsFieldSeen name (is_exported name) s
+  IsOwnedAs name (declares.Method s) = IsMethodSeen name (is_exported name) s
+
+  chosen : {X : Type 0} (b : Bool) (g f : X) → (if b then Some g else None) ≡ Some f → (b ≡ true) × (g ≡ f)
+  chosen true g f e = (refl, same_Some g f e)
   chosen false g f e = absurd (none-some f e)
 
   seen_field_there : (s : Symbol) (name : List ℕ) (o : Option Field) → (definitions s).field name ≡ o → (f : Field) → seen_field p.path o ≡ Some f →
-      HasOwner w known p.path CountsAsField f.symbol
+      IsFieldSeen name f.exported f.symbol
   seen_field_there s name None at f e = absurd (none-some f e)
   seen_field_there s name (Some g) at f e =
-      field_there s name f (at ∙ ap Some (chosen (is_seen p.path g.symbol g.exported) g f e))
+      let is = chosen (is_seen p.path g.symbol g.exported) g f e in
+      (field_there s name f (at ∙ ap Some is.1), subst (λ (x : Field). is_seen p.path x.symbol x.exported ≡ true) is.1 is.0)
 
   seen_method_there : (s : Symbol) (name : List ℕ) (o : Option Method) → (definitions s).method name ≡ o → (m : Method) → seen_method p.path o ≡ Some m →
-      HasOwner w known p.path CountsAsMethod m.symbol
+      IsMethodSeen name m.exported m.symbol
   seen_method_there s name None at m e = absurd (none-some m e)
   seen_method_there s name (Some g) at m e =
-      method_there s name m (at ∙ ap Some (chosen (is_seen p.path g.symbol g.exported) g m e))
+      let is = chosen (is_seen p.path g.symbol g.exported) g m e in
+      (method_there s name m (at ∙ ap Some is.1), subst (λ (x : Method). is_seen p.path x.symbol x.exported ≡ true) is.1 is.0)
 
-  field_found : (name : List ℕ) (o : Option Symbol) (f : Field) → field_of definitions p.path name o ≡ Some f → HasOwner w known p.path CountsAsField f.symbol
+  field_found : (name : List ℕ) (o : Option Symbol) (f : Field) → field_of definitions p.path name o ≡ Some f → IsFieldSeen name (is_exported name) f.symbol
   field_found name None f e = absurd (none-some f e)
-  field_found name (Some s) f e = seen_field_there s name ((definitions s).field name) refl f e
+  field_found name (Some s) f e =
+      let h = seen_field_there s name ((definitions s).field name) refl f e in
+      subst (λ b. IsFieldSeen name b f.symbol) h.0.counts.shown h
 
   method_found : (name : List ℕ) (o : Option Symbol) (m : Method) → method_of definitions p.path name o ≡ Some m →
-      HasOwner w known p.path CountsAsMethod m.symbol
+      IsMethodSeen name (is_exported name) m.symbol
   method_found name None m e = absurd (none-some m e)
-  method_found name (Some s) m e = seen_method_there s name ((definitions s).method name) refl m e
+  method_found name (Some s) m e =
+      let h = seen_method_there s name ((definitions s).method name) refl m e in
+      subst (λ b. IsMethodSeen name b m.symbol) h.0.counts.shown h
 
-  first_owned : (f : Option Field) (m : Option Method) → ((x : Field) → f ≡ Some x → HasOwner w known p.path CountsAsField x.symbol) →
-      ((x : Method) → m ≡ Some x → HasOwner w known p.path CountsAsMethod x.symbol) → (found : Member) → first_member f m ≡ Some found →
-      IsOwned (declaration_of found)
-  first_owned (Some x) m field method found e =
-      subst (λ (y : Member). IsOwned (declaration_of y)) (same_Some (AField x.symbol x.type_of) found e) (field x refl)
-  first_owned None (Some x) field method found e =
-      subst (λ (y : Member). IsOwned (declaration_of y)) (same_Some (a_method x.symbol x.on_pointer x.signature) found e)
-      (subst IsOwned (sym (method_declared x.symbol x.on_pointer x.signature)) (method x refl))
-  first_owned None None field method found e = absurd (none-some found e)
+  first_owned : (name : List ℕ) (f : Option Field) (m : Option Method) → ((x : Field) → f ≡ Some x → IsFieldSeen name (is_exported name) x.symbol) →
+      ((x : Method) → m ≡ Some x → IsMethodSeen name (is_exported name) x.symbol) → (found : Member) → first_member f m ≡ Some found →
+      IsOwnedAs name (declaration_of found)
+  first_owned name (Some x) m field method found e =
+      subst (λ (y : Member). IsOwnedAs name (declaration_of y)) (same_Some (AField x.symbol x.type_of) found e) (field x refl)
+  first_owned name None (Some x) field method found e =
+      subst (λ (y : Member). IsOwnedAs name (declaration_of y)) (same_Some (a_method x.symbol x.on_pointer x.signature) found e)
+      (subst (IsOwnedAs name) (sym (method_declared x.symbol x.on_pointer x.signature)) (method x refl))
+  first_owned name None None field method found e = absurd (none-some found e)
+
+  pub member_named : (name : List ℕ) (t : PlainType) (found : Member) → member_by definitions p.path name t ≡ Some found →
+      IsOwnedAs name (declaration_of found)
+  unfolding member_by
+  member_named name t found e =
+      let struct = field_owner (λ s. (definitions s).underlying) t in
+      first_owned name (field_of definitions p.path name struct) (method_of definitions p.path name (owner t)) (field_found name struct)
+      (method_found name (owner t)) found e
+
+  owned : (name : List ℕ) (d : Declaration) → IsOwnedAs name d → IsOwned d
+  owned name (declares.Predeclared n) h = h
+  owned name (declares.Declared path n) h = h
+  owned name (declares.Field s) h =
+      let o = h.0 in
+      let c = o.counts in
+      record {
+        inside = o.inside;
+        is_package = o.is_package;
+        in_closure = o.in_closure;
+        of_path = o.of_path;
+        counts = record { definition = c.definition; name = name; field = c.field; counting = c.counting };
+      }
+  owned name (declares.Method s) h =
+      let o = h.0 in
+      let c = o.counts in
+      record {
+        inside = o.inside;
+        is_package = o.is_package;
+        in_closure = o.in_closure;
+        of_path = o.of_path;
+        counts = record { definition = c.definition; name = name; method = c.method; counting = c.counting };
+      }
 
   pub member_owned : (name : List ℕ) (t : PlainType) (found : Member) → member_by definitions p.path name t ≡ Some found → IsOwned (declaration_of found)
-  unfolding member_by
-  member_owned name t found e =
-      let struct = field_owner (λ s. (definitions s).underlying) t in
-      first_owned (field_of definitions p.path name struct) (method_of definitions p.path name (owner t)) (field_found name struct)
-      (method_found name (owner t)) found e
+  member_owned name t found e = owned name (declaration_of found) (member_named name t found e)

@@ -1,5 +1,6 @@
 -- The lemmas of this crate.
 pub mod Spots
+pub mod MemberNames
 pub mod MayUse
 pub mod UsedAbroad
 pub mod NameTokens

@@ -1,5 +1,5 @@
 -- Each identifier token of a package is an identifier of the package.
-use Rattle.std.proofs.Common.{ℕ, zero, suc, ◌≡◌, ◌+◌, ◌<◌, ◌⊎◌, inl, inr, Bool, true, false, cond, List, [], ◌∷◌, map, refl, sym, ap, subst, ◌∙◌, arith}
+use Rattle.std.proofs.Common.{ℕ, zero, suc, ◌≡◌, ◌+◌, ◌⊎◌, inl, inr, Bool, true, false, cond, List, [], ◌∷◌, map, refl, sym, ap, subst, ◌∙◌, arith}
 use Rattle.std.specs.Prelude.{Option, Some, None, Contains, option_map, slice_get}
 use Rattle.std.proofs.lemmas.Bool.{true≢false, false≢true}
 use Rattle.std.proofs.lemmas.List.Elements.{Contains-append_right}
@@ -15,9 +15,8 @@ use Rattle.go_ast.specs.declared.syntax.Kind.{Kind}
 use Rattle.go_ast.specs.declared.syntax.Kind.TheVariants as kind
 use Rattle.go_ast.specs.declared.syntax.Token.{Token}
 use Rattle.go_ast.specs.Kinds.{kind_of, kinds_from, kinds_of}
-use Rattle.go_ast.specs.SourceFile.{SourceFile, FileParts, source_of}
+use Rattle.go_ast.specs.SourceFile.{FileParts, source_of}
 use Rattle.go_scope.specs.declared.model.Position.{Position}
-use Rattle.go_scope.specs.Bindings.{Layout}
 use Rattle.go_scope.specs.Named.{with_names}
 use Rattle.go_scope.specs.Packages.{ScopedPackage, scoped}
 use Rattle.law_tokens.specs.Covered.{IsIdentifierPlace, HasIdentifierAt}

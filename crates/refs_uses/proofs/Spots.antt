@@ -1,5 +1,5 @@
 -- Spots and the places that they stand for.
-use Rattle.std.proofs.Common.{◌≡◌, ◌<◌, ◌&&◌, ℕ, List, [], ◌∷◌, Bool, true, false, length, get_or, map, nat_eq, eqb→eq, T, refl, sym, ap, subst, ◌∙◌}
+use Rattle.std.proofs.Common.{◌≡◌, ◌<◌, ℕ, List, [], ◌∷◌, true, length, get_or, map, nat_eq, eqb→eq, T, sym, ap, subst, ◌∙◌}
 use Rattle.std.specs.Prelude.{Contains, ◌==◌, ◌↔◌}
 use Rattle.std.proofs.Math.ListN.{get_or-map, length-map}
 use Rattle.std.specs.List.{AllByRecursion}

@@ -1,6 +1,6 @@
 -- The uses of another package's declaration are the qualified identifiers with its path and name.
 use Rattle.std.proofs.Common.{ℕ, ◌≡◌, ◌<◌, false, List, length, refl, sym, ap, subst, ◌∙◌}
-use Rattle.std.specs.Prelude.{Some, None, Result, OnOk, slice_get}
+use Rattle.std.specs.Prelude.{Some, None, slice_get}
 use Rattle.std.proofs.lemmas.Option.{same_Some, slice_get_within, slice_get_read, get_or_from_slice_get}
 use Rattle.base_files.specs.Workspace.{Workspace}
 use Rattle.base_files.specs.declared.place.Place.{Place}
@@ -13,7 +13,6 @@ use Rattle.types_info.specs.QualifiedIdentifiers.{IsQualifiedByPath, AreQualifie
 use Rattle.workspace_check.specs.Verdicts.{Verdicts}
 use Rattle.refs_binding.specs.declared.declaration.Declaration.TheVariants.{Declared}
 use Rattle.refs_binding.specs.declared.place_key.PlaceKey.{PlaceKey}
-use Rattle.refs_binding.specs.Identifiers.{NameBegins}
 use Rattle.refs_binding.specs.Steps.{AddsPlaces, UsesIn, BindsIn, by_scope, by_package, by_member, by_name}
 use Rattle.refs_binding.specs.Workspaces.{IsPackageAt, IsUseAt}
 use Rattle.refs_binding.proofs.Adding.{Below, adds_as, adds_none}

@@ -5,16 +5,17 @@ use Rattle.go_ast.specs.SourceFile.{source_of}
 use Rattle.types_declared.specs.Package.{Package}
 use Rattle.types_declared.specs.Definitions.{AreDefinitions}
 use Rattle.types_info.specs.MemberUses.{AreMemberUses, uses_in}
-use Rattle.workspace_check.specs.Verdicts.{Verdicts, IsPackageIn}
+use Rattle.workspace_check.specs.Verdicts.{Verdicts}
 use Rattle.refs_binding.specs.declared.declaration.Declaration.{Declaration}
 use Rattle.refs_binding.specs.declared.declaration.Declaration.TheVariants.{Predeclared, Declared, Field, Method}
 use Rattle.refs_binding.specs.Members.{definitions_known}
+use Rattle.refs_binding.specs.Uses.{IsPackage}
 use Rattle.refs_uses.specs.declared.members_abroad.KnownUses.{KnownUses}
 use Rattle.refs_uses.specs.Abroad.{IsAbroad}
 
 -- `of` has the trees of the package `p`, the type definitions that it knows, and its uses of members.
 pub record IsKnownOf (w : Workspace) (known : Verdicts) (p : Package) (of : KnownUses) : Type 0 where
-  pub is_package : IsPackageIn w known p.path p
+  pub is_package : IsPackage w known p
   pub files : map source_of of.files.now ≡ p.files
   pub path : of.types.path.now ≡ p.path
   pub definitions : AreDefinitions p (definitions_known of.types)

@@ -1,30 +1,39 @@
-//! Decides which packages may use a declaration, by their imports and by whether they use members.
-ghost use Rattle.std.specs.Prelude.{ℕ, ◌≡◌, ◌≢◌, ◌<◌, ◌↔◌, [], false, length, slice_get, IfOk, IsTrue};
+//! Decides which packages may use a declaration, by their imports and by the names of the members that they use.
+ghost use Rattle.std.specs.Prelude.{ℕ, ◌≡◌, ◌≢◌, ◌<◌, ◌↔◌, Some, [], true, false, List, Contains, length, map, slice_get, IfOk, IsTrue};
 ghost use Rattle.base_files.specs.declared.place.Place.{Place};
 ghost use Rattle.base_files.specs.Packages.{package_paths};
+ghost use Rattle.go_ast.specs.SourceFile.{source_of};
 ghost use Rattle.go_scope.specs.Named.{name_value};
 ghost use Rattle.workspace_graph.specs.Graphs.{OfPackage};
 ghost use Rattle.workspace_graph.specs.Packages.{PackageImports};
 ghost use Rattle.workspace_graph.specs.Reaching.{MarksClosuresWith};
-ghost use Rattle.types_declared.specs.Package.{Package as Checked};
+ghost use Rattle.types_expr.specs.declared.found.MemberUse.{MemberUse as FoundUse};
+ghost use Rattle.types_declared.specs.Laid.{is_exported};
+ghost use Rattle.types_declared.specs.Package.{Package as Checked, spelled, spelled_at};
 ghost use Rattle.refs_binding.specs.declared.declaration.Declaration.{Declaration as Bound};
 ghost use Rattle.refs_binding.specs.Binding.{UsesMemberAt};
 ghost use Rattle.refs_binding.specs.Members.{uses_or_none};
 ghost use Rattle.refs_uses.specs.Importing.{AreImporting};
+ghost use Rattle.refs_uses.specs.MemberNames.{IsNameFound};
 ghost use Rattle.refs_binding.specs.Workspaces.{IsPackageAt, known_in, home_path, IsHome, IsUseAt};
 
-use refs_binding::{Declaration, FaultlessWorkspace, members_of};
+use crate::qualified_abroad::is_spelled;
+use go_ast::FileTree;
+use go_scope::model::Position;
+use refs_binding::{Declaration, FaultlessWorkspace, members_of, trees};
 use std::alloc::{AllocError, Global};
+use types_declared::is_exported;
 use types_expr::found::MemberUse;
 use workspace_check::is_marked;
 use workspace_graph::is_among;
 
 /// A declaration whose uses are listed. `name` is the name under which it is exported, and `home` is the number of its package, if it has
-/// them. `importing` marks that package and those that import it, directly or indirectly.
+/// them. `member` is its name if it is a field or method. `importing` marks its package and those that import it, directly or indirectly.
 #[derive(Clone, Copy)]
 pub struct Sought<'a> {
     pub declaration: &'a Declaration,
     pub name: Option<&'a [u8]>,
+    pub member: Option<&'a [u8]>,
     pub home: Option<usize>,
     pub importing: &'a [bool],
 }
@@ -78,19 +87,66 @@ fn uses_members(members: &[Vec<MemberUse>]) -> bool
     false
 }
 
-/// Whether the package `number` may use a member of the package `home`: it must import `home`, directly or indirectly, and use members.
+/// Whether one of the uses of members in a file is spelled so.
+fn is_one_spelled(files: &[FileTree], file: usize, uses: &[MemberUse], name: &[u8]) -> bool
+    ensures { result ≡ false → (u : FoundUse) → Contains uses.now u → spelled_at (slice_get (map source_of files.now) file) u.place ≡ name.now → ⊥ }
+{
+    for member in uses {
+        let at = Position {
+            file,
+            index: member.place,
+        };
+        if is_spelled(files, at, name) {
+            return true;
+        }
+    }
+    false
+}
+
+/// Whether one of the uses of members in all files is spelled so.
+fn is_any_spelled(files: &[FileTree], members: &[Vec<MemberUse>], name: &[u8]) -> bool
+    ensures { result ≡ false → (file : ℕ) (u : FoundUse) → Contains (uses_or_none (slice_get members.now file)) u →
+        spelled_at (slice_get (map source_of files.now) file) u.place ≡ name.now → ⊥ }
+{
+    for file in 0..members.len() {
+        if is_one_spelled(files, file, &members[file], name) {
+            return true;
+        }
+    }
+    false
+}
+
+/// Whether the package `number` has a use of a member that may have this exported name. With no name, each use of a member may.
+fn may_name(workspace: &FaultlessWorkspace<'_>, number: usize, member: Option<&[u8]>) -> bool
+    requires in_range { number < length (package_paths workspace.now.graph) }
+    ensures { (p : Checked) → IsPackageAt workspace.now.graph (known_in workspace.now.findings) number p → (file token : ℕ) (d : Bound) → UsesMemberAt p file token d →
+        ((name : List ℕ) → name_value member.entry ≡ Some name → (spelled p file token ≡ name) × (is_exported name ≡ true)) → IsTrue result }
+{
+    workspace.has_no_faults();
+    let uses = members_of(workspace, number);
+    match member {
+        None => uses_members(uses),
+        Some(name) => is_exported(name) && is_any_spelled(trees(workspace, number), uses, name),
+    }
+}
+
+/// Whether the package `number` may use a member of another package, `home`: it must import `home`, directly or indirectly, and use a
+/// member of that name, which must be exported.
 fn may_use_member(
     workspace: &FaultlessWorkspace<'_>,
     number: usize,
     home: usize,
-    importing: &[bool],
+    sought: &Sought<'_>,
 ) -> bool
     requires in_range { number < length (package_paths workspace.now.graph) }
-    requires importing { OfPackage workspace.now.graph home (λ q. MarksClosuresWith workspace.now.graph q importing.now) }
-    ensures { (p : Checked) → IsPackageAt workspace.now.graph (known_in workspace.now.findings) number p → (file token : ℕ) (d : Bound) → UsesMemberAt p file token d → slice_get (package_paths workspace.now.graph) home ≡ home_path d → IsTrue result }
+    requires home { slice_get (package_paths workspace.now.graph) home ≡ home_path sought.now.declaration.now }
+    requires other { home ≢ number }
+    requires named { IsNameFound workspace.now.graph (known_in workspace.now.findings) sought.now.declaration.now (name_value sought.now.member) }
+    requires importing { OfPackage workspace.now.graph home (λ q. MarksClosuresWith workspace.now.graph q sought.now.importing.now) }
+    ensures { (p : Checked) → IsPackageAt workspace.now.graph (known_in workspace.now.findings) number p → (file token : ℕ) → UsesMemberAt p file token sought.now.declaration.now → IsTrue result }
 {
     workspace.has_no_faults();
-    is_marked(importing, number) && uses_members(members_of(workspace, number))
+    is_marked(sought.importing, number) && may_name(workspace, number, sought.member)
 }
 
 /// Whether the package `number` may use a declaration of another package, `home`.
@@ -103,14 +159,15 @@ fn may_use_other(
     requires in_range { number < length (package_paths workspace.now.graph) }
     requires home { slice_get (package_paths workspace.now.graph) home ≡ home_path sought.now.declaration.now }
     requires other { home ≢ number }
+    requires named { IsNameFound workspace.now.graph (known_in workspace.now.findings) sought.now.declaration.now (name_value sought.now.member) }
     requires importing { OfPackage workspace.now.graph home (λ q. MarksClosuresWith workspace.now.graph q sought.now.importing.now) }
     ensures { (place : Place) → IsUseAt workspace.now.graph (known_in workspace.now.findings) sought.now.declaration.now (name_value sought.now.name) number place → IsTrue result }
 {
     match sought.declaration {
         Declaration::Predeclared(_) => true,
         Declaration::Declared(_, _) => sought.name.is_some() && imports(workspace, number, home),
-        Declaration::Field(_) => may_use_member(workspace, number, home, sought.importing),
-        Declaration::Method(_) => may_use_member(workspace, number, home, sought.importing),
+        Declaration::Field(_) => may_use_member(workspace, number, home, sought),
+        Declaration::Method(_) => may_use_member(workspace, number, home, sought),
     }
 }
 
@@ -137,6 +194,7 @@ pub(crate) fn may_use(
 ) -> bool
     requires in_range { number < length (package_paths workspace.now.graph) }
     requires home { IsHome workspace.now.graph sought.now.declaration.now sought.now.home }
+    requires named { IsNameFound workspace.now.graph (known_in workspace.now.findings) sought.now.declaration.now (name_value sought.now.member) }
     requires importing { AreImporting workspace.now.graph sought.now.home sought.now.importing.now }
     ensures { (place : Place) → IsUseAt workspace.now.graph (known_in workspace.now.findings) sought.now.declaration.now (name_value sought.now.name) number place → IsTrue result }
 {

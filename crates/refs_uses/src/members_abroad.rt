@@ -1,7 +1,8 @@
 //! Finds the uses of another package's field or method through the uses of members that a package's finding has. So the package is not
 //! read.
-ghost use Rattle.std.specs.Prelude.{ℕ, ◌≡◌, ◌↔◌, Some, Option, List, map, option_map, IsTrue, OnOk};
+ghost use Rattle.std.specs.Prelude.{ℕ, ◌≡◌, ◌↔◌, Some, Option, List, MatchOption, map, option_map, IsTrue, OnOk};
 ghost use Rattle.base_files.specs.Workspace.{Workspace};
+ghost use Rattle.go_scope.specs.Named.{name_value};
 ghost use Rattle.types_expr.specs.Found.{use_of};
 ghost use Rattle.types_expr.specs.View.{type_of};
 ghost use Rattle.types_expr.specs.World.{member_by};
@@ -13,8 +14,10 @@ ghost use Rattle.refs_binding.specs.Members.{definitions_known, member_at, IsMem
 ghost use Rattle.refs_binding.specs.Packages.{IsSeenBy};
 ghost use Rattle.refs_binding.specs.Steps.{AddsPlaces, UsesIn};
 ghost use Rattle.refs_binding.specs.Workspaces.{known_in, IsUseAt};
+ghost use Rattle.refs_uses.specs.MemberNames.{IsNameFound};
 ghost use Rattle.refs_uses.specs.MembersAbroad.{IsKnownOf, IsMemberAbroad};
 
+use crate::may_use::Sought;
 use crate::qualified_abroad::{is_home, spelling_at};
 use go_ast::FileTree;
 use go_scope::model::Position;
@@ -56,21 +59,29 @@ fn is_member(
     }
 }
 
-/// Whether a use of a member is bound to this declaration.
-fn is_use(of: &KnownUses<'_>, file: usize, member: &MemberUse, declaration: &Declaration) -> bool
+/// Whether a spelling is this name. With no name, each may be it.
+fn may_be(spelling: &[u8], name: Option<&[u8]>) -> bool
+    ensures { MatchOption (name_value name.entry) (IsTrue result) (λ n. IsTrue result ↔ (spelling.now ≡ n)) }
+{
+    match name {
+        None => true,
+        Some(name) => spelling == name,
+    }
+}
+
+/// Whether a use of a member is bound to the sought declaration. Only a member of its name is looked for.
+fn is_use(of: &KnownUses<'_>, file: usize, member: &MemberUse, sought: &Sought<'_>) -> bool
     ensures { (w : Workspace) → (known : Verdicts) → (p : Checked) → IsKnownOf w known p of.now →
-        IsTrue result ↔ (member_at (definitions_known of.now.types) p file member.now.place (type_of member.now.before) ≡ Some declaration.now) }
+        IsNameFound w known sought.now.declaration.now (name_value sought.now.member) →
+        IsTrue result ↔ (member_at (definitions_known of.now.types) p file member.now.place (type_of member.now.before) ≡ Some sought.now.declaration.now) }
 {
     let at = Position {
         file,
         index: member.place,
     };
-    is_member(
-        of.types,
-        spelling_at(of.files, at),
-        &member.before,
-        declaration,
-    )
+    let spelling = spelling_at(of.files, at);
+    may_be(spelling, sought.member)
+        && is_member(of.types, spelling, &member.before, sought.declaration)
 }
 
 /// Adds the place of a use of a member, if it is bound to this declaration.
@@ -79,12 +90,12 @@ fn add_use(
     of: &KnownUses<'_>,
     file: usize,
     member: &MemberUse,
-    declaration: &Declaration,
+    sought: &Sought<'_>,
 ) -> Result<(), AllocError>
     ensures { OnOk result ((w : Workspace) → (known : Verdicts) → (p : Checked) → IsKnownOf w known p of.now →
-        AddsPlaces spots.old.items spots.new.items (IsMemberUseOf (definitions_known of.now.types) p file declaration.now (use_of member.now))) }
+        IsNameFound w known sought.now.declaration.now (name_value sought.now.member) → AddsPlaces spots.old.items spots.new.items (IsMemberUseOf (definitions_known of.now.types) p file sought.now.declaration.now (use_of member.now))) }
 {
-    if is_use(of, file, member, declaration) {
+    if is_use(of, file, member, sought) {
         let at = Position {
             file,
             index: member.place,
@@ -95,34 +106,34 @@ fn add_use(
     }
 }
 
-/// Adds the places of the uses of members in a file that are bound to this declaration.
+/// Adds the places of the uses of members in a file that are bound to the sought declaration.
 fn add_file_uses(
     spots: &mut Vec<PlaceKey>,
     of: &KnownUses<'_>,
     file: usize,
     uses: &[MemberUse],
-    declaration: &Declaration,
+    sought: &Sought<'_>,
 ) -> Result<(), AllocError>
     ensures { OnOk result ((w : Workspace) → (known : Verdicts) → (p : Checked) → IsKnownOf w known p of.now →
-        AddsPlaces spots.old.items spots.new.items (IsMemberUseAmong (definitions_known of.now.types) p file declaration.now (map use_of uses.now))) }
+        IsNameFound w known sought.now.declaration.now (name_value sought.now.member) → AddsPlaces spots.old.items spots.new.items (IsMemberUseAmong (definitions_known of.now.types) p file sought.now.declaration.now (map use_of uses.now))) }
 {
     for k in 0..uses.len() {
-        add_use(spots, of, file, &uses[k], declaration)?;
+        add_use(spots, of, file, &uses[k], sought)?;
     }
     Ok(())
 }
 
-/// Adds the places of a package's selectors and composite literal keys that are bound to this declaration.
+/// Adds the places of a package's selectors and composite literal keys that are bound to the sought declaration.
 fn add_known_members(
     spots: &mut Vec<PlaceKey>,
     of: &KnownUses<'_>,
-    declaration: &Declaration,
+    sought: &Sought<'_>,
 ) -> Result<(), AllocError>
     ensures { OnOk result ((w : Workspace) → (known : Verdicts) → (p : Checked) → IsKnownOf w known p of.now →
-        AddsPlaces spots.old.items spots.new.items (UsesIn p (λ u. BindsByMember p u declaration.now))) }
+        IsNameFound w known sought.now.declaration.now (name_value sought.now.member) → AddsPlaces spots.old.items spots.new.items (UsesIn p (λ u. BindsByMember p u sought.now.declaration.now))) }
 {
     for file in 0..of.members.len() {
-        add_file_uses(spots, of, file, &of.members[file], declaration)?;
+        add_file_uses(spots, of, file, &of.members[file], sought)?;
     }
     Ok(())
 }
@@ -132,13 +143,14 @@ fn add_members_by(
     spots: &mut Vec<PlaceKey>,
     at: Numbered<'_>,
     seen: &ExportTable,
-    declaration: &Declaration,
+    sought: &Sought<'_>,
 ) -> Result<(), AllocError>
     requires numbered { IsNumbered at }
     requires seen { IsSeenBy at.workspace.now.graph (known_in at.workspace.now.findings) at.number seen.now }
-    requires abroad { IsMemberAbroad at.workspace.now.graph (known_in at.workspace.now.findings) at.number declaration.now }
+    requires named { IsNameFound at.workspace.now.graph (known_in at.workspace.now.findings) sought.now.declaration.now (name_value sought.now.member) }
+    requires abroad { IsMemberAbroad at.workspace.now.graph (known_in at.workspace.now.findings) at.number sought.now.declaration.now }
     ensures { OnOk result ((name : Option (List ℕ)) → AddsPlaces spots.old.items spots.new.items
-        (IsUseAt at.entry.workspace.now.graph (known_in at.entry.workspace.now.findings) declaration.now name at.entry.number)) }
+        (IsUseAt at.entry.workspace.now.graph (known_in at.entry.workspace.now.findings) sought.now.declaration.now name at.entry.number)) }
 {
     at.workspace.has_no_faults();
     let types = KnownTypes {
@@ -151,7 +163,7 @@ fn add_members_by(
         types,
         members: members_of(at.workspace, at.number),
     };
-    add_known_members(spots, &of, declaration)
+    add_known_members(spots, &of, sought)
 }
 
 /// Adds the places of a package's identifiers that are bound to a field or method of another package.
@@ -159,15 +171,16 @@ pub(crate) fn add_members_abroad(
     alloc: Global,
     spots: &mut Vec<PlaceKey>,
     at: Numbered<'_>,
-    declaration: &Declaration,
+    sought: &Sought<'_>,
 ) -> Result<(), AllocError>
     requires numbered { IsNumbered at }
-    requires abroad { IsMemberAbroad at.workspace.now.graph (known_in at.workspace.now.findings) at.number declaration.now }
+    requires named { IsNameFound at.workspace.now.graph (known_in at.workspace.now.findings) sought.now.declaration.now (name_value sought.now.member) }
+    requires abroad { IsMemberAbroad at.workspace.now.graph (known_in at.workspace.now.findings) at.number sought.now.declaration.now }
     ensures { OnOk result ((name : Option (List ℕ)) → AddsPlaces spots.old.items spots.new.items
-        (IsUseAt at.entry.workspace.now.graph (known_in at.entry.workspace.now.findings) declaration.now name at.entry.number)) }
+        (IsUseAt at.entry.workspace.now.graph (known_in at.entry.workspace.now.findings) sought.now.declaration.now name at.entry.number)) }
 {
     let seen = seen_by(alloc, at.workspace, at.number)?;
-    add_members_by(spots, at, &seen, declaration)
+    add_members_by(spots, at, &seen, sought)
 }
 
 /// Whether a declaration is a field or method of another package than that of the number.

@@ -31,7 +31,7 @@ pub(crate) fn spelling_at(files: &[FileTree], at: Position) -> &[u8]
 }
 
 /// Whether the token at a position has this spelling.
-fn is_spelled(files: &[FileTree], at: Position, name: &[u8]) -> bool
+pub(crate) fn is_spelled(files: &[FileTree], at: Position, name: &[u8]) -> bool
     ensures { IsTrue result ↔ (spelled_at (slice_get (map source_of files.now) at.file) at.index ≡ name.now) }
 {
     spelling_at(files, at) == name

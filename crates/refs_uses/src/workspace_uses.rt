@@ -7,6 +7,7 @@ ghost use Rattle.types_declared.specs.PackageView.{package_of};
 ghost use Rattle.workspace_check.specs.Found.{AreFindings};
 ghost use Rattle.refs_binding.specs.declared.declaration.Declaration.TheVariants.{Declared};
 ghost use Rattle.refs_binding.specs.Indexed.{IsNumbered, IsPackageNumbered, IsIndexed};
+ghost use Rattle.refs_uses.specs.MemberNames.{IsNameFound};
 ghost use Rattle.refs_uses.specs.Sought.{IsSought};
 ghost use Rattle.refs_binding.specs.Steps.{AddsPlaces};
 ghost use Rattle.refs_binding.specs.Uses.{IsUseOf, AnswersUses, AnswersUsesAt};
@@ -14,6 +15,7 @@ ghost use Rattle.refs_binding.specs.Workspaces.{known_in, name_bytes, IsExported
 
 use crate::exported_name::{declared_name, exported_under, own_name};
 use crate::may_use::{Sought, home_of, importing_home, may_use};
+use crate::member_name::member_name;
 use crate::members_abroad::{add_members_abroad, is_member_abroad};
 use crate::own_names::is_own;
 use crate::places::Places;
@@ -88,12 +90,13 @@ fn add_members_or_read(
     at: Numbered<'_>,
     sought: &Sought<'_>,
 ) -> Result<(), AllocError>
-    requires { IsNumbered at }
+    requires numbered { IsNumbered at }
+    requires named { IsNameFound at.workspace.now.graph (known_in at.workspace.now.findings) sought.now.declaration.now (name_value sought.now.member) }
     ensures { OnOk result (AddsPlaces spots.old.items spots.new.items
         (IsUseAt at.entry.workspace.now.graph (known_in at.entry.workspace.now.findings) sought.now.declaration.now (name_value sought.now.name) at.entry.number)) }
 {
     if is_member_abroad(at, sought.declaration) {
-        add_members_abroad(alloc, spots, at, sought.declaration)
+        add_members_abroad(alloc, spots, at, sought)
     } else {
         add_package_uses(alloc, spots, at, sought)
     }
@@ -107,7 +110,8 @@ fn add_where_used(
     at: Numbered<'_>,
     sought: &Sought<'_>,
 ) -> Result<(), AllocError>
-    requires { IsNumbered at }
+    requires numbered { IsNumbered at }
+    requires named { IsNameFound at.workspace.now.graph (known_in at.workspace.now.findings) sought.now.declaration.now (name_value sought.now.member) }
     ensures { OnOk result (AddsPlaces spots.old.items spots.new.items
         (IsUseAt at.entry.workspace.now.graph (known_in at.entry.workspace.now.findings) sought.now.declaration.now (name_value sought.now.name) at.entry.number)) }
 {
@@ -265,10 +269,12 @@ fn list_named(
     ensures { IfOk result (ListsFound read.entry.workspace.now.graph (known_in read.entry.workspace.now.findings) declaration.now) }
 {
     let home = home_of(read.workspace, declaration);
+    let member = member_name(read.workspace, declaration, home);
     let importing = importing_home(alloc, read.workspace, home)?;
     let sought = Sought {
         declaration,
         name,
+        member,
         home,
         importing: &importing,
     };
@@ -278,7 +284,7 @@ fn list_named(
 }
 
 /// Returns the places of all uses of a declaration, sorted. The package `read` is not read again.
-fn list_from(
+pub fn list_uses_from(
     alloc: Global,
     read: Numbered<'_>,
     of: &Indexed<'_>,
@@ -304,10 +310,12 @@ fn list_everywhere(
     ensures { IfOk result (ListsFound workspace.now.graph (known_in workspace.now.findings) declaration.now) }
 {
     let home = home_of(workspace, declaration);
+    let member = member_name(workspace, declaration, home);
     let importing = importing_home(alloc, workspace, home)?;
     let sought = Sought {
         declaration,
         name,
+        member,
         home,
         importing: &importing,
     };
@@ -345,7 +353,7 @@ fn uses_known(
     at.workspace.has_no_faults();
     match declaration_in_package(alloc, at.workspace, of, path, offset) {
         Err(refusal) => Err(refusal),
-        Ok(declaration) => Ok(list_from(alloc, at, of, &declaration)?),
+        Ok(declaration) => Ok(list_uses_from(alloc, at, of, &declaration)?),
     }
 }
 

@@ -1,19 +1,14 @@
 -- The answers to the goals of `exports::numbers_at`.
 use Rattle.std.proofs.lemmas.Result.{IfOk-weaker}
-use Rattle.std.specs.Prelude.{map}
-use Rattle.go_ast.specs.SourceFile.{source_of}
-use Rattle.types_info.specs.PackageOf.{package_in}
-use Rattle.types_declared.specs.ExportTablesView.{export_data_in}
-use Rattle.refs_binding.specs.Workspaces.{known_in}
-use Rattle.refs_binding.proofs.Units.{unit_at}
+use Rattle.types_declared.specs.PackageView.{package_of}
+use Rattle.refs_binding.proofs.PackageReaders.{package_read}
 use Rattle.refs_index.proofs.exports.numbers_at.Goals as goal
+
+pub of-requires : goal.of-requires
+of-requires c = record { in_range = c.requires }
 
 pub returns : goal.returns
 returns c =
-    let p = package_in c.path_of-path.result.now (map source_of c.trees-files.result.now) c.in_ok-table.table (export_data_in c.in_ok-seen.seen) in
-    let is =
-    unit_at c.args.workspace.now.graph (known_in c.args.workspace.now.findings) c.args.number c.path_of-path.result.now c.trees-files.result.now
-    c.in_ok-seen.seen c.in_ok-table.table
-    c.requires c.path_of-path.ensures c.trees-files.ensures c.in_ok-seen.ensures c.in_ok-table.ensures
-    in
-    IfOk-weaker c.numbers_by.result _ _ (λ numbers h. (p, (is, h))) c.numbers_by.ensures
+    let p = package_of c.unit.result in
+    let is = package_read _ c.in_ok-reader.reader p c.in_ok-reader.ensures.at c.unit.ensures in
+    IfOk-weaker c.numbers.result _ _ (λ numbers h. (p, (is, h))) c.numbers.ensures

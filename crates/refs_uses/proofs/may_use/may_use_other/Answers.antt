@@ -1,9 +1,10 @@
 -- The answers to the goals of `may_use::may_use_other`.
-use Rattle.std.proofs.Common.{◌≡◌, ap, subst, ◌∙◌}
+use Rattle.std.proofs.Common.{◌≡◌, ap, sym, subst, ◌∙◌}
 use Rattle.std.specs.Prelude.{Some, slice_get}
 use Rattle.base_files.specs.Packages.{package_paths}
 use Rattle.go_scope.specs.Named.{name_value}
-use Rattle.refs_binding.specs.declared.declaration.Declaration.TheVariants.{Declared, Field, Method}
+use Rattle.refs_binding.specs.declared.declaration.Declaration.TheVariants.{Declared}
+use Rattle.refs_binding.specs.Binding.{UsesMemberAt}
 use Rattle.refs_binding.specs.Steps.{BindsIn}
 use Rattle.refs_binding.specs.Workspaces.{known_in, home_path}
 use Rattle.refs_uses.proofs.MayUse.{some_named, used_behind, field_used, method_used}
@@ -41,8 +42,9 @@ returns-in-Field c = λ place h.
     let at = c.requires.home ∙ ap home_path c.in-Field.is in
     let used = subst (λ e. BindsIn h.used_in e name h.is_use.0) c.in-Field.is h.is_use.1.1 in
     let place_of = h.used_in.layout.place h.is_use.0 in
-    c.may_use_member.ensures h.used_in h.is_package place_of.file place_of.index (Field s)
-    (field_used w (known_in c.args.workspace.now.findings) c.args.home c.args.number c.requires.other h.used_in h.is_package s name h.is_use.0 at used) at
+    c.may_use_member.ensures h.used_in h.is_package place_of.file place_of.index
+    (subst (λ d. UsesMemberAt h.used_in place_of.file place_of.index d) (sym c.in-Field.is)
+    (field_used w (known_in c.args.workspace.now.findings) c.args.home c.args.number c.requires.other h.used_in h.is_package s name h.is_use.0 at used))
 
 pub returns-in-Method : goal.returns-in-Method
 returns-in-Method c = λ place h.
@@ -52,5 +54,6 @@ returns-in-Method c = λ place h.
     let at = c.requires.home ∙ ap home_path c.in-Method.is in
     let used = subst (λ e. BindsIn h.used_in e name h.is_use.0) c.in-Method.is h.is_use.1.1 in
     let place_of = h.used_in.layout.place h.is_use.0 in
-    c.may_use_member-in-Method.ensures h.used_in h.is_package place_of.file place_of.index (Method s)
-    (method_used w (known_in c.args.workspace.now.findings) c.args.home c.args.number c.requires.other h.used_in h.is_package s name h.is_use.0 at used) at
+    c.may_use_member-in-Method.ensures h.used_in h.is_package place_of.file place_of.index
+    (subst (λ d. UsesMemberAt h.used_in place_of.file place_of.index d) (sym c.in-Method.is)
+    (method_used w (known_in c.args.workspace.now.findings) c.args.home c.args.number c.requires.other h.used_in h.is_package s name h.is_use.0 at used))

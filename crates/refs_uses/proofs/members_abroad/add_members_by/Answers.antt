@@ -1,7 +1,6 @@
 -- The answers to the goals of `members_abroad::add_members_by`.
-use Rattle.std.proofs.Common.{◌≡◌, map, ap, sym, subst, ◌∙◌}
+use Rattle.std.proofs.Common.{◌≡◌, ap, sym, subst, ◌∙◌}
 use Rattle.std.proofs.lemmas.Result.{on_ok_weaker}
-use Rattle.go_ast.specs.SourceFile.{source_of}
 use Rattle.types_declared.specs.Definitions.{AreDefinitions}
 use Rattle.types_declared.specs.ExportTablesView.{name_in, export_data_in}
 use Rattle.types_declared.specs.Package.{Package}
@@ -34,11 +33,11 @@ returns c =
     let definitions : AreDefinitions p (definitions_by c.path_of.result.now own c.definitions.result.now) =
     subst (λ i. AreDefinitions p (definitions_by c.path_of.result.now own i)) (sym c.definitions.ensures)
     (subst (λ q. AreDefinitions p (definitions_by q own seen.definitions)) (sym path) (known_definitions p own seen (c.own_of.ensures p is) sees)) in
-    on_ok_weaker c.add_known_members.result (λ adds name. members_used w known n p is c.args.declaration.now c.requires.abroad name c.args.spots.now.items
+    on_ok_weaker c.add_known_members.result (λ adds name. members_used w known n p is c.args.sought.now.declaration.now c.requires.abroad name c.args.spots.now.items
     c.add_known_members.new.spots.items (adds w known p (record {
-      is_package = checked;
+      is_package = is.is_package;
       files = one_sources (c.trees.ensures p.path is.has_number) checked.parsed ∙ sym (ap (λ (x : Package). x.files) checked.is_package.is_package);
       path = path;
       definitions = definitions;
       members = c.members_of.ensures p is;
-    }))) c.add_known_members.ensures
+    }) c.requires.named)) c.add_known_members.ensures

@@ -1,14 +1,13 @@
 -- The answers to the goals of `members_abroad::add_use`.
-use Rattle.std.proofs.Common.{map, sym, subst, ◌∙◌}
-use Rattle.std.specs.Prelude.{OnOk, slice_get}
+use Rattle.std.proofs.Common.{sym, subst, ◌∙◌}
+use Rattle.std.specs.Prelude.{slice_get}
 use Rattle.std.proofs.lemmas.Bool.{false≢true}
 use Rattle.std.proofs.lemmas.Result.{on_ok_weaker}
-use Rattle.go_ast.specs.SourceFile.{source_of}
 use Rattle.go_scope.specs.declared.model.Position.{Position}
 use Rattle.types_expr.specs.Found.{use_of}
 use Rattle.refs_binding.specs.Identifiers.{NameBegins}
 use Rattle.refs_binding.specs.Members.{definitions_known, IsMemberUseOf}
-use Rattle.refs_binding.specs.Steps.{AddsPlaces, AtToken}
+use Rattle.refs_binding.specs.Steps.{AddsPlaces}
 use Rattle.refs_binding.proofs.Adding.{adds_as}
 use Rattle.refs_binding.proofs.MemberPlaces.{use_skipped}
 use Rattle.refs_binding.proofs.Tokens.{Begins, begins_token}
@@ -21,17 +20,17 @@ returns-then-is_use c =
     let a = c.args.spots.now.items in
     let b = c.add_place.new.found.items in
     let at : Position = record { file = c.args.file; index = m.place } in
-    on_ok_weaker c.add_place.result (λ adds w known p is.
+    on_ok_weaker c.add_place.result (λ adds w known p is named.
     let here : AddsPlaces a b (Begins p at) =
     subst (λ fs. AddsPlaces a b (λ place. NameBegins (slice_get fs at.file) at.index place.path place.offset)) is.files adds in
-    adds_as a b (Begins p at) (IsMemberUseOf (definitions_known c.args.of.now.types) p c.args.file c.args.declaration.now m)
+    adds_as a b (Begins p at) (IsMemberUseOf (definitions_known c.args.of.now.types) p c.args.file c.args.sought.now.declaration.now m)
     (λ place begins. record {
-      at = name_at_token w known p.path p is.is_package at place begins;
-      is_member = (c.is_use.ensures w known p is).0 c.if-is_use.true;
+      at = name_at_token w known p.path p is.is_package.is_checked at place begins;
+      is_member = (c.is_use.ensures w known p is named).0 c.if-is_use.true;
     })
     (λ place u. begins_token p at place u.at) here) c.add_place.ensures
 
 pub returns-else-is_use : goal.returns-else-is_use
-returns-else-is_use c = λ w known p is.
-    use_skipped (definitions_known c.args.of.now.types) p c.args.file c.args.declaration.now (use_of c.args.member.now) c.args.spots.now.items
-    (λ e. false≢true (sym c.if-is_use.false ∙ (c.is_use.ensures w known p is).1 e))
+returns-else-is_use c = λ w known p is named.
+    use_skipped (definitions_known c.args.of.now.types) p c.args.file c.args.sought.now.declaration.now (use_of c.args.member.now) c.args.spots.now.items
+    (λ e. false≢true (sym c.if-is_use.false ∙ (c.is_use.ensures w known p is named).1 e))

@@ -10,6 +10,7 @@ pub may_use-requires : goal.may_use-requires
 may_use-requires c = record {
   in_range = c.requires.numbered.in_range;
   home = c.requires.sought.home;
+  named = c.requires.sought.member;
   importing = c.requires.sought.importing;
 }
 

@@ -8,6 +8,7 @@ use Rattle.refs_uses.proofs.workspace_uses.list_everywhere.Goals as goal
 pub add_all_uses-requires : goal.add_all_uses-requires
 add_all_uses-requires c = record {
   name = c.requires;
+  member = c.member_name-member.ensures;
   home = c.home_of-home.ensures;
   importing = subst (AreImporting c.args.workspace.now.graph c.home_of-home.result) (sym c.deref.ensures.value) c.in_ok-importing.ensures;
 }

@@ -1,0 +1,1 @@
+-- The answers to the goals of `here::end_from`.

@@ -1,0 +1,6 @@
+-- What the loop of `member_name::method_among` keeps.
+use Rattle.refs_uses.proofs.member_name.method_among.Given as goal
+
+-- each name that is found is returned
+abbrev pub invariant-loop-k : goal.invariant-loop-k
+invariant-loop-k l = Unit {0}
