@@ -84,44 +84,44 @@ by_receiver (Some r) old other f = refl
 
 module _ (w : Workspace) (known : Verdicts) (from to : List ℕ) (s : FileChanges) (h : IsMove w known from to s) (p : Package) (is : IsPackage w known p)
     (rank : ℕ) (f : SourceFile) (at : slice_get p.files rank ≡ Some f) (path : List ℕ) where
-  abbrev moved : Moved
+  abbrev pub moved : Moved
   moved = m w known from to s h
 
-  abbrev es : List Edit
+  abbrev pub es : List Edit
   es = edits w known from to s h p is rank f at
 
-  abbrev file : IsSourceFile f
+  abbrev pub file : IsSourceFile f
   file = is_file w known from to s h p is rank f at
 
-  abbrev good : AreReplacements f.cut.pieces es
+  abbrev pub good : AreReplacements f.cut.pieces es
   good = are w known from to s h p is rank f at path
 
-  abbrev rank_there : ℕ
+  abbrev pub rank_there : ℕ
   rank_there = k w known from to s h p is rank f at
 
-  abbrev after : SourceFile
+  abbrev pub after : SourceFile
   after = new w known from to s h p is rank f at path
 
-  abbrev token : ℕ → Option Piece
+  abbrev pub token : ℕ → Option Piece
   token n = slice_get (tokens_in f.cut) n
 
-  abbrev here : ℕ → Position
+  abbrev pub here : ℕ → Position
   here i = record { file = rank; index = i }
 
   -- names
 
-  record IsNameAt (i : ℕ) : Type 0 where
-    piece : Piece
-    held : token i ≡ Some piece
-    is_name : piece.class ≡ Name
+  pub record IsNameAt (i : ℕ) : Type 0 where
+    pub piece : Piece
+    pub held : token i ≡ Some piece
+    pub is_name : piece.class ≡ Name
 
-  name_at : (i : ℕ) → IsOfKind f.cut i kind.Name → IsNameAt i
+  pub name_at : (i : ℕ) → IsOfKind f.cut i kind.Name → IsNameAt i
   name_at i of_kind =
       let x = ident_piece f.cut i (record { kind = kind.Name; of_kind = of_kind; is_ident = refl }) in
       record { piece = x.piece; held = x.at; is_name = x.is_name }
 
   -- the identifier of a use of an import at a name
-  use_here : (i : ℕ) → IsNameAt i → (r : IsImportUse p rank_there moved i) → LiesAt p.layout (here i) r.binds.identifier
+  pub use_here : (i : ℕ) → IsNameAt i → (r : IsImportUse p rank_there moved i) → LiesAt p.layout (here i) r.binds.identifier
   use_here i n r =
       let u = r.binds.identifier in
       let stands : LiesAt p.layout (record { file = rank_there; index = i }) u = r.binds.found.holds in
@@ -140,7 +140,7 @@ module _ (w : Workspace) (known : Verdicts) (from to : List ℕ) (s : FileChange
       subst (LiesAt p.layout (here i)) same a.1.1
 
   -- where another identifier stands there is no such use
-  no_use : (i : ℕ) → IsNameAt i → (u : ℕ) → u < p.size → LiesAt p.layout (here i) u → ((v : ℕ) → IsBoundTo p.layout p.names u v → IsImport p.layout v → ⊥) →
+  pub no_use : (i : ℕ) → IsNameAt i → (u : ℕ) → u < p.size → LiesAt p.layout (here i) u → ((v : ℕ) → IsBoundTo p.layout p.names u v → IsImport p.layout v → ⊥) →
       IsImportUse p rank_there moved i → ⊥
   no_use i n u lt stands none r =
       let same : r.binds.identifier ≡ u = one_stands p.layout p.size (in_order w known p.path p is.is_checked) (here i) r.binds.identifier u
@@ -148,7 +148,7 @@ module _ (w : Workspace) (known : Verdicts) (from to : List ℕ) (s : FileChange
       none r.import (subst (λ v. IsBoundTo p.layout p.names v r.import) same r.binds.bound) r.imports.is_import
 
   -- an edit at a name
-  name_edit : (i : ℕ) → (n : IsNameAt i) → (e : Edit) → found path f es file good i ≡ Some e → ReplacesPackageName p rank_there f moved i e
+  pub name_edit : (i : ℕ) → (n : IsNameAt i) → (e : Edit) → found path f es file good i ≡ Some e → ReplacesPackageName p rank_there f moved i e
   name_edit i n e is_found =
       let piece = is_piece path f es file good i n.piece n.held (inl n.is_name) in
       let d = found_edit path f es file good i n.piece n.held piece e is_found in
@@ -160,7 +160,7 @@ module _ (w : Workspace) (known : Verdicts) (from to : List ℕ) (s : FileChange
         | inr r ↦ r
       ]
 
-  name_kept : (i : ℕ) → (n : IsNameAt i) → ((e : Edit) → ReplacesPackageName p rank_there f moved i e → ⊥) → spelling_of after i ≡ spelling_of f i
+  pub name_kept : (i : ℕ) → (n : IsNameAt i) → ((e : Edit) → ReplacesPackageName p rank_there f moved i e → ⊥) → spelling_of after i ≡ spelling_of f i
   name_kept i n never = by_found (found path f es file good i) refl
     where
       by_found : (o : Option Edit) → found path f es file good i ≡ o → spelling_of after i ≡ spelling_of f i
@@ -171,13 +171,13 @@ module _ (w : Workspace) (known : Verdicts) (from to : List ℕ) (s : FileChange
 
   -- the clause
 
-  clause : IsNameAt f.tree.name
+  pub clause : IsNameAt f.tree.name
   clause = name_at f.tree.name (clause_named f file)
 
   abbrev from_file : Source
   from_file = record { rank = rank; spell = spelling_of f }
 
-  clause_stands : Stands p rank f.tree.name (NotLexical purpose.PackageClause)
+  pub clause_stands : Stands p rank f.tree.name (NotLexical purpose.PackageClause)
   unfolding file_sites
   clause_stands = (all_kept w known p.path p is.is_checked rank f at).0 refl
 

@@ -32,8 +32,8 @@ use Rattle.go_scope.specs.Bindings.{Counts, IsBoundTo, use_bound, own}
 use Rattle.go_scope.specs.Table.{LiesAt}
 use Rattle.law_rename.proofs.Folders.{folder_is_path}
 use Rattle.law_rename.proofs.Quoting.{quoted_literal}
-use Rattle.law_rename.proofs.Spelled.{held_at}
-use Rattle.law_rename.proofs.Trees.{each_token}
+use Rattle.go_respelled.proofs.Spelled.{held_at}
+use Rattle.go_respelled.proofs.Trees.{each_token}
 use Rattle.law_tokens.proofs.OwnPaths.{part_at}
 use Rattle.types_declared.specs.Package.{Package}
 use Rattle.workspace_graph.specs.Packages.{IsParsed, PackageImports}
@@ -125,10 +125,10 @@ module _ (w : Workspace) (known : Verdicts) (from to : List ℕ) (s : FileChange
       ]
 
   -- the new name of the package
-  pub new_name : (name : List ℕ) → moved.name ≡ Some name → Follows (IsPackage w known) from to × (name ≡ last_of to)
+  pub new_name : (name : List ℕ) → moved.name ≡ Some name → Follows (IsPackage w known) from h.called × (name ≡ last_of h.called)
   new_name name is =
-      subst (λ (o : Option (List ℕ)). MatchOption o (Follows (IsPackage w known) from to → ⊥) (λ n. Follows (IsPackage w known) from to × (n ≡ last_of to)))
-      is h.edits.is_move.name
+      subst (λ (o : Option (List ℕ)). MatchOption o (Follows (IsPackage w known) from h.called → ⊥)
+      (λ n. Follows (IsPackage w known) from h.called × (n ≡ last_of h.called))) is h.edits.is_move.name
 
   module _ (p : Package) (is : IsPackage w known p) (rank : ℕ) (f : SourceFile) (at : slice_get p.files rank ≡ Some f) where
     pub is_file : IsSourceFile f

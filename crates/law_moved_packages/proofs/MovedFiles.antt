@@ -31,7 +31,7 @@ use Rattle.refactor_move.specs.declared.moved.Moved.{Moved}
 use Rattle.refactor_move.specs.Paths.{IsUnder, HasMoved, HasMovedFile, HasMovedPackage}
 use Rattle.law_moved_packages.specs.Moves.{IsMove, moved_path, moved_entry, PackagesStayApart, PackagePathsMove, PackageFilesMove}
 use Rattle.law_moved_packages.proofs.MovedPaths.{IsOutside, cases_moving, in_target, moves_to, one_origin, stays_at}
-use Rattle.law_moved_packages.proofs.MovedFolders.{folder_moves, folder_stays, go_moves, order_moves}
+use Rattle.law_moved_packages.proofs.MovedFolders.{file_under, folder_moves, folder_stays, go_moves, order_moves, under_outside}
 
 -- entries whose order stays
 
@@ -176,26 +176,27 @@ module _ (w : Workspace) (known : Verdicts) (from to : List ℕ) (s : FileChange
 
   -- packages
 
-  pub not_in_target : (q : List ℕ) → Contains (package_paths w) q → IsOutside to q
-  not_in_target q has =
+  -- a package that does not move is not where another one goes
+  never_there : (p q new : List ℕ) → Contains (package_paths w) q → HasMovedPackage from to p new → IsOutside from q → new ≡ q → ⊥
+  never_there p q new has moves out same =
       let some = package_file w q has in
-      let own = in_package w q some.0 some.1 in
-      subst (IsOutside to) (in_folder w q some.0 some.1) (folder_stays to some.0.0 h.target (h.free some.0.0 (entry_some some.0 own.0)))
-
-  never_there : (p q new : List ℕ) → Contains (package_paths w) q → HasMovedPackage from to p new → new ≡ q → ⊥
-  never_there p q new has moves same =
-      let out = not_in_target q has in
-      elim (in_target from to p new moves) [ inl e ↦ out.other (sym same ∙ e) | inr u ↦ out.outside (subst (IsUnder to) same u) ]
+      let e = some.0 in
+      let own = in_package w q e some.1 in
+      let at : folder e.0 ≡ q = in_folder w q e some.1 in
+      let there : (folder e.0 ≡ to) ⊎ IsUnder to (folder e.0) =
+      subst (λ x. (x ≡ to) ⊎ IsUnder to x) (same ∙ sym at) (in_target from to p new moves) in
+      let inside = h.only_moved e.0 (entry_some e own.0) (file_under to e.0 h.target there) in
+      under_outside from e.0 inside (subst (IsOutside from) (sym at) out)
 
   pub stay_apart : (p q : List ℕ) → Contains (package_paths w) p → Contains (package_paths w) q → goes p ≡ goes q → p ≡ q
   stay_apart p q one other same = elim (cases_moving from to p) [
     | inl a ↦ elim (cases_moving from to q) [
       | inl b ↦ one_origin from to p q b.0
           (subst (HasMovedPackage from to p) (sym (moves_to from to p a.0 a.1) ∙ same ∙ moves_to from to q b.0 b.1) a.1) b.1
-      | inr b ↦ absurd (never_there p q a.0 other a.1 (sym (moves_to from to p a.0 a.1) ∙ same ∙ stays_at from to q b))
+      | inr b ↦ absurd (never_there p q a.0 other a.1 b (sym (moves_to from to p a.0 a.1) ∙ same ∙ stays_at from to q b))
     ]
     | inr a ↦ elim (cases_moving from to q) [
-      | inl b ↦ absurd (never_there q p b.0 one b.1 (sym (moves_to from to q b.0 b.1) ∙ sym same ∙ stays_at from to p a))
+      | inl b ↦ absurd (never_there q p b.0 one b.1 a (sym (moves_to from to q b.0 b.1) ∙ sym same ∙ stays_at from to p a))
       | inr b ↦ sym (stays_at from to p a) ∙ same ∙ stays_at from to q b
     ]
   ]

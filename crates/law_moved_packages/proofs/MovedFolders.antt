@@ -1,5 +1,5 @@
 -- The folder of a file that moves, and the order of files that move.
-use Rattle.std.proofs.Common.{ℕ, zero, suc, ◌≡◌, ◌+◌, ◌-◌, inl, inr, Bool, true, false, List, [], ◌∷◌, ◌++◌, length, take, drop}
+use Rattle.std.proofs.Common.{ℕ, zero, suc, ◌≡◌, ◌⊎◌, ◌+◌, ◌-◌, inl, inr, Bool, true, false, List, [], ◌∷◌, ◌++◌, length, take, drop}
 use Rattle.std.proofs.Common.{get_or, refl, sym, ap, subst, ◌∙◌, arith, append_assoc, length-append}
 use Rattle.std.specs.Cmp.{nat_cmp_total, tied_itself}
 use Rattle.std.specs.Ordering.{ordering_then}
@@ -12,7 +12,7 @@ use Rattle.base_files.specs.Path.{folder, IsPath}
 use Rattle.base_files.specs.Packages.{is_go}
 use Rattle.base_files.specs.Workspace.{path_cmp}
 use Rattle.refactor_move.specs.Paths.{IsUnder, HasMoved, HasMovedPackage}
-use Rattle.law_moved_packages.proofs.MovedPaths.{IsOutside, cases_joined, folder_joined, folder_alone}
+use Rattle.law_moved_packages.proofs.MovedPaths.{IsOutside, cases_joined, cases_under, folder_joined, folder_alone}
 
 -- a folder in the folder that moves
 
@@ -61,6 +61,23 @@ folder_stays from old is outside = elim (cases_joined old) [
         outside = λ under. joined_longer from under.0 47 (sym same ∙ under.1);
       }
 ]
+
+-- a file lies in a folder if its folder is that one or lies in it
+pub file_under : (to old : List ℕ) → IsPath 1 to → (folder old ≡ to) ⊎ IsUnder to (folder old) → IsUnder to old
+file_under to old is there = elim (cases_under to old) [
+  | inl under ↦ under
+  | inr not ↦
+      let out = folder_stays to old is not in
+      absurd (elim there [ inl e ↦ out.other e | inr u ↦ out.outside u ])
+]
+
+-- the folder of a file in another folder does not lie outside of that one
+pub under_outside : (from old : List ℕ) → IsUnder from old → IsOutside from (folder old) → ⊥
+under_outside from old under out =
+    elim (folder_moves from from old old (record { rest = under.0; was = under.1; is = under.1 })) [
+      | inl e ↦ out.other e.0
+      | inr u ↦ out.outside (u.rest, u.was)
+    ]
 
 -- the names of Go files
 

@@ -26,9 +26,9 @@ use Rattle.go_scanner.specs.TokenValues.{IsStringClass}
 use Rattle.go_scanner.specs.Tokens.{semicolon}
 use Rattle.go_scanner.proofs.SpanLemmas.{cut_covers, tokens_in_order}
 use Rattle.go_ast.specs.SourceFile.{SourceFile, IsSourceFile, offset_at, offset_of, spelling_at, spelling_of}
-use Rattle.law_rename.proofs.Places.{apart, begins_behind}
-use Rattle.law_rename.proofs.Spelled.{held_at}
-use Rattle.law_rename.proofs.Trees.{each_token}
+use Rattle.go_respelled.proofs.Places.{apart, begins_behind}
+use Rattle.go_respelled.proofs.Spelled.{held_at}
+use Rattle.go_respelled.proofs.Trees.{each_token}
 use Rattle.law_moved_packages.specs.Replacements.{AreReplacements, IsReplacement, MayReplace, new_piece, replaced_file}
 use Rattle.law_moved_packages.proofs.NewTokens.{may_put, other_bytes, put_bytes, tokens_moved, within}
 

@@ -26,9 +26,9 @@ use Rattle.base_edits.specs.Moved.{moved_offset}
 use Rattle.base_edits.specs.PassedEdits.{moved_from}
 use Rattle.base_edits.specs.declared.edit.Edit.{Edit}
 use Rattle.base_edits.proofs.MovedPlaces.{keeps_bytes, moves_all, puts_bytes, step_past, stop_before}
-use Rattle.law_rename.proofs.Offsets.{HaveBytes}
-use Rattle.law_rename.proofs.Places.{apart, begins_behind}
-use Rattle.law_rename.proofs.Trees.{each_token}
+use Rattle.go_respelled.proofs.Offsets.{HaveBytes}
+use Rattle.go_respelled.proofs.Places.{apart, begins_behind}
+use Rattle.go_respelled.proofs.Trees.{each_token}
 use Rattle.law_moved_packages.specs.Replacements.{AreReplacements, IsReplacement, KeepNameKinds, MayReplace, class_by, is_replaced, new_piece, replaced}
 use Rattle.law_moved_packages.specs.Replacements.{replaced_file, ReplacedFilesKeepTrees}
 use Rattle.law_moved_packages.proofs.Recut.{have_bytes, recut_cut}

@@ -9,9 +9,9 @@ use Rattle.go_scanner.specs.Cuts.{IsCut, CutsUpTo}
 use Rattle.go_scanner.specs.Pieces.{IsPiece}
 use Rattle.go_scanner.specs.StringValues.{IsStringPiece}
 use Rattle.go_scanner.specs.TokenValues.{IsStringClass}
-use Rattle.law_rename.specs.Literals.{piece_at, literal_at, shifted}
-use Rattle.law_rename.proofs.Leading.{stands_behind}
-use Rattle.law_rename.proofs.Single.{replaced_name}
+use Rattle.go_respelled.specs.Literals.{piece_at, literal_at, shifted}
+use Rattle.go_respelled.proofs.Leading.{stands_behind}
+use Rattle.go_respelled.proofs.Single.{replaced_name}
 use Rattle.law_rename.proofs.WholeCut.{replaced_cut}
 use Rattle.law_moved_packages.specs.Replacements.{MayReplace, class_by}
 

@@ -18,10 +18,10 @@ use Rattle.base_edits.specs.Edits.{AreInOrder, edited_from, edited_text}
 use Rattle.base_edits.specs.Moved.{moved_offset}
 use Rattle.base_edits.specs.declared.edit.Edit.{Edit}
 use Rattle.base_edits.proofs.EditedText.{length_range}
-use Rattle.law_rename.specs.Literals.{piece_at, shifted}
-use Rattle.law_rename.proofs.Many.{edited_split}
-use Rattle.law_rename.proofs.Offsets.{HaveBytes, before_all, before_one, order_from, past_one}
-use Rattle.law_rename.proofs.Places.{begins_behind, covers_parts, map_agree, parts}
+use Rattle.go_respelled.specs.Literals.{piece_at, shifted}
+use Rattle.go_respelled.proofs.Many.{edited_split}
+use Rattle.go_respelled.proofs.Offsets.{HaveBytes, before_all, before_one, order_from, past_one}
+use Rattle.go_respelled.proofs.Places.{begins_behind, covers_parts, map_agree, parts}
 use Rattle.law_moved_packages.specs.Replacements.{AreReplacements, IsReplacement, MayReplace, class_by, is_replaced, new_piece, replaced}
 use Rattle.law_moved_packages.proofs.OneEdit.{may_still, one_replaced}
 

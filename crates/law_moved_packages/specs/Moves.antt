@@ -1,5 +1,5 @@
 -- A move of a package of a workspace without faults, as it is planned, and where the paths of packages go.
-use Rattle.std.specs.Prelude.{ℕ, ◌≡◌, ◌≢◌, ◌↔◌, ◌||◌, Bool, nat_eq, bytes_eq, List, [], ◌∷◌, ◌++◌, drop, length, cond, map, Contains, unwrap_or}
+use Rattle.std.specs.Prelude.{ℕ, ◌≡◌, ◌↔◌, ◌||◌, Bool, nat_eq, bytes_eq, List, [], ◌∷◌, ◌++◌, drop, length, cond, map, Contains, unwrap_or}
 use Rattle.std.specs.List.{starts_with}
 use Rattle.base_files.specs.Path.{IsPath}
 use Rattle.base_files.specs.Packages.{package_files, package_paths}
@@ -10,21 +10,19 @@ use Rattle.base_edits.specs.Edits.{edited_text}
 use Rattle.base_edits.specs.EditSet.{FileChanges, change_of, edited}
 use Rattle.base_edits.specs.Fits.{Fits, path_after}
 use Rattle.base_edits.specs.Moved.{edits_by}
-use Rattle.refactor_move.specs.MoveEdits.{AreMoveEdits, IsFree}
-use Rattle.refactor_move.specs.Paths.{IsUnder}
+use Rattle.refactor_move.specs.MoveEdits.{AreMoveEdits, HasOnlyMoved}
 
--- The workspace has no fault. The paths allow the move of the package `from` to the path `to`: it is another one outside of the folder
--- `from`, and no file lies there. `s` are the edits.
+-- The workspace has no fault. The paths allow the move of the package `from` to the path `to`: whatever lies there moves. So `to` can be
+-- `from`, and the edits change the name of the package alone. `called`: the path whose last element the name follows. `s` are the edits.
 pub record IsMove (w : Workspace) (known : Verdicts) (from to : List ℕ) (s : FileChanges) : Type 0 where
   pub right : AreVerdicts w known
   pub sound : ListsFaults w []
   pub source : IsPath 1 from
   pub target : IsPath 1 to
   pub is_package : Contains (package_paths w) from
-  pub other : to ≢ from
-  pub outside : IsUnder from to → ⊥
-  pub free : IsFree w to
-  pub edits : AreMoveEdits w known from to to s
+  pub only_moved : HasOnlyMoved w from to
+  pub called : List ℕ
+  pub edits : AreMoveEdits w known from to called s
   pub fit : Fits s w
 
 -- Whether the path is that of the folder or lies in it.

@@ -74,12 +74,12 @@ module _ (g : PathMap) (inj : IsInjective g) (p q : Package) (a : IsMovedPackage
     named = a.fields rank f h.has_rank ∙ h.named;
   }
 
-  is_field_back : (definition : ℕ) (name : List ℕ) (rank : ℕ) (f : PlacedField) → IsFieldOf q definition name rank f → IsFieldOf p definition name rank f
+  pub is_field_back : (definition : ℕ) (name : List ℕ) (rank : ℕ) (f : PlacedField) → IsFieldOf q definition name rank f → IsFieldOf p definition name rank f
   is_field_back definition name rank f h =
       let at : slice_get (package_fields p) rank ≡ Some f = got_by (package_fields q) (package_fields p) rank f (sym same_fields) h.has_rank in
       record { has_rank = at; of_struct = h.of_struct; named = sym (a.fields rank f at) ∙ h.named }
 
-  field_counts : (definition : ℕ) (name : List ℕ) (rank : ℕ) (f : PlacedField) → IsCountingField p definition name rank f →
+  pub field_counts : (definition : ℕ) (name : List ℕ) (rank : ℕ) (f : PlacedField) → IsCountingField p definition name rank f →
       IsCountingField q definition name rank f
   field_counts definition name rank f c = record {
     is_field = is_field definition name rank f c.is_field;
@@ -167,7 +167,7 @@ module _ (g : PathMap) (inj : IsInjective g) (p q : Package) (a : IsMovedPackage
     named = a.functions rank f h.has_rank ∙ h.named;
   }
 
-  is_method_back : (definition : ℕ) (name : List ℕ) (rank : ℕ) (f : PlacedFunction) → IsMethodOf q definition name rank f →
+  pub is_method_back : (definition : ℕ) (name : List ℕ) (rank : ℕ) (f : PlacedFunction) → IsMethodOf q definition name rank f →
       IsMethodOf p definition name rank f
   is_method_back definition name rank f h =
       let at : slice_get (package_functions p) rank ≡ Some f =
@@ -182,7 +182,7 @@ module _ (g : PathMap) (inj : IsInjective g) (p q : Package) (a : IsMovedPackage
         named = sym (a.functions rank f at) ∙ h.named;
       }
 
-  method_counts : (definition : ℕ) (name : List ℕ) (rank : ℕ) (f : PlacedFunction) → IsCountingMethod p definition name rank f →
+  pub method_counts : (definition : ℕ) (name : List ℕ) (rank : ℕ) (f : PlacedFunction) → IsCountingMethod p definition name rank f →
       IsCountingMethod q definition name rank f
   method_counts definition name rank f c = record {
     is_method = is_method definition name rank f c.is_method;

@@ -2,7 +2,7 @@
 //! that runs.
 //!
 //! Crates above rely on: the world of a file after the move is the moved world (`worlds_move`), with which `law_moved_symbols` says what
-//! judging finds. No crate does so yet.
+//! judging finds.
 #![tactic(auto)]
 
 pub mod moved_types;

@@ -79,7 +79,7 @@ fn follows(workspace: &FaultlessWorkspace<'_>, from: &Path, to: &Path) -> bool
 }
 
 /// The new name of a package whose path changes, or `None` where it keeps its name.
-pub(crate) fn name_after(
+pub fn name_after(
     alloc: Global,
     workspace: &FaultlessWorkspace<'_>,
     from: &Path,

@@ -1,7 +1,8 @@
 //! The edits that move a package, with all files in its folder, to another folder, and the paths after the move.
 //!
 //! Crates above rely on: `new_path` returns the new path of a file or package. `move_edits` returns exactly the edit set of a move, which
-//! fits the workspace. It refuses with `TooLarge` exactly where a file would get too long a path (`PlansMoveEdits`).
+//! fits the workspace. It refuses with `TooLarge` exactly where a file would get too long a path (`PlansMoveEdits`). `name_after` returns the
+//! new name of a package, if it follows the path.
 #![tactic(auto)]
 
 mod changes;
@@ -16,6 +17,7 @@ mod package_edits;
 mod paths;
 mod quoting;
 
+pub use following::name_after;
 pub use moved::Moved;
 pub use moving::move_edits;
 pub use paths::{is_under, new_path};

@@ -1,0 +1,5 @@
+-- The lemmas of this crate.
+pub mod Paths
+pub mod Joining
+pub mod Steps
+pub mod Whole

@@ -1,0 +1,4 @@
+-- The definitions of this crate.
+pub mod ImportNames
+pub mod FirstConflicts
+pub mod MoveConflicts

@@ -1,0 +1,107 @@
+//! Findings of packages after a move.
+ghost use Rattle.std.specs.Prelude.{◌≡◌, IfOk, IfSome, map, option_map};
+ghost use Rattle.types_expr.specs.Found.{use_of};
+ghost use Rattle.types_info.specs.MemberUses.{uses_in};
+ghost use Rattle.law_moved_symbols.specs.Moved.{moved_symbol, moved_use};
+ghost use Rattle.refactor_known.specs.MovedKnown.{IsMovedFinding, listed, moved_listed};
+ghost use Rattle.refactor_known.specs.Swaps.{map_of};
+
+use crate::swap::Swap;
+use std::alloc::{AllocError, Global};
+use types_expr::found::MemberUse;
+use types_expr::symbol::Symbol;
+use types_info::Qualified;
+use workspace_check::Finding;
+
+impl Swap {
+    /// The symbol after the move, if there is one.
+    fn symbol_if(
+        &self,
+        alloc: Global,
+        symbol: &Option<Symbol>,
+    ) -> Result<Option<Symbol>, AllocError>
+        ensures { IfOk result (λ moved. moved ≡ option_map (moved_symbol (map_of self.now)) symbol.now) }
+    {
+        match symbol {
+            None => Ok(None),
+            Some(symbol) => Ok(Some(self.symbol(alloc, symbol)?)),
+        }
+    }
+
+    /// A use of a member after the move.
+    fn member_use(&self, alloc: Global, one: &MemberUse) -> Result<MemberUse, AllocError>
+        ensures { IfOk result (λ moved. use_of moved ≡ moved_use (map_of self.now) (use_of one.now)) }
+    {
+        let before = self.go_type(alloc, &one.before)?;
+        let member = self.symbol_if(alloc, &one.member)?;
+        Ok(MemberUse {
+            place: one.place,
+            before,
+            member,
+        })
+    }
+
+    /// The uses of members in a file after the move.
+    fn uses(&self, alloc: Global, uses: &[MemberUse]) -> Result<Vec<MemberUse>, AllocError>
+        ensures { IfOk result (λ moved. map use_of moved.items ≡ map (moved_use (map_of self.now)) (map use_of uses.now)) }
+    {
+        let mut moved = Vec::with_capacity(alloc, uses.len())?;
+        for one in uses {
+            moved.push(self.member_use(alloc, one)?)?;
+        }
+        Ok(moved)
+    }
+
+    /// The uses of members in all files of a package after the move.
+    fn members(
+        &self,
+        alloc: Global,
+        members: &[Vec<MemberUse>],
+    ) -> Result<Vec<Vec<MemberUse>>, AllocError>
+        ensures { IfOk result (λ moved. map uses_in moved.items ≡ map (map (moved_use (map_of self.now))) (map uses_in members.now)) }
+    {
+        let mut moved = Vec::with_capacity(alloc, members.len())?;
+        for uses in members {
+            moved.push(self.uses(alloc, uses)?)?;
+        }
+        Ok(moved)
+    }
+
+    /// The qualified identifiers under an import after the move.
+    fn qualified_by(&self, alloc: Global, list: &Qualified) -> Result<Qualified, AllocError>
+        ensures { IfOk result (λ moved. listed moved ≡ moved_listed (map_of self.now) (listed list.now)) }
+    {
+        let path = self.bytes(alloc, &list.path)?;
+        let places = Vec::from_slice(alloc, &list.places)?;
+        Ok(Qualified { path, places })
+    }
+
+    /// The qualified identifiers of a package after the move.
+    fn qualified(&self, alloc: Global, lists: &[Qualified]) -> Result<Vec<Qualified>, AllocError>
+        ensures { IfOk result (λ moved. map listed moved.items ≡ map (moved_listed (map_of self.now)) (map listed lists.now)) }
+    {
+        let mut moved = Vec::with_capacity(alloc, lists.len())?;
+        for list in lists {
+            moved.push(self.qualified_by(alloc, list)?)?;
+        }
+        Ok(moved)
+    }
+
+    /// The finding of a package after the move, or `None` if it has a fault.
+    pub fn finding(&self, alloc: Global, finding: &Finding) -> Result<Option<Finding>, AllocError>
+        ensures { IfOk result (λ found. IfSome found (λ moved. IsMovedFinding (map_of self.now) finding.now moved)) }
+    {
+        if !finding.faults.is_empty() {
+            return Ok(None);
+        }
+        let path = self.path(alloc, &finding.path)?;
+        let members = self.members(alloc, &finding.members)?;
+        let qualified = self.qualified(alloc, &finding.qualified)?;
+        Ok(Some(Finding {
+            path,
+            faults: Vec::new(alloc),
+            members,
+            qualified,
+        }))
+    }
+}
