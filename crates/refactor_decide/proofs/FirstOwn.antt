@@ -28,7 +28,7 @@ use Rattle.law_renamed_scopes.proofs.SameNames.{left_roles}
 use Rattle.law_local_renames.proofs.NumbersInOrder.{numbers_follow}
 use Rattle.law_scope_conflicts.specs.ScopeConflicts.{FirstOwnConflict, IsOwnConflictBy, IsSameCapturer, NamesNumber}
 use Rattle.refactor_decide.specs.Capturers.{NamesEach, NamesInPackage}
-use Rattle.refactor_decide.specs.Own.{CanRename, IsPlacedIfAny, TellsOwn}
+use Rattle.refactor_decide.specs.Own.{IsPlacedIfAny, TellsOwn}
 use Rattle.refactor_decide.proofs.Written.{begins_written, written_begins}
 
 module _ (w : Workspace) (known : Verdicts) (p : Package) (is : IsPackage w known p) where
@@ -111,7 +111,7 @@ module _ (sites : List Site) (d : ℕ) (y : List ℕ) (declares : Declares (site
 -- the first conflict of the scopes
 
 module _ (w : Workspace) (sound : ListsFaults w []) (known : Verdicts) (right : AreVerdicts w known) (p : Package) (is : IsPackage w known p)
-    (n : ℕ) (name : List ℕ) (can : CanRename p n name) where
+    (n : ℕ) (name : List ℕ) (declares : Declares p.layout p.names n) where
   abbrev First : Option Conflict → Type 0
   First c = FirstOwnConflict (IsPackage w known) p n name c
 
@@ -125,7 +125,7 @@ module _ (w : Workspace) (sound : ListsFaults w []) (known : Verdicts) (right : 
   -- a conflict begins at a place
   begins_so : (t : ScopeConflict) → TellsConflict p.layout p.names n name (Some t) → (place : Place) × BeginsAt p place.path place.offset t.identifier
   begins_so t first =
-      let lexical_so = lexical p.layout p.names n name can.declares t.identifier t.by first.1 in
+      let lexical_so = lexical p.layout p.names n name declares t.identifier t.by first.1 in
       written_begins w sound known right p is t.identifier (role_inside w known p.path p is.is_checked t.identifier lexical_so) first.0 lexical_so
 
   by_told : (told : Option ScopeConflict) (c : Option Conflict) → TellsConflict p.layout p.names n name told → IsPlacedIfAny p told c → First c

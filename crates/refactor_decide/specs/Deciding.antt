@@ -4,7 +4,6 @@ use Rattle.base_files.specs.Workspace.{Workspace}
 use Rattle.types_declared.specs.Package.{Package}
 use Rattle.workspace_check.specs.Verdicts.{Verdicts}
 use Rattle.refs_binding.specs.Uses.{IsPackage}
-use Rattle.refs_binding.specs.Workspaces.{IsPackageAt}
 use Rattle.refactor_conflict.specs.declared.conflict.Conflict.{Conflict}
 use Rattle.law_known_verdicts.specs.KnownVerdicts.{IsHiddenIn}
 use Rattle.law_scope_conflicts.specs.ScopeConflicts.{FirstConflictBehind, FirstOwnConflict, earlier_conflict}
@@ -30,14 +29,3 @@ pub record Decides (w : Workspace) (known : Verdicts) (p : Package) (n : ℕ) (n
 abbrev pub DecidesIn : Workspace → Verdicts → Package → (n : ℕ) → (name : List ℕ) → Option ScopeDecision → Type 0
 DecidesIn w known p n name None = CanRename p n name → ⊥
 DecidesIn w known p n name (Some d) = Decides w known p n name d
-
--- The same for the package of a number.
-pub record DecidesAt (w : Workspace) (known : Verdicts) (number n : ℕ) (name : List ℕ) (found : Option ScopeDecision) : Type 0 where
-  pub inside : Package
-  pub is_package : IsPackageAt w known number inside
-  pub decides : DecidesIn w known inside n name found
-
--- The same for the package at a path; none also where there is no such package.
-abbrev pub DecidesRename : Workspace → Verdicts → (path : List ℕ) → (n : ℕ) → (name : List ℕ) → Option ScopeDecision → Type 0
-DecidesRename w known path n name None = (p : Package) → IsPackage w known p → p.path ≡ path → CanRename p n name → ⊥
-DecidesRename w known path n name (Some d) = (p : Package) × (IsPackage w known p × ((p.path ≡ path) × Decides w known p n name d))

@@ -3,7 +3,7 @@ ghost use Rattle.std.specs.Prelude.{◌≡◌, ◌↔◌, IsTrue, IfOk};
 ghost use Rattle.base_files.specs.Path.{folder};
 ghost use Rattle.go_scope.specs.Bindings.{AllCount};
 ghost use Rattle.types_declared.specs.PackageView.{package_of};
-ghost use Rattle.refs_binding.specs.Indexed.{IsNumbered, IsPackageNumbered};
+ghost use Rattle.refs_binding.specs.Indexed.{IsNumbered, IsPackageNumbered, IsIndexed};
 ghost use Rattle.refs_binding.specs.declared.declaration.Declaration.TheVariants.{Declared};
 ghost use Rattle.refs_binding.specs.Uses.{IsPackage};
 ghost use Rattle.refs_binding.specs.Workspaces.{ListsFound, known_in};
@@ -17,8 +17,8 @@ use crate::turned::{TurnedUses, turned};
 use base_files::Place;
 use refactor_conflict::Conflict;
 use refs_binding::Declaration;
-use refs_binding::indexed::Numbered;
-use refs_uses::{Places, list_uses};
+use refs_binding::indexed::{Indexed, Numbered};
+use refs_uses::{Places, list_uses_from};
 use std::alloc::{AllocError, Global};
 use types_declared::Package;
 
@@ -75,48 +75,55 @@ fn first_of(
 fn uses_of(
     alloc: Global,
     at: Numbered<'_>,
-    unit: Package<'_>,
+    of: &Indexed<'_>,
     d: usize,
 ) -> Result<Places, AllocError>
-    ensures { IfOk result (ListsFound at.entry.workspace.now.graph (known_in at.entry.workspace.now.findings) (Declared (package_of unit.entry).path d)) }
+    requires numbered { IsNumbered at }
+    requires unit { IsPackageNumbered at (package_of of.now.unit) }
+    requires indexed { IsIndexed of.now }
+    ensures { IfOk result (ListsFound at.entry.workspace.now.graph (known_in at.entry.workspace.now.findings) (Declared (package_of of.now.unit).path d)) }
 {
-    let path = unit.path.clone()?;
+    let path = of.unit.path.clone()?;
     let declaration = Declaration::Declared(path, d);
-    list_uses(alloc, at.workspace, &declaration)
+    list_uses_from(alloc, at, of, &declaration)
 }
 
 /// The first conflict of the uses of a declaration in other packages, of which all turn.
 fn first_turned(
     alloc: Global,
     at: Numbered<'_>,
-    unit: Package<'_>,
+    of: &Indexed<'_>,
     turned: TurnedUses,
 ) -> Result<Option<Conflict>, AllocError>
-    requires { CountsIfAny (package_of unit) turned.by }
-    ensures { IfOk result (IsFirstUse at.entry.workspace.now.graph (known_in at.entry.workspace.now.findings) (package_of unit.entry) turned) }
+    requires numbered { IsNumbered at }
+    requires unit { IsPackageNumbered at (package_of of.now.unit) }
+    requires indexed { IsIndexed of.now }
+    requires counts { CountsIfAny (package_of of.now.unit) turned.by }
+    ensures { IfOk result (IsFirstUse at.entry.workspace.now.graph (known_in at.entry.workspace.now.findings) (package_of of.now.unit) turned) }
 {
-    let places = uses_of(alloc, at, unit, turned.declaration)?;
-    first_of(unit, places.as_slice(), turned.by)
+    let places = uses_of(alloc, at, of, turned.declaration)?;
+    first_of(of.unit, places.as_slice(), turned.by)
 }
 
 /// The first identifier of another package, behind the name of the declaring one, that the rename of a declaration captures or loses.
 pub(crate) fn conflict_behind(
     alloc: Global,
     at: Numbered<'_>,
-    unit: Package<'_>,
+    of: &Indexed<'_>,
     n: usize,
     name: &[u8],
 ) -> Result<Option<Conflict>, AllocError>
     requires numbered { IsNumbered at }
-    requires unit { IsPackageNumbered at (package_of unit) }
-    requires can { CanRename (package_of unit) n name.now }
-    requires all_count { let p = package_of unit in
+    requires unit { IsPackageNumbered at (package_of of.now.unit) }
+    requires indexed { IsIndexed of.now }
+    requires can { CanRename (package_of of.now.unit) n name.now }
+    requires all_count { let p = package_of of.now.unit in
         AllCount p.layout p.names }
-    ensures { IfOk result (FirstConflictBehind (IsPackage at.entry.workspace.now.graph (known_in at.entry.workspace.now.findings)) (package_of unit.entry) n name.now) }
+    ensures { IfOk result (FirstConflictBehind (IsPackage at.entry.workspace.now.graph (known_in at.entry.workspace.now.findings)) (package_of of.now.unit) n name.now) }
 {
     at.workspace.has_no_faults();
-    match turned(unit, n, name) {
+    match turned(of.unit, n, name) {
         None => Ok(None),
-        Some(turned) => first_turned(alloc, at, unit, turned),
+        Some(turned) => first_turned(alloc, at, of, turned),
     }
 }

@@ -2,7 +2,9 @@
 //! captures or loses, or that there is none. No edited text is read.
 //!
 //! Crates above rely on: `scope_decision` tells the first conflict of each plain rename of the declaration, or that it has none
-//! (`DecidesRename`). It tells too whether other packages see the declaration under either name. `None` is returned for no plain rename.
+//! (`DecidesIn`), of a package that is read once. It tells too whether other packages see the declaration under either name. `None` is
+//! returned for no plain rename.
+//! `first_placed` tells the first conflict in the scopes of a package, by its place, and `earlier` the earlier one of two.
 #![tactic(auto)]
 
 mod behind;
@@ -12,5 +14,6 @@ mod decision;
 mod own;
 mod turned;
 
-pub use deciding::scope_decision;
+pub use deciding::{earlier, scope_decision};
 pub use decision::ScopeDecision;
+pub use own::first_placed;

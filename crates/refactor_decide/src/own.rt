@@ -50,7 +50,10 @@ fn placed(unit: Package<'_>, told: ScopeConflict) -> Result<Option<Conflict>, Al
 }
 
 /// The first conflict that the scopes of a package tell, by its place.
-fn first_placed(unit: Package<'_>, rename: &ScopeRename<'_>) -> Result<Option<Conflict>, AllocError>
+pub fn first_placed(
+    unit: Package<'_>,
+    rename: &ScopeRename<'_>,
+) -> Result<Option<Conflict>, AllocError>
     requires read { IsScopeRename rename.now }
     requires table { rename.now.table.now ≡ unit.table.now }
     ensures { IfOk result (TellsOwn (package_of unit.entry) rename.now.declaration rename.now.name.now) }

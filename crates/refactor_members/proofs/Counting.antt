@@ -18,8 +18,7 @@ use Rattle.refactor_after.specs.NamesAfter.{HasNameAfter, IsFieldAfter, IsMethod
 use Rattle.refactor_after.specs.MembersAfter.{IsFirstField, IsFirstMethod, FieldCounts, MethodCounts, CountsAfter}
 use Rattle.refactor_after.specs.MembersFound.{IsRankFound}
 use Rattle.refactor_after.proofs.FieldsAfter.{one_first, mapped_in, of_one}
-use Rattle.refactor_members.specs.declared.member_rename.MemberRename.{MemberRename}
-use Rattle.refactor_members.specs.Renames.{KnowsRename, IsFieldNamed, IsMethodNamed, packages_before, rename_revision, workspace_before, verdicts_in}
+use Rattle.refactor_members.specs.Renames.{EditedRename, KnowsRename, IsFieldNamed, IsMethodNamed, packages_before, rename_revision, workspace_before, verdicts_in}
 
 -- A token has one name after a change.
 pub one_name_after : (r : Revision) (p : Package) (at : Position) (a b : List ℕ) → HasNameAfter r p at a → HasNameAfter r p at b → a ≡ b
@@ -52,20 +51,20 @@ found_here : (K : ℕ → Type 0) → ((a b : ℕ) → K a → K b → a ≡ b) 
 found_here K one None none rank k = absurd (none rank k)
 found_here K one (Some other) is rank k = ap Some (one other rank is k)
 
-module _ (m : MemberRename) (knows : KnowsRename m) (p : Package) (is : packages_before m p) (path : List ℕ) (of : p.path ≡ path) (definition : ℕ) where
+module _ (m : EditedRename) (knows : KnowsRename m) (p : Package) (is : packages_before m.of p) (path : List ℕ) (of : p.path ≡ path) (definition : ℕ) where
   abbrev Known : Package → Type 0
-  Known = packages_before m
+  Known = packages_before m.of
 
   abbrev r : Revision
   r = rename_revision m
 
   abbrev name : List ℕ
-  name = m.name.now
+  name = m.of.name.now
 
   method_after_once : (b : ℕ) (n : List ℕ) (rank : ℕ) → IsMethodAfter r p definition name rank → IsMethodAfter r p b n rank → (b ≡ definition) × (n ≡ name)
   method_after_once b n rank h k =
       let same : k.method ≡ h.method = same_Some k.method h.method (sym k.has_rank ∙ h.has_rank) in
-      let formed = layout_formed (workspace_before m) (verdicts_in m) p.path p is.is_checked in (
+      let formed = layout_formed (workspace_before m.of) (verdicts_in m.of) p.path p is.is_checked in (
         one_owner p formed rank definition b (spelled p h.method.file h.method.function.name) (spelled p k.method.file k.method.function.name) h.method k.method
             (as_method p rank definition h.method h.has_rank h.of_type) (as_method p rank b k.method k.has_rank k.of_type),
         one_name_after r p (function_place h.method) n name (subst (λ (f : PlacedFunction). HasNameAfter r p (function_place f) n) same k.called) h.called,
@@ -78,9 +77,9 @@ module _ (m : MemberRename) (knows : KnowsRename m) (p : Package) (is : packages
   FirstMethod rank = InPackage Known path (λ q. IsFirstMethod Known r q definition name rank)
 
   here : (P : Package → Type 0) → InPackage Known path P → P p
-  here P h = of_one (workspace_before m) (verdicts_in m) p is path of P h
+  here P h = of_one (workspace_before m.of) (verdicts_in m.of) p is path of P h
 
-  pub field_counts : (rank : ℕ) → IsFieldNamed m.member.now name p definition rank → (o : Option ℕ) → IsRankFound FirstField o → (b : Bool) →
+  pub field_counts : (rank : ℕ) → IsFieldNamed m.of.member.now name p definition rank → (o : Option ℕ) → IsRankFound FirstField o → (b : Bool) →
       IsTrue b ↔ (o ≡ Some rank) → IsTrue b ↔ CountsAfter Known r (Field (record { «package» = path; rank = rank }))
   field_counts rank named o found b told = (
     (λ t. mapped_in Known path (λ q. IsFirstField r q definition name rank) (λ q. FieldCounts r q rank)
@@ -95,7 +94,7 @@ module _ (m : MemberRename) (knows : KnowsRename m) (p : Package) (is : packages
         (here (λ q. IsFirstField r q definition name y) k)) o found rank (record { inside = p; is_package = is; of_path = of; holds = first }))),
   )
 
-  pub method_counts : (rank : ℕ) → IsMethodNamed m.member.now name p definition rank → (o : Option ℕ) → IsRankFound FirstMethod o → (b : Bool) →
+  pub method_counts : (rank : ℕ) → IsMethodNamed m.of.member.now name p definition rank → (o : Option ℕ) → IsRankFound FirstMethod o → (b : Bool) →
       IsTrue b ↔ (o ≡ Some rank) → IsTrue b ↔ CountsAfter Known r (Method (record { «package» = path; rank = rank }))
   method_counts rank named o found b told = (
     (λ t. mapped_in Known path (λ q. IsFirstMethod Known r q definition name rank) (λ q. MethodCounts Known r q rank)

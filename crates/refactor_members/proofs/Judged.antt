@@ -5,11 +5,10 @@ use Rattle.base_files.specs.declared.place.Place.{Place}
 use Rattle.refactor_conflict.specs.declared.conflict.Conflict.{Conflict}
 use Rattle.refactor_conflict.proofs.KeepingFirst.{takes_none, takes_as, takes_then, still_holds, holds_as}
 use Rattle.refactor_conflict.proofs.MembersStay.{Below, none_below, next_below, all_below}
-use Rattle.refactor_members.specs.declared.member_rename.MemberRename.{MemberRename}
 use Rattle.refactor_members.specs.Judging.{Judges}
-use Rattle.refactor_members.specs.Renames.{KnowsRename}
+use Rattle.refactor_members.specs.Renames.{EditedRename, KnowsRename}
 
-module _ (m : MemberRename) (P : Conflict → Type 0) where
+module _ (m : EditedRename) (P : Conflict → Type 0) where
   -- A step that finds nothing, where all that it judges stays.
   pub judged_none : (K : Place → Type 0) (a : Option Conflict) → (KnowsRename m → (place : Place) → K place) → Judges m P K a a
   judged_none K a k = λ knows. (takes_none P a, λ place ahead. k knows place)

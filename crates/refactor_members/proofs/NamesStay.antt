@@ -28,21 +28,20 @@ use Rattle.refactor_conflict.specs.Conflicts.{Takes, HoldsBefore, IsConflictIn, 
 use Rattle.refactor_conflict.specs.Staying.{DeclaringNamesStayIn}
 use Rattle.refactor_conflict.specs.declared.conflict.Conflict.{Conflict}
 use Rattle.refactor_conflict.proofs.KeepingFirst.{takes_as, holds_as}
-use Rattle.refactor_members.specs.declared.member_rename.MemberRename.{MemberRename}
 use Rattle.refactor_members.specs.Judging.{JudgesIn, IsNamedAt, NameStays, ListedFieldStays, ListedMethodStays, FieldsStayOf, MethodsStayOf, NamesStayOf}
 use Rattle.refactor_members.specs.Naming.{HasField, HasMethod, IsFirstOld, IsRenamedField, IsRenamedMethod}
-use Rattle.refactor_members.specs.Renames.{KnowsRename, packages_before, rename_revision, workspace_before, verdicts_in}
+use Rattle.refactor_members.specs.Renames.{EditedRename, KnowsRename, packages_before, rename_revision, workspace_before, verdicts_in}
 use Rattle.refactor_members.proofs.Counting.{as_method}
 use Rattle.refactor_members.proofs.OldMembers.{AllCount, rank_of_field, rank_of_method, old_field_found, old_method_found}
 use Rattle.refactor_members.proofs.Renamed.{rank_in, renamed_field, renamed_method}
 
 -- A name that is lost unless its member counts.
-pub lost_unless : (m : MemberRename) (p : Package) (member : Declaration) (a b : Option Conflict) (counts : Bool) → counts ≡ false →
-    (KnowsRename m → IsTrue counts ↔ CountsAfter (packages_before m) (rename_revision m) member) →
+pub lost_unless : (m : EditedRename) (p : Package) (member : Declaration) (a b : Option Conflict) (counts : Bool) → counts ≡ false →
+    (KnowsRename m → IsTrue counts ↔ CountsAfter (packages_before m.of) (rename_revision m) member) →
     Takes (λ (c : Conflict). IsNamedAt p member c.used × (c.by ≡ None)) a b → HoldsBefore (λ place. IsNamedAt p member place → ⊥) b →
     JudgesIn m p (NameStays m p member) a b
 lost_unless m p member a b counts fails is taken none = λ knows. (
-  takes_as (λ (c : Conflict). IsNamedAt p member c.used × (c.by ≡ None)) (IsConflictIn (workspace_before m) (verdicts_in m) (rename_revision m) p) a b
+  takes_as (λ (c : Conflict). IsNamedAt p member c.used × (c.by ≡ None)) (IsConflictIn (workspace_before m.of) (verdicts_in m.of) (rename_revision m) p) a b
       (λ c h. record {
         user = h.0.0;
         begins = h.0.1.0;
@@ -51,9 +50,9 @@ lost_unless m p member a b counts fails is taken none = λ knows. (
   holds_as (λ place. IsNamedAt p member place → ⊥) (NameStays m p member) b (λ place h at. absurd (h at)) none,
 )
 
-module _ (m : MemberRename) (p : Package) where
+module _ (m : EditedRename) (p : Package) where
   abbrev name : List ℕ
-  name = m.name.now
+  name = m.of.name.now
 
   -- of a rank that was found
 
@@ -94,16 +93,16 @@ module _ (m : MemberRename) (p : Package) where
   renamed_listed Is one None rank h is = absurd (h rank is)
   renamed_listed Is one (Some n) rank h is = ap Some (one n rank h is)
 
-  module _ (is : packages_before m p) (path : List ℕ) (of : p.path ≡ path) (definition : ℕ) where
+  module _ (is : packages_before m.of p) (path : List ℕ) (of : p.path ≡ path) (definition : ℕ) where
     -- The names of the new name stay where those of the two ranks do.
-    pub fields_stay : (a b : Option ℕ) → IsFirstOld (HasField p definition name) a → IsRankFound (IsRenamedField m (record
+    pub fields_stay : (a b : Option ℕ) → IsFirstOld (HasField p definition name) a → IsRankFound (IsRenamedField m.of (record
         { «package» = path; rank = definition })) b → KnowsRename m → (place : Place) → ListedFieldStays m p a place → ListedFieldStays m p b place →
         FieldsStayOf m p definition place
     fields_stay a b old renamed knows place stay also = λ rank named at.
         elim named.named [
           | inl same ↦
               let s : Symbol = record { «package» = path; rank = definition } in
-              also rank (renamed_listed (IsRenamedField m s) (λ j k h g. ap rank_in (sym h.1 ∙ g.1)) b rank renamed
+              also rank (renamed_listed (IsRenamedField m.of s) (λ j k h g. ap rank_in (sym h.1 ∙ g.1)) b rank renamed
               (renamed_field m knows p is path of definition rank (record { field = named.field; has_rank = named.has_rank; of_struct = named.of_struct })
               same)) at
           | inr said ↦
@@ -112,7 +111,7 @@ module _ (m : MemberRename) (p : Package) where
               stay rank (old_listed (HasField p definition name) a rank old has (first_field_named definition rank has at.1.1.1.is_at.counts)) at
         ]
 
-  module _ (is : packages_before m p) where
+  module _ (is : packages_before m.of p) where
     owned : (rank : ℕ) (f : PlacedFunction) (definition : ℕ) (n : List ℕ) → IsMethodOf p definition n rank f → IsOwner p f definition
     owned rank f definition n h =
         record { receiver = h.receiver; received = h.received; declaration = h.declaration; binds = h.binds; of_type = h.of_type }
@@ -122,20 +121,20 @@ module _ (m : MemberRename) (p : Package) where
     first_method_named definition rank h c other lt g =
         let same : c.method ≡ h.0 = same_Some c.method h.0 (sym c.counting.is_method.has_rank ∙ h.1.has_rank) in
         let d : definition ≡ c.definition =
-        one_owner p (layout_formed (workspace_before m) (verdicts_in m) p.path p is.is_checked) rank c.definition definition c.name name c.method h.0
+        one_owner p (layout_formed (workspace_before m.of) (verdicts_in m.of) p.path p is.is_checked) rank c.definition definition c.name name c.method h.0
         c.counting.is_method h.1 in
         let called : name ≡ c.name =
         sym h.1.named ∙ ap (λ (f : PlacedFunction). spelled p f.file f.function.name) (sym same) ∙ c.counting.is_method.named in
         c.counting.first other g.0 lt (subst (λ n. IsMethodOf p c.definition n other g.0) called (subst (λ x. IsMethodOf p x name other g.0) d g.1))
 
     pub methods_stay : (path : List ℕ) → p.path ≡ path → (definition : ℕ) (a b : Option ℕ) → IsFirstOld (HasMethod p definition name) a →
-        IsRankFound (IsRenamedMethod m (record { «package» = path; rank = definition })) b → KnowsRename m → (place : Place) →
+        IsRankFound (IsRenamedMethod m.of (record { «package» = path; rank = definition })) b → KnowsRename m → (place : Place) →
         ListedMethodStays m p a place → ListedMethodStays m p b place → MethodsStayOf m p definition place
     methods_stay path of definition a b old renamed knows place stay also = λ rank named at.
         elim named.named [
           | inl same ↦
               let s : Symbol = record { «package» = path; rank = definition } in
-              also rank (renamed_listed (IsRenamedMethod m s) (λ j k h g. ap rank_in (sym h.1 ∙ g.1)) b rank renamed
+              also rank (renamed_listed (IsRenamedMethod m.of s) (λ j k h g. ap rank_in (sym h.1 ∙ g.1)) b rank renamed
               (renamed_method m knows p is path of definition rank (record { method = named.method; has_rank = named.has_rank; of_type = named.of_type })
               same)) at
           | inr said ↦
@@ -201,14 +200,14 @@ case_method s (Field t) = inr (λ e. let z : ⊥ = cc in z)
 case_method s (Method t) = elim (case_symbol s t) [ inl e ↦ inl (ap Method e) | inr n ↦ inr (λ e. n (ap (symbol_of s) e)) ]
 
 -- All names stay where those of the new name do.
-module _ (m : MemberRename) (knows : KnowsRename m) (p : Package) (is : packages_before m p) (place : Place)
+module _ (m : EditedRename) (knows : KnowsRename m) (p : Package) (is : packages_before m.of p) (place : Place)
     (stay : (definition : ℕ) → NamesStayOf m p definition place) where
   abbrev counts : Declaration → Type 0
-  counts d = CountsAfter (packages_before m) (rename_revision m) d
+  counts d = CountsAfter (packages_before m.of) (rename_revision m) d
 
-  not_there : (u : ℕ) (at : Position) → at ≡ p.layout.place u → (spelled p at.file at.index ≡ m.name.now → ⊥) →
-      spelled p (p.layout.place u).file (p.layout.place u).index ≡ m.name.now → ⊥
-  not_there u at e not = subst (λ (x : Position). spelled p x.file x.index ≡ m.name.now → ⊥) e not
+  not_there : (u : ℕ) (at : Position) → at ≡ p.layout.place u → (spelled p at.file at.index ≡ m.of.name.now → ⊥) →
+      spelled p (p.layout.place u).file (p.layout.place u).index ≡ m.of.name.now → ⊥
+  not_there u at e not = subst (λ (x : Position). spelled p x.file x.index ≡ m.of.name.now → ⊥) e not
 
   by_field : (u : ℕ) → BeginsAt p place.path place.offset u → (s : Symbol) → DeclaresMember p u (Field s) → counts (Field s)
   by_field u begins s h =
@@ -217,16 +216,16 @@ module _ (m : MemberRename) (knows : KnowsRename m) (p : Package) (is : packages
       let f = c.counting.is_field in
       let same : symbol_in p s.rank ≡ s = ap (λ (q : List ℕ). record { «package» = q; rank = s.rank }) (sym h.0) in
       let named : IsNamedAt p (field_at p.path s.rank) place = (u, (begins, (refl, n))) in
-      let told : (Field (symbol_in p s.rank) ≡ m.member.now) ⊎ (spelled p c.field.file c.field.name ≡ m.name.now) → counts (Field s) = λ choice.
+      let told : (Field (symbol_in p s.rank) ≡ m.of.member.now) ⊎ (spelled p c.field.file c.field.name ≡ m.of.name.now) → counts (Field s) = λ choice.
       subst counts (ap Field same) ((stay c.definition).0 s.rank (record {
         field = c.field;
         has_rank = f.has_rank;
         of_struct = f.of_struct;
         named = choice;
       }) named) in
-      elim (case_field s m.member.now) [
+      elim (case_field s m.of.member.now) [
         | inl e ↦ told (inl (ap Field same ∙ e))
-        | inr other ↦ elim (cases_bytes (spelled p c.field.file c.field.name) m.name.now) [
+        | inr other ↦ elim (cases_bytes (spelled p c.field.file c.field.name) m.of.name.now) [
           | inl e ↦ told (inr e)
           | inr not ↦ knows.renames.declared p is u place begins (Field s) h other
               (not_there u (field_place c.field) (n.is_at.named_at ∙ stands_once p u n.at n.stands) not)
@@ -240,23 +239,23 @@ module _ (m : MemberRename) (knows : KnowsRename m) (p : Package) (is : packages
       let f = c.counting.is_method in
       let same : symbol_in p s.rank ≡ s = ap (λ (q : List ℕ). record { «package» = q; rank = s.rank }) (sym h.0) in
       let named : IsNamedAt p (method_at p.path s.rank) place = (u, (begins, (refl, n))) in
-      let told : (Method (symbol_in p s.rank) ≡ m.member.now) ⊎ (spelled p c.method.file c.method.function.name ≡ m.name.now) → counts (Method s) = λ choice.
+      let told : (Method (symbol_in p s.rank) ≡ m.of.member.now) ⊎ (spelled p c.method.file c.method.function.name ≡ m.of.name.now) → counts (Method s) = λ choice.
       subst counts (ap Method same) ((stay c.definition).1 s.rank (record {
         method = c.method;
         has_rank = f.has_rank;
         of_type = record { receiver = f.receiver; received = f.received; declaration = f.declaration; binds = f.binds; of_type = f.of_type };
         named = choice;
       }) named) in
-      elim (case_method s m.member.now) [
+      elim (case_method s m.of.member.now) [
         | inl e ↦ told (inl (ap Method same ∙ e))
-        | inr other ↦ elim (cases_bytes (spelled p c.method.file c.method.function.name) m.name.now) [
+        | inr other ↦ elim (cases_bytes (spelled p c.method.file c.method.function.name) m.of.name.now) [
           | inl e ↦ told (inr e)
           | inr not ↦ knows.renames.declared p is u place begins (Method s) h other
               (not_there u (function_place c.method) (n.is_at.named_at ∙ stands_once p u n.at n.stands) not)
         ]
       ]
 
-  pub names_stay : DeclaringNamesStayIn (workspace_before m) (verdicts_in m) (rename_revision m) p place
+  pub names_stay : DeclaringNamesStayIn (workspace_before m.of) (verdicts_in m.of) (rename_revision m) p place
   names_stay = λ u begins d declares. by_kind u begins d declares
     where
       by_kind : (u : ℕ) → BeginsAt p place.path place.offset u → (d : Declaration) → DeclaresMember p u d → counts d

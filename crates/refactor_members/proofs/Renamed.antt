@@ -22,9 +22,8 @@ use Rattle.refactor_after.specs.OldPlaces.{field_at, method_at}
 use Rattle.refactor_after.specs.MembersAfter.{IsFirst, IsFirstField}
 use Rattle.refactor_after.specs.MembersFound.{IsRankFound}
 use Rattle.refactor_after.proofs.FieldsAfter.{of_one, found_in}
-use Rattle.refactor_members.specs.declared.member_rename.MemberRename.{MemberRename}
 use Rattle.refactor_members.specs.Naming.{HasField, HasMethod, IsFirstOld, IsRenamedField, IsRenamedMethod, lesser_rank}
-use Rattle.refactor_members.specs.Renames.{KnowsRename, IsFieldNamed, IsMethodNamed, IsFieldOfDefinition, IsMethodOfDefinition, IsDefinitionOf}
+use Rattle.refactor_members.specs.Renames.{EditedRename, KnowsRename, IsFieldNamed, IsMethodNamed, IsFieldOfDefinition, IsMethodOfDefinition, IsDefinitionOf}
 use Rattle.refactor_members.specs.Renames.{packages_before, rename_revision, workspace_before, verdicts_in}
 use Rattle.refactor_members.proofs.FirstNamed.{first_of_two}
 use Rattle.refactor_members.proofs.Counting.{as_method}
@@ -43,15 +42,15 @@ package_in (Declared path n) = path
 package_in (Field s) = s.package
 package_in (Method s) = s.package
 
-module _ (m : MemberRename) (knows : KnowsRename m) (p : Package) (is : packages_before m p) where
+module _ (m : EditedRename) (knows : KnowsRename m) (p : Package) (is : packages_before m.of p) where
   abbrev Known : Package → Type 0
-  Known = packages_before m
+  Known = packages_before m.of
 
   abbrev name : List ℕ
-  name = m.name.now
+  name = m.of.name.now
 
   inside : (P : Package → Type 0) → InPackage Known p.path P → P p
-  inside P h = of_one (workspace_before m) (verdicts_in m) p is p.path refl P h
+  inside P h = of_one (workspace_before m.of) (verdicts_in m.of) p is p.path refl P h
 
   -- The type definition that the rename has is that of its member.
   field_definition : (definition rank : ℕ) → IsFieldOfDefinition p rank definition → (o : Option ℕ) →
@@ -67,47 +66,47 @@ module _ (m : MemberRename) (knows : KnowsRename m) (p : Package) (is : packages
   method_definition definition rank f None none = absurd (none definition (record { inside = p; is_package = is; of_path = refl; holds = f }))
   method_definition definition rank f (Some d) found =
       let x = inside (λ q. IsMethodOfDefinition q rank d) found in
-      ap Some (one_owner p (layout_formed (workspace_before m) (verdicts_in m) p.path p is.is_checked) rank definition d
+      ap Some (one_owner p (layout_formed (workspace_before m.of) (verdicts_in m.of) p.path p is.is_checked) rank definition d
       (spelled p f.method.file f.method.function.name) (spelled p x.method.file x.method.function.name) f.method x.method
       (as_method p rank definition f.method f.has_rank f.of_type) (as_method p rank d x.method x.has_rank x.of_type))
 
   pub renamed_field : (path : List ℕ) → p.path ≡ path → (definition rank : ℕ) → IsFieldOfDefinition p rank definition →
-      field_at p.path rank ≡ m.member.now → IsRenamedField m (record { «package» = path; rank = definition }) rank
+      field_at p.path rank ≡ m.of.member.now → IsRenamedField m.of (record { «package» = path; rank = definition }) rank
   renamed_field path of definition rank f same = (
-    field_definition definition rank f m.definition (subst (λ d. IsRankFound (IsDefinitionOf Known d) m.definition) (sym same) knows.definition),
+    field_definition definition rank f m.of.definition (subst (λ d. IsRankFound (IsDefinitionOf Known d) m.of.definition) (sym same) knows.definition),
     sym same ∙ ap (λ q. field_at q rank) of,
   )
 
   pub renamed_method : (path : List ℕ) → p.path ≡ path → (definition rank : ℕ) → IsMethodOfDefinition p rank definition →
-      method_at p.path rank ≡ m.member.now → IsRenamedMethod m (record { «package» = path; rank = definition }) rank
+      method_at p.path rank ≡ m.of.member.now → IsRenamedMethod m.of (record { «package» = path; rank = definition }) rank
   renamed_method path of definition rank f same = (
-    method_definition definition rank f m.definition (subst (λ d. IsRankFound (IsDefinitionOf Known d) m.definition) (sym same) knows.definition),
+    method_definition definition rank f m.of.definition (subst (λ d. IsRankFound (IsDefinitionOf Known d) m.of.definition) (sym same) knows.definition),
     sym same ∙ ap (λ q. method_at q rank) of,
   )
 
   -- and the renamed member is one of its members
-  has_definition : (definition : ℕ) → m.definition ≡ Some definition → (d : Declaration) → m.member.now ≡ d → IsDefinitionOf Known d definition
+  has_definition : (definition : ℕ) → m.of.definition ≡ Some definition → (d : Declaration) → m.of.member.now ≡ d → IsDefinitionOf Known d definition
   has_definition definition e d same =
-      subst (λ x. IsDefinitionOf Known x definition) same (subst (IsRankFound (IsDefinitionOf Known m.member.now)) e knows.definition)
+      subst (λ x. IsDefinitionOf Known x definition) same (subst (IsRankFound (IsDefinitionOf Known m.of.member.now)) e knows.definition)
 
-  pub field_is_named : (path : List ℕ) → p.path ≡ path → (definition rank : ℕ) → IsRenamedField m (record { «package» = path; rank = definition }) rank →
-      IsFieldNamed m.member.now name p definition rank
+  pub field_is_named : (path : List ℕ) → p.path ≡ path → (definition rank : ℕ) → IsRenamedField m.of (record { «package» = path; rank = definition }) rank →
+      IsFieldNamed m.of.member.now name p definition rank
   field_is_named path of definition rank h =
-      let x = of_one (workspace_before m) (verdicts_in m) p is path of (λ q. IsFieldOfDefinition q rank definition)
+      let x = of_one (workspace_before m.of) (verdicts_in m.of) p is path of (λ q. IsFieldOfDefinition q rank definition)
       (has_definition definition h.0 (field_at path rank) h.1) in
       record { field = x.field; has_rank = x.has_rank; of_struct = x.of_struct; named = inl (ap (λ q. field_at q rank) of ∙ sym h.1) }
 
-  pub method_is_named : (path : List ℕ) → p.path ≡ path → (definition rank : ℕ) → IsRenamedMethod m (record { «package» = path; rank = definition }) rank →
-      IsMethodNamed m.member.now name p definition rank
+  pub method_is_named : (path : List ℕ) → p.path ≡ path → (definition rank : ℕ) → IsRenamedMethod m.of (record { «package» = path; rank = definition }) rank →
+      IsMethodNamed m.of.member.now name p definition rank
   method_is_named path of definition rank h =
-      let x = of_one (workspace_before m) (verdicts_in m) p is path of (λ q. IsMethodOfDefinition q rank definition)
+      let x = of_one (workspace_before m.of) (verdicts_in m.of) p is path of (λ q. IsMethodOfDefinition q rank definition)
       (has_definition definition h.0 (method_at path rank) h.1) in
       record { method = x.method; has_rank = x.has_rank; of_type = x.of_type; named = inl (ap (λ q. method_at q rank) of ∙ sym h.1) }
 
-  pub old_field_named : (definition rank : ℕ) → HasField p definition name rank → IsFieldNamed m.member.now name p definition rank
+  pub old_field_named : (definition rank : ℕ) → HasField p definition name rank → IsFieldNamed m.of.member.now name p definition rank
   old_field_named definition rank h = record { field = h.0; has_rank = h.1.has_rank; of_struct = h.1.of_struct; named = inr h.1.named }
 
-  pub old_method_named : (definition rank : ℕ) → HasMethod p definition name rank → IsMethodNamed m.member.now name p definition rank
+  pub old_method_named : (definition rank : ℕ) → HasMethod p definition name rank → IsMethodNamed m.of.member.now name p definition rank
   old_method_named definition rank h = record {
     method = h.0;
     has_rank = h.1.has_rank;
@@ -118,11 +117,11 @@ module _ (m : MemberRename) (knows : KnowsRename m) (p : Package) (is : packages
   -- the first one
 
   pub first_field : (path : List ℕ) → p.path ≡ path → (definition : ℕ) (a b : Option ℕ) → IsFirstOld (HasField p definition name) a →
-      IsRankFound (IsRenamedField m (record { «package» = path; rank = definition })) b →
+      IsRankFound (IsRenamedField m.of (record { «package» = path; rank = definition })) b →
       IsRankFound (IsFirst (IsFieldAfter (rename_revision m) p definition name)) (lesser_rank a b)
   first_field path of definition a b old renamed =
       let s : Symbol = record { «package» = path; rank = definition } in
-      first_of_two (IsFieldAfter (rename_revision m) p definition name) (HasField p definition name) (IsRenamedField m s)
+      first_of_two (IsFieldAfter (rename_revision m) p definition name) (HasField p definition name) (IsRenamedField m.of s)
       (λ k after.
       let n = (knows.renames.fields p is definition k).0 after in
       elim n.named [
@@ -134,11 +133,11 @@ module _ (m : MemberRename) (knows : KnowsRename m) (p : Package) (is : packages
       (λ j k h g. ap rank_in (sym h.1 ∙ g.1)) a b old renamed
 
   pub first_method : (path : List ℕ) → p.path ≡ path → (definition : ℕ) (a b : Option ℕ) → IsFirstOld (HasMethod p definition name) a →
-      IsRankFound (IsRenamedMethod m (record { «package» = path; rank = definition })) b →
+      IsRankFound (IsRenamedMethod m.of (record { «package» = path; rank = definition })) b →
       IsRankFound (IsFirst (IsMethodAfter (rename_revision m) p definition name)) (lesser_rank a b)
   first_method path of definition a b old renamed =
       let s : Symbol = record { «package» = path; rank = definition } in
-      first_of_two (IsMethodAfter (rename_revision m) p definition name) (HasMethod p definition name) (IsRenamedMethod m s)
+      first_of_two (IsMethodAfter (rename_revision m) p definition name) (HasMethod p definition name) (IsRenamedMethod m.of s)
       (λ k after.
       let n = (knows.renames.methods p is definition k).0 after in
       elim n.named [
@@ -172,67 +171,67 @@ pub if_any : {X : Type 0} (o : Option X) (C : Type 0) → C → MatchOption o (U
 if_any None C c = tt
 if_any (Some x) C c = c
 
-module _ (m : MemberRename) (sound : IsFaultless (workspace_before m) m.workspace.now.findings) (knows : KnowsRename m) (s : Symbol) where
+module _ (m : EditedRename) (sound : IsFaultless (workspace_before m.of) m.of.workspace.now.findings) (knows : KnowsRename m) (s : Symbol) where
   abbrev Has : Type 0
-  Has = Contains (package_paths (workspace_before m)) s.package
+  Has = Contains (package_paths (workspace_before m.of)) s.package
 
   abbrev pub FirstField : ℕ → Type 0
-  FirstField rank = InPackage (packages_before m) s.package (λ p. IsFirstField (rename_revision m) p s.rank m.name.now rank)
+  FirstField rank = InPackage (packages_before m.of) s.package (λ p. IsFirstField (rename_revision m) p s.rank m.of.name.now rank)
 
   abbrev pub FirstMethod : ℕ → Type 0
-  FirstMethod rank = InPackage (packages_before m) s.package (λ p. IsFirst (IsMethodAfter (rename_revision m) p s.rank m.name.now) rank)
+  FirstMethod rank = InPackage (packages_before m.of) s.package (λ p. IsFirst (IsMethodAfter (rename_revision m) p s.rank m.of.name.now) rank)
 
-  definition_there : (d : Declaration) → m.member.now ≡ d → m.definition ≡ Some s.rank → IsDefinitionOf (packages_before m) d s.rank
+  definition_there : (d : Declaration) → m.of.member.now ≡ d → m.of.definition ≡ Some s.rank → IsDefinitionOf (packages_before m.of) d s.rank
   definition_there d same e =
-      subst (λ x. IsDefinitionOf (packages_before m) x s.rank) same
-      (subst (IsRankFound (IsDefinitionOf (packages_before m) m.member.now)) e knows.definition)
+      subst (λ x. IsDefinitionOf (packages_before m.of) x s.rank) same
+      (subst (IsRankFound (IsDefinitionOf (packages_before m.of) m.of.member.now)) e knows.definition)
 
-  pub field_ranked : (a b : Option ℕ) → ((p : Package) → packages_before m p → p.path ≡ s.package → IsFirstOld (HasField p s.rank m.name.now) a) →
-      MatchOption a (Unit {0}) (λ rank. Has) → IsRankFound (IsRenamedField m s) b → IsRankFound FirstField (lesser_rank a b)
+  pub field_ranked : (a b : Option ℕ) → ((p : Package) → packages_before m.of p → p.path ≡ s.package → IsFirstOld (HasField p s.rank m.of.name.now) a) →
+      MatchOption a (Unit {0}) (λ rank. Has) → IsRankFound (IsRenamedField m.of s) b → IsRankFound FirstField (lesser_rank a b)
   field_ranked None None old there renamed = λ rank k.
       first_field m knows k.inside k.is_package s.package k.of_path s.rank None None (old k.inside k.is_package k.of_path) renamed rank k.holds
   field_ranked None (Some n) old there renamed =
       let x = definition_there (field_at s.package n) renamed.1 renamed.0 in
-      found_in (workspace_before m) (verdicts_in m) x.inside x.is_package s.package x.of_path (λ q rank. IsFirstField (rename_revision m) q s.rank m.name.now rank)
+      found_in (workspace_before m.of) (verdicts_in m.of) x.inside x.is_package s.package x.of_path (λ q rank. IsFirstField (rename_revision m) q s.rank m.of.name.now rank)
       (Some n)
       (first_field m knows x.inside x.is_package s.package x.of_path s.rank None (Some n) (old x.inside x.is_package x.of_path) renamed)
   field_ranked (Some k) b old there renamed =
-      let x = package_of_path (workspace_before m) m.workspace.now.findings sound s.package there in
-      found_in (workspace_before m) (verdicts_in m) x.0 x.1.0 s.package x.1.1 (λ q rank. IsFirstField (rename_revision m) q s.rank m.name.now rank)
+      let x = package_of_path (workspace_before m.of) m.of.workspace.now.findings sound s.package there in
+      found_in (workspace_before m.of) (verdicts_in m.of) x.0 x.1.0 s.package x.1.1 (λ q rank. IsFirstField (rename_revision m) q s.rank m.of.name.now rank)
       (lesser_rank (Some k) b) (first_field m knows x.0 x.1.0 s.package x.1.1 s.rank (Some k) b (old x.0 x.1.0 x.1.1) renamed)
 
-  pub method_ranked : (a b : Option ℕ) → ((p : Package) → packages_before m p → p.path ≡ s.package → IsFirstOld (HasMethod p s.rank m.name.now) a) →
-      MatchOption a (Unit {0}) (λ rank. Has) → IsRankFound (IsRenamedMethod m s) b → IsRankFound FirstMethod (lesser_rank a b)
+  pub method_ranked : (a b : Option ℕ) → ((p : Package) → packages_before m.of p → p.path ≡ s.package → IsFirstOld (HasMethod p s.rank m.of.name.now) a) →
+      MatchOption a (Unit {0}) (λ rank. Has) → IsRankFound (IsRenamedMethod m.of s) b → IsRankFound FirstMethod (lesser_rank a b)
   method_ranked None None old there renamed = λ rank k.
       first_method m knows k.inside k.is_package s.package k.of_path s.rank None None (old k.inside k.is_package k.of_path) renamed rank k.holds
   method_ranked None (Some n) old there renamed =
       let x = definition_there (method_at s.package n) renamed.1 renamed.0 in
-      found_in (workspace_before m) (verdicts_in m) x.inside x.is_package s.package x.of_path (λ q rank. IsFirst (IsMethodAfter
-      (rename_revision m) q s.rank m.name.now) rank)
+      found_in (workspace_before m.of) (verdicts_in m.of) x.inside x.is_package s.package x.of_path (λ q rank. IsFirst (IsMethodAfter
+      (rename_revision m) q s.rank m.of.name.now) rank)
       (Some n)
       (first_method m knows x.inside x.is_package s.package x.of_path s.rank None (Some n) (old x.inside x.is_package x.of_path) renamed)
   method_ranked (Some k) b old there renamed =
-      let x = package_of_path (workspace_before m) m.workspace.now.findings sound s.package there in
-      found_in (workspace_before m) (verdicts_in m) x.0 x.1.0 s.package x.1.1 (λ q rank. IsFirst (IsMethodAfter (rename_revision m) q s.rank m.name.now) rank)
+      let x = package_of_path (workspace_before m.of) m.of.workspace.now.findings sound s.package there in
+      found_in (workspace_before m.of) (verdicts_in m.of) x.0 x.1.0 s.package x.1.1 (λ q rank. IsFirst (IsMethodAfter (rename_revision m) q s.rank m.of.name.now) rank)
       (lesser_rank (Some k) b) (first_method m knows x.0 x.1.0 s.package x.1.1 s.rank (Some k) b (old x.0 x.1.0 x.1.1) renamed)
 
 -- The renamed member at a type definition, as the test decides it.
-pub own_field : (m : MemberRename) (of t : Symbol) → m.member.now ≡ Field t → (b : Bool) →
-    IsTrue b ↔ ((m.definition ≡ Some of.rank) × (t.package ≡ of.package)) → (o : Option ℕ) → (b ≡ true → o ≡ Some t.rank) → (b ≡ false → o ≡ None) →
-    IsRankFound (IsRenamedField m of) o
+pub own_field : (m : EditedRename) (of t : Symbol) → m.of.member.now ≡ Field t → (b : Bool) →
+    IsTrue b ↔ ((m.of.definition ≡ Some of.rank) × (t.package ≡ of.package)) → (o : Option ℕ) → (b ≡ true → o ≡ Some t.rank) → (b ≡ false → o ≡ None) →
+    IsRankFound (IsRenamedField m.of of) o
 own_field m of t is true told o some none =
     let k = told.0 refl in
-    subst (IsRankFound (IsRenamedField m of)) (sym (some refl)) (k.0, is ∙ ap (λ q. field_at q t.rank) k.1)
+    subst (IsRankFound (IsRenamedField m.of of)) (sym (some refl)) (k.0, is ∙ ap (λ q. field_at q t.rank) k.1)
 own_field m of t is false told o some none =
-    subst (IsRankFound (IsRenamedField m of)) (sym (none refl))
+    subst (IsRankFound (IsRenamedField m.of of)) (sym (none refl))
     (λ rank k. false≢true (told.1 (k.0, ap package_in (sym is ∙ k.1))))
 
-pub own_method : (m : MemberRename) (of t : Symbol) → m.member.now ≡ Method t → (b : Bool) →
-    IsTrue b ↔ ((m.definition ≡ Some of.rank) × (t.package ≡ of.package)) → (o : Option ℕ) → (b ≡ true → o ≡ Some t.rank) → (b ≡ false → o ≡ None) →
-    IsRankFound (IsRenamedMethod m of) o
+pub own_method : (m : EditedRename) (of t : Symbol) → m.of.member.now ≡ Method t → (b : Bool) →
+    IsTrue b ↔ ((m.of.definition ≡ Some of.rank) × (t.package ≡ of.package)) → (o : Option ℕ) → (b ≡ true → o ≡ Some t.rank) → (b ≡ false → o ≡ None) →
+    IsRankFound (IsRenamedMethod m.of of) o
 own_method m of t is true told o some none =
     let k = told.0 refl in
-    subst (IsRankFound (IsRenamedMethod m of)) (sym (some refl)) (k.0, is ∙ ap (λ q. method_at q t.rank) k.1)
+    subst (IsRankFound (IsRenamedMethod m.of of)) (sym (some refl)) (k.0, is ∙ ap (λ q. method_at q t.rank) k.1)
 own_method m of t is false told o some none =
-    subst (IsRankFound (IsRenamedMethod m of)) (sym (none refl))
+    subst (IsRankFound (IsRenamedMethod m.of of)) (sym (none refl))
     (λ rank k. false≢true (told.1 (k.0, ap package_in (sym is ∙ k.1))))

@@ -36,11 +36,11 @@ module _ (w : Workspace) (known : Verdicts) (d : Declaration) (name : List ℕ) 
   had_called e old (inl same) (inr had) = gets_name same refl
   had_called e old (inr other) (inr had) = keeps_name other (sym had)
 
-  -- The name of a member that is neither stays another.
-  not_at_stake : (e : Declaration) (old new : List ℕ) → IsCalledAfter d name e old new → (new ≡ name → ⊥) → (e ≡ d) ⊎ (old ≡ name) → ⊥
-  not_at_stake e old new (gets_name same is) not k = not is
-  not_at_stake e old new (keeps_name other is) not (inl same) = other same
-  not_at_stake e old new (keeps_name other is) not (inr had) = not (is ∙ had)
+  -- So an identifier of a member that is called by the new name afterwards.
+  called_so : (e : Declaration) (old new : List ℕ) → IsCalledAfter d name e old new → (e ≡ d) ⊎ (old ≡ name) → new ≡ name
+  called_so e old new (gets_name same is) stake = is
+  called_so e old new (keeps_name other is) (inl same) = absurd (other same)
+  called_so e old new (keeps_name other is) (inr had) = is ∙ had
 
   pub renames_member : MembersAreCalled → FieldNamesAfter → MethodNamesAfter → OtherMembersStay → RenamesMember w known r d name
   renames_member called fields methods others = record {
@@ -76,10 +76,9 @@ module _ (w : Workspace) (known : Verdicts) (d : Declaration) (name : List ℕ) 
         called = had_called (Method (symbol_in x rank)) (spelled x n.method.file n.method.function.name) (case_method (symbol_in x rank) d) n.named;
       })),
     );
-    used = λ x is u place begins old was not.
-        let c = called w known d name s rename.rename x is u place begins old (inl was) in
-        (others w known d name s rename x is u place begins).used old was
-        (not_at_stake old (spelled_there x u) (r.called place (spelled_there x u)) c not);
+    called = λ x is u place begins old was stake.
+        called_so old (spelled_there x u) (r.called place (spelled_there x u)) (called w known d name s rename.rename x is u place begins old (inl was)) stake;
+    used = λ x is u place begins old was not. (others w known d name s rename x is u place begins).used old was not;
     declared = λ x is u place begins old was other not.
         (others w known d name s rename x is u place begins).declared old was (λ k. elim k [ inl same ↦ other same | inr had ↦ not had ]);
   }

@@ -2,8 +2,10 @@
 use Rattle.std.specs.Prelude.{ℕ, ◌≡◌, ◌⊎◌, ◌↔◌, List, Some, slice_get}
 use Rattle.base_files.specs.Workspace.{Workspace}
 use Rattle.base_files.specs.declared.place.Place.{Place}
+use Rattle.base_edits.specs.EditSet.{FileChanges}
 use Rattle.base_edits.specs.Revisions.{Revision}
 use Rattle.base_edits.specs.RevisionsOfEdits.{revision_of}
+use Rattle.go_scope.specs.Named.{name_value}
 use Rattle.types_declared.specs.Package.{Package, PlacedFunction, package_functions, symbol_in, spelled}
 use Rattle.types_declared.specs.Definitions.{PlacedField, package_fields}
 use Rattle.types_members.specs.MethodsView.{IsOwner}
@@ -16,11 +18,14 @@ use Rattle.refs_binding.specs.DeclaringPlaces.{InHomePackage}
 use Rattle.refs_binding.specs.Identifiers.{BeginsAt}
 use Rattle.refs_binding.specs.Uses.{IsPackage}
 use Rattle.refs_binding.specs.Workspaces.{known_in, IsPackageAt}
+use Rattle.refs_uses.specs.MemberNames.{IsNameFound}
 use Rattle.refactor_after.specs.NamesAfter.{IsFieldAfter, IsMethodAfter}
 use Rattle.refactor_after.specs.MembersAfter.{CountsAfter}
 use Rattle.refactor_after.specs.MembersFound.{IsRankFound}
 use Rattle.refactor_conflict.specs.BoundAfter.{IsBoundByMember}
 use Rattle.refactor_conflict.specs.Staying.{MembersStayIn, DeclaringNamesStayIn}
+use Rattle.law_kept_members.specs.NamesAfterwards.{spelled_there}
+use Rattle.law_member_conflicts.specs.AtStake.{IsAtStake}
 use Rattle.refactor_members.specs.declared.member_rename.MemberRename.{MemberRename}
 
 -- The field of this rank is in the struct that the type definition writes. It is the renamed member `d`, or has the new name already.
@@ -60,14 +65,15 @@ IsDefinitionIn x (Method s) definition = IsMethodOfDefinition x s.rank definitio
 abbrev pub IsDefinitionOf : (Package → Type 0) → Declaration → (definition : ℕ) → Type 0
 IsDefinitionOf Known d definition = InHomePackage Known d (λ x. IsDefinitionIn x d definition)
 
--- What a rename of the field or method `d` to `name` does to members. Just those have the name after it that had it, and `d`. Uses and
--- declaring identifiers of other members stay.
+-- What a rename of the field or method `d` to `name` does to members. Just those have the name after it that had it, and `d`. A use of one
+-- of these has the name after it. Uses and declaring identifiers of other members stay.
 pub record RenamesMember (w : Workspace) (known : Verdicts) (r : Revision) (d : Declaration) (name : List ℕ) : Type 0 where
   pub fields : (x : Package) → IsPackage w known x → (definition rank : ℕ) → IsFieldAfter r x definition name rank ↔ IsFieldNamed d name x definition rank
   pub methods : (x : Package) → IsPackage w known x → (definition rank : ℕ) → IsMethodAfter r x definition name rank ↔ IsMethodNamed d name x definition rank
+  pub called : (x : Package) → IsPackage w known x → (u : ℕ) (place : Place) → BeginsAt x place.path place.offset u → (old : Declaration) →
+      BindsByMember x u old → IsAtStake d name x u old → r.called place (spelled_there x u) ≡ name
   pub used : (x : Package) → IsPackage w known x → (u : ℕ) (place : Place) → BeginsAt x place.path place.offset u → (old : Declaration)
-      (was : BindsByMember x u old) → (r.called place (spelled x (x.layout.place u).file (x.layout.place u).index) ≡ name → ⊥) →
-      IsBoundByMember (IsPackage w known) r place x u old was old
+      (was : BindsByMember x u old) → (IsAtStake d name x u old → ⊥) → IsBoundByMember (IsPackage w known) r place x u old was old
   pub declared : (x : Package) → IsPackage w known x → (u : ℕ) (place : Place) → BeginsAt x place.path place.offset u → (old : Declaration) →
       DeclaresMember x u old → (old ≡ d → ⊥) → (spelled x (x.layout.place u).file (x.layout.place u).index ≡ name → ⊥) → CountsAfter (IsPackage w known) r old
 
@@ -83,18 +89,26 @@ verdicts_in m = known_in m.workspace.now.findings
 abbrev pub packages_before : MemberRename → Package → Type 0
 packages_before m = IsPackage (workspace_before m) (verdicts_in m)
 
--- The change that the rename makes.
-abbrev pub rename_revision : MemberRename → Revision
-rename_revision m = revision_of (workspace_before m) m.moves.now
+-- A rename with edits of it.
+pub record EditedRename : Type 0 where
+  pub of : MemberRename
+  pub moves : FileChanges
+
+abbrev pub by : MemberRename → FileChanges → EditedRename
+by m s = record { of = m; moves = s }
+
+-- The change that the edits make.
+abbrev pub rename_revision : EditedRename → Revision
+rename_revision m = revision_of (workspace_before m.of) m.moves
 
 -- In the package of a number, the uses and the declaring identifiers of members at the place stay bound.
-abbrev pub MembersStayInNumber : MemberRename → ℕ → Place → Type 0
-MembersStayInNumber m number place = (p : Package) → IsPackageAt (workspace_before m) (verdicts_in m) number p →
-    MembersStayIn (workspace_before m) (verdicts_in m) (rename_revision m) p place × DeclaringNamesStayIn (workspace_before m) (verdicts_in m) (rename_revision m) p place
+abbrev pub MembersStayInNumber : EditedRename → ℕ → Place → Type 0
+MembersStayInNumber m number place = (p : Package) → IsPackageAt (workspace_before m.of) (verdicts_in m.of) number p →
+    MembersStayIn (workspace_before m.of) (verdicts_in m.of) (rename_revision m) p place × DeclaringNamesStayIn (workspace_before m.of) (verdicts_in m.of) (rename_revision m) p place
 
--- The rename has the type definition of its member, and renames it by its edits. In packages that are not marked members stay.
-pub record KnowsRename (m : MemberRename) : Type 0 where
-  pub same : m.edits.now ≡ m.moves.now
-  pub others : (number : ℕ) → (IsMarked m.reaching.now number → ⊥) → (place : Place) → MembersStayInNumber m number place
-  pub definition : IsRankFound (IsDefinitionOf (packages_before m) m.member.now) m.definition
-  pub renames : RenamesMember (workspace_before m) (verdicts_in m) (rename_revision m) m.member.now m.name.now
+-- The rename has the type definition and the name of its member, and the edits rename this. In packages that are not marked members stay.
+pub record KnowsRename (m : EditedRename) : Type 0 where
+  pub others : (number : ℕ) → (IsMarked m.of.reaching.now number → ⊥) → (place : Place) → MembersStayInNumber m number place
+  pub definition : IsRankFound (IsDefinitionOf (packages_before m.of) m.of.member.now) m.of.definition
+  pub called : IsNameFound (workspace_before m.of) (verdicts_in m.of) m.of.member.now (name_value m.of.called)
+  pub renames : RenamesMember (workspace_before m.of) (verdicts_in m.of) (rename_revision m) m.of.member.now m.of.name.now

@@ -1,32 +1,17 @@
-//! Decides which packages and type definitions a rename can concern, so that the others aren't judged: a token has the new name after it only
-//! if the token had it before, or stands in a file that is edited.
+//! Decides which packages and type definitions a rename can concern, so that the others aren't judged: a use of a member is at stake only if it
+//! has the new name, or the name of the renamed member.
 ghost use Rattle.std.specs.Prelude.{ℕ, ◌≡◌, ◌↔◌, IsTrue, None, Some, false, length, map, slice_get};
-ghost use Rattle.base_edits.specs.EditSet.{change_of};
 ghost use Rattle.go_ast.specs.SourceFile.{source_of, spelling_of};
 ghost use Rattle.types_expr.specs.Found.{use_of};
 ghost use Rattle.types_expr.specs.Judge.{MemberUse as Use};
 ghost use Rattle.types_expr.specs.WorldView.{definition_of};
 ghost use Rattle.refactor_members.specs.Judging.{AreUncalled, IsUncalled};
-ghost use Rattle.refactor_members.specs.Renames.{KnowsRename};
 
 use crate::member_rename::MemberRename;
-use base_edits::EditSet;
-use base_files::Path;
 use go_ast::FileTree;
 use refactor_after::is_rank;
 use types_expr::found::MemberUse;
 use types_expr::world::Definition;
-
-/// Whether an edit set changes the file at a path.
-fn is_edited(edits: &EditSet, path: &Path) -> bool
-    ensures { result ≡ false → change_of edits.now path.now ≡ None }
-{
-    let changed = edits.changed();
-    match changed.binary_search_by(|change| change.path.cmp(path)) {
-        Ok(_) => true,
-        Err(_) => false,
-    }
-}
 
 /// Whether a token of a file is spelled so.
 fn is_spelled(file: &FileTree, token: usize, name: &[u8]) -> bool
@@ -47,35 +32,35 @@ fn has_name(file: &FileTree, uses: &[MemberUse], name: &[u8]) -> bool
     false
 }
 
-/// Whether a use of a member in a file may have the new name after the rename.
+/// Whether a use of a member in a file may have the new name, or the name of the renamed member.
 fn concerns_file(m: &MemberRename<'_>, file: &FileTree, uses: &[MemberUse]) -> bool
-    ensures { result ≡ false → KnowsRename m.now → (k : ℕ) → (x : Use) → slice_get (map use_of uses.now) k ≡ Some x → IsUncalled m.now (Some (source_of file.now)) x.place }
+    ensures { result ≡ false → (k : ℕ) → (x : Use) → slice_get (map use_of uses.now) k ≡ Some x → IsUncalled m.now (Some (source_of file.now)) x.place }
 {
-    if is_edited(m.edits, file.path()) {
-        return true;
+    match m.called {
+        None => true,
+        Some(called) => has_name(file, uses, called) || has_name(file, uses, m.name),
     }
-    has_name(file, uses, m.name)
 }
 
-/// Whether a use of a member in a file of a package may have the new name after the rename.
+/// Whether a use of a member in a file of a package may have the new name, or the name of the renamed member.
 pub(crate) fn concerns_at(
     m: &MemberRename<'_>,
     files: &[FileTree],
     file: usize,
     uses: &[MemberUse],
 ) -> bool
-    ensures { result ≡ false → KnowsRename m.now → (k : ℕ) → (x : Use) → slice_get (map use_of uses.now) k ≡ Some x →
+    ensures { result ≡ false → (k : ℕ) → (x : Use) → slice_get (map use_of uses.now) k ≡ Some x →
         IsUncalled m.now (slice_get (map source_of files.now) file) x.place }
 {
     match files.get(file) {
-        None => false,
+        None => true,
         Some(tree) => concerns_file(m, tree, uses),
     }
 }
 
-/// Whether a use of a member in a package may have the new name after the rename.
+/// Whether a use of a member in a package may have the new name, or the name of the renamed member.
 pub(crate) fn concerns(m: &MemberRename<'_>, files: &[FileTree], members: &[Vec<MemberUse>]) -> bool
-    ensures { result ≡ false → KnowsRename m.now → AreUncalled m.now (map source_of files.now) (length members.now) members.now }
+    ensures { result ≡ false → AreUncalled m.now (map source_of files.now) (length members.now) members.now }
 {
     for file in 0..members.len() {
         if concerns_at(m, files, file, &members[file]) {

@@ -1,11 +1,12 @@
 //! The first conflict of a rename of a field or method.
 ghost use Rattle.std.specs.Prelude.{◌≡◌, ◌<◌, None, length, IfOk, OnOk};
+ghost use Rattle.base_edits.specs.EditSet.{FileChanges};
 ghost use Rattle.base_files.specs.Packages.{package_paths};
 ghost use Rattle.types_declared.specs.Package.{Package as Checked};
 ghost use Rattle.refs_binding.specs.Workspaces.{IsPackageAt};
 ghost use Rattle.refactor_conflict.specs.Conflicts.{IsConflict};
 ghost use Rattle.refactor_members.specs.Judging.{Judges, JudgesIn, AllMembersStayAt, MembersStayThere};
-ghost use Rattle.refactor_members.specs.Renames.{rename_revision, verdicts_in, workspace_before};
+ghost use Rattle.refactor_members.specs.Renames.{by, rename_revision, verdicts_in, workspace_before};
 
 use crate::judged_names::judge_names;
 use crate::judged_uses::judge_uses;
@@ -22,7 +23,7 @@ fn judge_members(
     number: usize,
 ) -> Result<(), AllocError>
     requires { number < length (package_paths (workspace_before m.now)) }
-    ensures { OnOk result ((p : Checked) → IsPackageAt (workspace_before m.now) (verdicts_in m.now) number p → JudgesIn m.now p (MembersStayThere m.now p) first.old first.new) }
+    ensures { OnOk result ((s : FileChanges) → (p : Checked) → IsPackageAt (workspace_before m.now) (verdicts_in m.now) number p → JudgesIn (by m.now s) p (MembersStayThere (by m.now s) p) first.old first.new) }
 {
     judge_uses(alloc, first, m, number)?;
     judge_names(alloc, first, m, number)
@@ -36,7 +37,7 @@ fn judge_package(
     number: usize,
 ) -> Result<(), AllocError>
     requires { number < length (package_paths (workspace_before m.now)) }
-    ensures { OnOk result ((p : Checked) → IsPackageAt (workspace_before m.now) (verdicts_in m.now) number p → JudgesIn m.now p (MembersStayThere m.now p) first.old first.new) }
+    ensures { OnOk result ((s : FileChanges) → (p : Checked) → IsPackageAt (workspace_before m.now) (verdicts_in m.now) number p → JudgesIn (by m.now s) p (MembersStayThere (by m.now s) p) first.old first.new) }
 {
     if is_marked(m.reaching, number) {
         judge_members(alloc, first, m, number)
@@ -50,7 +51,7 @@ pub(crate) fn first_turned(
     alloc: Global,
     m: &MemberRename<'_>,
 ) -> Result<Option<Conflict>, AllocError>
-    ensures { IfOk result (Judges m.now (IsConflict (workspace_before m.now) (verdicts_in m.now) (rename_revision m.now)) (AllMembersStayAt m.now) None) }
+    ensures { IfOk result (λ told. (s : FileChanges) → Judges (by m.now s) (IsConflict (workspace_before m.now) (verdicts_in m.now) (rename_revision (by m.now s))) (AllMembersStayAt (by m.now s)) None told) }
 {
     m.workspace.has_no_faults();
     let mut first = None;

@@ -1,5 +1,6 @@
 //! Judges the identifiers that declare fields and methods of the new name: each must count.
 ghost use Rattle.std.specs.Prelude.{ℕ, ◌≡◌, ◌↔◌, ◌<◌, length, Some, IsTrue, IfOk, OnOk};
+ghost use Rattle.base_edits.specs.EditSet.{FileChanges};
 ghost use Rattle.base_files.specs.Packages.{package_paths};
 ghost use Rattle.types_declared.specs.Package.{Package as Checked};
 ghost use Rattle.refs_binding.specs.Indexed.{IsNumbered, IsPackageNumbered};
@@ -9,7 +10,7 @@ ghost use Rattle.refactor_after.specs.MembersAfter.{CountsAfter};
 ghost use Rattle.refactor_conflict.specs.Conflicts.{HoldsBefore, IsPlaceBefore, Takes};
 ghost use Rattle.refactor_conflict.specs.Staying.{DeclaringNamesStayIn};
 ghost use Rattle.refactor_members.specs.Judging.{FieldsStayOf, IsNamedAt, JudgesIn, ListedFieldStays, ListedMethodStays, MethodsStayOf, NameStays, NamesStayOf};
-ghost use Rattle.refactor_members.specs.Renames.{KnowsRename, IsFieldNamed, IsMethodNamed, packages_before, rename_revision, verdicts_in, workspace_before};
+ghost use Rattle.refactor_members.specs.Renames.{by, KnowsRename, IsFieldNamed, IsMethodNamed, packages_before, rename_revision, verdicts_in, workspace_before};
 ghost use Rattle.refactor_conflict.specs.declared.conflict.Conflict.{Conflict as Told};
 
 use crate::concerned::concerns_definition;
@@ -64,9 +65,9 @@ fn judge_member(
     counts: bool,
 ) -> Result<(), AllocError>
     requires { d.now.number < length (package_paths (workspace_before d.now.rename.now)) }
-    ensures { OnOk result ((p : Checked) → IsPackageAt (workspace_before d.now.rename.now) (verdicts_in d.now.rename.now) d.now.number p → home_path member.now ≡ Some p.path →
-        (KnowsRename d.now.rename.now → IsTrue counts ↔ CountsAfter (packages_before d.now.rename.now) (rename_revision d.now.rename.now) member.now) →
-        JudgesIn d.now.rename.now p (NameStays d.now.rename.now p member.now) first.old first.new) }
+    ensures { OnOk result ((s : FileChanges) → (p : Checked) → IsPackageAt (workspace_before d.now.rename.now) (verdicts_in d.now.rename.now) d.now.number p → home_path member.now ≡ Some p.path →
+        (KnowsRename (by d.now.rename.now s) → IsTrue counts ↔ CountsAfter (packages_before d.now.rename.now) (rename_revision (by d.now.rename.now s)) member.now) →
+        JudgesIn (by d.now.rename.now s) p (NameStays (by d.now.rename.now s) p member.now) first.old first.new) }
 {
     if counts {
         return Ok(());
@@ -86,9 +87,9 @@ fn judge_field(
     listed: Option<usize>,
 ) -> Result<(), AllocError>
     requires { d.now.number < length (package_paths (workspace_before d.now.rename.now)) }
-    ensures { OnOk result ((p : Checked) → IsPackageAt (workspace_before d.now.rename.now) (verdicts_in d.now.rename.now) d.now.number p → p.path ≡ d.now.of.now.package →
-        (KnowsRename d.now.rename.now → (rank : ℕ) → listed ≡ Some rank → IsFieldNamed d.now.rename.now.member.now d.now.rename.now.name.now p d.now.of.now.rank rank) →
-        JudgesIn d.now.rename.now p (ListedFieldStays d.now.rename.now p listed) first.old first.new) }
+    ensures { OnOk result ((s : FileChanges) → (p : Checked) → IsPackageAt (workspace_before d.now.rename.now) (verdicts_in d.now.rename.now) d.now.number p → p.path ≡ d.now.of.now.package →
+        (KnowsRename (by d.now.rename.now s) → (rank : ℕ) → listed ≡ Some rank → IsFieldNamed d.now.rename.now.member.now d.now.rename.now.name.now p d.now.of.now.rank rank) →
+        JudgesIn (by d.now.rename.now s) p (ListedFieldStays (by d.now.rename.now s) p listed) first.old first.new) }
 {
     match listed {
         None => Ok(()),
@@ -108,9 +109,9 @@ fn judge_method(
     listed: Option<usize>,
 ) -> Result<(), AllocError>
     requires { d.now.number < length (package_paths (workspace_before d.now.rename.now)) }
-    ensures { OnOk result ((p : Checked) → IsPackageAt (workspace_before d.now.rename.now) (verdicts_in d.now.rename.now) d.now.number p → p.path ≡ d.now.of.now.package →
-        (KnowsRename d.now.rename.now → (rank : ℕ) → listed ≡ Some rank → IsMethodNamed d.now.rename.now.member.now d.now.rename.now.name.now p d.now.of.now.rank rank) →
-        JudgesIn d.now.rename.now p (ListedMethodStays d.now.rename.now p listed) first.old first.new) }
+    ensures { OnOk result ((s : FileChanges) → (p : Checked) → IsPackageAt (workspace_before d.now.rename.now) (verdicts_in d.now.rename.now) d.now.number p → p.path ≡ d.now.of.now.package →
+        (KnowsRename (by d.now.rename.now s) → (rank : ℕ) → listed ≡ Some rank → IsMethodNamed d.now.rename.now.member.now d.now.rename.now.name.now p d.now.of.now.rank rank) →
+        JudgesIn (by d.now.rename.now s) p (ListedMethodStays (by d.now.rename.now s) p listed) first.old first.new) }
 {
     match listed {
         None => Ok(()),
@@ -129,8 +130,8 @@ fn judge_fields(
     d: &DefinitionAt<'_>,
 ) -> Result<(), AllocError>
     requires { d.now.number < length (package_paths (workspace_before d.now.rename.now)) }
-    ensures { OnOk result ((p : Checked) → IsPackageAt (workspace_before d.now.rename.now) (verdicts_in d.now.rename.now) d.now.number p → p.path ≡ d.now.of.now.package →
-        JudgesIn d.now.rename.now p (FieldsStayOf d.now.rename.now p d.now.of.now.rank) first.old first.new) }
+    ensures { OnOk result ((s : FileChanges) → (p : Checked) → IsPackageAt (workspace_before d.now.rename.now) (verdicts_in d.now.rename.now) d.now.number p → p.path ≡ d.now.of.now.package →
+        JudgesIn (by d.now.rename.now s) p (FieldsStayOf (by d.now.rename.now s) p d.now.of.now.rank) first.old first.new) }
 {
     judge_field(alloc, first, d, old_field(d.rename, d.of))?;
     judge_field(alloc, first, d, renamed_field(d.rename, d.of))
@@ -143,8 +144,8 @@ fn judge_methods(
     d: &DefinitionAt<'_>,
 ) -> Result<(), AllocError>
     requires { d.now.number < length (package_paths (workspace_before d.now.rename.now)) }
-    ensures { OnOk result ((p : Checked) → IsPackageAt (workspace_before d.now.rename.now) (verdicts_in d.now.rename.now) d.now.number p → p.path ≡ d.now.of.now.package →
-        JudgesIn d.now.rename.now p (MethodsStayOf d.now.rename.now p d.now.of.now.rank) first.old first.new) }
+    ensures { OnOk result ((s : FileChanges) → (p : Checked) → IsPackageAt (workspace_before d.now.rename.now) (verdicts_in d.now.rename.now) d.now.number p → p.path ≡ d.now.of.now.package →
+        JudgesIn (by d.now.rename.now s) p (MethodsStayOf (by d.now.rename.now s) p d.now.of.now.rank) first.old first.new) }
 {
     judge_method(alloc, first, d, old_method(d.rename, d.of))?;
     judge_method(alloc, first, d, renamed_method(d.rename, d.of))
@@ -159,7 +160,7 @@ fn judge_definition(
     rank: usize,
 ) -> Result<(), AllocError>
     requires { number < length (package_paths (workspace_before m.now)) }
-    ensures { OnOk result ((p : Checked) → IsPackageAt (workspace_before m.now) (verdicts_in m.now) number p → JudgesIn m.now p (NamesStayOf m.now p rank) first.old first.new) }
+    ensures { OnOk result ((s : FileChanges) → (p : Checked) → IsPackageAt (workspace_before m.now) (verdicts_in m.now) number p → JudgesIn (by m.now s) p (NamesStayOf (by m.now s) p rank) first.old first.new) }
 {
     let of = symbol(path_of(m.workspace, number), rank)?;
     let d = DefinitionAt {
@@ -182,8 +183,8 @@ fn judge_if_concerned(
 ) -> Result<(), AllocError>
     requires number { number < length (package_paths (workspace_before m.now)) }
     requires rank { rank < length own.now }
-    ensures { OnOk result ((p : Checked) → IsPackageAt (workspace_before m.now) (verdicts_in m.now) number p → AreOwnDefinitions p own.now →
-        JudgesIn m.now p (NamesStayOf m.now p rank) first.old first.new) }
+    ensures { OnOk result ((s : FileChanges) → (p : Checked) → IsPackageAt (workspace_before m.now) (verdicts_in m.now) number p → AreOwnDefinitions p own.now →
+        JudgesIn (by m.now s) p (NamesStayOf (by m.now s) p rank) first.old first.new) }
 {
     m.workspace.has_no_faults();
     if concerns_definition(m, &own[rank], rank) {
@@ -201,8 +202,8 @@ pub(crate) fn judge_names(
     number: usize,
 ) -> Result<(), AllocError>
     requires { number < length (package_paths (workspace_before m.now)) }
-    ensures { OnOk result ((p : Checked) → IsPackageAt (workspace_before m.now) (verdicts_in m.now) number p →
-        JudgesIn m.now p (DeclaringNamesStayIn (workspace_before m.now) (verdicts_in m.now) (rename_revision m.now) p) first.old first.new) }
+    ensures { OnOk result ((s : FileChanges) → (p : Checked) → IsPackageAt (workspace_before m.now) (verdicts_in m.now) number p →
+        JudgesIn (by m.now s) p (DeclaringNamesStayIn (workspace_before m.now) (verdicts_in m.now) (rename_revision (by m.now s)) p) first.old first.new) }
 {
     m.workspace.has_no_faults();
     let own = own_of(m.workspace, number);

@@ -1,9 +1,9 @@
 //! Judges the uses of members that have the new name: each must select the member that it selected.
-ghost use Rattle.std.specs.Prelude.{ℕ, ◌≡◌, ◌↔◌, ◌<◌, length, map, slice_get, Some, IsTrue, IfOk, OnOk};
+ghost use Rattle.std.specs.Prelude.{ℕ, ◌≡◌, ◌↔◌, ◌⊎◌, ◌<◌, false, List, length, map, slice_get, Some, IsTrue, IfOk, OnOk};
 ghost use Rattle.base_files.specs.Packages.{package_paths};
-ghost use Rattle.base_files.specs.declared.place.Place.{Place as Spot};
-ghost use Rattle.base_edits.specs.RevisionsOfEdits.{new_name_at};
-ghost use Rattle.go_ast.specs.SourceFile.{source_of, offset_of, spelling_of};
+ghost use Rattle.base_edits.specs.EditSet.{FileChanges};
+ghost use Rattle.go_ast.specs.SourceFile.{source_of};
+ghost use Rattle.go_scope.specs.Named.{name_value};
 ghost use Rattle.types_expr.specs.Found.{use_of};
 ghost use Rattle.types_expr.specs.View.{type_of};
 ghost use Rattle.types_expr.specs.World.{member_by};
@@ -11,7 +11,6 @@ ghost use Rattle.types_expr.specs.WorldView.{member_of, underlying_in};
 ghost use Rattle.types_declared.specs.Package.{Package as Checked, spelled, spelled_at};
 ghost use Rattle.types_info.specs.MemberUses.{AreUsesIn};
 ghost use Rattle.refs_binding.specs.Binding.{declaration_of};
-ghost use Rattle.refs_binding.specs.DeclaringPlaces.{TokenBegins};
 ghost use Rattle.refs_binding.specs.Members.{definitions_known, member_at};
 ghost use Rattle.refs_binding.specs.Packages.{IsSeenBy};
 ghost use Rattle.refs_binding.specs.Steps.{IsDeclarationResult};
@@ -22,7 +21,7 @@ ghost use Rattle.refactor_conflict.specs.Conflicts.{IsMemberConflict, IsMemberCo
 ghost use Rattle.refactor_conflict.specs.Staying.{MembersStayIn};
 ghost use Rattle.refactor_members.specs.Judging.{Judges, JudgesIn};
 ghost use Rattle.refactor_members.specs.Naming.{IsKnownOf, IsUseIn};
-ghost use Rattle.refactor_members.specs.Renames.{KnowsRename, packages_before, rename_revision, verdicts_in, workspace_before};
+ghost use Rattle.refactor_members.specs.Renames.{by, KnowsRename, packages_before, rename_revision, verdicts_in, workspace_before};
 
 use crate::concerned::{concerns, concerns_at};
 use crate::declared_place::capturer;
@@ -48,28 +47,6 @@ pub(crate) struct PackageUses<'a> {
     pub(crate) files: &'a [FileTree],
     pub(crate) types: KnownTypes<'a>,
     pub(crate) members: &'a [Vec<MemberUse>],
-}
-
-/// Whether a token of a file has the new name after the rename.
-fn is_called_in(m: &MemberRename<'_>, file: &FileTree, token: usize) -> bool
-    ensures { let s = source_of file.now in
-        IsTrue result ↔ (new_name_at m.now.moves.now (record { path = s.path; offset = offset_of s token }) (spelling_of s token) ≡ m.now.name.now) }
-{
-    let called = m
-        .moves
-        .called(file.path(), file.offset(token), file.spelling(token));
-    called == m.name
-}
-
-/// Whether the token at a position has the new name after the rename.
-fn is_called(m: &MemberRename<'_>, files: &[FileTree], at: Position) -> bool
-    ensures { let file = slice_get (map source_of files.now) at.file in
-        (place : Spot) → TokenBegins file at.index place → IsTrue result ↔ (new_name_at m.now.moves.now place (spelled_at file at.index) ≡ m.now.name.now) }
-{
-    match files.get(at.file) {
-        None => false,
-        Some(file) => is_called_in(m, file, at.index),
-    }
 }
 
 /// The spelling of a token of a file; empty where there is no such file.
@@ -126,7 +103,7 @@ fn note_member(
 /// The world of the type definitions that a package knows, without names.
 #[tactic(auto, unfolding(types_expr::specs::WorldView::definition_in, types_expr::specs::WorldView::definition_at))]
 fn known_world<'w>(types: KnownTypes<'w>) -> World<'w>
-    ensures { underlying_in result ≡ (λ s. (definitions_known types.entry s).underlying) }
+    ensures { underlying_in result ≡ (λ t. (definitions_known types.entry t).underlying) }
 {
     World {
         package: types.path,
@@ -143,7 +120,7 @@ fn member_now(
     types: KnownTypes<'_>,
     before: &GoType,
 ) -> Result<Option<Declaration>, AllocError>
-    ensures { IfOk result (λ found. KnowsRename m.now → IsDeclarationResult (IsMemberAfter (packages_before m.now) (rename_revision m.now) types.entry.path.now m.now.name.now (λ s. (definitions_known types.entry s).underlying) (type_of before.now)) found) }
+    ensures { IfOk result (λ found. (s : FileChanges) → KnowsRename (by m.now s) → IsDeclarationResult (IsMemberAfter (packages_before m.now) (rename_revision (by m.now s)) types.entry.path.now m.now.name.now (λ t. (definitions_known types.entry t).underlying) (type_of before.now)) found) }
 {
     let world = known_world(types);
     member(m, types.path.path(), &world, before)
@@ -159,14 +136,14 @@ fn note_use(
     place: Place,
     old: Member<'_>,
 ) -> Result<(), AllocError>
-    ensures { let now = IsMemberAfter (packages_before m.now) (rename_revision m.now) types.entry.path.now m.now.name.now (λ s. (definitions_known types.entry s).underlying) (type_of before.now) in
-        OnOk result (Judges m.now (IsOtherMember (packages_before m.now) now place (declaration_of (member_of old.entry))) (λ at. at ≡ place → now (declaration_of (member_of old.entry))) first.old first.new) }
+    ensures { let now = λ (s : FileChanges). IsMemberAfter (packages_before m.now) (rename_revision (by m.now s)) types.entry.path.now m.now.name.now (λ t. (definitions_known types.entry t).underlying) (type_of before.now) in
+        OnOk result ((s : FileChanges) → Judges (by m.now s) (IsOtherMember (packages_before m.now) (now s) place (declaration_of (member_of old.entry))) (λ at. at ≡ place → now s (declaration_of (member_of old.entry))) first.old first.new) }
 {
     let now = member_now(m, types, before)?;
     note_member(alloc, first, m.workspace, place, old, now)
 }
 
-/// Judges a use of the member `old` whose token has the new name after the rename.
+/// Judges a use of the member `old` whose token has the new name after the rename: `old` is renamed, or the token has that name.
 fn judge_called(
     alloc: Global,
     first: &mut Option<Conflict>,
@@ -178,9 +155,9 @@ fn judge_called(
 ) -> Result<(), AllocError>
     ensures { let x = use_of found.now in
         let ds = definitions_known of.now.types in
-        OnOk result ((p : Checked) → IsKnownOf (workspace_before m.now) (verdicts_in m.now) p of.now → member_at ds p file x.place x.before ≡ Some (declaration_of (member_of old.entry)) →
-        ((place : Spot) → TokenBegins (slice_get p.files file) x.place place → new_name_at m.now.moves.now place (spelled p file x.place) ≡ m.now.name.now) →
-        Judges m.now (IsMemberConflict (packages_before m.now) (rename_revision m.now) ds p file x) (UseStays (packages_before m.now) (rename_revision m.now) ds p file x) first.old first.new) }
+        OnOk result ((s : FileChanges) → (p : Checked) → IsKnownOf (workspace_before m.now) (verdicts_in m.now) p of.now → member_at ds p file x.place x.before ≡ Some (declaration_of (member_of old.entry)) →
+        IsUseIn p file x → (declaration_of (member_of old.entry) ≡ m.now.member.now) ⊎ (spelled p file x.place ≡ m.now.name.now) →
+        Judges (by m.now s) (IsMemberConflict (packages_before m.now) (rename_revision (by m.now s)) ds p file x) (UseStays (packages_before m.now) (rename_revision (by m.now s)) ds p file x) first.old first.new) }
 {
     let at = Position {
         file,
@@ -192,33 +169,62 @@ fn judge_called(
     }
 }
 
-/// Judges a use of a member whose token has the new name after the rename.
-fn judge_bound(
+/// Whether a spelling is a name.
+fn is_name(spelling: &[u8], name: &[u8]) -> bool
+    ensures { IsTrue result ↔ (spelling.now ≡ name.now) }
+{
+    spelling == name
+}
+
+/// Whether a use of the member `old`, spelled so, has the new name after the rename.
+fn is_called(m: &MemberRename<'_>, spelling: &[u8], old: Member<'_>) -> bool
+    ensures { IsTrue result ↔ ((declaration_of (member_of old.entry) ≡ m.now.member.now) ⊎ (spelling.now ≡ m.now.name.now)) }
+{
+    m.member.is_of(old) || is_name(spelling, m.name)
+}
+
+/// Judges a use of a member that is spelled so.
+fn judge_spelled(
     alloc: Global,
     first: &mut Option<Conflict>,
     m: &MemberRename<'_>,
     of: &PackageUses<'_>,
     file: usize,
     found: &MemberUse,
+    spelling: &[u8],
 ) -> Result<(), AllocError>
+    requires { spelling.now ≡ spelled_at (slice_get (map source_of of.now.files.now) file) found.now.place }
     ensures { let x = use_of found.now in
         let ds = definitions_known of.now.types in
-        OnOk result ((p : Checked) → IsKnownOf (workspace_before m.now) (verdicts_in m.now) p of.now →
-        ((place : Spot) → TokenBegins (slice_get p.files file) x.place place → new_name_at m.now.moves.now place (spelled p file x.place) ≡ m.now.name.now) →
-        Judges m.now (IsMemberConflict (packages_before m.now) (rename_revision m.now) ds p file x) (UseStays (packages_before m.now) (rename_revision m.now) ds p file x) first.old first.new) }
+        OnOk result ((s : FileChanges) → (p : Checked) → IsKnownOf (workspace_before m.now) (verdicts_in m.now) p of.now → IsUseIn p file x →
+        Judges (by m.now s) (IsMemberConflict (packages_before m.now) (rename_revision (by m.now s)) ds p file x) (UseStays (packages_before m.now) (rename_revision (by m.now s)) ds p file x) first.old first.new) }
 {
     let name = Name {
         bound: None,
-        spelling: spelling_at(of.files, file, found.place),
+        spelling,
     };
     let names = [name];
     match known_member(of.types, names.as_slice(), &found.before) {
         None => Ok(()),
-        Some(old) => judge_called(alloc, first, m, of, file, found, old),
+        Some(old) => if is_called(m, spelling, old) {
+            judge_called(alloc, first, m, of, file, found, old)
+        } else {
+            Ok(())
+        },
     }
 }
 
-/// Judges a use of a member. One whose token hasn't the new name after the rename stays.
+/// Whether a use of a member, spelled so, may have the new name after the rename: it has it, or has the name of the renamed member.
+fn may_be_called(m: &MemberRename<'_>, spelling: &[u8]) -> bool
+    ensures { result ≡ false → (spelling.now ≡ m.now.name.now → ⊥) × ((old : List ℕ) × ((name_value m.now.called ≡ Some old) × (spelling.now ≡ old → ⊥))) }
+{
+    match m.called {
+        None => true,
+        Some(called) => is_name(spelling, called) || is_name(spelling, m.name),
+    }
+}
+
+/// Judges a use of a member. One stays that has neither the new name nor the name of the renamed member.
 fn judge_use(
     alloc: Global,
     first: &mut Option<Conflict>,
@@ -229,14 +235,12 @@ fn judge_use(
 ) -> Result<(), AllocError>
     ensures { let x = use_of found.now in
         let ds = definitions_known of.now.types in
-        OnOk result ((p : Checked) → IsKnownOf (workspace_before m.now) (verdicts_in m.now) p of.now → IsUseIn p file x → Judges m.now (IsMemberConflict (packages_before m.now) (rename_revision m.now) ds p file x) (UseStays (packages_before m.now) (rename_revision m.now) ds p file x) first.old first.new) }
+        OnOk result ((s : FileChanges) → (p : Checked) → IsKnownOf (workspace_before m.now) (verdicts_in m.now) p of.now → IsUseIn p file x →
+        Judges (by m.now s) (IsMemberConflict (packages_before m.now) (rename_revision (by m.now s)) ds p file x) (UseStays (packages_before m.now) (rename_revision (by m.now s)) ds p file x) first.old first.new) }
 {
-    let at = Position {
-        file,
-        index: found.place,
-    };
-    if is_called(m, of.files, at) {
-        judge_bound(alloc, first, m, of, file, found)
+    let spelling = spelling_at(of.files, file, found.place);
+    if may_be_called(m, spelling) {
+        judge_spelled(alloc, first, m, of, file, found, spelling)
     } else {
         Ok(())
     }
@@ -252,9 +256,9 @@ fn judge_file(
     uses: &[MemberUse],
 ) -> Result<(), AllocError>
     ensures { let ds = definitions_known of.now.types in
-        OnOk result ((p : Checked) → IsKnownOf (workspace_before m.now) (verdicts_in m.now) p of.now → AreUsesIn p file (map use_of uses.now) →
-        Judges m.now (IsMemberConflictIn (packages_before m.now) (rename_revision m.now) ds p file (map use_of uses.now))
-        (UsesStay (packages_before m.now) (rename_revision m.now) ds p file (map use_of uses.now)) first.old first.new) }
+        OnOk result ((s : FileChanges) → (p : Checked) → IsKnownOf (workspace_before m.now) (verdicts_in m.now) p of.now → AreUsesIn p file (map use_of uses.now) →
+        Judges (by m.now s) (IsMemberConflictIn (packages_before m.now) (rename_revision (by m.now s)) ds p file (map use_of uses.now))
+        (UsesStay (packages_before m.now) (rename_revision (by m.now s)) ds p file (map use_of uses.now)) first.old first.new) }
 {
     for k in 0..uses.len() {
         judge_use(alloc, first, m, of, file, &uses[k])?;
@@ -272,9 +276,9 @@ fn judge_if_concerned(
     uses: &[MemberUse],
 ) -> Result<(), AllocError>
     ensures { let ds = definitions_known of.now.types in
-        OnOk result ((p : Checked) → IsKnownOf (workspace_before m.now) (verdicts_in m.now) p of.now → AreUsesIn p file (map use_of uses.now) →
-        Judges m.now (IsMemberConflictIn (packages_before m.now) (rename_revision m.now) ds p file (map use_of uses.now))
-        (UsesStay (packages_before m.now) (rename_revision m.now) ds p file (map use_of uses.now)) first.old first.new) }
+        OnOk result ((s : FileChanges) → (p : Checked) → IsKnownOf (workspace_before m.now) (verdicts_in m.now) p of.now → AreUsesIn p file (map use_of uses.now) →
+        Judges (by m.now s) (IsMemberConflictIn (packages_before m.now) (rename_revision (by m.now s)) ds p file (map use_of uses.now))
+        (UsesStay (packages_before m.now) (rename_revision (by m.now s)) ds p file (map use_of uses.now)) first.old first.new) }
 {
     if concerns_at(m, of.files, file, uses) {
         judge_file(alloc, first, m, of, file, uses)
@@ -290,8 +294,8 @@ fn judge_files(
     m: &MemberRename<'_>,
     of: &PackageUses<'_>,
 ) -> Result<(), AllocError>
-    ensures { OnOk result ((p : Checked) → IsKnownOf (workspace_before m.now) (verdicts_in m.now) p of.now →
-        JudgesIn m.now p (MembersStayIn (workspace_before m.now) (verdicts_in m.now) (rename_revision m.now) p) first.old first.new) }
+    ensures { OnOk result ((s : FileChanges) → (p : Checked) → IsKnownOf (workspace_before m.now) (verdicts_in m.now) p of.now →
+        JudgesIn (by m.now s) p (MembersStayIn (workspace_before m.now) (verdicts_in m.now) (rename_revision (by m.now s)) p) first.old first.new) }
 {
     for file in 0..of.members.len() {
         judge_if_concerned(alloc, first, m, of, file, &of.members[file])?;
@@ -309,8 +313,8 @@ fn judge_uses_by(
 ) -> Result<(), AllocError>
     requires in_range { number < length (package_paths (workspace_before m.now)) }
     requires seen { IsSeenBy (workspace_before m.now) (verdicts_in m.now) number seen.now }
-    ensures { OnOk result ((p : Checked) → IsPackageAt (workspace_before m.now) (verdicts_in m.now) number p →
-        JudgesIn m.now p (MembersStayIn (workspace_before m.now) (verdicts_in m.now) (rename_revision m.now) p) first.old first.new) }
+    ensures { OnOk result ((s : FileChanges) → (p : Checked) → IsPackageAt (workspace_before m.now) (verdicts_in m.now) number p →
+        JudgesIn (by m.now s) p (MembersStayIn (workspace_before m.now) (verdicts_in m.now) (rename_revision (by m.now s)) p) first.old first.new) }
 {
     let types = KnownTypes {
         path: path_of(m.workspace, number),
@@ -333,8 +337,8 @@ fn judge_all_uses(
     number: usize,
 ) -> Result<(), AllocError>
     requires { number < length (package_paths (workspace_before m.now)) }
-    ensures { OnOk result ((p : Checked) → IsPackageAt (workspace_before m.now) (verdicts_in m.now) number p →
-        JudgesIn m.now p (MembersStayIn (workspace_before m.now) (verdicts_in m.now) (rename_revision m.now) p) first.old first.new) }
+    ensures { OnOk result ((s : FileChanges) → (p : Checked) → IsPackageAt (workspace_before m.now) (verdicts_in m.now) number p →
+        JudgesIn (by m.now s) p (MembersStayIn (workspace_before m.now) (verdicts_in m.now) (rename_revision (by m.now s)) p) first.old first.new) }
 {
     let seen = seen_by(alloc, m.workspace, number)?;
     judge_uses_by(alloc, first, m, number, &seen)
@@ -348,8 +352,8 @@ pub(crate) fn judge_uses(
     number: usize,
 ) -> Result<(), AllocError>
     requires { number < length (package_paths (workspace_before m.now)) }
-    ensures { OnOk result ((p : Checked) → IsPackageAt (workspace_before m.now) (verdicts_in m.now) number p →
-        JudgesIn m.now p (MembersStayIn (workspace_before m.now) (verdicts_in m.now) (rename_revision m.now) p) first.old first.new) }
+    ensures { OnOk result ((s : FileChanges) → (p : Checked) → IsPackageAt (workspace_before m.now) (verdicts_in m.now) number p →
+        JudgesIn (by m.now s) p (MembersStayIn (workspace_before m.now) (verdicts_in m.now) (rename_revision (by m.now s)) p) first.old first.new) }
 {
     if concerns(
         m,

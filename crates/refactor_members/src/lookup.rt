@@ -1,6 +1,7 @@
 //! Looks up the members that have the new name of a rename: by the old definitions, and the renamed member.
 ghost use Rattle.std.specs.Prelude.{ℕ, ◌≡◌, ◌↔◌, Contains, IsTrue, MatchOption, Some, IfOk, option_map, slice_get};
 ghost use Rattle.std.specs.Option.{option_copied};
+ghost use Rattle.base_edits.specs.EditSet.{FileChanges};
 ghost use Rattle.base_files.specs.Packages.{package_paths};
 ghost use Rattle.types_expr.specs.View.{type_of};
 ghost use Rattle.types_expr.specs.World.{owner, field_owner, is_seen, struct_of};
@@ -14,7 +15,7 @@ ghost use Rattle.refs_binding.specs.declared.declaration.Declaration.TheVariants
 ghost use Rattle.refactor_after.specs.NamesAfter.{IsMethodAfter};
 ghost use Rattle.refactor_after.specs.MembersAfter.{HasFieldAfter, IsFieldIn, IsFirst, IsFirstField, IsFirstMethod, IsMemberAfter, IsMethodIn};
 ghost use Rattle.refactor_after.specs.MembersFound.{IsRankFound, IsStructFound, SelectsField, SelectsMethod};
-ghost use Rattle.refactor_members.specs.Renames.{KnowsRename, IsFieldNamed, IsMethodNamed, packages_before, rename_revision, workspace_before};
+ghost use Rattle.refactor_members.specs.Renames.{by, KnowsRename, IsFieldNamed, IsMethodNamed, packages_before, rename_revision, workspace_before};
 ghost use Rattle.refactor_members.specs.Naming.{HasField, HasMethod, IsFirstOld, IsRenamedField, IsRenamedMethod, lesser_rank};
 
 use crate::member_rename::MemberRename;
@@ -150,7 +151,7 @@ fn earlier(a: Option<usize>, b: Option<usize>) -> Option<usize>
 
 /// The rank of the first field of a struct that has the new name.
 pub(crate) fn first_field(m: &MemberRename<'_>, of: &Symbol) -> Option<usize>
-    ensures { KnowsRename m.now → IsRankFound (λ rank. InPackage (packages_before m.now) of.now.package (λ p. IsFirstField (rename_revision m.now) p of.now.rank m.now.name.now rank)) result }
+    ensures { (s : FileChanges) → KnowsRename (by m.now s) → IsRankFound (λ rank. InPackage (packages_before m.now) of.now.package (λ p. IsFirstField (rename_revision (by m.now s)) p of.now.rank m.now.name.now rank)) result }
 {
     m.workspace.has_no_faults();
     earlier(old_field(m, of), renamed_field(m, of))
@@ -158,7 +159,7 @@ pub(crate) fn first_field(m: &MemberRename<'_>, of: &Symbol) -> Option<usize>
 
 /// The rank of the first method of a type definition that has the new name.
 fn own_method(m: &MemberRename<'_>, of: &Symbol) -> Option<usize>
-    ensures { KnowsRename m.now → IsRankFound (λ rank. InPackage (packages_before m.now) of.now.package (λ p. IsFirst (IsMethodAfter (rename_revision m.now) p of.now.rank m.now.name.now) rank)) result }
+    ensures { (s : FileChanges) → KnowsRename (by m.now s) → IsRankFound (λ rank. InPackage (packages_before m.now) of.now.package (λ p. IsFirst (IsMethodAfter (rename_revision (by m.now s)) p of.now.rank m.now.name.now) rank)) result }
 {
     m.workspace.has_no_faults();
     earlier(old_method(m, of), renamed_method(m, of))
@@ -174,7 +175,7 @@ fn is_seen_from(m: &MemberRename<'_>, own: &[u8], of: &Symbol) -> bool
 
 /// The rank of the field of a struct that the new name selects, written in the package at the path `own`.
 fn field(m: &MemberRename<'_>, own: &[u8], of: &Symbol) -> Option<usize>
-    ensures { KnowsRename m.now → IsRankFound (IsFieldIn (packages_before m.now) (rename_revision m.now) own.now m.now.name.now of.now) result }
+    ensures { (s : FileChanges) → KnowsRename (by m.now s) → IsRankFound (IsFieldIn (packages_before m.now) (rename_revision (by m.now s)) own.now m.now.name.now of.now) result }
 {
     if is_seen_from(m, own, of) {
         first_field(m, of)
@@ -217,7 +218,7 @@ fn struct_of<'b>(m: &'b MemberRename<'b>, of: &'b Symbol) -> Option<&'b Symbol>
 
 /// Whether the values of a type definition have a field of the new name.
 fn has_field(m: &MemberRename<'_>, of: &Symbol) -> bool
-    ensures { KnowsRename m.now → (p : Checked) → packages_before m.now p → p.path ≡ of.now.package → IsTrue result ↔ HasFieldAfter (packages_before m.now) (rename_revision m.now) p of.now.rank m.now.name.now }
+    ensures { (s : FileChanges) → KnowsRename (by m.now s) → (p : Checked) → packages_before m.now p → p.path ≡ of.now.package → IsTrue result ↔ HasFieldAfter (packages_before m.now) (rename_revision (by m.now s)) p of.now.rank m.now.name.now }
 {
     match struct_of(m, of) {
         None => false,
@@ -227,7 +228,7 @@ fn has_field(m: &MemberRename<'_>, of: &Symbol) -> bool
 
 /// The rank of the first method of a type definition that has the new name, if no field has it.
 pub(crate) fn first_method(m: &MemberRename<'_>, of: &Symbol) -> Option<usize>
-    ensures { KnowsRename m.now → IsRankFound (λ rank. InPackage (packages_before m.now) of.now.package (λ p. IsFirstMethod (packages_before m.now) (rename_revision m.now) p of.now.rank m.now.name.now rank)) result }
+    ensures { (s : FileChanges) → KnowsRename (by m.now s) → IsRankFound (λ rank. InPackage (packages_before m.now) of.now.package (λ p. IsFirstMethod (packages_before m.now) (rename_revision (by m.now s)) p of.now.rank m.now.name.now rank)) result }
 {
     if has_field(m, of) {
         None
@@ -238,7 +239,7 @@ pub(crate) fn first_method(m: &MemberRename<'_>, of: &Symbol) -> Option<usize>
 
 /// The rank of the method of a type definition that the new name selects, written in the package at the path `own`.
 fn method(m: &MemberRename<'_>, own: &[u8], of: &Symbol) -> Option<usize>
-    ensures { KnowsRename m.now → IsRankFound (IsMethodIn (packages_before m.now) (rename_revision m.now) own.now m.now.name.now of.now) result }
+    ensures { (s : FileChanges) → KnowsRename (by m.now s) → IsRankFound (IsMethodIn (packages_before m.now) (rename_revision (by m.now s)) own.now m.now.name.now of.now) result }
 {
     if is_seen_from(m, own, of) {
         first_method(m, of)
@@ -312,7 +313,7 @@ fn field_behind(
     world: &World<'_>,
     before: &GoType,
 ) -> Result<Option<Declaration>, AllocError>
-    ensures { IfOk result (λ found. KnowsRename m.now → IsDeclarationResult (SelectsField (packages_before m.now) (rename_revision m.now) own.now m.now.name.now (underlying_in world.now) (type_of before.now)) found) }
+    ensures { IfOk result (λ found. (s : FileChanges) → KnowsRename (by m.now s) → IsDeclarationResult (SelectsField (packages_before m.now) (rename_revision (by m.now s)) own.now m.now.name.now (underlying_in world.now) (type_of before.now)) found) }
 {
     match field_owner(world, before) {
         None => Ok(None),
@@ -326,7 +327,7 @@ fn method_behind(
     own: &[u8],
     before: &GoType,
 ) -> Result<Option<Declaration>, AllocError>
-    ensures { IfOk result (λ found. KnowsRename m.now → IsDeclarationResult (SelectsMethod (packages_before m.now) (rename_revision m.now) own.now m.now.name.now (type_of before.now)) found) }
+    ensures { IfOk result (λ found. (s : FileChanges) → KnowsRename (by m.now s) → IsDeclarationResult (SelectsMethod (packages_before m.now) (rename_revision (by m.now s)) own.now m.now.name.now (type_of before.now)) found) }
 {
     match owner(before) {
         None => Ok(None),
@@ -342,7 +343,7 @@ pub(crate) fn member(
     world: &World<'_>,
     before: &GoType,
 ) -> Result<Option<Declaration>, AllocError>
-    ensures { IfOk result (λ found. KnowsRename m.now → IsDeclarationResult (IsMemberAfter (packages_before m.now) (rename_revision m.now) own.now m.now.name.now (underlying_in world.now) (type_of before.now)) found) }
+    ensures { IfOk result (λ found. (s : FileChanges) → KnowsRename (by m.now s) → IsDeclarationResult (IsMemberAfter (packages_before m.now) (rename_revision (by m.now s)) own.now m.now.name.now (underlying_in world.now) (type_of before.now)) found) }
 {
     match field_behind(m, own, world, before)? {
         None => method_behind(m, own, before),

@@ -1,5 +1,6 @@
 //! The first conflict of a rename of a field or method, by the old workspace and the new name alone.
 ghost use Rattle.std.specs.Prelude.{IfOk};
+ghost use Rattle.base_edits.specs.EditSet.{FileChanges};
 ghost use Rattle.base_edits.specs.RevisionsOfEdits.{revision_of};
 ghost use Rattle.refs_binding.specs.Workspaces.{known_in};
 ghost use Rattle.law_member_conflicts.specs.MemberRenames.{IsMemberRename};
@@ -9,38 +10,38 @@ use crate::definition::definition_of;
 use crate::first::first_turned;
 use crate::member_rename::MemberRename;
 use crate::reaching::reaching;
-use base_edits::{EditSet, Moves};
 use refactor_conflict::Conflict;
 use refs_binding::{Declaration, FaultlessWorkspace};
+use refs_uses::name_of_member;
 use std::alloc::{AllocError, Global};
 
-/// The first identifier that a plain rename of a field or method loses or captures, or `None` where it loses and captures none. `edits` are
-/// those of the rename. No file is edited, and no scopes are laid: the old definitions, the uses of members and the new name decide.
+/// The first identifier that a plain rename of a field or method loses or captures, or `None` where it loses and captures none.
+///
+/// The answer is right for all edits of the rename. None are made, and no scopes are laid: the old definitions, the uses of members and the
+/// two names decide. Where the present name is found, only files are looked at that have it or the new name.
 pub fn member_conflict(
     alloc: Global,
     workspace: &FaultlessWorkspace<'_>,
     declaration: &Declaration,
     name: &[u8],
-    edits: &EditSet,
 ) -> Result<Option<Conflict>, AllocError>
     ensures { let w = workspace.now.graph in
         let known = known_in workspace.now.findings in
-        IfOk result (λ told. IsMemberRename w known declaration.now name.now edits.now → TellsFirstOf w known (revision_of w edits.now) told) }
+        IfOk result (λ told. (s : FileChanges) → IsMemberRename w known declaration.now name.now s → TellsFirstOf w known (revision_of w s) told) }
 {
     law_kept_members::kept_members::members_are_called();
     law_member_conflicts::member_renames::member_renames_keep_scopes();
     law_member_conflicts::member_renames::first_member_conflict();
     law_member_conflicts::member_renames::other_packages_keep_members();
-    let moves = Moves::of(alloc, edits)?;
     let definition = definition_of(alloc, workspace, declaration)?;
     let reaching = reaching(alloc, workspace, declaration)?;
+    let called = name_of_member(workspace, declaration);
     let m = MemberRename {
         workspace,
-        edits,
-        moves: &moves,
         reaching: &reaching,
         member: declaration,
         definition,
+        called,
         name,
     };
     first_turned(alloc, &m)

@@ -1,5 +1,5 @@
 -- A rename that the workspace before it decides: its conflict is refused, and without one it preserves bindings and keeps known verdicts.
-use Rattle.std.proofs.Common.{ℕ, ◌≡◌, inl, inr, true, false, Bool, List, Option, Some, None, refl}
+use Rattle.std.proofs.Common.{ℕ, ◌≡◌, inl, inr, true, false, Bool, List, Option, Some, None, refl, sym, subst}
 use Rattle.std.specs.Prelude.{[], Err}
 use Rattle.std.proofs.lemmas.Bool.{false≢true}
 use Rattle.base_files.specs.Workspace.{Workspace}
@@ -37,28 +37,28 @@ use Rattle.law_known_verdicts.specs.KnownVerdicts.{IsKeptRename, HiddenRenamesKe
 use Rattle.law_known_verdicts.proofs.Laws.{all_others, hidden as all_hidden}
 use Rattle.law_scope_conflicts.specs.ScopeConflicts.{FirstConflictsAreTold}
 use Rattle.law_scope_conflicts.proofs.Whole.{first_told as conflicts_told}
-use Rattle.refactor_decide.specs.Deciding.{DecidesRename}
+use Rattle.refactor_decide.specs.Deciding.{Decides, DecidesIn}
 use Rattle.refactor_decide.specs.declared.decision.ScopeDecision.{ScopeDecision}
 use Rattle.refactor_decide.proofs.Told.{first_told, is_hidden as hidden_told, plain}
-use Rattle.refactor_plan.specs.Decided.{IsDecided, IsLegalFor, KeepsKnown}
+use Rattle.refactor_plan.specs.Decided.{DecidesRename, DecidesRenames, IsDecided, IsLegalFor, KeepsKnown}
 use Rattle.refactor_plan.specs.Proposals.{PlansChange}
 use Rattle.refactor_plan.proofs.Proposed.{told_conflict, conflict_planned}
 
 -- Each lemma takes the law that it rests on as an argument.
 
 -- a decision decides the edits of the rename
-decided_by : FirstConflictsAreTold → (w : Workspace) → ListsFaults w [] → (known : Verdicts) → AreVerdicts w known → (path : List ℕ) (n : ℕ)
-    (name : List ℕ) (s : FileChanges) → IsLegalFor w known (Declared path n) name → AreRenameEdits w known (Declared path n) name s → Fits s w →
-    (d : ScopeDecision) → DecidesRename w known path n name (Some d) → IsDecided w known path d.is_hidden d.conflict s
-decided_by law w sound known right path n name s legal edits fit d h =
-    let rename = plain w known path n name d h sound right s legal.form legal.renamable legal.allowed legal.other edits fit in
+decided_by : FirstConflictsAreTold → (w : Workspace) → ListsFaults w [] → (known : Verdicts) → AreVerdicts w known → (p : Package) → IsPackage w known p →
+    (n : ℕ) (name : List ℕ) → IsLegalFor w known (Declared p.path n) name → (d : ScopeDecision) → Decides w known p n name d →
+    DecidesRename w known p.path (Declared p.path n) name d.is_hidden d.conflict
+decided_by law w sound known right p is n name legal d h = λ s edits fit.
+    let rename = plain w known p is n name d h sound right s legal.form legal.renamable legal.allowed legal.other edits fit in
     record {
-      declaration = Declared path n;
+      declaration = Declared p.path n;
       home = refl;
       name = name;
       plain = rename;
-      first = first_told w known path n name d h law s rename;
-      hidden = λ is. hidden_told w known path n name d h (h.1.1.1.hidden is);
+      first = first_told w known p is n name d h law s rename;
+      hidden = λ hidden. hidden_told w known p is n name d h (h.hidden hidden);
     }
 
 -- no literal where none is found
@@ -133,10 +133,19 @@ module _ (w : Workspace) (known : Verdicts) (path : List ℕ) (s : FileChanges) 
       KnowsVerdicts (edited s w) new
   kept is_hidden h = kept_by all_hidden all_others (preserved is_hidden h) is_hidden h
 
-pub decided : (w : Workspace) → ListsFaults w [] → (known : Verdicts) → AreVerdicts w known → (path : List ℕ) (n : ℕ) (name : List ℕ) (s : FileChanges) →
-    IsLegalFor w known (Declared path n) name → AreRenameEdits w known (Declared path n) name s → Fits s w → (d : ScopeDecision) →
-    DecidesRename w known path n name (Some d) → IsDecided w known path d.is_hidden d.conflict s
+decided : (w : Workspace) → ListsFaults w [] → (known : Verdicts) → AreVerdicts w known → (p : Package) → IsPackage w known p → (n : ℕ) (name : List ℕ) →
+    IsLegalFor w known (Declared p.path n) name → (d : ScopeDecision) → Decides w known p n name d →
+    DecidesRename w known p.path (Declared p.path n) name d.is_hidden d.conflict
 decided = decided_by conflicts_told
+
+-- where scopes decide the rename, or do not
+pub scoped_decided : (w : Workspace) → ListsFaults w [] → (known : Verdicts) → AreVerdicts w known → (p : Package) → IsPackage w known p → (n : ℕ)
+    (d : Declaration) → d ≡ Declared p.path n → (name : List ℕ) → IsLegalFor w known d name → (o : Option ScopeDecision) → DecidesIn w known p n name o →
+    DecidesRenames w known p.path d name o
+scoped_decided w sound known right p is n d same name legal None h = tt
+scoped_decided w sound known right p is n d same name legal (Some x) h =
+    subst (λ e. DecidesRename w known p.path e name x.is_hidden x.conflict) (sym same)
+    (decided w sound known right p is n name (subst (λ e. IsLegalFor w known e name) same legal) x h)
 
 pub conflict_refused : (snapshot : Snapshot) (known : Verdicts) (path : List ℕ) (place : Place) (kind : ChangeKind) (s : FileChanges) (is_hidden : Bool)
     (c : Conflict) → IsDecided snapshot.files known path is_hidden (Some c) s → PlansChange snapshot known place kind s (Err (refusal_for c.by c.used))

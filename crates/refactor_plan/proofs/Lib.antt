@@ -1,6 +1,8 @@
 -- The lemmas of this crate.
 pub mod Proposed
 pub mod DecidedRenames
+pub mod Homes
+pub mod DecidedMoves
 pub mod UsedMembers
 pub mod Planned
 pub mod Keeping

@@ -119,12 +119,11 @@ target_refused snapshot from to paths NoPackage h = (paths.source, paths.target,
 target_refused snapshot from to paths Same h = (asked snapshot from to paths h.0, h.1)
 target_refused snapshot from to paths InsideItself h = (elsewhere snapshot from to paths h.0 h.1, h.2)
 target_refused snapshot from to paths TargetTaken h = (beside snapshot from to paths h.0 h.1 h.2, h.3)
-target_refused snapshot from to paths Memory h = h
 target_refused snapshot from to paths _ h = absurd h
 
 -- what is planned
 
-movable : (snapshot : Snapshot) (from to : List ℕ) → ArePaths from to → RefusesTarget snapshot.files from to (Ok tt) → IsMovable snapshot.files from to
+pub movable : (snapshot : Snapshot) (from to : List ℕ) → ArePaths from to → RefusesTarget snapshot.files from to (Ok tt) → IsMovable snapshot.files from to
 movable snapshot from to paths h = record { beside = beside snapshot from to paths h.0 h.1 h.2; free = h.3 }
 
 in_refused : (snapshot : Snapshot) (from to : List ℕ) → IsMovable snapshot.files from to → (r : Refusal) → PlansMoveTo snapshot from to (Err r) →

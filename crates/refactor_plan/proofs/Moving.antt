@@ -24,7 +24,7 @@ exactly snapshot from to change old new r base files =
 
 pub moves_keep : MovesKeepBindings
 moves_keep snapshot from to change old new basis number plan step =
-    exactly snapshot from to change old new plan.1 step.1.0.1 (ap (λ (c : Content). c.current.files) step.1.2.2)
+    exactly snapshot from to change old new plan.1 step.1.0.0.1 (ap (λ (c : Content). c.current.files) step.1.2.2)
 
 pub undo_takes_back : UndoTakesMovesBack
 undo_takes_back snapshot from to change start changed settled end basis number between reply plan committed run quiet undone =

@@ -24,7 +24,7 @@ exactly snapshot path offset name change old new r base files =
 
 pub renames_keep : RenamesKeepBindings
 renames_keep snapshot path offset name change old new basis number plan step =
-    exactly snapshot path offset name change old new plan.1 step.1.0.1 (ap (λ (c : Content). c.current.files) step.1.2.2)
+    exactly snapshot path offset name change old new plan.1 step.1.0.0.1 (ap (λ (c : Content). c.current.files) step.1.2.2)
 
 pub undo_takes_back : UndoTakesRenamesBack
 undo_takes_back snapshot path offset name change start changed settled end basis number between reply plan committed run quiet undone =

@@ -1,9 +1,10 @@
 -- A rename that the scopes before it decide.
-use Rattle.std.specs.Prelude.{ℕ, ◌≡◌, ◌≢◌, ◌⊎◌, true, false, Bool, List, Option, Some, IsTrue, slice_get}
+use Rattle.std.specs.Prelude.{ℕ, ◌≡◌, ◌≢◌, ◌⊎◌, ⊤, true, false, Bool, List, Option, Some, None, IsTrue, slice_get}
 use Rattle.base_files.specs.Packages.{package_paths}
 use Rattle.base_files.specs.Workspace.{Workspace}
 use Rattle.base_files.specs.declared.place.Place.{Place}
 use Rattle.base_edits.specs.EditSet.{FileChanges}
+use Rattle.base_edits.specs.Fits.{Fits}
 use Rattle.base_edits.specs.RevisionsOfEdits.{revision_of}
 use Rattle.workspace_check.specs.declared.known.Known.{Known}
 use Rattle.workspace_check.specs.declared.known.KnownVerdict.{KnownVerdict}
@@ -16,6 +17,8 @@ use Rattle.refs_places.specs.Outside.{declaring_path}
 use Rattle.refactor_conflict.specs.declared.conflict.Conflict.{Conflict}
 use Rattle.refactor_rename.specs.Naming.{IsFixed, IsReservedFor}
 use Rattle.refactor_rename.specs.NewName.{IsNewName}
+use Rattle.refactor_rename.specs.RenameEdits.{AreRenameEdits}
+use Rattle.refactor_decide.specs.declared.decision.ScopeDecision.{ScopeDecision}
 use Rattle.law_renamed_packages.specs.Renames.{IsPlainRename}
 use Rattle.law_kept_members.specs.NamesAfterwards.{IsMember}
 use Rattle.law_rename_agrees.specs.ConflictsByTables.{TellsFirstOf}
@@ -50,3 +53,12 @@ pub record IsDecided (w : Workspace) (known : Verdicts) (path : List ℕ) (is_hi
   pub plain : IsPlainRename w known declaration name s
   pub first : TellsFirstOf w known (revision_of w s) told
   pub hidden : IsTrue is_hidden → IsHidden w known declaration name
+
+-- So is each edit set of the rename of the declaration `d` of the package at the path.
+abbrev pub DecidesRename : Workspace → Verdicts → (path : List ℕ) → Declaration → (name : List ℕ) → (is_hidden : Bool) → (told : Option Conflict) → Type 0
+DecidesRename w known path d name is_hidden told = (s : FileChanges) → AreRenameEdits w known d name s → Fits s w → IsDecided w known path is_hidden told s
+
+-- What is decided of a rename; nothing, where an import without a name would gain one.
+abbrev pub DecidesRenames : Workspace → Verdicts → (path : List ℕ) → Declaration → (name : List ℕ) → Option ScopeDecision → Type 0
+DecidesRenames w known path d name None = ⊤
+DecidesRenames w known path d name (Some x) = DecidesRename w known path d name x.is_hidden x.conflict

@@ -31,7 +31,6 @@ RefusesTarget w from to (Err NoPackage) = ¬ (Contains (package_paths w) from)
 RefusesTarget w from to (Err Same) = Contains (package_paths w) from × (to ≡ from)
 RefusesTarget w from to (Err InsideItself) = Contains (package_paths w) from × ¬ (to ≡ from) × IsUnder from to
 RefusesTarget w from to (Err TargetTaken) = Contains (package_paths w) from × ¬ (to ≡ from) × ¬ (IsUnder from to) × HasFileUnder w to
-RefusesTarget w from to (Err Memory) = ⊤
 RefusesTarget w from to (Err refusal) = ⊥
 
 -- The place that a refusal of a move names where the workspace has no identifier: the package, at offset 0.

@@ -7,6 +7,7 @@ use Rattle.base_files.specs.declared.refusal.Refusal.TheVariants.{Memory, TooLar
 use Rattle.workspace_check.specs.declared.known.Known.{Known}
 use Rattle.workspace_check.specs.Found.{KnowsVerdicts}
 use Rattle.workspace_check.specs.Verdicts.{Verdicts}
+use Rattle.refs_binding.specs.Workspaces.{known_in}
 use Rattle.base_edits.specs.EditSet.{FileChanges, edited}
 use Rattle.base_edits.specs.RevisionsOfEdits.{revision_of}
 use Rattle.workspace_snapshot.specs.Fits.{FitsLimits}
@@ -20,6 +21,19 @@ use Rattle.refactor_plan.specs.declared.proposal.Proposal.{Proposal}
 -- The place that a refusal names as lost where the workspace has no identifier.
 abbrev pub proposal_place : Proposal → Place
 proposal_place p = record { path = p.path.now; offset = p.offset }
+
+-- The workspace of the proposal is that of its snapshot, and what is known of the packages is right.
+pub record IsProposed (p : Proposal) : Type 0 where
+  pub same : p.workspace.now.graph ≡ p.snapshot.now.files
+  pub known : KnowsVerdicts p.workspace.now.graph p.known.now
+
+-- The snapshot of a proposal. Its files are those of the proposal's workspace.
+abbrev pub proposed_snapshot : Proposal → Snapshot
+proposed_snapshot p = record { number = p.snapshot.now.number; limits = p.snapshot.now.limits; files = p.workspace.now.graph }
+
+-- The verdicts on the packages of its workspace.
+abbrev pub proposed_verdicts : Proposal → Verdicts
+proposed_verdicts p = known_in p.workspace.now.findings
 
 -- The change of a kind that has these edits of the snapshot's files.
 abbrev pub proposed_change : Snapshot → ChangeKind → FileChanges → Change

@@ -3,127 +3,119 @@ ghost use Rattle.std.specs.Prelude.{◌≡◌, IfOk};
 ghost use Rattle.base_files.specs.Path.{IsPath};
 ghost use Rattle.base_edits.specs.Fits.{Fits};
 ghost use Rattle.workspace_check.specs.Found.{IsFound, KnowsVerdicts};
-ghost use Rattle.refs_binding.specs.Workspaces.{IsFaultless, known_in};
 ghost use Rattle.refactor_preserve.specs.Planned.{change_in};
-ghost use Rattle.refactor_move.specs.MoveEdits.{HasNoNewPath, IsFree};
-ghost use Rattle.workspace_snapshot.specs.declared.change.ChangeKind.TheVariants.{Move};
-ghost use Rattle.refactor_plan.specs.MovePlan.{PlansMove};
-ghost use Rattle.refactor_plan.specs.Proposals.{PlansChange};
-ghost use Rattle.refactor_plan.specs.MoveSteps.{package_place, ArePaths, RefusesLength, PlansMoveTo};
+ghost use Rattle.refactor_move.specs.MoveEdits.{AreMoveEdits, HasNoNewPath};
+ghost use Rattle.refactor_plan.specs.DecidedMoves.{RefusesLengthOfName};
+ghost use Rattle.refactor_plan.specs.MovePlan.{IsMovable, NamesPackage, PlansMove};
+ghost use Rattle.refactor_plan.specs.Proposals.{IsProposed, proposal_place, proposed_snapshot, proposed_verdicts};
+ghost use Rattle.refactor_plan.specs.MoveSteps.{ArePaths, PlansMoveTo};
 
-use crate::proposal::{Proposal, plan_change, refuse_conflict};
+use crate::decided_moves::plan_decided;
+use crate::proposal::Proposal;
 use crate::targets::refuse_target;
 use base_edits::EditSet;
 use base_files::{Path, Refusal};
+use refactor_conflict::told;
+use refactor_follow::move_conflict;
 use refactor_move::move_edits;
 use refactor_preserve::Planned;
 use refs_binding::{FaultlessWorkspace, refuse_faults};
 use std::alloc::Global;
-use workspace_check::Found;
-use workspace_snapshot::{ChangeKind, MadeChange, Snapshot};
-
-/// Plans the change by an edit set: refuses it where it does not preserve bindings or exceeds a limit.
-fn plan_edits(
-    alloc: Global,
-    snapshot: &Snapshot,
-    found: &Found,
-    from: &Path,
-    edits: EditSet,
-) -> Result<Planned, Refusal>
-    requires sound { IsFaultless snapshot.now.files found.now.findings }
-    requires known { KnowsVerdicts snapshot.now.files found.now.known }
-    requires fits { Fits edits snapshot.now.files }
-    ensures planned { PlansChange snapshot.now (known_in found.now.findings) (package_place from.now) Move edits (change_in result) }
-    ensures known { IfOk result (λ p. KnowsVerdicts p.change.files p.known) }
-{
-    let change = MadeChange::of(alloc, snapshot, ChangeKind::Move, edits)?;
-    let proposal = Proposal {
-        snapshot,
-        found,
-        path: from,
-        offset: 0,
-    };
-    plan_change(alloc, &proposal, change)
-}
+use workspace_check::{Found, Known};
+use workspace_snapshot::Snapshot;
 
 /// Why a move that would give a file too long a path is refused, by the edits of the package's name alone: their first conflict, or
-/// `TooLarge`.
-fn refuse_length(
-    alloc: Global,
-    snapshot: &Snapshot,
-    found: &Found,
-    from: &Path,
-    edits: EditSet,
-) -> Result<Planned, Refusal>
-    requires sound { IsFaultless snapshot.now.files found.now.findings }
-    requires known { KnowsVerdicts snapshot.now.files found.now.known }
-    requires fits { Fits edits snapshot.now.files }
-    ensures planned { RefusesLength snapshot.now.files (known_in found.now.findings) (package_place from.now) edits (change_in result) }
+/// `TooLarge`. No change is made.
+fn refuse_length(alloc: Global, proposal: &Proposal<'_>, to: &Path) -> Result<Planned, Refusal>
+    requires asked { NamesPackage proposal.now.workspace.now.graph proposal.now.path.now to.now }
+    ensures planned { RefusesLengthOfName proposal.now.workspace.now.graph (proposed_verdicts proposal.now) (proposal_place proposal.now) proposal.now.path.now to.now (change_in result) }
     ensures known { IfOk result (λ p. KnowsVerdicts p.change.files p.known) }
 {
-    let change = MadeChange::of(alloc, snapshot, ChangeKind::Move, edits)?;
-    let proposal = Proposal {
-        snapshot,
-        found,
-        path: from,
-        offset: 0,
-    };
-    match refuse_conflict(alloc, &proposal, &change) {
-        Err(refusal) => Err(refusal),
-        Ok(_known) => Err(Refusal::TooLarge),
+    proposal.workspace.has_no_faults();
+    let conflict = move_conflict(alloc, proposal.workspace, proposal.path, to)?;
+    match conflict {
+        None => Err(Refusal::TooLarge),
+        Some(conflict) => Err(told(conflict)),
     }
 }
 
 /// Why a move that would give a file too long a path is refused. A conflict of the package's new name comes before `TooLarge`.
-fn refuse_long(
-    alloc: Global,
-    snapshot: &Snapshot,
-    found: &Found,
-    from: &Path,
-    to: &Path,
-) -> Result<Planned, Refusal>
-    requires sound { IsFaultless snapshot.now.files found.now.findings }
-    requires known { KnowsVerdicts snapshot.now.files found.now.known }
-    requires no_path { HasNoNewPath snapshot.now.files from.now to.now }
-    ensures planned { PlansMoveTo snapshot.now from.now to.now (change_in result) }
+fn refuse_long(alloc: Global, proposal: &Proposal<'_>, to: &Path) -> Result<Planned, Refusal>
+    requires proposed { IsProposed proposal.now }
+    requires at_start { proposal.now.offset ≡ 0 }
+    requires asked { NamesPackage proposal.now.workspace.now.graph proposal.now.path.now to.now }
+    requires no_path { HasNoNewPath proposal.now.workspace.now.graph proposal.now.path.now to.now }
+    ensures planned { PlansMoveTo (proposed_snapshot proposal.now) proposal.now.path.now to.now (change_in result) }
     ensures known { IfOk result (λ p. KnowsVerdicts p.change.files p.known) }
 {
-    let workspace = FaultlessWorkspace {
-        graph: &snapshot.files,
-        findings: &found.findings,
-    };
-    match move_edits(alloc, &workspace, from, from, to) {
+    proposal.workspace.has_no_faults();
+    let from = proposal.path;
+    match move_edits(alloc, proposal.workspace, from, from, to) {
         Err(refusal) => Err(refusal),
-        Ok(edits) => refuse_length(alloc, snapshot, found, from, edits),
+        Ok(_edits) => refuse_length(alloc, proposal, to),
     }
 }
 
-/// Plans the move of a package in a workspace without faults. No file lies in the folder `to`.
-fn plan_found(
+/// Plans the move by its edits.
+fn plan_moved(
+    alloc: Global,
+    proposal: &Proposal<'_>,
+    to: &Path,
+    edits: EditSet,
+) -> Result<Planned, Refusal>
+    requires proposed { IsProposed proposal.now }
+    requires at_start { proposal.now.offset ≡ 0 }
+    requires movable { IsMovable proposal.now.workspace.now.graph proposal.now.path.now to.now }
+    requires edits { AreMoveEdits proposal.now.workspace.now.graph (proposed_verdicts proposal.now) proposal.now.path.now to.now to.now edits }
+    requires fits { Fits edits proposal.now.workspace.now.graph }
+    ensures planned { PlansMoveTo (proposed_snapshot proposal.now) proposal.now.path.now to.now (change_in result) }
+    ensures known { IfOk result (λ p. KnowsVerdicts p.change.files p.known) }
+{
+    proposal.workspace.has_no_faults();
+    plan_decided(alloc, proposal, to, edits)
+}
+
+/// Plans the move of the package of a proposal. The paths allow it.
+fn plan_found(alloc: Global, proposal: &Proposal<'_>, to: &Path) -> Result<Planned, Refusal>
+    requires proposed { IsProposed proposal.now }
+    requires at_start { proposal.now.offset ≡ 0 }
+    requires movable { IsMovable proposal.now.workspace.now.graph proposal.now.path.now to.now }
+    ensures planned { PlansMoveTo (proposed_snapshot proposal.now) proposal.now.path.now to.now (change_in result) }
+    ensures known { IfOk result (λ p. KnowsVerdicts p.change.files p.known) }
+{
+    match move_edits(alloc, proposal.workspace, proposal.path, to, to) {
+        Err(Refusal::Memory) => Err(Refusal::Memory),
+        Err(_) => refuse_long(alloc, proposal, to),
+        Ok(edits) => plan_moved(alloc, proposal, to, edits),
+    }
+}
+
+/// Plans the move of a package in a workspace without faults, which is that of the snapshot. The paths allow it.
+fn plan_sound(
     alloc: Global,
     snapshot: &Snapshot,
-    found: &Found,
+    known: &Known,
+    workspace: &FaultlessWorkspace<'_>,
     from: &Path,
     to: &Path,
 ) -> Result<Planned, Refusal>
-    requires sound { IsFaultless snapshot.now.files found.now.findings }
-    requires known { KnowsVerdicts snapshot.now.files found.now.known }
-    requires free { IsFree snapshot.now.files to.now }
+    requires known { KnowsVerdicts snapshot.now.files known.now }
+    requires same { workspace.now.graph ≡ snapshot.now.files }
+    requires movable { IsMovable snapshot.now.files from.now to.now }
     ensures planned { PlansMoveTo snapshot.now from.now to.now (change_in result) }
     ensures known { IfOk result (λ p. KnowsVerdicts p.change.files p.known) }
 {
-    let workspace = FaultlessWorkspace {
-        graph: &snapshot.files,
-        findings: &found.findings,
+    let proposal = Proposal {
+        snapshot,
+        workspace,
+        known,
+        path: from,
+        offset: 0,
     };
-    match move_edits(alloc, &workspace, from, to, to) {
-        Err(Refusal::Memory) => Err(Refusal::Memory),
-        Err(_) => refuse_long(alloc, snapshot, found, from, to),
-        Ok(edits) => plan_edits(alloc, snapshot, found, from, edits),
-    }
+    plan_found(alloc, &proposal, to)
 }
 
-/// Plans the move of a package, or refuses it where the workspace has a fault. No file lies in the folder `to`.
+/// Plans the move of a package, or refuses it where the workspace has a fault. The paths allow it.
 fn plan_in(
     alloc: Global,
     snapshot: &Snapshot,
@@ -132,13 +124,13 @@ fn plan_in(
     to: &Path,
 ) -> Result<Planned, Refusal>
     requires found { IsFound snapshot.now.files found.now }
-    requires free { IsFree snapshot.now.files to.now }
+    requires movable { IsMovable snapshot.now.files from.now to.now }
     ensures planned { PlansMoveTo snapshot.now from.now to.now (change_in result) }
     ensures known { IfOk result (λ p. KnowsVerdicts p.change.files p.known) }
 {
     match refuse_faults(alloc, &snapshot.files, &found.findings) {
         Err(refusal) => Err(refusal),
-        Ok(_) => plan_found(alloc, snapshot, found, from, to),
+        Ok(workspace) => plan_sound(alloc, snapshot, &found.known, &workspace, from, to),
     }
 }
 

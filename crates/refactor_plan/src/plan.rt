@@ -1,36 +1,37 @@
 //! Plans a rename: the change that gives the declaration of the identifier at a byte another name.
-ghost use Rattle.std.specs.Prelude.{◌≡◌, Some, IfOk};
-ghost use Rattle.base_edits.specs.Fits.{Fits};
+ghost use Rattle.std.specs.Prelude.{◌≡◌, ◌<◌, Some, length, slice_get, IfOk};
+ghost use Rattle.base_files.specs.Packages.{package_paths};
+ghost use Rattle.base_files.specs.Path.{folder};
+ghost use Rattle.types_declared.specs.PackageView.{package_of};
 ghost use Rattle.workspace_check.specs.Found.{IsFound, KnowsVerdicts};
-ghost use Rattle.refs_binding.specs.declared.declaration.Declaration.TheVariants.{Declared};
-ghost use Rattle.refs_binding.specs.Uses.{HasDeclaration};
-ghost use Rattle.refs_binding.specs.Workspaces.{IsFaultless, known_in};
+ghost use Rattle.refs_binding.specs.Indexed.{IsNumbered, IsPackageNumbered};
+ghost use Rattle.refs_binding.specs.Uses.{HasDeclaration, IsPackage};
+ghost use Rattle.refs_binding.specs.Workspaces.{home_path};
 ghost use Rattle.refs_places.specs.Outside.{declaring_path};
-ghost use Rattle.law_kept_members.specs.NamesAfterwards.{IsMember};
 ghost use Rattle.refactor_preserve.specs.Planned.{change_in};
+ghost use Rattle.refactor_rename.specs.Naming.{RefusesName};
 ghost use Rattle.refactor_rename.specs.NewName.{IsNewName};
-ghost use Rattle.refactor_rename.specs.RenameEdits.{AreRenameEdits};
-ghost use Rattle.workspace_snapshot.specs.declared.change.ChangeKind.TheVariants.{Rename};
+ghost use Rattle.refactor_plan.specs.Bindings.{IsOfRead, IsReadFor};
 ghost use Rattle.refactor_plan.specs.Decided.{IsLegalFor};
 ghost use Rattle.refactor_plan.specs.Plan.{PlansRename};
-ghost use Rattle.refactor_plan.specs.Proposals.{PlansChange, proposal_place};
-ghost use Rattle.refactor_plan.specs.Requests.{byte_place};
+ghost use Rattle.refactor_plan.specs.Proposals.{IsProposed, proposal_place, proposed_snapshot, proposed_verdicts};
 ghost use Rattle.refactor_plan.specs.Steps.{PlansDeclaration, PlansAtByte};
 
-use crate::decided::plan_decided;
-use crate::proposal::{Proposal, plan_change};
-use base_edits::EditSet;
+use crate::bindings::{PackageBindings, bindings_of, conflict_of};
+use crate::decided::{edits_of, plan_decided};
+use crate::proposal::{Proposal, plan_edits};
 use base_files::{Path, Refusal};
-use refactor_decide::{ScopeDecision, scope_decision};
-use refactor_members::member_conflict;
 use refactor_preserve::Planned;
-use refactor_rename::{is_new_name, refuse_name, rename_edits};
-use refs_binding::{Declaration, FaultlessWorkspace, refuse_faults};
-use refs_lookup::declaration_at;
+use refactor_rename::{is_new_name, refuse_name};
+use refs_binding::indexed::Numbered;
+use refs_binding::{Declaration, FaultlessWorkspace, PackageReader, refuse_faults};
+use refs_lookup::declaration_in_package;
+use refs_places::declared_places::package_path;
 use std::alloc::Global;
+use types_declared::{Index, Package};
 use types_expr::symbol::SharedPath;
-use workspace_check::Found;
-use workspace_snapshot::{ChangeKind, MadeChange, Snapshot};
+use workspace_check::{Found, Known};
+use workspace_snapshot::{ChangeKind, Snapshot};
 
 /// The arguments of a rename: the path of a file, a byte offset in it, and the new name.
 #[derive(Clone, Copy)]
@@ -40,181 +41,287 @@ struct RenameRequest<'a> {
     name: &'a [u8],
 }
 
-/// Plans the rename with these edits by judging the edited workspace.
-fn plan_edits(alloc: Global, proposal: &Proposal<'_>, edits: EditSet) -> Result<Planned, Refusal>
-    requires sound { IsFaultless proposal.now.snapshot.now.files proposal.now.found.now.findings }
-    requires known { KnowsVerdicts proposal.now.snapshot.now.files proposal.now.found.now.known }
-    requires fits { Fits edits proposal.now.snapshot.now.files }
-    ensures planned { PlansChange proposal.now.snapshot.now (known_in proposal.now.found.now.findings) (proposal_place proposal.now) Rename edits (change_in result) }
-    ensures known { IfOk result (λ p. KnowsVerdicts p.change.files p.known) }
-{
-    let change = MadeChange::of(alloc, proposal.snapshot, ChangeKind::Rename, edits)?;
-    plan_change(alloc, proposal, change)
-}
-
-/// Plans the rename of a declaration of the scopes of a package with these edits: by its scopes, if they decide it, or else by judging the
-/// edited workspace.
-fn plan_scoped(
+/// Plans the rename of a declaration of the package that was read, by judging the edited workspace.
+fn plan_judged(
     alloc: Global,
     proposal: &Proposal<'_>,
-    path: &SharedPath,
-    n: usize,
-    name: &[u8],
-    edits: EditSet,
-) -> Result<Planned, Refusal>
-    requires sound { IsFaultless proposal.now.snapshot.now.files proposal.now.found.now.findings }
-    requires known { KnowsVerdicts proposal.now.snapshot.now.files proposal.now.found.now.known }
-    requires legal { IsLegalFor proposal.now.snapshot.now.files (known_in proposal.now.found.now.findings) (Declared path.now n) name.now }
-    requires edits { AreRenameEdits proposal.now.snapshot.now.files (known_in proposal.now.found.now.findings) (Declared path.now n) name.now edits }
-    requires fits { Fits edits proposal.now.snapshot.now.files }
-    ensures planned { PlansChange proposal.now.snapshot.now (known_in proposal.now.found.now.findings) (proposal_place proposal.now) Rename edits (change_in result) }
-    ensures known { IfOk result (λ p. KnowsVerdicts p.change.files p.known) }
-{
-    let workspace = FaultlessWorkspace {
-        graph: &proposal.snapshot.files,
-        findings: &proposal.found.findings,
-    };
-    match scope_decision(alloc, &workspace, path, n, name)? {
-        None => plan_edits(alloc, proposal, edits),
-        Some(decision) => {
-            let ScopeDecision {
-                conflict,
-                is_hidden,
-            } = decision;
-            plan_decided(alloc, proposal, path, is_hidden, conflict, edits)
-        }
-    }
-}
-
-/// Plans the rename of a field or method of the package at a path, with these edits. The members of the workspace before it decide.
-fn plan_member(
-    alloc: Global,
-    proposal: &Proposal<'_>,
-    declaration: &Declaration,
-    path: &SharedPath,
-    name: &[u8],
-    edits: EditSet,
-) -> Result<Planned, Refusal>
-    requires sound { IsFaultless proposal.now.snapshot.now.files proposal.now.found.now.findings }
-    requires known { KnowsVerdicts proposal.now.snapshot.now.files proposal.now.found.now.known }
-    requires legal { IsLegalFor proposal.now.snapshot.now.files (known_in proposal.now.found.now.findings) declaration.now name.now }
-    requires edits { AreRenameEdits proposal.now.snapshot.now.files (known_in proposal.now.found.now.findings) declaration.now name.now edits }
-    requires fits { Fits edits proposal.now.snapshot.now.files }
-    requires member { IsMember declaration.now }
-    requires home { declaring_path declaration.now ≡ Some path.now }
-    ensures planned { PlansChange proposal.now.snapshot.now (known_in proposal.now.found.now.findings) (proposal_place proposal.now) Rename edits (change_in result) }
-    ensures known { IfOk result (λ p. KnowsVerdicts p.change.files p.known) }
-{
-    let workspace = FaultlessWorkspace {
-        graph: &proposal.snapshot.files,
-        findings: &proposal.found.findings,
-    };
-    let conflict = member_conflict(alloc, &workspace, declaration, name, &edits)?;
-    plan_decided(alloc, proposal, path, false, conflict, edits)
-}
-
-/// Plans the rename with these edits of a declaration.
-fn plan_by_kind(
-    alloc: Global,
-    proposal: &Proposal<'_>,
+    read: &PackageBindings<'_>,
     declaration: &Declaration,
     name: &[u8],
-    edits: EditSet,
 ) -> Result<Planned, Refusal>
-    requires sound { IsFaultless proposal.now.snapshot.now.files proposal.now.found.now.findings }
-    requires known { KnowsVerdicts proposal.now.snapshot.now.files proposal.now.found.now.known }
-    requires legal { IsLegalFor proposal.now.snapshot.now.files (known_in proposal.now.found.now.findings) declaration.now name.now }
-    requires edits { AreRenameEdits proposal.now.snapshot.now.files (known_in proposal.now.found.now.findings) declaration.now name.now edits }
-    requires fits { Fits edits proposal.now.snapshot.now.files }
-    ensures planned { PlansChange proposal.now.snapshot.now (known_in proposal.now.found.now.findings) (proposal_place proposal.now) Rename edits (change_in result) }
+    requires proposed { IsProposed proposal.now }
+    requires read { IsReadFor proposal.now read.now }
+    requires home { IsOfRead read.now declaration.now }
+    ensures planned { PlansDeclaration (proposed_snapshot proposal.now) (proposed_verdicts proposal.now) (proposal_place proposal.now) declaration.now name.now (change_in result) }
     ensures known { IfOk result (λ p. KnowsVerdicts p.change.files p.known) }
 {
-    match declaration {
-        Declaration::Declared(path, n) => plan_scoped(alloc, proposal, path, *n, name, edits),
-        Declaration::Field(symbol) => {
-            plan_member(alloc, proposal, declaration, &symbol.package, name, edits)
-        }
-        Declaration::Method(symbol) => {
-            plan_member(alloc, proposal, declaration, &symbol.package, name, edits)
-        }
-        Declaration::Predeclared(_) => plan_edits(alloc, proposal, edits),
-    }
+    let edits = edits_of(alloc, proposal, read, declaration, name)?;
+    plan_edits(alloc, proposal, ChangeKind::Rename, edits)
 }
 
-/// Plans the change that gives a declaration the new name, which is legal for it.
+/// Plans the change that gives a declaration of the package that was read the new name, which is legal for it.
 fn plan_declaration(
     alloc: Global,
-    snapshot: &Snapshot,
-    found: &Found,
+    proposal: &Proposal<'_>,
+    read: &PackageBindings<'_>,
     declaration: &Declaration,
-    asked: &RenameRequest<'_>,
+    name: &[u8],
 ) -> Result<Planned, Refusal>
-    requires sound { IsFaultless snapshot.now.files found.now.findings }
-    requires known { KnowsVerdicts snapshot.now.files found.now.known }
-    requires legal { IsLegalFor snapshot.now.files (known_in found.now.findings) declaration.now asked.now.name.now }
-    ensures planned { PlansDeclaration snapshot.now (known_in found.now.findings) (byte_place asked.now) declaration.now asked.now.name.now (change_in result) }
+    requires proposed { IsProposed proposal.now }
+    requires read { IsReadFor proposal.now read.now }
+    requires home { IsOfRead read.now declaration.now }
+    requires legal { IsLegalFor proposal.now.workspace.now.graph (proposed_verdicts proposal.now) declaration.now name.now }
+    ensures planned { PlansDeclaration (proposed_snapshot proposal.now) (proposed_verdicts proposal.now) (proposal_place proposal.now) declaration.now name.now (change_in result) }
     ensures known { IfOk result (λ p. KnowsVerdicts p.change.files p.known) }
 {
-    let workspace = FaultlessWorkspace {
-        graph: &snapshot.files,
-        findings: &found.findings,
-    };
-    let edits = rename_edits(alloc, &workspace, declaration, asked.name)?;
+    match conflict_of(alloc, read, declaration, name)? {
+        None => plan_judged(alloc, proposal, read, declaration, name),
+        Some(decision) => plan_decided(alloc, proposal, read, declaration, name, decision),
+    }
+}
+
+/// Refuses a name for a declaration of the package that was read.
+fn refuse(
+    alloc: Global,
+    proposal: &Proposal<'_>,
+    read: &PackageBindings<'_>,
+    declaration: &Declaration,
+    name: &[u8],
+) -> Result<(), Refusal>
+    requires read { IsReadFor proposal.now read.now }
+    requires home { IsOfRead read.now declaration.now }
+    ensures { RefusesName (IsPackage proposal.now.workspace.now.graph (proposed_verdicts proposal.now)) declaration.now name.now result }
+{
+    refuse_name(alloc, read.at, &read.of, declaration, name)
+}
+
+/// Plans the rename of a declaration of the package that was read. Refuses it where the declaration is fixed or the name is not legal for it.
+fn plan_named(
+    alloc: Global,
+    proposal: &Proposal<'_>,
+    read: &PackageBindings<'_>,
+    declaration: &Declaration,
+    name: &[u8],
+) -> Result<Planned, Refusal>
+    requires proposed { IsProposed proposal.now }
+    requires read { IsReadFor proposal.now read.now }
+    requires home { IsOfRead read.now declaration.now }
+    requires form { IsNewName name.now }
+    requires has { HasDeclaration proposal.now.workspace.now.graph (proposed_verdicts proposal.now) proposal.now.path.now proposal.now.offset declaration.now }
+    ensures planned { PlansAtByte (proposed_snapshot proposal.now) proposal.now.path.now proposal.now.offset name.now (change_in result) }
+    ensures known { IfOk result (λ p. KnowsVerdicts p.change.files p.known) }
+{
+    proposal.workspace.has_no_faults();
+    match refuse(alloc, proposal, read, declaration, name) {
+        Err(refusal) => Err(refusal),
+        Ok(()) => plan_declaration(alloc, proposal, read, declaration, name),
+    }
+}
+
+/// Plans the rename of a declaration of the package of a number, by the package's scopes.
+fn plan_unit(
+    alloc: Global,
+    proposal: &Proposal<'_>,
+    at: Numbered<'_>,
+    unit: Package<'_>,
+    declaration: &Declaration,
+    name: &[u8],
+) -> Result<Planned, Refusal>
+    requires proposed { IsProposed proposal.now }
+    requires same { at.workspace.now ≡ proposal.now.workspace.now }
+    requires numbered { IsNumbered at }
+    requires unit { IsPackageNumbered at (package_of unit) }
+    requires home { slice_get (package_paths at.workspace.now.graph) at.number ≡ home_path declaration.now }
+    requires form { IsNewName name.now }
+    requires has { HasDeclaration proposal.now.workspace.now.graph (proposed_verdicts proposal.now) proposal.now.path.now proposal.now.offset declaration.now }
+    ensures planned { PlansAtByte (proposed_snapshot proposal.now) proposal.now.path.now proposal.now.offset name.now (change_in result) }
+    ensures known { IfOk result (λ p. KnowsVerdicts p.change.files p.known) }
+{
+    let index = Index::of(alloc, unit)?;
+    let read = bindings_of(at, unit, &index);
+    plan_named(alloc, proposal, &read, declaration, name)
+}
+
+/// Plans the rename of a declaration of the package of a number. Reads the package.
+fn plan_elsewhere(
+    alloc: Global,
+    proposal: &Proposal<'_>,
+    number: usize,
+    declaration: &Declaration,
+    name: &[u8],
+) -> Result<Planned, Refusal>
+    requires proposed { IsProposed proposal.now }
+    requires in_range { number < length (package_paths proposal.now.workspace.now.graph) }
+    requires home { slice_get (package_paths proposal.now.workspace.now.graph) number ≡ home_path declaration.now }
+    requires form { IsNewName name.now }
+    requires has { HasDeclaration proposal.now.workspace.now.graph (proposed_verdicts proposal.now) proposal.now.path.now proposal.now.offset declaration.now }
+    ensures planned { PlansAtByte (proposed_snapshot proposal.now) proposal.now.path.now proposal.now.offset name.now (change_in result) }
+    ensures known { IfOk result (λ p. KnowsVerdicts p.change.files p.known) }
+{
+    let workspace = proposal.workspace;
+    let at = Numbered { workspace, number };
+    let reader = PackageReader::of(alloc, at)?;
+    let table = reader.table(alloc)?;
+    plan_unit(alloc, proposal, at, reader.unit(&table), declaration, name)
+}
+
+/// Plans the rename of a declaration of the package at a path. The package that was read is not read again.
+fn plan_at_path(
+    alloc: Global,
+    proposal: &Proposal<'_>,
+    read: &PackageBindings<'_>,
+    path: &SharedPath,
+    declaration: &Declaration,
+    name: &[u8],
+) -> Result<Planned, Refusal>
+    requires proposed { IsProposed proposal.now }
+    requires read { IsReadFor proposal.now read.now }
+    requires home { Some path.now ≡ declaring_path declaration.now }
+    requires form { IsNewName name.now }
+    requires has { HasDeclaration proposal.now.workspace.now.graph (proposed_verdicts proposal.now) proposal.now.path.now proposal.now.offset declaration.now }
+    ensures planned { PlansAtByte (proposed_snapshot proposal.now) proposal.now.path.now proposal.now.offset name.now (change_in result) }
+    ensures known { IfOk result (λ p. KnowsVerdicts p.change.files p.known) }
+{
+    proposal.workspace.has_no_faults();
+    match proposal.workspace.number_of(path.path()) {
+        None => Err(Refusal::NotRenamable),
+        Some(number) => {
+            if number == read.at.number {
+                plan_named(alloc, proposal, read, declaration, name)
+            } else {
+                plan_elsewhere(alloc, proposal, number, declaration, name)
+            }
+        }
+    }
+}
+
+/// Plans the rename of a declaration. One that is predeclared can't be renamed.
+fn plan_home(
+    alloc: Global,
+    proposal: &Proposal<'_>,
+    read: &PackageBindings<'_>,
+    declaration: &Declaration,
+    name: &[u8],
+) -> Result<Planned, Refusal>
+    requires proposed { IsProposed proposal.now }
+    requires read { IsReadFor proposal.now read.now }
+    requires form { IsNewName name.now }
+    requires has { HasDeclaration proposal.now.workspace.now.graph (proposed_verdicts proposal.now) proposal.now.path.now proposal.now.offset declaration.now }
+    ensures planned { PlansAtByte (proposed_snapshot proposal.now) proposal.now.path.now proposal.now.offset name.now (change_in result) }
+    ensures known { IfOk result (λ p. KnowsVerdicts p.change.files p.known) }
+{
+    proposal.workspace.has_no_faults();
+    match package_path(declaration) {
+        None => Err(Refusal::NotRenamable),
+        Some(path) => plan_at_path(alloc, proposal, read, path, declaration, name),
+    }
+}
+
+/// Plans the rename of the identifier at the byte of a proposal, in a file of the package that was read.
+fn plan_read(
+    alloc: Global,
+    proposal: &Proposal<'_>,
+    read: &PackageBindings<'_>,
+    name: &[u8],
+) -> Result<Planned, Refusal>
+    requires proposed { IsProposed proposal.now }
+    requires read { IsReadFor proposal.now read.now }
+    requires folder { slice_get (package_paths read.now.at.workspace.now.graph) read.now.at.number ≡ Some (folder proposal.now.path.now) }
+    requires form { IsNewName name.now }
+    ensures planned { PlansAtByte (proposed_snapshot proposal.now) proposal.now.path.now proposal.now.offset name.now (change_in result) }
+    ensures known { IfOk result (λ p. KnowsVerdicts p.change.files p.known) }
+{
+    proposal.workspace.has_no_faults();
+    match declaration_in_package(
+        alloc,
+        proposal.workspace,
+        &read.of,
+        proposal.path,
+        proposal.offset,
+    ) {
+        Err(refusal) => Err(refusal),
+        Ok(declaration) => plan_home(alloc, proposal, read, &declaration, name),
+    }
+}
+
+/// Plans the rename of the identifier at the byte of a proposal, in a file of a package, by the package's scopes.
+fn plan_asked(
+    alloc: Global,
+    proposal: &Proposal<'_>,
+    at: Numbered<'_>,
+    unit: Package<'_>,
+    name: &[u8],
+) -> Result<Planned, Refusal>
+    requires proposed { IsProposed proposal.now }
+    requires same { at.workspace.now ≡ proposal.now.workspace.now }
+    requires numbered { IsNumbered at }
+    requires unit { IsPackageNumbered at (package_of unit) }
+    requires folder { slice_get (package_paths at.workspace.now.graph) at.number ≡ Some (folder proposal.now.path.now) }
+    requires form { IsNewName name.now }
+    ensures planned { PlansAtByte (proposed_snapshot proposal.now) proposal.now.path.now proposal.now.offset name.now (change_in result) }
+    ensures known { IfOk result (λ p. KnowsVerdicts p.change.files p.known) }
+{
+    let index = Index::of(alloc, unit)?;
+    let read = bindings_of(at, unit, &index);
+    plan_read(alloc, proposal, &read, name)
+}
+
+/// Plans the rename of the identifier at the byte of a proposal, in a file of the package of a number. Reads the package once.
+fn plan_package(
+    alloc: Global,
+    proposal: &Proposal<'_>,
+    number: usize,
+    name: &[u8],
+) -> Result<Planned, Refusal>
+    requires proposed { IsProposed proposal.now }
+    requires folder { slice_get (package_paths proposal.now.workspace.now.graph) number ≡ Some (folder proposal.now.path.now) }
+    requires form { IsNewName name.now }
+    ensures planned { PlansAtByte (proposed_snapshot proposal.now) proposal.now.path.now proposal.now.offset name.now (change_in result) }
+    ensures known { IfOk result (λ p. KnowsVerdicts p.change.files p.known) }
+{
+    let workspace = proposal.workspace;
+    let at = Numbered { workspace, number };
+    let reader = PackageReader::of(alloc, at)?;
+    let table = reader.table(alloc)?;
+    plan_asked(alloc, proposal, at, reader.unit(&table), name)
+}
+
+/// Plans the rename of the identifier at the byte of a proposal.
+fn plan_found(alloc: Global, proposal: &Proposal<'_>, name: &[u8]) -> Result<Planned, Refusal>
+    requires proposed { IsProposed proposal.now }
+    requires form { IsNewName name.now }
+    ensures planned { PlansAtByte (proposed_snapshot proposal.now) proposal.now.path.now proposal.now.offset name.now (change_in result) }
+    ensures known { IfOk result (λ p. KnowsVerdicts p.change.files p.known) }
+{
+    proposal.workspace.has_no_faults();
+    match proposal.workspace.number_of(proposal.path.folder()) {
+        None => Err(Refusal::NoIdentifier),
+        Some(number) => plan_package(alloc, proposal, number, name),
+    }
+}
+
+/// Plans the rename of the identifier at a byte in a workspace without faults, which is that of the snapshot.
+fn plan_sound(
+    alloc: Global,
+    snapshot: &Snapshot,
+    known: &Known,
+    workspace: &FaultlessWorkspace<'_>,
+    asked: &RenameRequest<'_>,
+) -> Result<Planned, Refusal>
+    requires known { KnowsVerdicts snapshot.now.files known.now }
+    requires same { workspace.now.graph ≡ snapshot.now.files }
+    requires form { IsNewName asked.now.name.now }
+    ensures planned { PlansAtByte snapshot.now asked.now.path.now asked.now.offset asked.now.name.now (change_in result) }
+    ensures known { IfOk result (λ p. KnowsVerdicts p.change.files p.known) }
+{
     let proposal = Proposal {
         snapshot,
-        found,
+        workspace,
+        known,
         path: asked.path,
         offset: asked.offset,
     };
-    plan_by_kind(alloc, &proposal, declaration, asked.name, edits)
-}
-
-/// Plans the rename of a declaration, or refuses it where the declaration is fixed or the name is not legal for it.
-fn plan_named(
-    alloc: Global,
-    snapshot: &Snapshot,
-    found: &Found,
-    declaration: &Declaration,
-    asked: &RenameRequest<'_>,
-) -> Result<Planned, Refusal>
-    requires sound { IsFaultless snapshot.now.files found.now.findings }
-    requires known { KnowsVerdicts snapshot.now.files found.now.known }
-    requires form { IsNewName asked.now.name.now }
-    requires has { HasDeclaration snapshot.now.files (known_in found.now.findings) asked.now.path.now asked.now.offset declaration.now }
-    ensures planned { PlansAtByte snapshot.now asked.now.path.now asked.now.offset asked.now.name.now (change_in result) }
-    ensures known { IfOk result (λ p. KnowsVerdicts p.change.files p.known) }
-{
-    let workspace = FaultlessWorkspace {
-        graph: &snapshot.files,
-        findings: &found.findings,
-    };
-    match refuse_name(alloc, &workspace, declaration, asked.name) {
-        Err(refusal) => Err(refusal),
-        Ok(()) => plan_declaration(alloc, snapshot, found, declaration, asked),
-    }
-}
-
-/// Plans the rename of the identifier at a byte in a workspace without faults.
-fn plan_found(
-    alloc: Global,
-    snapshot: &Snapshot,
-    found: &Found,
-    asked: &RenameRequest<'_>,
-) -> Result<Planned, Refusal>
-    requires sound { IsFaultless snapshot.now.files found.now.findings }
-    requires known { KnowsVerdicts snapshot.now.files found.now.known }
-    requires form { IsNewName asked.now.name.now }
-    ensures planned { PlansAtByte snapshot.now asked.now.path.now asked.now.offset asked.now.name.now (change_in result) }
-    ensures known { IfOk result (λ p. KnowsVerdicts p.change.files p.known) }
-{
-    let workspace = FaultlessWorkspace {
-        graph: &snapshot.files,
-        findings: &found.findings,
-    };
-    match declaration_at(alloc, &workspace, asked.path, asked.offset) {
-        Err(refusal) => Err(refusal),
-        Ok(declaration) => plan_named(alloc, snapshot, found, &declaration, asked),
-    }
+    plan_found(alloc, &proposal, asked.name)
 }
 
 /// Plans the rename of the identifier at a byte, or refuses it where the workspace has a fault.
@@ -231,7 +338,7 @@ fn plan_in(
 {
     match refuse_faults(alloc, &snapshot.files, &found.findings) {
         Err(refusal) => Err(refusal),
-        Ok(_) => plan_found(alloc, snapshot, found, asked),
+        Ok(workspace) => plan_sound(alloc, snapshot, &found.known, &workspace, asked),
     }
 }
 

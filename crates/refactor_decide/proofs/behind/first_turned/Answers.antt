@@ -11,7 +11,7 @@ use Rattle.refactor_decide.proofs.behind.first_turned.Goals as goal
 pub returns : goal.returns
 returns c =
     let w = c.args.at.workspace.now.graph in
-    let p = package_of c.args.unit in
+    let p = package_of c.args.of.now.unit in
     ok_map c.first_of.result
     (λ x h. first_use w (known_in c.args.at.workspace.now.findings) p c.args.turned c.in_ok-places.places c.in_ok-places.ensures x
     (subst (λ (l : List Place). IsFirstListed p l c.args.turned.by x) c.as_slice.ensures h)) c.first_of.ensures

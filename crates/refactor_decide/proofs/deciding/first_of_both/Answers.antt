@@ -13,7 +13,7 @@ returns c =
       own = c.in_ok-own.own;
       behind = c.in_ok-behind.behind;
       first_own = own_first w (list_of_sound w found c.has_no_faults.ensures) (known_in found) c.has_no_faults.ensures.findings.right
-          (package_of c.args.unit) c.requires.unit.is_package c.args.n c.args.name.now c.requires.can c.in_ok-own.own c.in_ok-own.ensures;
+          (package_of c.args.of.now.unit) c.requires.unit.is_package c.args.n c.args.name.now c.requires.can.declares c.in_ok-own.own c.in_ok-own.ensures;
       first_behind = c.in_ok-behind.ensures;
       is_told = c.earlier.ensures;
     }

@@ -10,32 +10,32 @@ use Rattle.refactor_after.specs.MembersAfter.{CountsAfter}
 use Rattle.refactor_after.specs.OldPlaces.{method_at}
 use Rattle.refactor_conflict.specs.Conflicts.{IsConflictIn}
 use Rattle.refactor_members.specs.Judging.{JudgesIn, ListedMethodStays, NameStays}
-use Rattle.refactor_members.specs.Renames.{packages_before, rename_revision, verdicts_in, workspace_before}
+use Rattle.refactor_members.specs.Renames.{by, packages_before, rename_revision, verdicts_in, workspace_before}
 use Rattle.refactor_members.proofs.Counting.{method_counts}
 use Rattle.refactor_members.proofs.Judged.{judged_as, judged_none}
 use Rattle.refactor_members.proofs.NamesStay.{listed_method}
 use Rattle.refactor_members.proofs.judged_names.judge_method.Goals as goal
 
 pub returns-in-None : goal.returns-in-None
-returns-in-None c = λ p is of named.
-    let m = c.args.d.now.rename.now in
-    judged_none m (IsConflictIn (workspace_before m) (verdicts_in m) (rename_revision m) p) (ListedMethodStays m p c.args.listed) c.args.first.now
+returns-in-None c = λ edits p is of named.
+    let m = by c.args.d.now.rename.now edits in
+    judged_none m (IsConflictIn (workspace_before m.of) (verdicts_in m.of) (rename_revision m) p) (ListedMethodStays m p c.args.listed) c.args.first.now
     (λ knows place rank e. absurd (none-some rank (sym c.in-None.is ∙ e)))
 
 pub returns-in_ok-symbol-in-Some : goal.returns-in_ok-symbol-in-Some
 returns-in_ok-symbol-in-Some c =
-    let m = c.args.d.now.rename.now in
+    on_ok_weaker c.judge_member.result (λ h edits p is of named.
+    let m = by c.args.d.now.rename.now edits in
     let s = c.args.d.now.of.now in
     let rank = c.in-Some.rank in
     let a = c.args.first.now in
     let b = c.judge_member.new.first in
     let same : Method c.in_ok-symbol-in-Some.field-0 ≡ method_at s.package rank = ap Method c.in_ok-symbol-in-Some.ensures in
-    on_ok_weaker c.judge_member.result (λ h p is of named.
-    let P = IsConflictIn (workspace_before m) (verdicts_in m) (rename_revision m) p in
+    let P = IsConflictIn (workspace_before m.of) (verdicts_in m.of) (rename_revision m) p in
     judged_as m P P (NameStays m p (method_at s.package rank)) (ListedMethodStays m p c.args.listed) a b (λ knows x k. k)
     (λ knows place. listed_method m p s.package of c.args.listed rank c.in-Some.is place)
     (subst (λ (d : Declaration). JudgesIn m p (NameStays m p d) a b) same
-    (h p is (ap Some (ap (λ (x : Symbol). x.package) c.in_ok-symbol-in-Some.ensures ∙ sym of))
-    (λ knows. subst (λ (d : Declaration). IsTrue c.is_rank-counts.result ↔ CountsAfter (packages_before m) (rename_revision m) d) (sym same)
-    (method_counts m knows p is.is_package s.package of s.rank rank (named knows rank c.in-Some.is) c.first_method.result (c.first_method.ensures knows)
+    (h edits p is (ap Some (ap (λ (x : Symbol). x.package) c.in_ok-symbol-in-Some.ensures ∙ sym of))
+    (λ knows. subst (λ (d : Declaration). IsTrue c.is_rank-counts.result ↔ CountsAfter (packages_before m.of) (rename_revision m) d) (sym same)
+    (method_counts m knows p is.is_package s.package of s.rank rank (named knows rank c.in-Some.is) c.first_method.result (c.first_method.ensures edits knows)
     c.is_rank-counts.result c.is_rank-counts.ensures))))) c.judge_member.ensures

@@ -8,17 +8,17 @@ use Rattle.workspace_check.proofs.OnePackage.{one_sources}
 use Rattle.workspace_check.proofs.OneSeen.{one_export_table}
 use Rattle.refs_binding.specs.Members.{definitions_by}
 use Rattle.refs_binding.proofs.MemberParts.{known_definitions}
-use Rattle.refactor_members.specs.Renames.{verdicts_in, workspace_before}
+use Rattle.refactor_members.specs.Renames.{by, verdicts_in, workspace_before}
 use Rattle.refactor_members.proofs.judged_uses.judge_uses_by.Goals as goal
 
 pub returns : goal.returns
 returns c =
-    let m = c.args.m.now in
-    let w = workspace_before m in
-    let known = verdicts_in m in
+    on_ok_weaker c.judge_files.result (λ h edits p is.
+    let m = by c.args.m.now edits in
+    let w = workspace_before m.of in
+    let known = verdicts_in m.of in
     let seen = c.args.seen.now in
     let own = c.own_of.result.now in
-    on_ok_weaker c.judge_files.result (λ h p is.
     let checked = is.is_package.is_checked in
     let path : c.path_of.result.now ≡ p.path = c.path_of.ensures p.path is.has_number in
     let sees : p.export_data_of ≡ export_data_in seen =
@@ -28,7 +28,7 @@ returns c =
     let definitions : AreDefinitions p (definitions_by c.path_of.result.now own c.definitions.result.now) =
     subst (λ i. AreDefinitions p (definitions_by c.path_of.result.now own i)) (sym c.definitions.ensures)
     (subst (λ q. AreDefinitions p (definitions_by q own seen.definitions)) (sym path) (known_definitions p own seen (c.own_of.ensures p is) sees)) in
-    h p (record {
+    h edits p (record {
       is_package = is.is_package;
       files = one_sources (c.trees.ensures p.path is.has_number) checked.parsed ∙ sym (ap (λ (x : Package). x.files) checked.is_package.is_package);
       path = path;

@@ -6,30 +6,29 @@ use Rattle.types_expr.specs.WorldView.{underlying_in}
 use Rattle.refs_binding.specs.Steps.{IsDeclarationResult}
 use Rattle.refactor_after.specs.MembersFound.{SelectsField}
 use Rattle.refactor_after.proofs.FieldsAfter.{method_is_member, field_is_member}
-use Rattle.refactor_members.specs.Renames.{packages_before, rename_revision}
+use Rattle.refactor_members.specs.Renames.{by, packages_before, rename_revision}
 use Rattle.refactor_members.proofs.lookup.member.Goals as goal
 
 pub returns-in-None : goal.returns-in-None
 returns-in-None c =
-    let m = c.args.m.now in
-    let Known = packages_before m in
+    IfOk-weaker c.method_behind.result _ _ (λ found h edits knows.
+    let m = by c.args.m.now edits in
+    let Known = packages_before m.of in
     let r = rename_revision m in
     let own = c.args.own.now in
     let u = underlying_in c.args.world.now in
     let t = type_of c.args.before.now in
-    IfOk-weaker c.method_behind.result _ _
-    (λ found h knows.
-    method_is_member Known r own m.name.now u t
-    (subst (IsDeclarationResult (SelectsField Known r own m.name.now u t)) c.in-None.is (c.in_ok-field_behind.ensures knows)) found (h knows))
+    method_is_member Known r own m.of.name.now u t
+    (subst (IsDeclarationResult (SelectsField Known r own m.of.name.now u t)) c.in-None.is (c.in_ok-field_behind.ensures edits knows)) found (h edits knows))
     c.method_behind.ensures
 
 pub returns-in-Some : goal.returns-in-Some
-returns-in-Some c = λ knows.
-    let m = c.args.m.now in
-    let Known = packages_before m in
+returns-in-Some c = λ edits knows.
+    let m = by c.args.m.now edits in
+    let Known = packages_before m.of in
     let r = rename_revision m in
     let own = c.args.own.now in
     let u = underlying_in c.args.world.now in
     let t = type_of c.args.before.now in
-    field_is_member Known r own m.name.now u t c.in-Some.field
-    (subst (IsDeclarationResult (SelectsField Known r own m.name.now u t)) c.in-Some.is (c.in_ok-field_behind.ensures knows))
+    field_is_member Known r own m.of.name.now u t c.in-Some.field
+    (subst (IsDeclarationResult (SelectsField Known r own m.of.name.now u t)) c.in-Some.is (c.in_ok-field_behind.ensures edits knows))

@@ -1,12 +1,13 @@
 -- The answers to the goals of `decided::plan_kept`.
-use Rattle.std.proofs.Common.{ap, sym, subst}
+use Rattle.std.proofs.Common.{inr, ap, sym, subst}
 use Rattle.base_files.specs.Workspace.{Workspace}
 use Rattle.workspace_check.specs.Found.{KnowsVerdicts}
-use Rattle.refs_binding.specs.Workspaces.{known_in}
 use Rattle.workspace_snapshot.specs.declared.change.Change.{Change}
 use Rattle.workspace_snapshot.specs.declared.change.ChangeKind.TheVariants.{Rename}
 use Rattle.refactor_preserve.specs.Planned.{change_in}
-use Rattle.refactor_plan.specs.Proposals.{proposal_place}
+use Rattle.refactor_plan.specs.Bindings.{path_read}
+use Rattle.refactor_plan.specs.Decided.{KeepsKnown}
+use Rattle.refactor_plan.specs.Proposals.{proposal_place, proposed_snapshot, proposed_verdicts}
 use Rattle.refactor_plan.proofs.DecidedRenames.{kept, preserved}
 use Rattle.refactor_plan.proofs.Proposed.{kept_planned}
 use Rattle.refactor_plan.proofs.decided.plan_kept.Goals as goal
@@ -14,14 +15,34 @@ use Rattle.refactor_plan.proofs.decided.plan_kept.Goals as goal
 pub within_limits-requires : goal.within_limits-requires
 within_limits-requires c =
     let p = c.args.proposal.now in
+    let s = c.in_ok-edits.edits in
+    let path = path_read c.args.read.now in
+    let keeps : KeepsKnown p.workspace.now.graph path c.args.is_hidden p.known.now c.in_ok-known.known =
+    subst (λ (w : Workspace). KeepsKnown w path c.args.is_hidden p.known.now c.in_ok-known.known)
+    (sym c.requires.proposed.same) c.in_ok-known.ensures in
     subst (λ (w : Workspace). KnowsVerdicts w c.in_ok-known.known) (sym (ap (λ (x : Change). x.files) c.in_ok-change.ensures))
-    (kept p.snapshot.now.files (known_in p.found.now.findings) c.args.path.now c.args.edits c.args.is_hidden c.requires.decided p.found.now.known
-    c.in_ok-known.known c.requires.known c.in_ok-known.ensures)
+    (kept p.workspace.now.graph (proposed_verdicts p) path s c.args.is_hidden
+    (c.requires.decided s c.in_ok-edits.ensures.edits c.in_ok-edits.ensures.fits) p.known.now c.in_ok-known.known c.requires.proposed.known
+    keeps)
 
 pub returns-clause-planned : goal.returns-clause-planned
 returns-clause-planned c =
     let p = c.args.proposal.now in
-    let known = known_in p.found.now.findings in
-    kept_planned p.snapshot.now known (proposal_place p) Rename c.args.edits c.in_ok-change.change c.in_ok-change.ensures
-    (preserved p.snapshot.now.files known c.args.path.now c.args.edits c.args.is_hidden c.requires.decided) (change_in c.within_limits.result)
-    c.within_limits.ensures.planned
+    let known = proposed_verdicts p in
+    let s = c.in_ok-edits.edits in
+    let is = c.in_ok-edits.ensures in
+    inr (
+      s,
+      (
+        is.edits,
+        (
+          is.fits,
+          kept_planned (proposed_snapshot p) known (proposal_place p) Rename s c.in_ok-change.change c.in_ok-change.ensures
+              (preserved p.workspace.now.graph known (path_read c.args.read.now) s c.args.is_hidden (c.requires.decided s is.edits is.fits))
+              (change_in c.within_limits.result) c.within_limits.ensures.planned,
+        ),
+      ),
+    )
+
+pub returns-clause-known : goal.returns-clause-known
+returns-clause-known c = c.within_limits.ensures.known

@@ -1,35 +1,38 @@
--- The answers to the goals of `plan::refuse_length`.
-use Rattle.std.proofs.Common.{ap, sym, subst, ◌∙◌}
+-- The answers to the goals of `move_plan::refuse_length`.
+use Rattle.std.proofs.Common.{Option, sym, subst}
 use Rattle.std.specs.Prelude.{Err}
-use Rattle.base_edits.specs.EditSet.{FileChanges, edited}
-use Rattle.base_edits.specs.RevisionsOfEdits.{revision_of}
-use Rattle.refactor_preserve.specs.Preserved.{Preserves}
-use Rattle.workspace_snapshot.specs.declared.change.Change.{Change}
-use Rattle.refs_binding.specs.Workspaces.{known_in}
-use Rattle.refactor_plan.specs.MoveSteps.{package_place}
-use Rattle.refactor_plan.specs.Proposals.{RefusesConflict}
-use Rattle.refactor_plan.proofs.MovePlanned.{conflict_of_length}
+use Rattle.base_files.specs.declared.refusal.Refusal.{Refusal}
+use Rattle.refs_binding.proofs.Units.{list_of_sound}
+use Rattle.refactor_conflict.specs.declared.conflict.Conflict.{Conflict}
+use Rattle.refactor_follow.specs.MoveConflicts.{TellsMoveConflict}
+use Rattle.refactor_plan.specs.MoveSteps.{RefusesLength}
+use Rattle.refactor_plan.specs.Proposals.{proposal_place, proposed_snapshot, proposed_verdicts}
+use Rattle.refactor_plan.proofs.DecidedMoves.{name_conflict_refused, names_there, too_long}
 use Rattle.refactor_plan.proofs.move_plan.refuse_length.Goals as goal
 
-pub refuse_conflict-requires-clause-base : goal.refuse_conflict-requires-clause-base
-refuse_conflict-requires-clause-base c = ap (λ (x : Change). x.base) c.in_ok-change.ensures
+pub returns-in-None-clause-planned : goal.returns-in-None-clause-planned
+returns-in-None-clause-planned c =
+    let p = c.args.proposal.now in
+    let w = p.workspace.now.graph in
+    let known = proposed_verdicts p in
+    let from = p.path.now in
+    let to = c.args.to.now in
+    let sound = c.has_no_faults.ensures in
+    let tells = subst (λ (o : Option Conflict). TellsMoveConflict w known from to o) c.in-None.is c.in_ok-conflict.ensures in
+    λ s edits fit.
+    too_long (proposed_snapshot p) known from to (proposal_place p) s
+    (names_there w (list_of_sound w p.workspace.now.findings sound) known sound.findings.right from to s fit c.requires.asked edits) tells
 
-pub refuse_conflict-requires-clause-after : goal.refuse_conflict-requires-clause-after
-refuse_conflict-requires-clause-after c =
-    let e = c.in_ok-change.ensures in
-    ap (λ (x : Change). x.files) e ∙ ap (λ (s : FileChanges). edited s c.args.snapshot.now.files) (sym (ap (λ (x : Change). x.edits) e))
-
-pub returns-in-Err-clause-planned : goal.returns-in-Err-clause-planned
-returns-in-Err-clause-planned c =
-    let w = c.args.snapshot.now.files in
-    let same = ap (λ (x : Change). x.edits) c.in_ok-change.ensures in
-    let known = known_in c.args.found.now.findings in
-    let place = package_place c.args.from.now in
-    conflict_of_length w known place c.args.edits c.in-Err.refusal
-    (subst (λ (s : FileChanges). RefusesConflict w known place s (Err c.in-Err.refusal)) same c.in-Err.ensures)
-
-pub returns-clause-planned : goal.returns-clause-planned
-returns-clause-planned c =
-    let w = c.args.snapshot.now.files in
-    let same = ap (λ (x : Change). x.edits) c.in_ok-change.ensures in
-    subst (λ (s : FileChanges). Preserves w (revision_of w s)) same c.in-Ok.ensures.0
+pub returns-in-Some-clause-planned : goal.returns-in-Some-clause-planned
+returns-in-Some-clause-planned c =
+    let p = c.args.proposal.now in
+    let w = p.workspace.now.graph in
+    let known = proposed_verdicts p in
+    let from = p.path.now in
+    let to = c.args.to.now in
+    let sound = c.has_no_faults.ensures in
+    let tells = subst (λ (o : Option Conflict). TellsMoveConflict w known from to o) c.in-Some.is c.in_ok-conflict.ensures in
+    λ s edits fit.
+    subst (λ (r : Refusal). RefusesLength w known (proposal_place p) s (Err r)) (sym c.told.ensures)
+    (name_conflict_refused (proposed_snapshot p) known from to (proposal_place p) s
+    (names_there w (list_of_sound w p.workspace.now.findings sound) known sound.findings.right from to s fit c.requires.asked edits) c.in-Some.conflict tells)

@@ -1,13 +1,25 @@
 -- The answers to the goals of `plan::plan_found`.
-use Rattle.refs_binding.specs.Workspaces.{known_in}
+use Rattle.std.proofs.Common.{◌∙◌, ap, sym, subst}
+use Rattle.std.specs.Prelude.{Some, Contains}
+use Rattle.base_files.specs.Packages.{package_paths}
 use Rattle.refs_binding.proofs.Units.{list_of_sound}
-use Rattle.refactor_plan.proofs.Planned.{finds_refused}
+use Rattle.refs_lookup.proofs.Asking.{no_folder}
+use Rattle.refactor_plan.specs.Proposals.{proposed_verdicts}
 use Rattle.refactor_plan.proofs.plan.plan_found.Goals as goal
 
-pub returns-in-Err-clause-planned : goal.returns-in-Err-clause-planned
-returns-in-Err-clause-planned c =
-    let snapshot = c.args.snapshot.now in
-    let asked = c.args.asked.now in
-    let found = c.args.found.now.findings in
-    finds_refused snapshot asked.path.now asked.offset asked.name.now (list_of_sound snapshot.files found c.requires.sound) (known_in found)
-    c.requires.sound.findings.right c.in-Err.refusal c.in-Err.ensures
+pub returns-in-None-clause-planned : goal.returns-in-None-clause-planned
+returns-in-None-clause-planned c =
+    let p = c.args.proposal.now in
+    let w = p.workspace.now.graph in
+    let known = proposed_verdicts p in
+    let sound = c.has_no_faults.ensures in (
+      list_of_sound w p.workspace.now.findings sound,
+      record {
+        known = known;
+        right = sound.findings.right;
+        none = λ q is u holds. no_folder w known p.path.now (λ has. c.in-None.ensures (subst (Contains (package_paths w)) (sym c.folder.ensures) has)) q is;
+      },
+    )
+
+pub plan_package-requires-clause-folder : goal.plan_package-requires-clause-folder
+plan_package-requires-clause-folder c = c.in-Some.ensures ∙ ap Some c.folder.ensures

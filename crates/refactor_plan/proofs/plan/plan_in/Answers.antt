@@ -1,4 +1,6 @@
 -- The answers to the goals of `plan::plan_in`.
+use Rattle.std.proofs.Common.{ap}
+use Rattle.refs_binding.specs.WorkspaceFindings.{WorkspaceFindings}
 use Rattle.refactor_plan.proofs.Planned.{faults_refused}
 use Rattle.refactor_plan.proofs.plan.plan_in.Goals as goal
 
@@ -7,5 +9,5 @@ returns-in-Err-clause-planned c =
     let asked = c.args.asked.now in
     faults_refused c.args.snapshot.now asked.path.now asked.offset asked.name.now c.args.found.now.findings c.in-Err.refusal c.in-Err.ensures
 
-pub plan_found-requires-clause-sound : goal.plan_found-requires-clause-sound
-plan_found-requires-clause-sound c = c.in-Ok.ensures.0
+pub plan_sound-requires-clause-same : goal.plan_sound-requires-clause-same
+plan_sound-requires-clause-same c = ap (λ (v : WorkspaceFindings). v.graph) c.in-Ok.ensures.1

@@ -2,10 +2,9 @@
 use Rattle.std.proofs.Common.{ap, sym, subst}
 use Rattle.base_files.specs.Workspace.{Workspace}
 use Rattle.workspace_check.specs.Found.{KnowsVerdicts}
-use Rattle.refs_binding.specs.Workspaces.{known_in}
 use Rattle.workspace_snapshot.specs.declared.change.Change.{Change}
 use Rattle.refactor_preserve.specs.Planned.{change_in}
-use Rattle.refactor_plan.specs.Proposals.{proposal_place}
+use Rattle.refactor_plan.specs.Proposals.{proposal_place, proposed_snapshot, proposed_verdicts}
 use Rattle.refactor_plan.proofs.Proposed.{conflict_planned, kept_planned}
 use Rattle.refactor_plan.proofs.proposal.plan_change.Goals as goal
 
@@ -22,12 +21,12 @@ within_limits-requires c =
 pub returns-in-Err-clause-planned : goal.returns-in-Err-clause-planned
 returns-in-Err-clause-planned c =
     let p = c.args.proposal.now in
-    conflict_planned p.snapshot.now (known_in p.found.now.findings) (proposal_place p) c.args.change.kind c.args.change.edits c.in-Err.refusal c.in-Err.ensures
+    conflict_planned (proposed_snapshot p) (proposed_verdicts p) (proposal_place p) c.args.change.kind c.args.change.edits c.in-Err.refusal c.in-Err.ensures
 
 pub returns-in-Ok-clause-planned : goal.returns-in-Ok-clause-planned
 returns-in-Ok-clause-planned c =
     let p = c.args.proposal.now in
-    kept_planned p.snapshot.now (known_in p.found.now.findings) (proposal_place p) c.args.change.kind c.args.change.edits c.args.change c.requires.is_change
+    kept_planned (proposed_snapshot p) (proposed_verdicts p) (proposal_place p) c.args.change.kind c.args.change.edits c.args.change c.requires.is_change
     c.in-Ok.ensures.0 (change_in c.within_limits.result) c.within_limits.ensures.planned
 
 pub returns-in-Ok-clause-known : goal.returns-in-Ok-clause-known

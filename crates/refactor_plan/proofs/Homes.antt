@@ -1,0 +1,61 @@
+-- The package of a declaration that an identifier at a byte is bound to.
+use Rattle.std.proofs.Common.{ℕ, ◌≡◌, inl, List, sym, subst, refl, ◌∙◌}
+use Rattle.std.specs.Prelude.{Some, Contains, slice_get}
+use Rattle.std.proofs.lemmas.Option.{none-some, same_Some}
+use Rattle.base_files.specs.Packages.{package_paths}
+use Rattle.base_files.specs.Workspace.{Workspace}
+use Rattle.types_declared.specs.Package.{Package}
+use Rattle.workspace_check.specs.Verdicts.{Verdicts, AreVerdicts}
+use Rattle.refs_binding.specs.declared.declaration.Declaration.{Declaration}
+use Rattle.refs_binding.specs.declared.declaration.Declaration.TheVariants.{Predeclared, Declared, Field, Method}
+use Rattle.refs_binding.specs.declared.indexed.Numbered.{Numbered}
+use Rattle.refs_binding.specs.DeclaringPlaces.{DeclaresAt, InHomePackage}
+use Rattle.refs_binding.specs.Identifiers.{named_by}
+use Rattle.refs_binding.specs.Uses.{IsPackage, HasDeclaration}
+use Rattle.refs_binding.specs.Workspaces.{home_path}
+use Rattle.refs_lookup.specs.Within.{IsDeclaredWithin, predeclared, stands}
+use Rattle.refs_lookup.proofs.Standing.{bound_within}
+use Rattle.refs_places.specs.Outside.{declaring_path}
+use Rattle.refactor_rename.specs.Naming.{IsFixed}
+use Rattle.refactor_plan.specs.declared.bindings.PackageBindings.{PackageBindings}
+use Rattle.refactor_plan.specs.Bindings.{IsRead, IsOfRead}
+
+-- two names of one path
+pub same_home : (d : Declaration) → home_path d ≡ declaring_path d
+same_home (Predeclared n) = refl
+same_home (Declared path n) = refl
+same_home (Field s) = refl
+same_home (Method s) = refl
+
+-- a declaration of the package of the number that was read
+pub home_read : (at : Numbered) (read : PackageBindings) → read.at ≡ at → IsRead read → (d : Declaration) →
+    slice_get (package_paths at.workspace.now.graph) at.number ≡ home_path d → IsOfRead read d
+home_read at read same is d home =
+    sym (same_home d) ∙ sym (subst (λ (x : Numbered). slice_get (package_paths x.workspace.now.graph) x.number ≡ home_path d) (sym same) home)
+    ∙ is.unit.has_number
+
+-- The workspace has the package of a declaration that is not predeclared.
+module _ (w : Workspace) (known : Verdicts) (right : AreVerdicts w known) where
+  there : (d : Declaration) (P : Package → Type 0) → InHomePackage (IsPackage w known) d P → (path : List ℕ) → home_path d ≡ Some path →
+      Contains (package_paths w) path
+  there (Predeclared n) P h path e = absurd h
+  there (Declared q n) P h path e = subst (Contains (package_paths w)) (h.of_path ∙ same_Some q path e) h.is_package.of_workspace
+  there (Field s) P h path e = subst (Contains (package_paths w)) (h.of_path ∙ same_Some s.package path e) h.is_package.of_workspace
+  there (Method s) P h path e = subst (Contains (package_paths w)) (h.of_path ∙ same_Some s.package path e) h.is_package.of_workspace
+
+  within_there : (p : List ℕ) (d : Declaration) → IsDeclaredWithin w known p d → (path : List ℕ) → home_path d ≡ Some path → Contains (package_paths w) path
+  within_there p _ (predeclared lt) path e = absurd (none-some path e)
+  within_there p d (stands place h) path e = there d (λ q. DeclaresAt q d place) h.declared path e
+
+  home_there : (at : List ℕ) (offset : ℕ) (d : Declaration) → HasDeclaration w known at offset d → (path : List ℕ) → home_path d ≡ Some path →
+      Contains (package_paths w) path
+  home_there at offset d has path e =
+      let p = has.asked_in in
+      within_there p.path d (bound_within w known right p has.is_asked.is_package (named_by p.layout has.number) d has.bound) path e
+
+  pub fixed_without_home : (at : List ℕ) (offset : ℕ) (d : Declaration) → HasDeclaration w known at offset d →
+      ((q : List ℕ) → home_path d ≡ Some q → Contains (package_paths w) q → ⊥) → IsFixed (IsPackage w known) d
+  fixed_without_home at offset (Predeclared n) has none = inl tt
+  fixed_without_home at offset (Declared q n) has none = absurd (none q refl (home_there at offset (Declared q n) has q refl))
+  fixed_without_home at offset (Field s) has none = absurd (none s.package refl (home_there at offset (Field s) has s.package refl))
+  fixed_without_home at offset (Method s) has none = absurd (none s.package refl (home_there at offset (Method s) has s.package refl))

@@ -1,0 +1,17 @@
+-- The answers to the goals of `bindings::conflict_of`.
+use Rattle.std.proofs.Common.{◌≡◌, List, ap, subst, ◌∙◌}
+use Rattle.std.specs.Prelude.{Some}
+use Rattle.std.proofs.lemmas.Option.{same_Some}
+use Rattle.refs_binding.specs.declared.declaration.Declaration.{Declaration}
+use Rattle.refs_binding.specs.declared.declaration.Declaration.TheVariants.{Declared}
+use Rattle.refs_places.specs.Outside.{declaring_path}
+use Rattle.refactor_plan.specs.Bindings.{path_read}
+use Rattle.refactor_plan.proofs.bindings.conflict_of.Goals as goal
+
+pub scoped_decision-requires-clause-scoped : goal.scoped_decision-requires-clause-scoped
+scoped_decision-requires-clause-scoped c =
+    let path = path_read c.args.read.now in
+    let q = c.in-Declared.field-0 in
+    let n = c.in-Declared.n in
+    let home : Some q ≡ Some path = subst (λ (d : Declaration). declaring_path d ≡ Some path) c.in-Declared.is c.requires.home in
+    c.in-Declared.is ∙ ap (λ (r : List _). Declared r n) (same_Some q path home)

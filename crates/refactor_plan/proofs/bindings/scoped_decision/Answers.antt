@@ -1,0 +1,16 @@
+-- The answers to the goals of `bindings::scoped_decision`.
+use Rattle.types_expr.proofs.Equations.{ok_map}
+use Rattle.types_declared.specs.PackageView.{package_of}
+use Rattle.refs_binding.proofs.Units.{list_of_sound}
+use Rattle.refactor_plan.specs.Bindings.{verdicts_read, workspace_read}
+use Rattle.refactor_plan.proofs.DecidedRenames.{scoped_decided}
+use Rattle.refactor_plan.proofs.bindings.scoped_decision.Goals as goal
+
+pub returns : goal.returns
+returns c =
+    let read = c.args.read.now in
+    let w = workspace_read read in
+    let found = read.at.workspace.now.findings in
+    ok_map c.scope_decision.result (scoped_decided w (list_of_sound w found c.has_no_faults.ensures) (verdicts_read read)
+    c.has_no_faults.ensures.findings.right (package_of read.of.unit) c.requires.read.unit.is_package c.args.n c.args.declaration.now c.requires.scoped
+    c.args.name.now c.requires.legal) c.scope_decision.ensures
