@@ -12,6 +12,7 @@ use Rattle.history_machine.specs.declared.event.Event.TheVariants.{Look, Log, Co
 use Rattle.history_machine.specs.declared.event.Reply.{Reply}
 use Rattle.history_machine.specs.declared.event.Reply.TheVariants.{Looked, Logged, Done, Taken, Refused, Back}
 use Rattle.build_carry.specs.Carried.{IsCarried}
+use Rattle.workspace_snapshot.specs.Made.{IsMadeByEdits}
 use Rattle.base_edits.specs.EditSet.{FileChanges}
 use Rattle.history_machine.specs.declared.entry.Entry.{Entry}
 use Rattle.history_machine.specs.Journal.{Records, ShowsLine, entry_of, told_of}
@@ -63,7 +64,7 @@ abbrev pub Answers : Content → Event → Reply → Content → Type 0
 Answers old Look (Looked view) new = (view ≡ view_of old) × (new ≡ old)
 Answers old (Log asked) (Logged number line) new = (number ≡ old.current.number) × (new ≡ old)
 Answers old (Commit basis change) (Done number) new =
-    FitsCurrent old basis change × (number ≡ old.next)
+    (FitsCurrent old basis change × IsMadeByEdits change) × (number ≡ old.next)
     × ((finished : Table) × IsCarried old.current.files old.current.finished change.files finished × (new ≡ changed old change.files finished))
 Answers old (Commit basis change) (Refused (Moved current)) new = ¬ (FitsCurrent old basis change) × (current ≡ old.current.number) × (new ≡ old)
 Answers old (Undo basis) (Done number) new = (basis ≡ old.current.number) × (number ≡ new.current.number) × BeginsVisit old new × IsOneBefore new old

@@ -3,6 +3,7 @@ ghost use Rattle.std.specs.Prelude.{◌≡◌, IfOk};
 ghost use Rattle.base_edits.specs.EditSet.{edited};
 ghost use Rattle.base_edits.specs.Fits.{Fits};
 ghost use Rattle.workspace_graph.specs.Borrows.{names};
+ghost use Rattle.workspace_snapshot.specs.Made.{IsMadeByEdits};
 ghost use Rattle.workspace_graph.specs.SameGoFiles.{DiffersOnlyAt};
 
 use crate::change::{Change, ChangeKind};
@@ -87,9 +88,10 @@ impl MadeChange {
         &self.change
     }
 
-    /// The change, by value.
+    /// The change, by value. Its edits make its files.
     pub fn into_change(self) -> Change
-        ensures { result ≡ self }
+        ensures same { result ≡ self }
+        ensures made { IsMadeByEdits self }
     {
         let MadeChange { change } = self;
         change

@@ -1,0 +1,5 @@
+-- The definitions of this crate.
+pub mod Ranges
+pub mod Lookup
+pub mod Laws
+mod Examples
