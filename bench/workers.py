@@ -8,6 +8,8 @@ entries the journal gained.
 With 4 workers, 8 sessions then put and undo for SECONDS (20), and after that put, rename and undo as long. Meanwhile FILE is put every
 second, so that there is always much to build, and another session looks. The script prints the replies a second, how many of them
 were `ok` and how many of each refusal, and how long the looks took.
+Last, each file gets its text back. Then 8 sessions put once in 100 ms each, and one session renames a variable of a file of its own
+without pause. The script prints how many of these renames were admitted.
 Where go is installed, `go build -p 4` builds the same files.
 
     usage: python3 bench/workers.py PROGRAM [LINES [SECONDS [ROUNDS [FOLDER FILE]]]]
@@ -28,6 +30,7 @@ import build
 import check
 
 EDITORS = 8
+PAUSE = 0.1
 TICK = os.sysconf("SC_CLK_TCK")
 
 
@@ -149,6 +152,33 @@ def editing(path, number, files, verbs, until, told):
     told.put(("edit", counts))
 
 
+def pacing(path, number, files, until, told):
+    """Puts files of its own, one in PAUSE seconds, until `until` is set. A put with an old basis is sent again."""
+    session, counts = Session(path), collections.Counter()
+    mine = sorted(files)[number :: EDITORS]
+    while not until.is_set():
+        begin, file = time.perf_counter(), mine[counts["put ok"] % len(mine)]
+        session.put_now(file, another(files[file], (counts["put ok"] + 1) * EDITORS + number))
+        counts["put ok"] += 1
+        counts["seconds of put"] += time.perf_counter() - begin
+        time.sleep(max(0, PAUSE - (time.perf_counter() - begin)))
+    told.put(("edit", counts))
+
+
+def renaming(path, file, text, until, told):
+    """Renames a variable of the file to other names, until `until` is set. Each rename has the number that a look told right before it."""
+    session, counts, turn = Session(path), collections.Counter(), 0
+    text = another(text, 0)
+    session.put_now(file, text)
+    offset = text.rindex(b"again")
+    while not until.is_set():
+        turn += 1
+        word, told_number, _, seconds = session.ask(b"rename %d %s:#%d other%d" % (session.number(), file.encode(), offset, turn))
+        counts[f"rename {'ok' if word == b'ok' else 'no %d' % told_number}"] += 1
+        counts["seconds of rename"] += seconds
+    told.put(("edit", counts))
+
+
 class Beside:
     """Processes that run until `end` stops them and collects what they measured."""
 
@@ -202,8 +232,35 @@ def build_all(program, workers, files, lowest, rounds, seconds):
             sys.exit(f"faults: {word} {faults[:200]}")
         for verbs in (("put", "undo"), ("put", "rename", "undo")) if seconds > 0 else ():
             edit_all(server, session, files, lowest, seconds, verbs)
+        if seconds > 0:
+            rename_all(server, session, files, lowest, seconds)
         print(f"    most memory      {server.peak():8.0f} MiB", flush=True)
         return statistics.median(found)
+
+
+def print_counts(counts, verbs):
+    """Prints the mean time of each command, and how many were admitted or refused."""
+    for verb in verbs:
+        found = {what[len(verb) + 1 :]: count for what, count in sorted(counts.items()) if what.startswith(verb + " ")}
+        mean = counts[f"seconds of {verb}"] / max(1, sum(found.values()))
+        print(f"      {verb:7} mean {mean * 1000:8.1f} ms; " + ", ".join(f"{what}: {count}" for what, count in found.items()))
+
+
+def rename_all(server, session, files, lowest, seconds):
+    """One session that renames beside sessions that put once in PAUSE seconds. First each file gets its own text back, with
+    blank lines, and the faults are asked for."""
+    for path, text in files.items():
+        session.put_now(path, text + b"\n\n")
+    session.ask(b"faults")
+    others = {path: text for path, text in files.items() if path != lowest}
+    one = min(others)
+    text = others.pop(one)
+    works = [(pacing, server.path, editor, others) for editor in range(EDITORS)]
+    beside = Beside((renaming, server.path, one, text), *works)
+    time.sleep(seconds)
+    counts = sum((counts for _, counts in beside.end()), collections.Counter())
+    print(f"    {EDITORS} sessions that put once in {PAUSE} s, and one that renames, for {seconds:.1f} s:")
+    print_counts(counts, ("put", "rename"))
 
 
 def edit_all(server, session, files, lowest, seconds, verbs):
@@ -223,10 +280,7 @@ def edit_all(server, session, files, lowest, seconds, verbs):
     replies = sum(count for what, count in counts.items() if not what.startswith("seconds"))
     print(f"    {EDITORS} sessions with {', '.join(verbs)} for {ended:.1f} s: {replies / ended:.1f} replies a second, processor {processor:.1f} s;")
     print(f"      {waits_told(waits)}")
-    for verb in verbs:
-        found = {what[len(verb) + 1 :]: count for what, count in sorted(counts.items()) if what.startswith(verb + " ")}
-        mean = counts[f"seconds of {verb}"] / max(1, sum(found.values()))
-        print(f"      {verb:7} mean {mean * 1000:8.1f} ms; " + ", ".join(f"{what}: {count}" for what, count in found.items()))
+    print_counts(counts, verbs)
     print(f"      {session.entries() - entries} entries of the journal, {len(waits)} of them of these looks")
 
 
