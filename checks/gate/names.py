@@ -19,8 +19,33 @@ FORM = "one form of expression, as it is judged and as code is made of it"
 TWICE = {
     "ALL": "the list of all keywords, and of all operators",
     "Answer": "an associated type",
+    "Bound": VIEW,
+    "Content": VIEW,
+    "Definition": VIEW,
+    "Export": VIEW,
+    "ExportData": VIEW,
+    "Field": VIEW,
+    "FileTree": VIEW,
+    "FunctionName": VIEW,
+    "GlobalName": VIEW,
+    "Group": VIEW,
+    "Initial": VIEW,
     "Item": "an associated type, and an item of a list of the syntax tree",
+    "ListValue": VIEW,
     "Locals": VIEW,
+    "Meaning": VIEW,
+    "Member": VIEW,
+    "MemberUse": VIEW,
+    "Method": VIEW,
+    "Package": VIEW,
+    "Setting": VIEW,
+    "Signature": VIEW,
+    "Source": VIEW,
+    "State": VIEW,
+    "Target": VIEW,
+    "Underlying": VIEW,
+    "ValueKind": VIEW,
+    "World": VIEW,
     "binary_of": FORM,
     "change_in": SAME_IDEA,
     "definition_of": SAME_IDEA,
@@ -48,7 +73,7 @@ TWICE = {
     "variable": FORM,
 }
 TYPE = re.compile(r"^\s*(?:pub(?:\(crate\))? )?(?:struct|enum|trait|type|const) (\w+)", re.MULTILINE)
-DEFINITION = re.compile(r"^(?:(?:abbrev|record|data|unfoldable)(?: pub)? ([^\s:]+)|pub (\w+) :)", re.MULTILINE)
+DEFINITION = re.compile(r"^(?:(?:pub )?(?:abbrev|record|data|unfoldable)(?: pub)? ([^\s:]+)|pub (\w+) :)", re.MULTILINE)
 COMMENT = re.compile(r"^\s*(?:///|//!|//|--)(?: (.*)|)$")
 
 

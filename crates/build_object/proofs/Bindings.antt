@@ -18,7 +18,7 @@ use Rattle.go_scope.specs.ByToken.{IsFirstBelow}
 use Rattle.types_info.specs.NamesView.{IsNameAfterDot}
 use Rattle.types_declared.specs.Package.{Package}
 use Rattle.types_declared.specs.Written.{BindsToken}
-use Rattle.types_declared.specs.Written.{ImportsPath as DeclaresImport}
+use Rattle.types_declared.specs.Written.{DeclaresImport}
 use Rattle.types_declared.proofs.Binding.{bound_nowhere}
 use Rattle.types_info.proofs.NameParts.{no_dot}
 use Rattle.build_object.specs.Lines.{GlobalName}

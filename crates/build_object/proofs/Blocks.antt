@@ -12,14 +12,14 @@ use Rattle.go_ast.specs.declared.tree.BlockStmt.{items-the_row-BlockItem, items_
 use Rattle.go_ast.specs.declared.tree.IfStmt.{IfStmt, IfStmt', out-IfStmt, outs-IfStmt'}
 use Rattle.types_expr.proofs.Items.{next_item}
 use Rattle.build_object.specs.declared.statements.JumpMarks.{JumpMarks}
-use Rattle.build_object.specs.Lines.{Line, End, Jump, JumpBack, JumpUnless}
+use Rattle.build_object.specs.Lines.{CodeLine, End, Jump, JumpBack, JumpUnless}
 use Rattle.build_object.specs.Source.{Source}
 use Rattle.build_object.specs.Expressions.{value_lines}
 use Rattle.build_object.specs.Statements.{Exits, further, block_exits, body_exits, body_lines, branched, init_lines, no_exits, loop_condition, loop_lines}
 use Rattle.build_object.specs.Statements.{statement_lines, block_lines, statements_lines, if_lines, else_lines}
 use Rattle.build_object.specs.declared.code.Code.{Code}
 use Rattle.build_object.specs.LineView.{lines_in, Puts}
-use Rattle.build_object.specs.ExitsView.{exits_of, lines_of_each, lines_or_none, AreWithin, PutsElse, else_jump}
+use Rattle.build_object.specs.ExitsView.{exits_of, lines_of_each, lines_or_none, AreExitsWithin, PutsElse, else_jump}
 use Rattle.build_object.proofs.Putting.{puts_as, puts_then, puts_length, put_count}
 
 -- statements of the program in turn
@@ -68,7 +68,7 @@ if_from s slots r x (IfStmt' p init e b rest) =
 sub_more : (a n m : ℕ) → m ≤ n → (a + n) - m ≡ a + (n - m)
 sub_more a n m h = omega arith
 
-exits_more : (marks : JumpMarks) (a n : ℕ) → AreWithin marks n → exits_of marks (a + n) ≡ further a (exits_of marks n)
+exits_more : (marks : JumpMarks) (a n : ℕ) → AreExitsWithin marks n → exits_of marks (a + n) ≡ further a (exits_of marks n)
 exits_more marks a n w =
     let first : exits_of marks (a + n) ≡ record { next = a + (n - marks.next); out = (a + n) - marks.out } =
     ap (λ k. record { next = k; out = (a + n) - marks.out }) (sub_more a n marks.next w.next) in
@@ -76,22 +76,22 @@ exits_more marks a n w =
     ap (λ k. record { next = a + (n - marks.next); out = k }) (sub_more a n marks.out w.out) in
     first ∙ second
 
-pub within_more : {marks : JumpMarks} {m n : ℕ} → m ≤ n → AreWithin marks m → AreWithin marks n
+pub within_more : {marks : JumpMarks} {m n : ℕ} → m ≤ n → AreExitsWithin marks m → AreExitsWithin marks n
 within_more {marks} {m} {n} h w = record { next = let k = w.next in omega arith; out = let k = w.out in omega arith }
 
-pub within_put : {marks : JumpMarks} {lines : List Line} {old new : Code} → AreWithin marks (length (lines_in old)) → Puts lines old new →
-    AreWithin marks (length (lines_in new))
+pub within_put : {marks : JumpMarks} {lines : List CodeLine} {old new : Code} → AreExitsWithin marks (length (lines_in old)) → Puts lines old new →
+    AreExitsWithin marks (length (lines_in new))
 within_put {marks} {lines} {old} {new} w p = within_more (let h = puts_length p in omega arith) w
 
 -- one more statement before others
 pub each_turn : (s : Source) (slots : List ℕ) (r : ℕ) (marks : JumpMarks) {old mid new : Code} (xs : List BlockItem) (i : ℕ) (x : BlockItem) → 0 < i →
     i - 1 < length xs → x ≡ get_or xs (i - 1) x →
-    AreWithin marks (length (lines_in old)) → Puts (lines_of_each s slots r (exits_of marks (length (lines_in old))) (drop i xs)) old mid →
+    AreExitsWithin marks (length (lines_in old)) → Puts (lines_of_each s slots r (exits_of marks (length (lines_in old))) (drop i xs)) old mid →
     Puts (statement_lines s slots r (exits_of marks (length (lines_in mid))) (stmt_view x.statement)) mid new →
     Puts (lines_of_each s slots r (exits_of marks (length (lines_in old))) (drop (i - 1) xs)) old new
 each_turn s slots r marks {old} {mid} {new} xs i x some lt is w p q =
     let e : i - 1 + 1 ≡ i = omega arith in
-    let rest : List Line = lines_of_each s slots r (exits_of marks (length (lines_in old))) (drop i xs) in
+    let rest : List CodeLine = lines_of_each s slots r (exits_of marks (length (lines_in old))) (drop i xs) in
     let size : length (lines_in mid) ≡ length rest + length (lines_in old) = puts_length p in
     let leads : exits_of marks (length (lines_in mid)) ≡ further (length rest) (exits_of marks (length (lines_in old))) = ap (exits_of marks) size ∙
     exits_more marks (length rest) (length (lines_in old)) w in
@@ -105,23 +105,23 @@ each_turn s slots r marks {old} {mid} {new} xs i x some lt is w p q =
 pub else_nothing : (c : Code) → PutsElse None false c c
 else_nothing c = record { has = refl; put = refl }
 
-pub else_something : {lines : List Line} {old new : Code} → Puts lines old new → PutsElse (Some lines) true old new
+pub else_something : {lines : List CodeLine} {old new : Code} → Puts lines old new → PutsElse (Some lines) true old new
 else_something p = record { has = refl; put = p.put }
 
-pub else_as : {a b : Option (List Line)} {has : Bool} {old new : Code} → a ≡ b → PutsElse b has old new → PutsElse a has old new
+pub else_as : {a b : Option (List CodeLine)} {has : Bool} {old new : Code} → a ≡ b → PutsElse b has old new → PutsElse a has old new
 else_as {a} {b} {has} {old} {new} e p = record { has = p.has ∙ ap is_some (sym e); put = p.put ∙ ap (λ z. lines_or_none z ++ lines_in old) (sym e) }
 
-pub else_grows : {other : Option (List Line)} {has : Bool} {old new : Code} → PutsElse other has old new → length (lines_in old) ≤ length (lines_in new)
+pub else_grows : {other : Option (List CodeLine)} {has : Bool} {old new : Code} → PutsElse other has old new → length (lines_in old) ≤ length (lines_in new)
 else_grows {other} {has} {old} {new} p =
     let h : length (lines_in new) ≡ length (lines_or_none other) + length (lines_in old) = ap length p.put ∙
     length-append (lines_or_none other) (lines_in old) in omega arith
 
 -- nothing behind an `else` that is not there, and then the block
-else_none : {body : List Line} {c0 c1 c2 c3 : Code} → PutsElse None false c0 c1 → Puts [] c1 c2 → Puts body c2 c3 → Puts body c0 c3
+else_none : {body : List CodeLine} {c0 c1 c2 c3 : Code} → PutsElse None false c0 c1 → Puts [] c1 c2 → Puts body c2 c3 → Puts body c0 c3
 else_none {body} e j b = record { put = b.put ∙ ap (λ z. body ++ z) (j.put ∙ e.put) }
 
 -- where jumps out of the block of an `if` lead
-else_exits : (marks : JumpMarks) (other : Option (List Line)) (has : Bool) (k : ℕ) {c0 c1 c2 : Code} → AreWithin marks (length (lines_in c0)) →
+else_exits : (marks : JumpMarks) (other : Option (List CodeLine)) (has : Bool) (k : ℕ) {c0 c1 c2 : Code} → AreExitsWithin marks (length (lines_in c0)) →
     PutsElse other has c0 c1 → Puts (else_jump has k) c1 c2 →
     block_exits other (exits_of marks (length (lines_in c0))) ≡ exits_of marks (length (lines_in c2))
 else_exits marks None true k w e j = absurd (true≢false e.has)
@@ -137,7 +137,7 @@ else_exits marks (Some other) true k {c0} {c1} {c2} w e j =
 
 -- The parts of an `if` as they are put: the code behind `else`, the jump over it, the block, the condition, and the simple statement before
 -- it.
-branches_put : (other : Option (List Line)) (has : Bool) (body condition first : List Line) {c0 c1 c2 c3 c4 c5 : Code} → PutsElse other has c0 c1 →
+branches_put : (other : Option (List CodeLine)) (has : Bool) (body condition first : List CodeLine) {c0 c1 c2 c3 c4 c5 : Code} → PutsElse other has c0 c1 →
     Puts (else_jump has (length (lines_in c1) - length (lines_in c0))) c1 c2 → Puts body c2 c3 →
     Puts (condition ++ (JumpUnless (length (lines_in c3) - length (lines_in c1)) ∷ [])) c3 c4 → Puts first c4 c5 →
     Puts (first ++ (condition ++ branched body other)) c0 c5
@@ -160,7 +160,7 @@ branches_put (Some other) true body condition first {c0} {c1} {c2} {c3} e j b t 
 
 -- An `if`. `end` is the number of lines at first. `skipped` is that with the code behind `else`.
 pub if_put : (s : Source) (slots : List ℕ) (r : ℕ) (marks : JumpMarks) (i : IfStmt) (end skipped : ℕ) (has : Bool) {c0 c1 c2 c3 c4 c5 : Code} →
-    AreWithin marks (length (lines_in c0)) →
+    AreExitsWithin marks (length (lines_in c0)) →
     end ≡ length (lines_in c0) → skipped ≡ length (lines_in c1) →
     PutsElse (else_lines s slots r (exits_of marks (length (lines_in c0))) (else_view (out-IfStmt i).otherwise)) has c0 c1 →
     Puts (else_jump has (length (lines_in c1) - end)) c1 c2 →
@@ -169,7 +169,7 @@ pub if_put : (s : Source) (slots : List ℕ) (r : ℕ) (marks : JumpMarks) (i : 
     Puts (init_lines s slots (option_view init_view (out-IfStmt i).init)) c4 c5 →
     Puts (if_lines s slots r (exits_of marks (length (lines_in c0))) (if_view i)) c0 c5
 if_put s slots r marks i end skipped has {c0} {c1} {c2} {c3} w first behind e j b t f =
-    let other : Option (List Line) = else_lines s slots r (exits_of marks (length (lines_in c0))) (else_view (out-IfStmt i).otherwise) in
+    let other : Option (List CodeLine) = else_lines s slots r (exits_of marks (length (lines_in c0))) (else_view (out-IfStmt i).otherwise) in
     let leads : block_exits other (exits_of marks (length (lines_in c0))) ≡ exits_of marks (length (lines_in c2)) =
     else_exits marks other has (length (lines_in c1) - end) w e j in
     puts_as (sym (if_from s slots r (exits_of marks (length (lines_in c0))) i))
@@ -190,22 +190,22 @@ body_leads marks n k e f =
     first ∙ ap (λ m. record { next = 0; out = m }) there
 
 -- what a loop repeats, as it is put: the jump back before it leads anywhere, what is done after each turn, the body, the condition
-pub turns_put : (s : Source) (slots : List ℕ) (r : ℕ) (b : BlockTree) (tested : Option ExprTree) (post : List Line) (l : Line) (marks : JumpMarks)
+pub turns_put : (s : Source) (slots : List ℕ) (r : ℕ) (b : BlockTree) (tested : Option ExprTree) (post : List CodeLine) (l : CodeLine) (marks : JumpMarks)
     {c0 c1 c2 c3 c4 c5 : Code} →
     marks.out ≡ length (lines_in c0) → marks.next ≡ length (lines_in c2) → Puts (l ∷ []) c0 c1 → Puts post c1 c2 →
     Puts (block_lines s slots r (exits_of marks (length (lines_in c2))) b) c2 c3 →
     Puts (loop_condition s slots tested (length (lines_in c3) - marks.out)) c3 c4 →
-    ((lines rest : List Line) (x : Line) → length rest ≡ marks.out → lines_in c4 ≡ lines ++ (x ∷ rest) →
+    ((lines rest : List CodeLine) (x : CodeLine) → length rest ≡ marks.out → lines_in c4 ≡ lines ++ (x ∷ rest) →
     lines_in c5 ≡ lines ++ (JumpBack (suc (length lines)) ∷ rest)) →
     Puts (loop_lines s slots tested (block_lines s slots r (body_exits post) b) post) c0 c5
 turns_put s slots r b tested post l marks {c0} {c1} {c2} {c3} {c4} {c5} out next p q t u back =
     let grown : length (lines_in c2) ≡ suc (length post) + marks.out = let h = puts_length p in let k = puts_length q in omega arith in
     let leads : exits_of marks (length (lines_in c2)) ≡ body_exits post = body_leads marks (length (lines_in c2)) (suc (length post)) next grown in
-    let body : List Line = block_lines s slots r (body_exits post) b in
+    let body : List CodeLine = block_lines s slots r (body_exits post) b in
     let v : Puts body c2 c3 = puts_as (ap (λ x. block_lines s slots r x b) (sym leads)) t in
     let over : length (lines_in c3) - marks.out ≡ suc (length (body ++ post)) = let h = puts_length v in let k = length-append body post in omega arith in
     let z : Puts (loop_condition s slots tested (suc (length (body ++ post)))) c3 c4 = puts_as (ap (loop_condition s slots tested) (sym over)) u in
-    let lines : List Line = loop_condition s slots tested (suc (length (body ++ post))) ++ (body ++ post) in
+    let lines : List CodeLine = loop_condition s slots tested (suc (length (body ++ post))) ++ (body ++ post) in
     let was : lines_in c4 ≡ lines ++ (l ∷ lines_in c0) =
     z.put ∙ (ap (λ y. loop_condition s slots tested (suc (length (body ++ post))) ++ y)
     (v.put ∙ (ap (λ y. body ++ y) (q.put ∙ ap (λ y. post ++ y) p.put) ∙ sym (append_assoc body post (l ∷ lines_in c0))))

@@ -12,30 +12,30 @@ use Rattle.types_declared.specs.Package.{Package}
 use Rattle.build_object.specs.Lines.{FunctionName, GlobalName}
 use Rattle.build_object.specs.Source.{Source}
 use Rattle.build_object.specs.Names.{function_names}
-use Rattle.build_object.specs.Objects.{Object, Function, Declaration, TypeOf, Variable, FunctionOf, Definition, Initial, type_declarations, definition_of, declared_type}
+use Rattle.build_object.specs.Objects.{Object, ObjectFunction, ObjectDeclaration, TypeOf, Variable, FunctionOf, ObjectDefinition, Initial, type_declarations, definition_of, declared_type}
 use Rattle.build_object.specs.Objects.{known_variable, first_initial, other_initials, variable_declarations, literals_of, initials_of, global_variables, declared_function}
 use Rattle.build_object.specs.Objects.{declared_by, names_behind, declared_in, names_behind_all, declared_from}
 use Rattle.build_object.specs.Sources.{IsObjectOf}
 use Rattle.build_object.specs.Fitting.{HasFittingCode}
 use Rattle.build_object.proofs.FittingStatements.{function_fits}
 
-abbrev IsFitting : Declaration → Type 0
+abbrev IsFitting : ObjectDeclaration → Type 0
 IsFitting (TypeOf name definition) = ⊤
 IsFitting (Variable name own value) = ⊤
 IsFitting (FunctionOf f) = HasFittingCode f
 
-abbrev AreFitting : List Declaration → Type 0
+abbrev AreFitting : List ObjectDeclaration → Type 0
 AreFitting ds = AllByRecursion IsFitting ds
 
-both : (ds es : List Declaration) → AreFitting ds → AreFitting es → AreFitting (ds ++ es)
+both : (ds es : List ObjectDeclaration) → AreFitting ds → AreFitting es → AreFitting (ds ++ es)
 both [] es f g = g
 both (d ∷ ds) es f g = (f.0, both ds es f.1 g)
 
-each : {X : Type 0} (h : X → List Declaration) → ((x : X) → AreFitting (h x)) → (xs : List X) → AreFitting (flat_map h xs)
+each : {X : Type 0} (h : X → List ObjectDeclaration) → ((x : X) → AreFitting (h x)) → (xs : List X) → AreFitting (flat_map h xs)
 each h f [] = tt
 each h f (x ∷ xs) = both (h x) (flat_map h xs) (f x) (each h f xs)
 
-type_fits : (name : Option GlobalName) (definition : Option Definition) → AreFitting (type_declarations name definition)
+type_fits : (name : Option GlobalName) (definition : Option ObjectDefinition) → AreFitting (type_declarations name definition)
 type_fits None definition = tt
 type_fits (Some name) None = tt
 type_fits (Some name) (Some definition) = (tt, tt)
@@ -75,7 +75,7 @@ from_fits (s ∷ ss) names [] = tt
 from_fits (s ∷ ss) names (t ∷ ts) = both (declared_in s names t.decls) (declared_from ss (names_behind_all names t.decls) ts) (in_fits s names t.decls)
     (from_fits ss (names_behind_all names t.decls) ts)
 
-pub code_fits : (p : Package) (files_of : List ℕ → List SourceFile) (o : Object) → IsObjectOf p files_of o → (f : Function) →
+pub code_fits : (p : Package) (files_of : List ℕ → List SourceFile) (o : Object) → IsObjectOf p files_of o → (f : ObjectFunction) →
     Contains o.declarations (FunctionOf f) → HasFittingCode f
 code_fits p files_of o is f has =
     let all : AreFitting o.declarations = subst (λ (u : Object). AreFitting u.declarations) (sym is.is_object)

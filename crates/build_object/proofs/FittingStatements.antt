@@ -13,7 +13,7 @@ use Rattle.types_expr.specs.Judge.{judge_type}
 use Rattle.types_declared.specs.Files.{group_items}
 use Rattle.types_stmt.specs.Simple.{binary_of}
 use Rattle.types_declared.specs.MeaningOf.{result_types}
-use Rattle.build_object.specs.Lines.{Line, FunctionName, Duplicate, Load, Operate, Jump, JumpUnless, JumpBack, Zero, Set, End}
+use Rattle.build_object.specs.Lines.{CodeLine, FunctionName, Duplicate, Load, Operate, Jump, JumpUnless, JumpBack, Zero, Set, End}
 use Rattle.build_object.specs.Lines.{line_if_known, pops}
 use Rattle.build_object.specs.Lines as line
 use Rattle.build_object.specs.Source.{Source}
@@ -35,7 +35,7 @@ use Rattle.build_object.proofs.FittingExpressions.{expr_sound}
 values_stay : (s : Source) (slots : List ℕ) (es : List (Item ExprTree)) → Stays (length slots) (lines_of_values s slots es)
 values_stay s slots es = each_stays (length slots) (λ i. value_lines s slots i.value) (λ i. (expr_sound s slots i.value).0) es
 
-last_stays : {X : Type 0} (k : ℕ) (f : X → List Line) → ((x : X) → Stays k (f x)) → (xs : List (Item X)) → Stays k (from_last f xs)
+last_stays : {X : Type 0} (k : ℕ) (f : X → List CodeLine) → ((x : X) → Stays k (f x)) → (xs : List (Item X)) → Stays k (from_last f xs)
 unfolding from_last
 last_stays k f h [] = none_stays k
 last_stays k f h (x ∷ xs) = stays_joined k (from_last f xs) (f x.value) (last_stays k f h xs) (h x.value)
@@ -87,7 +87,7 @@ pops_stay k (suc n) = λ a b. (tt, pops_stay k n a (suc b))
 
 -- Simple statements
 
-update_stays : (k : ℕ) (address y : List Line) (o : BinaryOp) → Stays k address → Stays k y → Stays k (update_lines address y o)
+update_stays : (k : ℕ) (address y : List CodeLine) (o : BinaryOp) → Stays k address → Stays k y → Stays k (update_lines address y o)
 update_stays k address y o f g =
     let ends : Stays k (Operate o ∷ line.Assign 1 ∷ []) = λ a b. (tt, (tt, tt)) in
     let behind : Stays k (Duplicate ∷ Load ∷ (y ++ (Operate o ∷ line.Assign 1 ∷ []))) = λ a b.
@@ -141,11 +141,11 @@ local_stays s slots l = stays_joined (length slots) (first_values s slots l l.va
 jump_fits : (k n a : ℕ) → n ≤ a → Before k a (Jump n ∷ [])
 jump_fits k n a le = λ b. let lt : n < suc a = omega arith in (lt, tt)
 
-abbrev IsBefore : (slots behind : ℕ) → Option (List Line) → Type 0
+abbrev IsBefore : (slots behind : ℕ) → Option (List CodeLine) → Type 0
 IsBefore k a None = ⊤
 IsBefore k a (Some lines) = Before k a lines
 
-over_fits : (k a : ℕ) (body other : List Line) → Before k (suc (count other a)) body → Before k a other → Before k a (branched body (Some other))
+over_fits : (k a : ℕ) (body other : List CodeLine) → Before k (suc (count other a)) body → Before k a other → Before k a (branched body (Some other))
 over_fits k a body other f g = λ b.
     let over : length other < count other (suc a) = omega (arith, is_count other (suc a)) in
     let more : length (Jump (length other) ∷ other) ≡ suc (length other) = refl in
@@ -154,8 +154,8 @@ over_fits k a body other f g = λ b.
     (lt, before_joined k a body (Jump (length other) ∷ other) f (λ c. (over, g (suc c))) (suc b))
 
 -- body: the lines of the block of an `if`, by where `continue` and `break` lead
-branched_fits : (k a : ℕ) (x : Exits) (body : Exits → List Line) → ((y : Exits) (c : ℕ) → y.next ≤ c → y.out ≤ c → Before k c (body y)) →
-    (other : Option (List Line)) → IsBefore k a other →
+branched_fits : (k a : ℕ) (x : Exits) (body : Exits → List CodeLine) → ((y : Exits) (c : ℕ) → y.next ≤ c → y.out ≤ c → Before k c (body y)) →
+    (other : Option (List CodeLine)) → IsBefore k a other →
     x.next ≤ a → x.out ≤ a → Before k a (branched (body (block_exits other x)) other)
 branched_fits k a x body h None f next out = λ b.
     let lt : length (body x) < count (body x) (suc a) = omega (arith, is_count (body x) (suc a)) in
@@ -171,12 +171,12 @@ condition_fits s slots (Some e) n a le =
     let lt : n < suc a = omega arith in
     stays_before (length slots) a (value_lines s slots e) (JumpUnless n ∷ []) (expr_sound s slots e).0 (λ b. (lt, tt))
 
-turned_fits : (k a : ℕ) (lines : List Line) → Before k (suc a) lines → Before k a (with_jump_back lines)
+turned_fits : (k a : ℕ) (lines : List CodeLine) → Before k (suc a) lines → Before k a (with_jump_back lines)
 turned_fits k a lines f = λ b.
     let back : suc (length lines) ≤ suc (after lines b) = omega (arith, is_after lines b) in
     joined k b (suc a) lines (JumpBack (suc (length lines)) ∷ []) (f b) (back, tt)
 
-loop_fits : (s : Source) (slots : List ℕ) (e : Option ExprTree) (body post : List Line) (a : ℕ) → Before (length slots) (count post (suc a)) body →
+loop_fits : (s : Source) (slots : List ℕ) (e : Option ExprTree) (body post : List CodeLine) (a : ℕ) → Before (length slots) (count post (suc a)) body →
     Stays (length slots) post →
     Before (length slots) a (loop_lines s slots e body post)
 loop_fits s slots e body post a f g =

@@ -9,10 +9,10 @@ use Rattle.build_object.specs.declared.operands.Wanted.{Wanted}
 use Rattle.build_object.specs.declared.operands.Wanted.TheVariants as wanted
 use Rattle.build_object.specs.declared.operands.OperandMode.{OperandMode}
 use Rattle.build_object.specs.declared.code.Code.{Code}
-use Rattle.build_object.specs.Lines.{Line}
+use Rattle.build_object.specs.Lines.{CodeLine}
 use Rattle.build_object.specs.LineView.{lines_in, Puts}
 use Rattle.build_object.specs.Source.{Source}
-use Rattle.build_object.specs.Operands.{Operand, qualifies, indexed, called, calling}
+use Rattle.build_object.specs.Operands.{CodeOperand, qualifies, indexed, called, calling}
 use Rattle.build_object.specs.Operands as ops
 use Rattle.build_object.specs.Expressions.{linked, one_link}
 use Rattle.build_object.specs.Making.{lines_for, mode_of, before_link, index_lines, AppliesRule, AppliesSelector, AppliesLines}
@@ -20,14 +20,14 @@ use Rattle.build_object.proofs.Modes.{linked_end, linked_last, same_qualifies, s
 
 -- the links from number i on were gone over
 pub record GoesOver (s : Source) (slots : List ℕ) (links : List Link) (i : ℕ) (head : OperandMode) (first left : Wanted) (old new : Code) : Type 0 where
-  pub over : (o : Operand) → before_link o.mode ≡ before_link (mode_of head) →
+  pub over : (o : CodeOperand) → before_link o.mode ≡ before_link (mode_of head) →
       lines_for first (linked s slots o (links_in links)) ++ lines_in old ≡ lines_for left (linked s slots o (links_in (take i links))) ++ lines_in new
 
 -- one more link
 pub over_more : (s : Source) (slots : List ℕ) (links : List Link) (i : ℕ) (x : Link) (head stands : OperandMode) (first left next : Wanted)
     (old mid new : Code) →
     i < length links → x ≡ get_or links i x → GoesOver s slots links (i + 1) head first left old mid →
-    ((o : Operand) → before_link o.mode ≡ before_link (mode_of head) →
+    ((o : CodeOperand) → before_link o.mode ≡ before_link (mode_of head) →
     before_link (linked s slots o (links_in (take i links))).mode ≡ before_link (mode_of stands)) →
     AppliesRule (one_link s slots (link_view x no_link)) (mode_of stands) left next mid new → GoesOver s slots links i head first next old new
 over_more s slots links i x head stands first left next old mid new lt is over known goes = record {
@@ -40,11 +40,11 @@ over_more s slots links i x head stands first left next old mid new lt is over k
 
 -- the rules of the three links
 
-pub goes_selector : {rule : Operand → Operand} {stands : ops.Mode} {first left : Wanted} {old new : Code} →
+pub goes_selector : {rule : CodeOperand → CodeOperand} {stands : ops.Mode} {first left : Wanted} {old new : Code} →
     AppliesSelector rule (qualifies stands) first left old new → AppliesRule rule stands first left old new
 goes_selector {rule} {stands} g = record { on = λ o same. g.on o (same_qualifies o.mode stands same) }
 
-pub goes_index : {i : List Line} (stands : ops.Mode) (first : Wanted) {old mid new : Code} → Puts (index_lines first) old mid → Puts i mid new →
+pub goes_index : {i : List CodeLine} (stands : ops.Mode) (first : Wanted) {old mid new : Code} → Puts (index_lines first) old mid → Puts i mid new →
     AppliesRule (λ o. indexed o i) stands first wanted.Value old new
 goes_index {i} stands wanted.Value {old} {mid} {new} p q = record {
   on = λ o same.
@@ -55,11 +55,11 @@ goes_index {i} stands wanted.Address {old} {mid} {new} p q = record {
       append_assoc o.value _ (lines_in old) ∙ ap (λ z. o.value ++ z) (append_assoc i _ (lines_in old) ∙ (ap (λ z. i ++ z) (sym p.put) ∙ sym q.put));
 }
 
-called_lines : (first : Wanted) (o : Operand) (n : ℕ) (args : List Line) → lines_for first (called o n args) ≡ o.value ++ (args ++ calling n o.mode)
+called_lines : (first : Wanted) (o : CodeOperand) (n : ℕ) (args : List CodeLine) → lines_for first (called o n args) ≡ o.value ++ (args ++ calling n o.mode)
 called_lines wanted.Value o n args = refl
 called_lines wanted.Address o n args = refl
 
-pub goes_call : {args : List Line} (n : ℕ) (stands : ops.Mode) (first : Wanted) {old mid new : Code} → Puts (calling n stands) old mid →
+pub goes_call : {args : List CodeLine} (n : ℕ) (stands : ops.Mode) (first : Wanted) {old mid new : Code} → Puts (calling n stands) old mid →
     Puts args mid new → AppliesRule (λ o. called o n args) stands first wanted.Value old new
 goes_call {args} n stands first {old} {mid} {new} p q = record {
   on = λ o same.
@@ -69,25 +69,25 @@ goes_call {args} n stands first {old} {mid} {new} p q = record {
 }
 
 -- an operand behind which the links were gone over
-pub puts_on : {rule : Operand → Operand} {stands : ops.Mode} {first left : Wanted} {old mid new : Code} (o : Operand) →
+pub puts_on : {rule : CodeOperand → CodeOperand} {stands : ops.Mode} {first left : Wanted} {old mid new : Code} (o : CodeOperand) →
     before_link o.mode ≡ before_link stands →
     AppliesRule rule stands first left old mid → Puts (lines_for left o) mid new → Puts (lines_for first (rule o)) old new
 puts_on o same g p = record { put = p.put ∙ sym (g.on o same) }
 
-pub puts_from : {rule : List Line → List Line} {v : List Line} {old mid new : Code} → AppliesLines rule old mid → Puts v mid new → Puts (rule v) old new
+pub puts_from : {rule : List CodeLine → List CodeLine} {v : List CodeLine} {old mid new : Code} → AppliesLines rule old mid → Puts v mid new → Puts (rule v) old new
 puts_from {rule} {v} g p = record { put = p.put ∙ sym (g.on v) }
 
 -- The lines wanted of operands whose value and address have equal lines
 
-pub plain_lines : (w : Wanted) (lines : List Line) → lines_for w (ops.plain lines) ≡ lines
+pub plain_lines : (w : Wanted) (lines : List CodeLine) → lines_for w (ops.plain lines) ≡ lines
 plain_lines wanted.Value lines = refl
 plain_lines wanted.Address lines = refl
 
-pub grouped_lines : (w : Wanted) (o : Operand) → lines_for w (ops.grouped o) ≡ lines_for w o
+pub grouped_lines : (w : Wanted) (o : CodeOperand) → lines_for w (ops.grouped o) ≡ lines_for w o
 grouped_lines wanted.Value o = refl
 grouped_lines wanted.Address o = refl
 
-pub settled_lines : (w : Wanted) (o : Operand) → lines_for w (ops.settled o) ≡ lines_for w o
+pub settled_lines : (w : Wanted) (o : CodeOperand) → lines_for w (ops.settled o) ≡ lines_for w o
 settled_lines wanted.Value o = refl
 settled_lines wanted.Address o = refl
 
@@ -103,16 +103,16 @@ over_none s slots links n head first code all = record
     { over = λ o same. ap (λ ls. lines_for first (linked s slots o (links_in ls)) ++ lines_in code) (sym all) }
 
 pub over_all : (s : Source) (slots : List ℕ) (links : List Link) (head : OperandMode) (first left : Wanted) (old new : Code) →
-    ((o : Operand) → linked s slots o (links_in []) ≡ o) → GoesOver s slots links 0 head first left old new →
+    ((o : CodeOperand) → linked s slots o (links_in []) ≡ o) → GoesOver s slots links 0 head first left old new →
     AppliesRule (λ o. linked s slots o (links_in links)) (mode_of head) first left old new
 over_all s slots links head first left old new none g = record { on = λ o same. g.over o same ∙ ap (λ p. lines_for left p ++ lines_in new) (none o) }
 
 -- the same rule under another name
-pub goes_as : {rule other : Operand → Operand} {stands : ops.Mode} {first left : Wanted} {old new : Code} → ((o : Operand) → rule o ≡ other o) →
+pub goes_as : {rule other : CodeOperand → CodeOperand} {stands : ops.Mode} {first left : Wanted} {old new : Code} → ((o : CodeOperand) → rule o ≡ other o) →
     AppliesRule other stands first left old new → AppliesRule rule stands first left old new
 goes_as {rule} {other} {stands} {first} {left} {old} {new} e g = record { on = λ o same. ap (λ p. lines_for first p ++ lines_in old) (e o) ∙ g.on o same }
 
-pub goes_behind_as : {rule : Operand → Operand} {b d : Bool} {first left : Wanted} {old new : Code} → b ≡ d → AppliesSelector rule b first left old new →
+pub goes_behind_as : {rule : CodeOperand → CodeOperand} {b d : Bool} {first left : Wanted} {old new : Code} → b ≡ d → AppliesSelector rule b first left old new →
     AppliesSelector rule d first left old new
 goes_behind_as {rule} {b} {d} e g = record { on = λ o q. g.on o (q ∙ sym e) }
 
@@ -120,7 +120,7 @@ goes_behind_as {rule} {b} {d} e g = record { on = λ o q. g.on o (q ∙ sym e) }
 pub over_turn : (s : Source) (slots : List ℕ) (links : List Link) (i : ℕ) (x : Link) (head stands : OperandMode) (first left next : Wanted)
     (old mid new : Code) →
     0 < i → i - 1 < length links → x ≡ get_or links (i - 1) x → GoesOver s slots links i head first left old mid →
-    ((o : Operand) → before_link o.mode ≡ before_link (mode_of head) →
+    ((o : CodeOperand) → before_link o.mode ≡ before_link (mode_of head) →
     before_link (linked s slots o (links_in (take (i - 1) links))).mode ≡ before_link (mode_of stands)) →
     AppliesRule (one_link s slots (link_view x no_link)) (mode_of stands) left next mid new → GoesOver s slots links (i - 1) head first next old new
 over_turn s slots links i x head stands first left next old mid new some lt is over known goes =

@@ -7,7 +7,7 @@ use Rattle.go_ast.specs.declared.syntax.PrefixOp.{PrefixOp}
 use Rattle.go_ast.specs.declared.syntax.PrefixOp.TheVariants as prefix
 use Rattle.go_ast.specs.declared.tree.Expr.{Expr}
 use Rattle.go_ast.specs.declared.tree.Expr.TheVariants as expr
-use Rattle.go_ast.specs.declared.tree.Operand as operand
+use Rattle.go_ast.specs.declared.tree.CodeOperand as operand
 use Rattle.go_ast.specs.declared.tree.CompositeLit.{CompositeLit, out-CompositeLit}
 use Rattle.go_ast.specs.declared.tree.Link.{Link}
 use Rattle.go_ast.specs.declared.tree.Link.TheVariants as link
@@ -19,10 +19,10 @@ use Rattle.types_expr.specs.World.{underlying}
 use Rattle.types_expr.specs.Judge.{judge_type}
 use Rattle.types_expr.proofs.Items.{next_item}
 use Rattle.build_object.specs.declared.code.Code.{Code}
-use Rattle.build_object.specs.Lines.{Line, Duplicate, Pop, JumpUnless, Operate, Zero, MakeSlice}
+use Rattle.build_object.specs.Lines.{CodeLine, Duplicate, Pop, JumpUnless, Operate, Zero, MakeSlice}
 use Rattle.build_object.specs.LineView.{lines_in, Puts}
 use Rattle.build_object.specs.Source.{Source}
-use Rattle.build_object.specs.Operands.{Mode, Values, Operand, qualifies, selected, operated, left_by_call, value_count, prefixed}
+use Rattle.build_object.specs.Operands.{Mode, Values, CodeOperand, qualifies, selected, operated, left_by_call, value_count, prefixed}
 use Rattle.build_object.specs.Expressions.{operand_of, operations, linked, one_link, keyed_lines, bare_lines, literal_lines, literal_code, typed_literal}
 use Rattle.build_object.specs.Expressions.{value_lines}
 use Rattle.build_object.specs.Making.{before_link, test_lines, AppliesLines}
@@ -30,28 +30,28 @@ use Rattle.build_object.proofs.Putting.{puts_length}
 use Rattle.build_object.proofs.Modes.{linked_end, known_before, link_at}
 use Rattle.build_object.proofs.Trees.{selector_here, index_here, call_here, chain_here, prefix_here, operations_step, literal_here}
 
-pub stands_at_once : (s : Source) (slots : List ℕ) (links : List Link) (n : ℕ) (o : Operand) → n ≡ 0 → linked s slots o (links_in (take n links)) ≡ o
+pub stands_at_once : (s : Source) (slots : List ℕ) (links : List Link) (n : ℕ) (o : CodeOperand) → n ≡ 0 → linked s slots o (links_in (take n links)) ≡ o
 stands_at_once s slots links n o none = ap (λ k. linked s slots o (links_in (take k links))) none ∙ linked_end s slots o
 
-pub link_before : (s : Source) (slots : List ℕ) (links : List Link) (n last : ℕ) (x : Link) (o : Operand) → n ≡ last + 1 → last < length links →
+pub link_before : (s : Source) (slots : List ℕ) (links : List Link) (n last : ℕ) (x : Link) (o : CodeOperand) → n ≡ last + 1 → last < length links →
     x ≡ get_or links last x →
     linked s slots o (links_in (take n links)) ≡ one_link s slots (link_view x no_link) (linked s slots o (links_in (take last links)))
 link_before s slots links n last x o size lt is = ap (λ k. linked s slots o (links_in (take k links))) size ∙ link_at s slots links last x o lt is
 
 pub selector_stands : (s : Source) (slots : List ℕ) (links : List Link) (n last : ℕ) (x : Link) (d token : ℕ) (head r : Mode) (q : Bool) →
     n ≡ last + 1 → last < length links → x ≡ get_or links last x → x ≡ link.Selector d token → q ≡ (last == 0 && qualifies head) →
-    ((o : Operand) → qualifies o.mode ≡ q → (selected s slots token o).mode ≡ r) →
-    (o : Operand) → before_link o.mode ≡ before_link head → (linked s slots o (links_in (take n links))).mode ≡ r
+    ((o : CodeOperand) → qualifies o.mode ≡ q → (selected s slots token o).mode ≡ r) →
+    (o : CodeOperand) → before_link o.mode ≡ before_link head → (linked s slots o (links_in (take n links))).mode ≡ r
 selector_stands s slots links n last x d token head r q size lt is form known rule o same =
     ap (λ p. p.mode) (link_before s slots links n last x o size lt is ∙ selector_here s slots d token _ form)
     ∙ rule (linked s slots o (links_in (take last links))) (known_before s slots links last head o lt same ∙ sym known)
 
-pub index_stands : (s : Source) (slots : List ℕ) (links : List Link) (n last : ℕ) (x : Link) (b : ℕ) (e : _) (c : ℕ) (o : Operand) →
+pub index_stands : (s : Source) (slots : List ℕ) (links : List Link) (n last : ℕ) (x : Link) (b : ℕ) (e : _) (c : ℕ) (o : CodeOperand) →
     n ≡ last + 1 → last < length links → x ≡ get_or links last x → x ≡ link.Index b e c → (linked s slots o (links_in (take n links))).mode ≡ Values 1
 index_stands s slots links n last x b e c o size lt is form =
     ap (λ p. p.mode) (link_before s slots links n last x o size lt is ∙ index_here s slots b e c _ form)
 
-pub call_stands : (s : Source) (slots : List ℕ) (links : List Link) (n last : ℕ) (x : Link) (b : ℕ) (xs : _) (c : ℕ) (o : Operand) →
+pub call_stands : (s : Source) (slots : List ℕ) (links : List Link) (n last : ℕ) (x : Link) (b : ℕ) (xs : _) (c : ℕ) (o : CodeOperand) →
     n ≡ last + 1 → last < length links → x ≡ get_or links last x → x ≡ link.Call b xs c →
     (linked s slots o (links_in (take n links))).mode ≡ Values (left_by_call (linked s slots o (links_in (take last links))).mode)
 call_stands s slots links n last x b xs c o size lt is form =
@@ -74,13 +74,13 @@ test_default op.GreaterEqual n h = refl
 test_default op.And n h = refl
 test_default op.Or n h = absurd (h refl)
 
-pub test_passed : {l : Line} {old new : Code} (len end : ℕ) → end ≤ length (lines_in old) → len ≡ length (lines_in new) → Puts (l ∷ []) old new →
+pub test_passed : {l : CodeLine} {old new : Code} (len end : ℕ) → end ≤ length (lines_in old) → len ≡ length (lines_in new) → Puts (l ∷ []) old new →
     len - end ≡ suc (length (lines_in old) - end)
 test_passed len end below size p = let h = puts_length p in omega arith
 
 -- operators
 
-pub operate_default : (o : BinaryOp) (a b : List Line) → (o ≡ op.And → ⊥) → (o ≡ op.Or → ⊥) → operated o a b ≡ a ++ (b ++ (Operate o ∷ []))
+pub operate_default : (o : BinaryOp) (a b : List CodeLine) → (o ≡ op.And → ⊥) → (o ≡ op.Or → ⊥) → operated o a b ≡ a ++ (b ++ (Operate o ∷ []))
 operate_default op.Multiply a b g h = refl
 operate_default op.Divide a b g h = refl
 operate_default op.Remainder a b g h = refl
@@ -95,7 +95,7 @@ operate_default op.GreaterEqual a b g h = refl
 operate_default op.And a b g h = absurd (g refl)
 operate_default op.Or a b g h = absurd (h refl)
 
-pub goes_operate : (o : BinaryOp) {b : List Line} {old mid new : Code} → (o ≡ op.And → ⊥) → (o ≡ op.Or → ⊥) → Puts (Operate o ∷ []) old mid →
+pub goes_operate : (o : BinaryOp) {b : List CodeLine} {old mid new : Code} → (o ≡ op.And → ⊥) → (o ≡ op.Or → ⊥) → Puts (Operate o ∷ []) old mid →
     Puts b mid new → AppliesLines (λ a. operated o a b) old new
 goes_operate o {b} {old} {mid} {new} g h p q = record {
   on = λ a.
@@ -104,10 +104,10 @@ goes_operate o {b} {old} {mid} {new} g h p q = record {
 }
 
 -- so many lines were put since then
-pub lines_since : {b : List Line} {old new : Code} (end : ℕ) → end ≡ length (lines_in old) → Puts b old new → length (lines_in new) - end ≡ length b
+pub lines_since : {b : List CodeLine} {old new : Code} (end : ℕ) → end ≡ length (lines_in old) → Puts b old new → length (lines_in new) - end ≡ length b
 lines_since end was p = let h = puts_length p in omega arith
 
-pub goes_test : (o : BinaryOp) {b : List Line} {old mid new : Code} (n : ℕ) → ((a : List Line) → operated o a b ≡ a ++ (test_lines o (length b) ++ b)) →
+pub goes_test : (o : BinaryOp) {b : List CodeLine} {old mid new : Code} (n : ℕ) → ((a : List CodeLine) → operated o a b ≡ a ++ (test_lines o (length b) ++ b)) →
     n ≡ length b →
     Puts b old mid → Puts (test_lines o n) mid new → AppliesLines (λ a. operated o a b) old new
 goes_test o {b} {old} {mid} {new} n form size p q = record {
@@ -118,18 +118,18 @@ goes_test o {b} {old} {mid} {new} n form size p q = record {
 
 -- more operators before others
 
-pub goes_before : {rule : List Line → List Line} {step : List Line → List Line} {old mid new : Code} → AppliesLines rule old mid → AppliesLines step mid new →
+pub goes_before : {rule : List CodeLine → List CodeLine} {step : List CodeLine → List CodeLine} {old mid new : Code} → AppliesLines rule old mid → AppliesLines step mid new →
     AppliesLines (λ a. rule (step a)) old new
 goes_before {rule} {step} g h = record { on = λ a. g.on (step a) ∙ h.on a }
 
-pub goes_rule : {rule other : List Line → List Line} {old new : Code} → ((a : List Line) → rule a ≡ other a) → AppliesLines other old new →
+pub goes_rule : {rule other : List CodeLine → List CodeLine} {old new : Code} → ((a : List CodeLine) → rule a ≡ other a) → AppliesLines other old new →
     AppliesLines rule old new
 goes_rule {rule} {other} {old} e g = record { on = λ a. ap (λ z. z ++ lines_in old) (e a) ∙ g.on a }
 
-pub goes_nowhere : {rule : List Line → List Line} (code : Code) → ((a : List Line) → rule a ≡ a) → AppliesLines rule code code
+pub goes_nowhere : {rule : List CodeLine → List CodeLine} (code : Code) → ((a : List CodeLine) → rule a ≡ a) → AppliesLines rule code code
 goes_nowhere code e = record { on = λ a. ap (λ z. z ++ lines_in code) (e a) }
 
-prefixed_stands : (o : PrefixOp) (a : List Line) → Values 1 ≡ (prefixed o a).mode
+prefixed_stands : (o : PrefixOp) (a : List CodeLine) → Values 1 ≡ (prefixed o a).mode
 prefixed_stands prefix.Plus a = refl
 prefixed_stands prefix.Minus a = refl
 prefixed_stands prefix.Not a = refl
@@ -150,7 +150,7 @@ chain_alone s slots b links is x hx none stands known =
 pub chain_behind : (s : Source) (slots : List ℕ) {e : Expr} (b : _) (links : _) → e ≡ expr.Chain b links → (x : Expr) → x ≡ b.value → (xs : List Link) →
     xs ≡ links.items →
     (last : ℕ) → length links.items ≡ last + 1 → (head : Mode) → (operand_of s slots (expr_view x)).mode ≡ head → (k : ℕ) →
-    ((o : Operand) → before_link o.mode ≡ before_link head → value_count (linked s slots o (links_in (take (last + 1) xs))).mode ≡ k) →
+    ((o : CodeOperand) → before_link o.mode ≡ before_link head → value_count (linked s slots o (links_in (take (last + 1) xs))).mode ≡ k) →
     (operand_of s slots (expr_view e)).mode ≡ Values k
 chain_behind s slots b links is x hx xs hxs last size head known k rule =
     let all : take (last + 1) xs ≡ xs = take_all (last + 1) xs (let h = ap length hxs ∙ size in omega arith) in
@@ -163,7 +163,7 @@ pub prefix_stands : (s : Source) (slots : List ℕ) {e : Expr} (o : PrefixOp) (p
 prefix_stands s slots o p b is = prefixed_stands o _ ∙ sym (ap (λ q. q.mode) (prefix_here s slots o p b is b.value refl))
 
 -- operators behind others, in a loop whose numbers fall
-pub operations_turn : (s : Source) (slots : List ℕ) (xs : List operand.Operand) (i : ℕ) (x : operand.Operand) {old mid new : Code} → 0 < i →
+pub operations_turn : (s : Source) (slots : List ℕ) (xs : List operand.CodeOperand) (i : ℕ) (x : operand.CodeOperand) {old mid new : Code} → 0 < i →
     i - 1 < length xs → x ≡ get_or xs (i - 1) x →
     AppliesLines (λ a. operations s slots a (operands_in (drop i xs))) old mid →
     AppliesLines (λ a. operated x.op a (value_lines s slots (expr_view x.value))) mid new →

@@ -8,7 +8,7 @@ use Rattle.types_expr.proofs.Items.{next_item}
 use Rattle.build_object.proofs.Links.{same_item}
 use Rattle.build_object.specs.Statements.{from_last}
 use Rattle.build_object.specs.declared.code.Code.{Code}
-use Rattle.build_object.specs.Lines.{Line}
+use Rattle.build_object.specs.Lines.{CodeLine}
 use Rattle.build_object.specs.LineView.{Puts}
 use Rattle.build_object.proofs.Putting.{puts_as, puts_then}
 
@@ -27,13 +27,13 @@ rest_end F none total now xs i h e = sym (append-nil now) ∙ (ap (λ z. now ++ 
 
 -- From the end: the lines of the items behind were put.
 
-pub back_step : {X : Type 0} (F : List X → List Line) (f : X → List Line) → ((x : X) (xs : List X) → F (x ∷ xs) ≡ f x ++ F xs) →
+pub back_step : {X : Type 0} (F : List X → List CodeLine) (f : X → List CodeLine) → ((x : X) (xs : List X) → F (x ∷ xs) ≡ f x ++ F xs) →
     {old mid new : Code} (xs : List X) (i : ℕ) (x : X) →
     i < length xs → x ≡ get_or xs i x → Puts (F (drop (i + 1) xs)) old mid → Puts (f x) mid new → Puts (F (drop i xs)) old new
 back_step F f step xs i x lt is p q = puts_as (ap F (next_item xs i x lt is) ∙ step x (drop (i + 1) xs)) (puts_then p q)
 
 -- the same in a loop whose numbers fall
-pub back_turn : {X : Type 0} (F : List X → List Line) (f : X → List Line) → ((x : X) (xs : List X) → F (x ∷ xs) ≡ f x ++ F xs) →
+pub back_turn : {X : Type 0} (F : List X → List CodeLine) (f : X → List CodeLine) → ((x : X) (xs : List X) → F (x ∷ xs) ≡ f x ++ F xs) →
     {old mid new : Code} (xs : List X) (i : ℕ) (x : X) →
     0 < i → i - 1 < length xs → x ≡ get_or xs (i - 1) x → Puts (F (drop i xs)) old mid → Puts (f x) mid new → Puts (F (drop (i - 1) xs)) old new
 back_turn F f step xs i x some lt is p q = let e : i - 1 + 1 ≡ i = omega arith in
@@ -47,16 +47,16 @@ back_start xs i all = drop_of_length-le xs all
 
 -- What is done for a list from its last item on, put in a loop from its front
 
-pub from_last_none : {Y : Type 0} (f : Y → List Line) → from_last f [] ≡ []
+pub from_last_none : {Y : Type 0} (f : Y → List CodeLine) → from_last f [] ≡ []
 unfolding from_last
 from_last_none f = refl
 
-from_last_more : {Y : Type 0} (f : Y → List Line) (xs : List (Item Y)) (x : Item Y) → from_last f (xs ++ (x ∷ [])) ≡ f x.value ++ from_last f xs
+from_last_more : {Y : Type 0} (f : Y → List CodeLine) (xs : List (Item Y)) (x : Item Y) → from_last f (xs ++ (x ∷ [])) ≡ f x.value ++ from_last f xs
 unfolding from_last
 from_last_more f [] x = sym (append-nil (f x.value))
 from_last_more f (y ∷ ys) x = ap (λ z. z ++ f y.value) (from_last_more f ys x) ∙ append_assoc (f x.value) (from_last f ys) (f y.value)
 
-pub taken_step : {X Y : Type 0} (f : Y → List Line) (view : X → Item Y) {old mid new : Code} (xs : List X) (i : ℕ) (x : X) → i < length xs → x ≡ get_or xs i x →
+pub taken_step : {X Y : Type 0} (f : Y → List CodeLine) (view : X → Item Y) {old mid new : Code} (xs : List X) (i : ℕ) (x : X) → i < length xs → x ≡ get_or xs i x →
     Puts (from_last f (map view (take i xs))) old mid → Puts (f (view x).value) mid new → Puts (from_last f (map view (take (i + 1) xs))) old new
 taken_step f view xs i x lt is p q =
     puts_as (ap (λ ys. from_last f (map view ys)) (take_more xs i x lt ∙ ap (λ y. take i xs ++ (y ∷ [])) (sym is)) ∙
@@ -64,7 +64,7 @@ taken_step f view xs i x lt is p q =
 
 -- the item of a number without a name
 
-pub taken_at : {X Y : Type 0} (f : Y → List Line) (view : X → Item Y) {old mid new : Code} (xs : List X) (i : ℕ) (d : X) → i < length xs →
+pub taken_at : {X Y : Type 0} (f : Y → List CodeLine) (view : X → Item Y) {old mid new : Code} (xs : List X) (i : ℕ) (d : X) → i < length xs →
     Puts (from_last f (map view (take i xs))) old mid → Puts (f (view (get_or xs i d)).value) mid new → Puts (from_last f (map view (take (i + 1) xs))) old new
 taken_at f view xs i d lt p q = taken_step f view xs i (get_or xs i d) lt (same_item xs i d (get_or xs i d) lt) p q
 
@@ -74,7 +74,7 @@ item_at (x ∷ xs) zero lt = (x, refl)
 item_at (x ∷ xs) (suc n) lt = item_at xs n (omega arith)
 
 -- the same lines for each item
-pub back_alike : {X : Type 0} (F : List X → List Line) (z : List Line) → ((x : X) (xs : List X) → F (x ∷ xs) ≡ z ++ F xs) →
+pub back_alike : {X : Type 0} (F : List X → List CodeLine) (z : List CodeLine) → ((x : X) (xs : List X) → F (x ∷ xs) ≡ z ++ F xs) →
     {old mid new : Code} (xs : List X) (i : ℕ) →
     0 < i → i - 1 < length xs → Puts (F (drop i xs)) old mid → Puts z mid new → Puts (F (drop (i - 1) xs)) old new
 back_alike F z step xs i some lt p q = let it = item_at xs (i - 1) lt in back_turn F (λ x. z) step xs i it.0 some lt it.1 p q

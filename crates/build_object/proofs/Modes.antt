@@ -12,7 +12,7 @@ use Rattle.types_expr.specs.Types.{PlainType}
 use Rattle.types_expr.specs.World.{Member, AField, AMethod, ABrokenMethod}
 use Rattle.build_object.specs.Lines.{FunctionName}
 use Rattle.build_object.specs.Source.{Source}
-use Rattle.build_object.specs.Operands.{Mode, Values, Called, Converts, Predeclared, Qualifies, Operand, qualifies, unqualified, function_mode}
+use Rattle.build_object.specs.Operands.{Mode, Values, Called, Converts, Predeclared, Qualifies, CodeOperand, qualifies, unqualified, function_mode}
 use Rattle.build_object.specs.Operands.{field_operand, member_operand, typed_selector, selected_by, calling, left_by_call}
 use Rattle.build_object.specs.Expressions.{linked, one_link}
 use Rattle.build_object.specs.Making.{before_link}
@@ -63,23 +63,23 @@ function_never : (name : Option FunctionName) (r : Bool) (n : ℕ) → qualifies
 function_never None r n = refl
 function_never (Some f) r n = refl
 
-field_never : (o : Operand) (through : Bool) (i : Option ℕ) → qualifies (field_operand o through i).mode ≡ false
+field_never : (o : CodeOperand) (through : Bool) (i : Option ℕ) → qualifies (field_operand o through i).mode ≡ false
 field_never o true i = refl
 field_never o false i = refl
 
-member_never : (s : Source) (o : Operand) (t : PlainType) (m : Option Member) → qualifies (member_operand s o t m).mode ≡ false
+member_never : (s : Source) (o : CodeOperand) (t : PlainType) (m : Option Member) → qualifies (member_operand s o t m).mode ≡ false
 unfolding member_operand
 member_never s o t None = refl
 member_never s o t (Some (AField f own)) = field_never o _ _
 member_never s o t (Some (AMethod m on_pointer signature)) = function_never (s.function m) true _
 member_never s o t (Some (ABrokenMethod m)) = refl
 
-typed_never : (s : Source) (n : ℕ) (o : Operand) (t : Option PlainType) → qualifies (typed_selector s n o t).mode ≡ false
+typed_never : (s : Source) (n : ℕ) (o : CodeOperand) (t : Option PlainType) → qualifies (typed_selector s n o t).mode ≡ false
 unfolding typed_selector
 typed_never s n o None = refl
 typed_never s n o (Some t) = member_never s o t (s.world.member n t)
 
-selected_never : (s : Source) (slots : List ℕ) (n : ℕ) (o : Operand) (stands : Mode) → qualifies (selected_by s slots n o stands).mode ≡ false
+selected_never : (s : Source) (slots : List ℕ) (n : ℕ) (o : CodeOperand) (stands : Mode) → qualifies (selected_by s slots n o stands).mode ≡ false
 unfolding selected_by
 selected_never s slots n o Qualifies = unqualified_never _
 selected_never s slots n o (Values k) = typed_never s n o _
@@ -87,7 +87,7 @@ selected_never s slots n o (Called r f k) = typed_never s n o _
 selected_never s slots n o Converts = typed_never s n o _
 selected_never s slots n o (Predeclared b) = typed_never s n o _
 
-pub link_never : (s : Source) (slots : List ℕ) (l : Link) (o : Operand) → qualifies (one_link s slots (link_view l no_link) o).mode ≡ false
+pub link_never : (s : Source) (slots : List ℕ) (l : Link) (o : CodeOperand) → qualifies (one_link s slots (link_view l no_link) o).mode ≡ false
 unfolding one_link link_view
 link_never s slots (link.Selector d n) o = selected_never s slots n o o.mode
 link_never s slots (link.Index b e c) o = refl
@@ -95,30 +95,30 @@ link_never s slots (link.Call' b shape row c) o = refl
 
 -- links in turn
 
-pub linked_step : (s : Source) (slots : List ℕ) (o : Operand) (l : Link) (rest : List Link) →
+pub linked_step : (s : Source) (slots : List ℕ) (o : CodeOperand) (l : Link) (rest : List Link) →
     linked s slots o (links_in (l ∷ rest)) ≡ linked s slots (one_link s slots (link_view l no_link) o) (links_in rest)
 unfolding linked one_link links_in link_view
 linked_step s slots o (link.Selector d n) rest = refl
 linked_step s slots o (link.Index b e c) rest = refl
 linked_step s slots o (link.Call' b shape row c) rest = refl
 
-pub linked_end : (s : Source) (slots : List ℕ) (o : Operand) → linked s slots o (links_in []) ≡ o
+pub linked_end : (s : Source) (slots : List ℕ) (o : CodeOperand) → linked s slots o (links_in []) ≡ o
 unfolding linked links_in
 linked_end s slots o = refl
 
-pub linked_last : (s : Source) (slots : List ℕ) (o : Operand) (xs : List Link) (l : Link) →
+pub linked_last : (s : Source) (slots : List ℕ) (o : CodeOperand) (xs : List Link) (l : Link) →
     linked s slots o (links_in (xs ++ (l ∷ []))) ≡ one_link s slots (link_view l no_link) (linked s slots o (links_in xs))
 linked_last s slots o [] l = linked_step s slots o l [] ∙ (linked_end s slots (one_link s slots (link_view l no_link) o)
     ∙ ap (one_link s slots (link_view l no_link)) (sym (linked_end s slots o)))
 linked_last s slots o (x ∷ xs) l = linked_step s slots o x (xs ++ (l ∷ [])) ∙ (linked_last s slots (one_link s slots (link_view x no_link) o) xs l
     ∙ ap (one_link s slots (link_view l no_link)) (sym (linked_step s slots o x xs)))
 
-pub linked_never : (s : Source) (slots : List ℕ) (o : Operand) (xs : List Link) (l : Link) →
+pub linked_never : (s : Source) (slots : List ℕ) (o : CodeOperand) (xs : List Link) (l : Link) →
     qualifies (linked s slots o (links_in (xs ++ (l ∷ [])))).mode ≡ false
 linked_never s slots o xs l = ap (λ p. qualifies p.mode) (linked_last s slots o xs l) ∙ link_never s slots l (linked s slots o (links_in xs))
 
 -- whether the name of a package stands before the link of a number
-pub known_before : (s : Source) (slots : List ℕ) (links : List Link) (n : ℕ) (head : Mode) (o : Operand) → n < length links →
+pub known_before : (s : Source) (slots : List ℕ) (links : List Link) (n : ℕ) (head : Mode) (o : CodeOperand) → n < length links →
     before_link o.mode ≡ before_link head →
     qualifies (linked s slots o (links_in (take n links))).mode ≡ (n == 0 && qualifies head)
 known_before s slots links zero head o lt same = ap (λ p. qualifies p.mode) (linked_end s slots o) ∙ same_qualifies o.mode head same
@@ -130,7 +130,7 @@ known_before s slots (x ∷ links) (suc n) head o lt same =
     (linked_never s slots o (take n (x ∷ links)) (get_or (x ∷ links) n x) ∙ sym (ap (λ b. b && qualifies head) never))
 
 -- a link of a number, behind those before it
-pub link_at : (s : Source) (slots : List ℕ) (links : List Link) (n : ℕ) (x : Link) (o : Operand) → n < length links → x ≡ get_or links n x →
+pub link_at : (s : Source) (slots : List ℕ) (links : List Link) (n : ℕ) (x : Link) (o : CodeOperand) → n < length links → x ≡ get_or links n x →
     linked s slots o (links_in (take (n + 1) links)) ≡ one_link s slots (link_view x no_link) (linked s slots o (links_in (take n links)))
 link_at s slots links n x o lt is =
     ap (λ ls. linked s slots o (links_in ls)) (take_more links n x lt ∙ ap (λ y. take n links ++ (y ∷ [])) (sym is)) ∙ linked_last s slots o (take n links) x

@@ -12,7 +12,7 @@ use Rattle.go_scope.specs.WellFormed.{WellFormed}
 use Rattle.types_declared.specs.Files.{HasLiteral, package_name}
 use Rattle.types_stmt.specs.Declarations.{check_file}
 use Rattle.types_declared.specs.Package.{Package, spelled}
-use Rattle.types_declared.specs.Written.{BindsToken, ImportsPath}
+use Rattle.types_declared.specs.Written.{BindsToken, DeclaresImport}
 use Rattle.types_info.specs.Worlds.{is_init}
 use Rattle.types_info.specs.Uniqueness.{TokensRise}
 use Rattle.types_declared.proofs.Binding.{one_first}
@@ -25,7 +25,7 @@ use Rattle.build_object.specs.Source.{Source}
 use Rattle.build_object.specs.Names.{function_names, type_name}
 use Rattle.build_object.specs.Objects.{Object, object_of}
 use Rattle.build_object.specs.ObjectText.{object_text}
-use Rattle.build_object.specs.Sources.{type_before, HasQualifier, IsGlobalAt, IsGlobal, IsTextAt, IsSourceOf, AreImports, IsObjectOf, IsObjectText}
+use Rattle.build_object.specs.Sources.{type_before, HasQualifier, IsGlobalAt, DenotesGlobal, IsTextAt, IsSourceOf, AreImports, IsObjectOf, IsObjectText}
 use Rattle.build_object.specs.Sources as source
 use Rattle.workspace_graph.proofs.SortedLists.{one_sorted}
 
@@ -41,7 +41,7 @@ one_path_behind : (p : Package) → WellFormed p.layout → (file token : ℕ) (
 one_path_behind p formed file token v w a b =
     let before : b.before ≡ a.before = omega (arith, a.behind_dot, b.behind_dot) in
     let same : b.import ≡ a.import = one_binding p formed file a.before b.import a.import (subst (λ n. BindsToken p file n b.import) before b.binds) a.binds in
-    one_import_path p a.import v w a.of_path (subst (λ d. ImportsPath p d w) same b.of_path)
+    one_import_path p a.import v w a.of_path (subst (λ d. DeclaresImport p d w) same b.of_path)
 
 one_global_at : (p : Package) → WellFormed p.layout → (file token : ℕ) (g h : GlobalName) → IsGlobalAt p file token g → IsGlobalAt p file token h → g ≡ h
 one_global_at p formed file token _ _ (source.own {d = d} x level) (source.own {d = e} y other) = refl
@@ -50,7 +50,7 @@ one_global_at p formed file token _ _ (source.imported {path = path} x) (source.
 one_global_at p formed file token _ _ (source.imported {path = v} x) (source.imported {path = w} y) =
     ap (λ path. record { path = path; name = spelled p file token }) (one_path_behind p formed file token v w x y)
 
-one_global : (p : Package) → WellFormed p.layout → (file token : ℕ) (o u : Option GlobalName) → IsGlobal p file token o → IsGlobal p file token u → o ≡ u
+one_global : (p : Package) → WellFormed p.layout → (file token : ℕ) (o u : Option GlobalName) → DenotesGlobal p file token o → DenotesGlobal p file token u → o ≡ u
 one_global p formed file token None None a b = refl
 one_global p formed file token None (Some y) a b = absurd (a y b)
 one_global p formed file token (Some x) None a b = absurd (b x a)

@@ -5,9 +5,9 @@ use Rattle.types_expr.specs.WorldView.{definition_or_none, imported_at, definiti
 use Rattle.types_declared.specs.Package.{Package, symbol_in}
 use Rattle.types_declared.specs.Definitions.{IsDefinition, AreDefinitions}
 use Rattle.types_info.proofs.WorldParts.{at_own, at_other}
-use Rattle.build_object.specs.ObjectView.{AreOwnDefinitions}
+use Rattle.build_object.specs.ObjectView.{AreObjectDefinitions}
 
-pub own_definitions : (p : Package) (w : World) → w.package.now ≡ p.path → AreOwnDefinitions p w.own.now →
+pub own_definitions : (p : Package) (w : World) → w.package.now ≡ p.path → AreObjectDefinitions p w.own.now →
     ((path : List ℕ) (rank : ℕ) → definition_or_none (record { «package» = path; rank = rank })
     (imported_at w.imported.now (record { «package» = path; rank = rank })) ≡ (p.export_data_of path).definition rank) →
     AreDefinitions p (definition_in w)

@@ -19,7 +19,7 @@ use Rattle.types_expr.proofs.Items.{next_item}
 use Rattle.types_declared.specs.MeaningOf.{result_types}
 use Rattle.build_object.specs.declared.source.Source.{Source}
 use Rattle.build_object.specs.Source as pure
-use Rattle.build_object.specs.Lines.{FunctionName, Line}
+use Rattle.build_object.specs.Lines.{FunctionName, CodeLine}
 use Rattle.build_object.specs.SourceView.{source_of}
 use Rattle.build_object.specs.PackagesView.{type_in}
 use Rattle.build_object.specs.Slots.{slots_of}
@@ -116,7 +116,7 @@ variables_end s own values now total ns i all h = sym (append-nil now) ∙
 
 -- Functions
 
-pub function_put : (s : Source) (f : tree.FuncTree) (name called : FunctionName) (old new : List ℕ) (slots : List ℕ) (code : List Line)
+pub function_put : (s : Source) (f : tree.FuncTree) (name called : FunctionName) (old new : List ℕ) (slots : List ℕ) (code : List CodeLine)
     (parameters results : List PlainType) (count : ℕ) →
     slots ≡ slots_of (source_of s).world f → code ≡ body_lines (source_of s) slots (length (result_types f.result)) f.body →
     called ≡ name → parameters ≡ parameters_of (source_of s).world f → results ≡ results_of (source_of s).world f →

@@ -14,7 +14,7 @@ use Rattle.go_ast.specs.View.{type_view, expr_view, link_view, literal_view, key
 use Rattle.types_expr.specs.Lists.{links_in, operands_in, arguments_in, elements_in}
 use Rattle.types_expr.specs.Judge.{judge_type}
 use Rattle.types_expr.proofs.Trees.{chain_tree, binary_tree, call_tree, literal_tree}
-use Rattle.build_object.specs.Lines.{Line, With, New, line_if_known}
+use Rattle.build_object.specs.Lines.{CodeLine, With, New, line_if_known}
 use Rattle.build_object.specs.Lines as line
 use Rattle.build_object.specs.Source.{Source}
 use Rattle.build_object.specs.Operands as ops
@@ -86,17 +86,17 @@ binary_here s slots b rest is x xs hx hxs = ap (λ z. operand_of s slots (expr_v
 
 -- one link
 
-pub selector_here : (s : Source) (slots : List ℕ) {l : Link} (d n : ℕ) (o : ops.Operand) → l ≡ link.Selector d n →
+pub selector_here : (s : Source) (slots : List ℕ) {l : Link} (d n : ℕ) (o : ops.CodeOperand) → l ≡ link.Selector d n →
     one_link s slots (link_view l tree.no_link) o ≡ selected s slots n o
 unfolding one_link link_view
 selector_here s slots d n o is = ap (λ x. one_link s slots (link_view x tree.no_link) o) is
 
-pub index_here : (s : Source) (slots : List ℕ) {l : Link} (b : ℕ) (e : Expr) (c : ℕ) (o : ops.Operand) → l ≡ link.Index b e c →
+pub index_here : (s : Source) (slots : List ℕ) {l : Link} (b : ℕ) (e : Expr) (c : ℕ) (o : ops.CodeOperand) → l ≡ link.Index b e c →
     one_link s slots (link_view l tree.no_link) o ≡ indexed o (value_lines s slots (expr_view e))
 unfolding one_link link_view
 index_here s slots b e c o is = ap (λ x. one_link s slots (link_view x tree.no_link) o) is
 
-call_at : (s : Source) (slots : List ℕ) (b : ℕ) (xs : _) (c : ℕ) (o : ops.Operand) →
+call_at : (s : Source) (slots : List ℕ) (b : ℕ) (xs : _) (c : ℕ) (o : ops.CodeOperand) →
     one_link s slots (link_view (link.Call b xs c) tree.no_link) o ≡ called o (argument_count (arguments_in xs.items))
     (argument_lines s slots (arguments_in xs.items))
 unfolding one_link
@@ -107,7 +107,7 @@ unfolding argument_count arguments_in
 count_arguments [] = refl
 count_arguments (x ∷ xs) = ap suc (count_arguments xs)
 
-pub call_here : (s : Source) (slots : List ℕ) {l : Link} (b : ℕ) (xs : _) (c : ℕ) (o : ops.Operand) → l ≡ link.Call b xs c → (items : List ExprItem) →
+pub call_here : (s : Source) (slots : List ℕ) {l : Link} (b : ℕ) (xs : _) (c : ℕ) (o : ops.CodeOperand) → l ≡ link.Call b xs c → (items : List ExprItem) →
     items ≡ xs.items →
     one_link s slots (link_view l tree.no_link) o ≡ called o (length items) (argument_lines s slots (arguments_in items))
 call_here s slots b xs c o is items h = ap (λ x. one_link s slots (link_view x tree.no_link) o) is ∙ (call_at s slots b xs c o
@@ -116,12 +116,12 @@ call_here s slots b xs c o is items h = ap (λ x. one_link s slots (link_view x 
 
 -- the parts of a list in turn
 
-pub operations_step : (s : Source) (slots : List ℕ) (a : List Line) (o : Operand) (rest : List Operand) →
+pub operations_step : (s : Source) (slots : List ℕ) (a : List CodeLine) (o : Operand) (rest : List Operand) →
     operations s slots a (operands_in (o ∷ rest)) ≡ operations s slots (operated o.op a (value_lines s slots (expr_view o.value))) (operands_in rest)
 unfolding operations operands_in
 operations_step s slots a o rest = refl
 
-pub operations_end : (s : Source) (slots : List ℕ) (a : List Line) → operations s slots a (operands_in []) ≡ a
+pub operations_end : (s : Source) (slots : List ℕ) (a : List CodeLine) → operations s slots a (operands_in []) ≡ a
 unfolding operations operands_in
 operations_end s slots a = refl
 

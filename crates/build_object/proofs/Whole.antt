@@ -27,7 +27,7 @@ use Rattle.build_object.specs.LineView.{function_of}
 use Rattle.build_object.specs.Names.{function_names}
 use Rattle.build_object.specs.Source.{Source}
 use Rattle.build_object.specs.Sources.{AreImports, IsSourceOf, IsObjectText}
-use Rattle.build_object.specs.Objects.{Object, Declaration, declared_from, declared_in, names_behind_all, object_of}
+use Rattle.build_object.specs.Objects.{Object, ObjectDeclaration, declared_from, declared_in, names_behind_all, object_of}
 use Rattle.build_object.specs.ObjectSteps.{names_behind_files, uses_of_file, PrintsFiles, PrintsHead}
 use Rattle.build_object.specs.ObjectText.{declaration_text, first_line, import_line}
 use Rattle.build_object.specs.ObjectView.{HaveNames, PrintsFile}
@@ -107,7 +107,7 @@ one_file_more p n members packages names number others old mid new h k =
     let trees : List FileTree = map (λ (g : SourceFile). g.tree) p.files in
     let at : slice_get trees n ≡ Some k.file_at.tree = tree_at p.files n k.file_at k.in_file in
     let here : slice_get trees (length h.sources) ≡ Some k.file_at.tree = ap (slice_get trees) h.all ∙ at in
-    let T : Declaration → List ℕ = declaration_text (type_in packages) in
+    let T : ObjectDeclaration → List ℕ = declaration_text (type_in packages) in
     let N : List FunctionName = map function_of names in
     let named : map function_of (drop number names) ≡ names_behind_files N (take (length h.sources) trees) = h.others_are ∙
     ap (λ m. names_behind_files N (take m trees)) (sym h.all) in

@@ -22,7 +22,7 @@ initial_view (initial.Integer n) = object.IntegerValue n
 initial_view (initial.Text bytes) = object.TextValue bytes.now
 
 -- What a type is defined as, as a value of the definitions.
-unfoldable pub definition_view : DefinitionLine → object.Definition
+unfoldable pub definition_view : DefinitionLine → object.ObjectDefinition
 definition_view (definition.SameAs t) = object.SameAs (type_of t)
 definition_view (definition.Fields ts) = object.Fields (map type_of ts.items)
 

@@ -6,10 +6,10 @@ use Rattle.go_ast.specs.Tree.{no_element, element}
 use Rattle.types_expr.specs.Types.{PlainType, is_struct}
 use Rattle.types_expr.specs.World.{Member, AField, AMethod, ABrokenMethod, underlying}
 use Rattle.types_expr.specs.Judge.{judge_type}
-use Rattle.build_object.specs.Lines.{Line, Zero, With, MakeSlice, New, line_if_known}
+use Rattle.build_object.specs.Lines.{CodeLine, Zero, With, MakeSlice, New, line_if_known}
 use Rattle.build_object.specs.Lines as line
 use Rattle.build_object.specs.Source.{Source}
-use Rattle.build_object.specs.Operands.{Operand, plain, mode_alone, Values, name_operand, prefixed, operated, selected, indexed, called, settled, grouped}
+use Rattle.build_object.specs.Operands.{CodeOperand, plain, mode_alone, Values, name_operand, prefixed, operated, selected, indexed, called, settled, grouped}
 use Rattle.build_object.specs.Operands.{value_count}
 
 -- The number of arguments of a call.
@@ -42,18 +42,18 @@ key_position s None = None
 key_position s (Some k) = keyed_in s k.0 (s.before k.0)
 
 -- The code of a composite literal. A struct begins as a zero value, and its elements are set in it. A slice is made of its elements.
-abbrev pub literal_code : Bool → PlainType → (keyed bare : List Line) → ℕ → List Line
+abbrev pub literal_code : Bool → PlainType → (keyed bare : List CodeLine) → ℕ → List CodeLine
 literal_code true t keyed bare n = Zero t ∷ keyed
 literal_code false t keyed bare n = bare ++ (MakeSlice n ∷ [])
 
 -- The code of a composite literal of this type, and none where the type is broken.
-unfoldable pub typed_literal : Source → Option PlainType → (keyed bare : List Line) → ℕ → List Line
+unfoldable pub typed_literal : Source → Option PlainType → (keyed bare : List CodeLine) → ℕ → List CodeLine
 typed_literal s None keyed bare n = []
 typed_literal s (Some t) keyed bare n = literal_code (is_struct (underlying s.world t)) t keyed bare n
 
 -- The operand of an expression. `slots` are the tokens at which the parameters and locals of the function are declared.
 unfoldable mutual
-  pub operand_of : Source → (slots : List ℕ) → ExprTree → Operand
+  pub operand_of : Source → (slots : List ℕ) → ExprTree → CodeOperand
   operand_of s slots (Number p) = plain (line_if_known line.Integer (s.number p))
   operand_of s slots (Text p) = plain (line_if_known line.Text (s.text p))
   operand_of s slots (Name p) = name_operand s slots p
@@ -66,43 +66,43 @@ unfoldable mutual
   operand_of s slots (Binary e rest) = plain (operations s slots (operand_of s slots e).value rest)
 
   -- The lines of binary operators and their right operands, behind the lines `a` of the left operand.
-  pub operations : Source → (slots : List ℕ) → List Line → OperandTrees → List Line
+  pub operations : Source → (slots : List ℕ) → List CodeLine → OperandTrees → List CodeLine
   operations s slots a no_operand = a
   operations s slots a (operand o p e rest) = operations s slots (operated o a (operand_of s slots e).value) rest
 
   -- The operand of a chain: selectors, indexes and calls behind the operand `o`.
-  pub linked : Source → (slots : List ℕ) → Operand → LinkTrees → Operand
+  pub linked : Source → (slots : List ℕ) → CodeOperand → LinkTrees → CodeOperand
   linked s slots o no_link = o
   linked s slots o (selector d n rest) = linked s slots (selected s slots n o) rest
   linked s slots o (index b e c rest) = linked s slots (indexed o (operand_of s slots e).value) rest
   linked s slots o (call b args c rest) = linked s slots (called o (argument_count args) (argument_lines s slots args)) rest
 
   -- The lines that leave the values of arguments, in order.
-  pub argument_lines : Source → (slots : List ℕ) → ArgumentTrees → List Line
+  pub argument_lines : Source → (slots : List ℕ) → ArgumentTrees → List CodeLine
   argument_lines s slots no_argument = []
   argument_lines s slots (argument e c rest) = (operand_of s slots e).value ++ argument_lines s slots rest
 
   -- The lines of a composite literal.
-  pub literal_lines : Source → (slots : List ℕ) → LiteralTree → List Line
+  pub literal_lines : Source → (slots : List ℕ) → LiteralTree → List CodeLine
   literal_lines s slots (literal t o es c) =
       typed_literal s (judge_type s.world t).type_of (keyed_lines s slots es) (bare_lines s slots es) (element_count es)
 
   -- The lines of the elements of a struct's literal: each value is set in its field.
-  pub keyed_lines : Source → (slots : List ℕ) → ElementTrees → List Line
+  pub keyed_lines : Source → (slots : List ℕ) → ElementTrees → List CodeLine
   keyed_lines s slots no_element = []
   keyed_lines s slots (element k e c rest) = (operand_of s slots e).value ++ (line_if_known With (key_position s k) ++ keyed_lines s slots rest)
 
   -- The lines that leave the values of the elements of a slice's literal.
-  pub bare_lines : Source → (slots : List ℕ) → ElementTrees → List Line
+  pub bare_lines : Source → (slots : List ℕ) → ElementTrees → List CodeLine
   bare_lines s slots no_element = []
   bare_lines s slots (element k e c rest) = (operand_of s slots e).value ++ bare_lines s slots rest
 
 -- The lines that leave the values of an expression.
-abbrev pub value_lines : Source → (slots : List ℕ) → ExprTree → List Line
+abbrev pub value_lines : Source → (slots : List ℕ) → ExprTree → List CodeLine
 value_lines s slots e = (operand_of s slots e).value
 
 -- The lines that leave the address of an expression's value.
-abbrev pub address_lines : Source → (slots : List ℕ) → ExprTree → List Line
+abbrev pub address_lines : Source → (slots : List ℕ) → ExprTree → List CodeLine
 address_lines s slots e = (operand_of s slots e).address
 
 -- The number of values that an expression leaves.
@@ -110,7 +110,7 @@ abbrev pub values_left : Source → (slots : List ℕ) → ExprTree → ℕ
 values_left s slots e = value_count (operand_of s slots e).mode
 
 -- The operand behind the first link of a chain, where `o` is the operand before it.
-unfoldable pub one_link : Source → (slots : List ℕ) → LinkTrees → Operand → Operand
+unfoldable pub one_link : Source → (slots : List ℕ) → LinkTrees → CodeOperand → CodeOperand
 one_link s slots no_link o = o
 one_link s slots (selector d n rest) o = selected s slots n o
 one_link s slots (index b e c rest) o = indexed o (value_lines s slots e)

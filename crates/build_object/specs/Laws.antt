@@ -4,7 +4,7 @@ use Rattle.go_ast.specs.SourceFile.{SourceFile}
 use Rattle.go_scope.specs.WellFormed.{WellFormed}
 use Rattle.types_declared.specs.Package.{Package}
 use Rattle.types_info.specs.Uniqueness.{TokensRise}
-use Rattle.build_object.specs.Objects.{Object, Function, FunctionOf}
+use Rattle.build_object.specs.Objects.{Object, ObjectFunction, FunctionOf}
 use Rattle.build_object.specs.Sources.{IsObjectOf, IsObjectText}
 use Rattle.build_object.specs.Fitting.{HasFittingCode}
 
@@ -20,5 +20,5 @@ HaveOneText = (p : Package) → WellFormed p.layout → TokensRise p.files → (
 
 -- In each function of an object each jump leads to one of its lines, and each parameter or local has one of its slots.
 abbrev pub HaveFittingCode : Type 0
-HaveFittingCode = (p : Package) (files_of : List ℕ → List SourceFile) (o : Object) → IsObjectOf p files_of o → (f : Function) →
+HaveFittingCode = (p : Package) (files_of : List ℕ → List SourceFile) (o : Object) → IsObjectOf p files_of o → (f : ObjectFunction) →
     Contains o.declarations (FunctionOf f) → HasFittingCode f

@@ -20,7 +20,7 @@ function_of (function.Method g name) = line.Method (global_of g) name.now
 function_of (function.Initializer path k) = line.Initializer path.now k
 
 -- A line of code, as a value of the definitions.
-unfoldable pub line_of : Instruction → line.Line
+unfoldable pub line_of : Instruction → line.CodeLine
 line_of (instruction.Integer n) = line.Integer n
 line_of (instruction.Text bytes) = line.Text bytes.now
 line_of (instruction.Truth b) = line.Truth b
@@ -57,9 +57,9 @@ line_of (instruction.Return n) = line.Return n
 line_of instruction.End = line.End
 
 -- The lines of code that is being made, from the first to the last. The program keeps the last line first.
-abbrev pub lines_in : Code → List line.Line
+abbrev pub lines_in : Code → List line.CodeLine
 lines_in c = reverse (map line_of c.lines.items)
 
 -- Lines are put before the lines of the code.
-pub record Puts (lines : List line.Line) (old new : Code) : Type 0 where
+pub record Puts (lines : List line.CodeLine) (old new : Code) : Type 0 where
   pub put : lines_in new ≡ lines ++ lines_in old

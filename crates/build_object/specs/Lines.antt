@@ -18,48 +18,48 @@ pub data FunctionName : Type 0 where
 
 -- A line of code, which works on a stack of values. The number of a jump counts the lines between the jump and its target. The number of
 -- `JumpBack` counts lines back from the next line.
-pub data Line : Type 0 where
-  Integer : ℕ → Line
-  Text : List ℕ → Line
-  Truth : Bool → Line
-  Nil : Line
-  Local : ℕ → Line
-  Global : GlobalName → Line
-  Field : ℕ → Line
-  FieldThrough : ℕ → Line
-  Index : Line
-  Load : Line
-  Negate : Line
-  Not : Line
-  Operate : BinaryOp → Line
-  Duplicate : Line
-  Pop : Line
-  JumpUnless : ℕ → Line
-  JumpIf : ℕ → Line
-  Jump : ℕ → Line
-  JumpBack : ℕ → Line
-  Call : FunctionName → ℕ → Line
-  CallBuiltin : Builtin → ℕ → Line
-  Zero : PlainType → Line
-  With : ℕ → Line
-  MakeSlice : ℕ → Line
-  New : Line
-  LocalAddress : ℕ → Line
-  GlobalAddress : GlobalName → Line
-  FieldAddress : ℕ → Line
-  IndexAddress : Line
-  BlankAddress : Line
-  Set : ℕ → Line
-  Assign : ℕ → Line
-  Return : ℕ → Line
-  End : Line
+pub data CodeLine : Type 0 where
+  Integer : ℕ → CodeLine
+  Text : List ℕ → CodeLine
+  Truth : Bool → CodeLine
+  Nil : CodeLine
+  Local : ℕ → CodeLine
+  Global : GlobalName → CodeLine
+  Field : ℕ → CodeLine
+  FieldThrough : ℕ → CodeLine
+  Index : CodeLine
+  Load : CodeLine
+  Negate : CodeLine
+  Not : CodeLine
+  Operate : BinaryOp → CodeLine
+  Duplicate : CodeLine
+  Pop : CodeLine
+  JumpUnless : ℕ → CodeLine
+  JumpIf : ℕ → CodeLine
+  Jump : ℕ → CodeLine
+  JumpBack : ℕ → CodeLine
+  Call : FunctionName → ℕ → CodeLine
+  CallBuiltin : Builtin → ℕ → CodeLine
+  Zero : PlainType → CodeLine
+  With : ℕ → CodeLine
+  MakeSlice : ℕ → CodeLine
+  New : CodeLine
+  LocalAddress : ℕ → CodeLine
+  GlobalAddress : GlobalName → CodeLine
+  FieldAddress : ℕ → CodeLine
+  IndexAddress : CodeLine
+  BlankAddress : CodeLine
+  Set : ℕ → CodeLine
+  Assign : ℕ → CodeLine
+  Return : ℕ → CodeLine
+  End : CodeLine
 
 -- One line for a known value, and none for an unknown one. In a package without faults all values in its code are known.
-abbrev pub line_if_known : {X : Type 0} → (X → Line) → Option X → List Line
+abbrev pub line_if_known : {X : Type 0} → (X → CodeLine) → Option X → List CodeLine
 line_if_known line None = []
 line_if_known line (Some x) = line x ∷ []
 
 -- The lines that drop so many values.
-unfoldable pub pops : ℕ → List Line
+unfoldable pub pops : ℕ → List CodeLine
 pops zero = []
 pops (suc n) = Pop ∷ pops n

@@ -4,13 +4,13 @@ use Rattle.std.specs.List.{flat_map}
 use Rattle.types_expr.specs.declared.symbol.Symbol.{Symbol}
 use Rattle.types_expr.specs.Types.{PlainType}
 use Rattle.build_object.specs.Lines.{GlobalName, FunctionName}
-use Rattle.build_object.specs.Objects.{Object, Declaration, TypeOf, Variable, FunctionOf, Definition, SameAs, Fields, Initial, IntegerValue, TextValue}
+use Rattle.build_object.specs.Objects.{Object, ObjectDeclaration, TypeOf, Variable, FunctionOf, ObjectDefinition, SameAs, Fields, Initial, IntegerValue, TextValue}
 use Rattle.build_object.specs.Text.{global_text, function_text, type_text, types_joined, type_list, bytes_text, with_number, ended, code_text}
 
 -- Declarations
 
 -- The text of what a type is defined as.
-abbrev pub definition_text : (names : Symbol → Option GlobalName) → Definition → List ℕ
+abbrev pub definition_text : (names : Symbol → Option GlobalName) → ObjectDefinition → List ℕ
 definition_text names (SameAs t) = type_text names t
 definition_text names (Fields ts) = codes "struct{" ++ (types_joined names (codes ";") ts ++ codes "}")
 
@@ -35,7 +35,7 @@ header_text names name parameters results slots lines =
     codes "func " ++ (function_text name ++ (signature_text names parameters results ++ counts_text slots lines))
 
 -- The text of a declaration: one line, and for a function the lines of its code too.
-unfoldable pub declaration_text : (names : Symbol → Option GlobalName) → Declaration → List ℕ
+unfoldable pub declaration_text : (names : Symbol → Option GlobalName) → ObjectDeclaration → List ℕ
 declaration_text names (TypeOf name definition) = ended (codes "type " ++ (global_text name ++ (codes " " ++ definition_text names definition)))
 declaration_text names (Variable name t value) = ended (codes "var " ++ (global_text name ++ (codes " " ++ (type_text names t ++ initial_text value))))
 declaration_text names (FunctionOf f) = ended (header_text names f.name f.parameters f.results f.slots (length f.code)) ++ code_text names f.code

@@ -22,7 +22,7 @@ use Rattle.build_object.specs.Objects.{declared_in, names_behind_all}
 use Rattle.build_object.specs.ObjectText.{declaration_text}
 
 -- `found` are the type definitions of the package p as other packages see them, by their ranks.
-pub record AreOwnDefinitions (p : Package) (found : List Definition) : Type 0 where
+pub record AreObjectDefinitions (p : Package) (found : List Definition) : Type 0 where
   pub own : (rank : ℕ) (d : PlacedType) → slice_get (package_types p) rank ≡ Some d →
       IsDefinition p rank (definition_or_none (symbol_in p rank) (slice_get found rank))
   pub beyond : (rank : ℕ) → slice_get (package_types p) rank ≡ None →
@@ -49,7 +49,7 @@ pub record PrintsFile (p : Package) (file : ℕ) (members : List MemberUse) (pac
 
 -- `found` are the type definitions of this package as other packages see them.
 abbrev pub OwnDefinitionsOf : (path : List ℕ) → List FileParts → (List ℕ → Option (List ℕ)) → (List ℕ → ExportData) → List Definition → Type 0
-OwnDefinitionsOf path files name_of export_data_of found = (p : Package) → IsPackageOf path files name_of export_data_of p → AreOwnDefinitions p found
+OwnDefinitionsOf path files name_of export_data_of found = (p : Package) → IsPackageOf path files name_of export_data_of p → AreObjectDefinitions p found
 
 -- `text` is the text of the object of this package, where these are its uses of members, and `packages` has the names of declarations.
 abbrev pub IsObjectTextOf : (path : List ℕ) → List FileParts → (List ℕ → Option (List ℕ)) → (List ℕ → ExportData) → List (List plain.MemberUse) →

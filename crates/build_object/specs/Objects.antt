@@ -9,15 +9,15 @@ use Rattle.types_expr.specs.Judge.{judge_type, named_type}
 use Rattle.types_declared.specs.Files.{group_items}
 use Rattle.types_stmt.specs.Headers.{starred}
 use Rattle.types_declared.specs.MeaningOf.{parameter_types, result_types}
-use Rattle.build_object.specs.Lines.{GlobalName, FunctionName, Line}
+use Rattle.build_object.specs.Lines.{GlobalName, FunctionName, CodeLine}
 use Rattle.build_object.specs.Source.{Source}
 use Rattle.build_object.specs.Slots.{slots_of}
 use Rattle.build_object.specs.Statements.{body_lines}
 
 -- What a type is defined as: another type, or a struct with fields of these types.
-pub data Definition : Type 0 where
-  SameAs : PlainType → Definition
-  Fields : List PlainType → Definition
+pub data ObjectDefinition : Type 0 where
+  SameAs : PlainType → ObjectDefinition
+  Fields : List PlainType → ObjectDefinition
 
 -- The first value of a variable.
 pub data Initial : Type 0 where
@@ -25,25 +25,25 @@ pub data Initial : Type 0 where
   TextValue : List ℕ → Initial
 
 -- A function of an object. `parameters` begins with the receiver, if there is one.
-pub record Function : Type 0 where
+pub record ObjectFunction : Type 0 where
   pub name : FunctionName
   pub parameters : List PlainType
   pub results : List PlainType
   pub slots : ℕ
-  pub code : List Line
+  pub code : List CodeLine
 
 -- A declaration of an object.
-pub data Declaration : Type 0 where
-  TypeOf : GlobalName → Definition → Declaration
-  Variable : GlobalName → PlainType → Option Initial → Declaration
-  FunctionOf : Function → Declaration
+pub data ObjectDeclaration : Type 0 where
+  TypeOf : GlobalName → ObjectDefinition → ObjectDeclaration
+  Variable : GlobalName → PlainType → Option Initial → ObjectDeclaration
+  FunctionOf : ObjectFunction → ObjectDeclaration
 
 -- The object of a package: its path, its name, the paths of its imports and its declarations.
 pub record Object : Type 0 where
   pub path : List ℕ
   pub name : List ℕ
   pub imports : List (List ℕ)
-  pub declarations : List Declaration
+  pub declarations : List ObjectDeclaration
 
 -- Declarations, each where its name and its types are known. In a package without faults they all are.
 
@@ -62,18 +62,18 @@ abbrev pub field_types : World → List (Item FieldTree) → List PlainType
 field_types w fs = flat_map (λ i. flat_map (λ n. written w i.value.type_use) i.value.names) fs
 
 -- What a type with this body is defined as, if that is known.
-unfoldable pub definition_of : World → BodyTree → Option Definition
+unfoldable pub definition_of : World → BodyTree → Option ObjectDefinition
 definition_of w (Other t) = option_map SameAs (judge_type w t).type_of
 definition_of w (Struct k o fs c) = Some (Fields (field_types w fs))
 
 -- The declaration of a type, if its name and its definition are known.
-abbrev pub type_declarations : Option GlobalName → Option Definition → List Declaration
+abbrev pub type_declarations : Option GlobalName → Option ObjectDefinition → List ObjectDeclaration
 type_declarations None definition = []
 type_declarations (Some name) None = []
 type_declarations (Some name) (Some definition) = TypeOf name definition ∷ []
 
 -- The declaration of a type definition.
-abbrev pub declared_type : Source → TypeSpecTree → List Declaration
+abbrev pub declared_type : Source → TypeSpecTree → List ObjectDeclaration
 declared_type s t = type_declarations (s.global t.name) (definition_of s.world t.body)
 
 -- Variables
@@ -84,7 +84,7 @@ initial_of s (Integer n) = option_map IntegerValue (s.number n)
 initial_of s (String n) = option_map TextValue (s.text n)
 
 -- The declaration of a variable, if its type and its name are known.
-abbrev pub known_variable : Option PlainType → Option GlobalName → Option Initial → List Declaration
+abbrev pub known_variable : Option PlainType → Option GlobalName → Option Initial → List ObjectDeclaration
 known_variable None name value = []
 known_variable (Some own) None value = []
 known_variable (Some own) (Some name) value = Variable name own value ∷ []
@@ -100,7 +100,7 @@ other_initials [] = []
 other_initials (v ∷ vs) = vs
 
 -- The declarations of variables of one type, each with the value at its place.
-unfoldable pub variable_declarations : Source → Option PlainType → List (Item ℕ) → List (Option Initial) → List Declaration
+unfoldable pub variable_declarations : Source → Option PlainType → List (Item ℕ) → List (Option Initial) → List ObjectDeclaration
 variable_declarations s own [] values = []
 variable_declarations s own (n ∷ ns) values = known_variable own (s.global n.value) (first_initial values) ++ variable_declarations s own ns (other_initials values)
 
@@ -114,7 +114,7 @@ abbrev pub initials_of : Source → List (Item BasicTree) → List (Option Initi
 initials_of s literals = map (λ i. initial_of s i.value) literals
 
 -- The declarations of the variables of one `var` line.
-abbrev pub global_variables : Source → GlobalTree → List Declaration
+abbrev pub global_variables : Source → GlobalTree → List ObjectDeclaration
 global_variables s g = variable_declarations s (judge_type s.world g.type_use).type_of g.names (initials_of s (literals_of g.values))
 
 -- Functions
@@ -137,7 +137,7 @@ abbrev pub results_of : World → FuncTree → List PlainType
 results_of w f = all_written w (result_types f.result)
 
 -- A function of an object, by its name.
-abbrev pub function_of : Source → FuncTree → FunctionName → Function
+abbrev pub function_of : Source → FuncTree → FunctionName → ObjectFunction
 function_of s f name = record {
   name = name;
   parameters = parameters_of s.world f;
@@ -147,14 +147,14 @@ function_of s f name = record {
 }
 
 -- The declaration of a function, by the first of these names.
-abbrev pub declared_function : Source → List FunctionName → FuncTree → List Declaration
+abbrev pub declared_function : Source → List FunctionName → FuncTree → List ObjectDeclaration
 declared_function s [] f = []
 declared_function s (name ∷ others) f = FunctionOf (function_of s f name) ∷ []
 
 -- Files and packages: declarations in order, the files by their paths. `names` are the names of the functions from here on.
 
 -- The declarations of one declaration of a file.
-unfoldable pub declared_by : Source → List FunctionName → DeclTree → List Declaration
+unfoldable pub declared_by : Source → List FunctionName → DeclTree → List ObjectDeclaration
 declared_by s names (VarDecl p g c) = flat_map (global_variables s) (group_items g)
 declared_by s names (TypeDecl p g c) = flat_map (declared_type s) (group_items g)
 declared_by s names (FuncDecl p f c) = declared_function s names f
@@ -171,7 +171,7 @@ names_behind names (TypeDecl p g c) = names
 names_behind names (FuncDecl p f c) = others_of names
 
 -- The declarations of a file, in order.
-unfoldable pub declared_in : Source → List FunctionName → List DeclTree → List Declaration
+unfoldable pub declared_in : Source → List FunctionName → List DeclTree → List ObjectDeclaration
 declared_in s names [] = []
 declared_in s names (d ∷ ds) = declared_by s names d ++ declared_in s (names_behind names d) ds
 
@@ -181,7 +181,7 @@ names_behind_all names [] = names
 names_behind_all names (d ∷ ds) = names_behind_all (names_behind names d) ds
 
 -- The declarations of a package. `sources` has for each file the source of its code.
-unfoldable pub declared_from : (sources : List Source) → List FunctionName → List FileTree → List Declaration
+unfoldable pub declared_from : (sources : List Source) → List FunctionName → List FileTree → List ObjectDeclaration
 declared_from [] names ts = []
 declared_from (s ∷ ss) names [] = []
 declared_from (s ∷ ss) names (t ∷ ts) = declared_in s names t.decls ++ declared_from ss (names_behind_all names t.decls) ts

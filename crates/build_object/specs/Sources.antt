@@ -15,7 +15,7 @@ use Rattle.types_stmt.specs.Declarations.{check_file}
 use Rattle.workspace_graph.specs.Packages.{ImportsPath}
 use Rattle.types_declared.specs.Package.{Package, spelled}
 use Rattle.types_declared.specs.Written.{BindsToken, IsPredeclared}
-use Rattle.types_declared.specs.Written.{ImportsPath as DeclaresImport}
+use Rattle.types_declared.specs.Written.{DeclaresImport}
 use Rattle.types_info.specs.Worlds.{IsWorldOf, is_init}
 use Rattle.build_object.specs.Lines.{GlobalName}
 use Rattle.build_object.specs.Source.{Source}
@@ -47,9 +47,9 @@ pub data IsGlobalAt (p : Package) (file token : ℕ) : GlobalName → Type 0 whe
   imported : {path : List ℕ} → HasQualifier p file token path → IsGlobalAt p file token (record { path = path; name = spelled p file token })
 
 -- `None`: the name at the token is bound to no package-level declaration. `Some`: it is bound to this one.
-abbrev pub IsGlobal : Package → (file token : ℕ) → Option GlobalName → Type 0
-IsGlobal p file token None = (g : GlobalName) → IsGlobalAt p file token g → ⊥
-IsGlobal p file token (Some g) = IsGlobalAt p file token g
+abbrev pub DenotesGlobal : Package → (file token : ℕ) → Option GlobalName → Type 0
+DenotesGlobal p file token None = (g : GlobalName) → IsGlobalAt p file token g → ⊥
+DenotesGlobal p file token (Some g) = IsGlobalAt p file token g
 
 -- The name at the token is bound to the predeclared `true`.
 pub record IsTrueAt (p : Package) (file token : ℕ) : Type 0 where
@@ -66,7 +66,7 @@ IsTextAt source token (Some value) = HasLiteral source token value
 pub record IsSourceOf (p : Package) (files_of : List ℕ → List SourceFile) (file : ℕ) (f : SourceFile) (s : Source) : Type 0 where
   pub world : IsWorldOf p file f s.world
   pub before : (token : ℕ) → s.before token ≡ type_before (check_file s.world (is_init f) f.tree).uses token
-  pub global : (token : ℕ) → IsGlobal p file token (s.global token)
+  pub global : (token : ℕ) → DenotesGlobal p file token (s.global token)
   pub truth : (token : ℕ) → (s.truth token ≡ true) ↔ IsTrueAt p file token
   pub number : (token : ℕ) → s.number token ≡ literal_number (spelling_of f token)
   pub text : (token : ℕ) → IsTextAt f token (s.text token)

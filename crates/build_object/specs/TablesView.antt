@@ -8,12 +8,12 @@ use Rattle.types_declared.specs.Package.{Package}
 use Rattle.build_object.specs.declared.object_names.ObjectNames.{ObjectNames}
 use Rattle.build_object.specs.declared.source.Mark.{Mark}
 use Rattle.build_object.specs.declared.source.Source.{Source}
-use Rattle.build_object.specs.Sources.{IsGlobal, IsTextAt, IsTrueAt}
+use Rattle.build_object.specs.Sources.{DenotesGlobal, IsTextAt, IsTrueAt}
 use Rattle.build_object.specs.SourceView.{global_in, truth_in}
 
 -- `m` is the mark of the name at a token: its package-level declaration, and whether it is the predeclared `true`.
 pub record IsMarkAt (p : Package) (file token : ℕ) (m : Option Mark) : Type 0 where
-  pub global : IsGlobal p file token (global_in m)
+  pub global : DenotesGlobal p file token (global_in m)
   pub truth : (truth_in m ≡ true) ↔ IsTrueAt p file token
 
 -- `marks` are the marks of the names of a file, by their tokens. Behind the last one no token has a mark.

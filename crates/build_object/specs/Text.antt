@@ -7,7 +7,7 @@ use Rattle.types_expr.specs.declared.symbol.Symbol.{Symbol}
 use Rattle.types_expr.specs.Types.{PlainType, BasicType, Defined, Pointer, Slice}
 use Rattle.types_declared.specs.Written.{basic_name}
 use Rattle.types_declared.specs.MeaningOf.{builtin_name}
-use Rattle.build_object.specs.Lines.{GlobalName, FunctionName, Plain, Method, Initializer, Line}
+use Rattle.build_object.specs.Lines.{GlobalName, FunctionName, Plain, Method, Initializer, CodeLine}
 use Rattle.build_object.specs.Lines as line
 
 -- Names and types. `names` gives the names of type definitions.
@@ -95,7 +95,7 @@ abbrev pub with_number : List ℕ → ℕ → List ℕ
 with_number word n = word ++ decimal n
 
 -- The words of a line of code.
-unfoldable pub words_of : (names : Symbol → Option GlobalName) → Line → List ℕ
+unfoldable pub words_of : (names : Symbol → Option GlobalName) → CodeLine → List ℕ
 words_of names (line.Integer n) = with_number (codes "int ") n
 words_of names (line.Text bytes) = codes "str " ++ bytes_text bytes
 words_of names (line.Truth b) = codes "bool " ++ truth_text b
@@ -136,5 +136,5 @@ abbrev pub ended : List ℕ → List ℕ
 ended text = text ++ (10 ∷ [])
 
 -- The text of lines of code.
-abbrev pub code_text : (names : Symbol → Option GlobalName) → List Line → List ℕ
+abbrev pub code_text : (names : Symbol → Option GlobalName) → List CodeLine → List ℕ
 code_text names code = flat_map (λ l. ended (words_of names l)) code

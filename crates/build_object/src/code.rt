@@ -1,6 +1,6 @@
 //! Code that is being made, from its last line to its first. So the target of a jump is known when the jump is made.
 ghost use Rattle.std.specs.Prelude.{◌≡◌, ◌<◌, ◌∷◌, ◌++◌, [], suc, List, length, map, reverse, OnOk};
-ghost use Rattle.build_object.specs.Lines.{Line, JumpBack, pops};
+ghost use Rattle.build_object.specs.Lines.{CodeLine, JumpBack, pops};
 ghost use Rattle.build_object.specs.LineView.{line_of, lines_in, Puts};
 
 use crate::instructions::Instruction;
@@ -58,7 +58,7 @@ impl<'a> Code<'a> {
     /// Replaces the line before the last `end` lines by a jump back to the first line of the code.
     pub fn turn_back(&mut self, end: usize)
         requires { end < length (lines_in self.old) }
-        ensures { (lines rest : List Line) (l : Line) → length rest ≡ end → lines_in self.old ≡ lines ++ (l ∷ rest) → lines_in self.new ≡ lines ++ (JumpBack (suc (length lines)) ∷ rest) }
+        ensures { (lines rest : List CodeLine) (l : CodeLine) → length rest ≡ end → lines_in self.old ≡ lines ++ (l ∷ rest) → lines_in self.new ≡ lines ++ (JumpBack (suc (length lines)) ∷ rest) }
     {
         let passed = self.lines.len() - end;
         self.lines[end] = Instruction::JumpBack(passed);

@@ -31,7 +31,7 @@ impl<'a> SlotScope<'a> {
     /// The mode of a chain before the link `number`, as far as this link depends on it. `head` is the mode of the chain's first operand.
     fn mode_before(self, head: OperandMode<'a>, links: &[Link], number: usize) -> OperandMode<'a>
         requires { number ≤ length links.now }
-        ensures { (o : operands.Operand) → before_link o.mode ≡ before_link (mode_of head.entry) →
+        ensures { (o : operands.CodeOperand) → before_link o.mode ≡ before_link (mode_of head.entry) →
             before_link (linked (source_of self.entry.source.now) self.entry.slots.now.places.items o (links_in (take number links.now))).mode ≡ before_link (mode_of result) }
     {
         if number == 0 {
@@ -48,7 +48,7 @@ impl<'a> SlotScope<'a> {
     /// The number of values that a chain leaves up to the link `last`.
     fn left_by_links(self, head: OperandMode<'a>, links: &[Link], last: usize) -> usize
         requires { last < length links.now }
-        ensures { (o : operands.Operand) → before_link o.mode ≡ before_link (mode_of head.entry) →
+        ensures { (o : operands.CodeOperand) → before_link o.mode ≡ before_link (mode_of head.entry) →
             value_count (linked (source_of self.entry.source.now) self.entry.slots.now.places.items o (links_in (take (last + 1) links.now))).mode ≡ result }
     {
         match &links[last] {

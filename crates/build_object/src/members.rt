@@ -6,7 +6,7 @@ ghost use Rattle.types_expr.specs.WorldView.{member_of};
 ghost use Rattle.build_object.specs.Lines.{line_if_known, With};
 ghost use Rattle.build_object.specs.LineView.{line_of, lines_in, Puts};
 ghost use Rattle.build_object.specs.SourceView.{source_of};
-ghost use Rattle.build_object.specs.Operands.{Operand, qualifies, field_operand, receiver_lines, member_operand, typed_selector, selected};
+ghost use Rattle.build_object.specs.Operands.{CodeOperand, qualifies, field_operand, receiver_lines, member_operand, typed_selector, selected};
 ghost use Rattle.build_object.specs.Expressions.{key_position};
 ghost use Rattle.build_object.specs.Making.{field_lines, lines_for, mode_of, AppliesSelector, AppliesAlways};
 
@@ -53,7 +53,7 @@ fn put_receiver(
     on_pointer: bool,
     code: &mut Code<'_>,
 ) -> Result<Wanted, AllocError>
-    ensures { IfOk result (λ w. (o : Operand) → receiver_lines o is_pointer on_pointer ++ lines_in code.old ≡ lines_for w o ++ lines_in code.new) }
+    ensures { IfOk result (λ w. (o : CodeOperand) → receiver_lines o is_pointer on_pointer ++ lines_in code.old ≡ lines_for w o ++ lines_in code.new) }
 {
     match (is_pointer, on_pointer) {
         (true, true) | (false, false) => Ok(Wanted::Value),
@@ -134,7 +134,7 @@ impl<'a> SlotScope<'a> {
     /// The mode of the selector at a token, behind a value.
     #[tactic(auto, unfolding(types_expr::specs::WorldView::member_of, crate::specs::Operands::typed_selector, crate::specs::Operands::member_operand, crate::specs::Making::mode_of))]
     fn typed_mode(self, token: usize) -> OperandMode<'a>
-        ensures { (o : Operand) → (typed_selector (source_of self.entry.source.now) token o ((source_of self.entry.source.now).before token)).mode ≡ mode_of result }
+        ensures { (o : CodeOperand) → (typed_selector (source_of self.entry.source.now) token o ((source_of self.entry.source.now).before token)).mode ≡ mode_of result }
     {
         let Some(before) = self.source.before(token) else {
             return OperandMode::Values(0);
@@ -156,7 +156,7 @@ impl<'a> SlotScope<'a> {
     /// The mode of the selector at a token, behind the name of a package (`qualified`) or another operand.
     #[tactic(auto, unfolding(crate::specs::Operands::selected_by))]
     pub fn selector_mode(self, token: usize, qualified: bool) -> OperandMode<'a>
-        ensures { (o : Operand) → qualifies o.mode ≡ qualified →
+        ensures { (o : CodeOperand) → qualifies o.mode ≡ qualified →
             (selected (source_of self.entry.source.now) self.entry.slots.now.places.items token o).mode ≡ mode_of result }
     {
         if qualified {

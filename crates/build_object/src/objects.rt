@@ -19,7 +19,7 @@ ghost use Rattle.build_object.specs.Names.{function_names};
 ghost use Rattle.build_object.specs.Objects.{Object};
 ghost use Rattle.build_object.specs.ObjectText.{first_line};
 ghost use Rattle.build_object.specs.ObjectSteps.{uses_of_file, PrintsHead, PrintsFiles};
-ghost use Rattle.build_object.specs.ObjectView.{AreOwnDefinitions, HaveNames, IsObjectTextOf, OwnDefinitionsOf, PrintsFile};
+ghost use Rattle.build_object.specs.ObjectView.{AreObjectDefinitions, HaveNames, IsObjectTextOf, OwnDefinitionsOf, PrintsFile};
 ghost use Rattle.build_object.specs.Sources.{IsObjectText};
 
 use crate::declarations::push_decls;
@@ -67,7 +67,7 @@ fn own_world<'w>(
     file: usize,
 ) -> World<'w>
     requires names { AreNames (package_of unit) file bounds.now names.now }
-    requires definitions { AreOwnDefinitions (package_of unit) definitions.now }
+    requires definitions { AreObjectDefinitions (package_of unit) definitions.now }
     ensures world { (s : SourceFile) → slice_get (package_of unit.entry).files file ≡ Some s → IsWorldOf (package_of unit.entry) file s (world_of result) }
     ensures spelling { (token : ℕ) → token_spelling (name_in result token) ≡ spelled (package_of unit.entry) file token }
 {
@@ -91,7 +91,7 @@ fn push_judged<'w>(
 ) -> Result<usize, AllocError>
     requires index { IsIndexOf (package_of origin.unit) origin.index.now }
     requires names { AreNames (package_of origin.unit) turn.file bounds.now spelled.now }
-    requires definitions { AreOwnDefinitions (package_of origin.unit) origin.definitions.now }
+    requires definitions { AreObjectDefinitions (package_of origin.unit) origin.definitions.now }
     requires one { HasOneWorld (package_of origin.unit) }
     requires in_range { turn.file < length origin.unit.files.now }
     requires within { turn.number ≤ length origin.names.now }
@@ -121,7 +121,7 @@ fn push_file(
 ) -> Result<usize, AllocError>
     requires index { IsIndexOf (package_of origin.unit) origin.index.now }
     requires bounds { AreMeanings (package_of origin.unit) bounds.old.list.items bounds.old.of.items }
-    requires definitions { AreOwnDefinitions (package_of origin.unit) origin.definitions.now }
+    requires definitions { AreObjectDefinitions (package_of origin.unit) origin.definitions.now }
     requires one { HasOneWorld (package_of origin.unit) }
     requires in_range { turn.file < length origin.unit.files.now }
     requires within { turn.number ≤ length origin.names.now }
@@ -141,7 +141,7 @@ fn push_files(
 ) -> Result<usize, AllocError>
     requires index { IsIndexOf (package_of origin.unit) origin.index.now }
     requires bounds { AreMeanings (package_of origin.unit) bounds.old.list.items bounds.old.of.items }
-    requires definitions { AreOwnDefinitions (package_of origin.unit) origin.definitions.now }
+    requires definitions { AreObjectDefinitions (package_of origin.unit) origin.definitions.now }
     requires one { HasOneWorld (package_of origin.unit) }
     ensures { IfOk result (λ others. PrintsFiles (package_of origin.entry.unit) (length origin.entry.unit.files.now) origin.entry.members.now origin.entry.packages.now origin.entry.names.now others text.old.items text.new.items) }
 {
@@ -192,7 +192,7 @@ fn meant_text(
 ) -> Result<Vec<u8>, AllocError>
     requires index { IsIndexOf (package_of origin.unit) origin.index.now }
     requires bounds { AreMeanings (package_of origin.unit) bounds.old.list.items bounds.old.of.items }
-    requires definitions { AreOwnDefinitions (package_of origin.unit) origin.definitions.now }
+    requires definitions { AreObjectDefinitions (package_of origin.unit) origin.definitions.now }
     requires one { HasOneWorld (package_of origin.unit) }
     requires names { map function_of origin.names.now ≡ function_names origin.unit.path.now (map source_of origin.unit.files.now) }
     ensures { IfOk result (λ text. (files_of : List ℕ → List SourceFile) → AreMemberUses (package_of origin.entry.unit) (map uses_in origin.entry.members.now) → HaveNames origin.entry.packages.now files_of → IsObjectText (package_of origin.entry.unit) files_of text.items) }
@@ -228,7 +228,7 @@ pub fn checked_object<'a>(
 ) -> Result<Vec<u8>, AllocError>
     requires index { IsIndexOf (package_of unit) index.now }
     requires bounds { AreMeanings (package_of unit) bounds.old.list.items bounds.old.of.items }
-    requires definitions { AreOwnDefinitions (package_of unit) given.definitions.now }
+    requires definitions { AreObjectDefinitions (package_of unit) given.definitions.now }
     ensures { IfOk result (λ text. (files_of : List ℕ → List SourceFile) → AreMemberUses (package_of unit.entry) (map uses_in given.entry.members.now) → HaveNames packages.now files_of → IsObjectText (package_of unit.entry) files_of text.items) }
 {
     has_one_world(unit);
@@ -270,7 +270,7 @@ fn laid_text(
     export_table: &ExportTable,
     packages: &ObjectNames<'_>,
 ) -> Result<Vec<u8>, AllocError>
-    requires { AreOwnDefinitions (package_in given.path.now (map source_of given.files.now) table.now (export_data_in export_table.now)) given.definitions.now }
+    requires { AreObjectDefinitions (package_in given.path.now (map source_of given.files.now) table.now (export_data_in export_table.now)) given.definitions.now }
     ensures { IfOk result (λ text. (files_of : List ℕ → List SourceFile) → AreMemberUses (package_in given.entry.path.now (map source_of given.entry.files.now) table.now (export_data_in export_table.now)) (map uses_in given.entry.members.now) →
         HaveNames packages.now files_of → IsObjectText (package_in given.entry.path.now (map source_of given.entry.files.now) table.now (export_data_in export_table.now)) files_of text.items) }
 {

@@ -3,10 +3,10 @@ ghost use Rattle.std.specs.Prelude.{◌≡◌, ◌<◌, ◌↔◌, ℕ, List, So
 ghost use Rattle.go_ast.specs.SourceFile.{source_of as plain_file};
 ghost use Rattle.types_declared.specs.PackageView.{package_of, IsIndexOf};
 ghost use Rattle.types_declared.specs.Written.{BindsToken, IsPredeclared};
-ghost use Rattle.types_declared.specs.Written.{ImportsPath as DeclaresImport};
+ghost use Rattle.types_declared.specs.Written.{DeclaresImport};
 ghost use Rattle.build_object.specs.LineView.{global_of};
 ghost use Rattle.build_object.specs.ObjectSteps.{uses_of_file};
-ghost use Rattle.build_object.specs.Sources.{HasQualifier, IsGlobal};
+ghost use Rattle.build_object.specs.Sources.{HasQualifier, DenotesGlobal};
 ghost use Rattle.build_object.specs.TablesView.{AreNameMarks, AreTexts, IsMarkAt, IsTabledSource};
 
 use crate::instructions::GlobalName;
@@ -96,7 +96,7 @@ fn own_global<'a>(unit: Package<'a>, file: usize, token: usize, d: usize) -> Opt
     requires in_range { d < length unit.table.now.sites }
     requires bound { BindsToken (package_of unit) file token d }
     requires only { (e : ℕ) → BindsToken (package_of unit) file token e → e ≡ d }
-    ensures { IsGlobal (package_of unit.entry) file token (option_map global_of result) }
+    ensures { DenotesGlobal (package_of unit.entry) file token (option_map global_of result) }
 {
     let is_own = unit.table.role(d).block().same(Block::Package);
     if is_own {
@@ -119,7 +119,7 @@ fn imported_global<'a>(
 ) -> Option<GlobalName<'a>>
     requires index { IsIndexOf (package_of unit) index.now }
     requires unbound { (d : ℕ) → BindsToken (package_of unit) file token d → ⊥ }
-    ensures { IsGlobal (package_of unit.entry) file token (option_map global_of result) }
+    ensures { DenotesGlobal (package_of unit.entry) file token (option_map global_of result) }
 {
     match qualifier(unit, index, file, token) {
         None => None,

@@ -7,7 +7,7 @@ ghost use Rattle.build_object.specs.LineView.{lines_in, Puts};
 ghost use Rattle.build_object.specs.Expressions.{value_lines};
 ghost use Rattle.build_object.specs.SourceView.{source_of};
 ghost use Rattle.build_object.specs.Statements.{lines_of_values, body_exits, loop_lines, loop_condition, for_init, for_post, for_condition, statement_lines, block_lines, if_lines, else_lines};
-ghost use Rattle.build_object.specs.ExitsView.{else_jump, exits_of, lines_of_each, AreWithin, PutsElse};
+ghost use Rattle.build_object.specs.ExitsView.{else_jump, exits_of, lines_of_each, AreExitsWithin, PutsElse};
 
 use crate::code::Code;
 use crate::expressions::operand;
@@ -148,7 +148,7 @@ fn statement<'a>(
     marks: JumpMarks,
     code: &mut Code<'a>,
 ) -> Result<(), AllocError>
-    requires { AreWithin marks (length (lines_in code.old)) }
+    requires { AreExitsWithin marks (length (lines_in code.old)) }
     ensures { OnOk result (Puts (statement_lines (source_of scope.entry.source.now) scope.entry.slots.now.places.items results (exits_of marks (length (lines_in code.old))) (stmt_view next.now)) code.old code.new) }
 {
     match next {
@@ -201,7 +201,7 @@ pub fn block<'a>(
     marks: JumpMarks,
     code: &mut Code<'a>,
 ) -> Result<(), AllocError>
-    requires { AreWithin marks (length (lines_in code.old)) }
+    requires { AreExitsWithin marks (length (lines_in code.old)) }
     ensures { OnOk result (Puts (block_lines (source_of scope.entry.source.now) scope.entry.slots.now.places.items results (exits_of marks (length (lines_in code.old))) (block_view inner.now)) code.old code.new) }
 {
     each(alloc, scope, &inner.statements, results, marks, code)
@@ -217,7 +217,7 @@ fn each<'a>(
     marks: JumpMarks,
     code: &mut Code<'a>,
 ) -> Result<(), AllocError>
-    requires { AreWithin marks (length (lines_in code.old)) }
+    requires { AreExitsWithin marks (length (lines_in code.old)) }
     ensures { OnOk result (Puts (lines_of_each (source_of scope.entry.source.now) scope.entry.slots.now.places.items results (exits_of marks (length (lines_in code.old))) list.now) code.old code.new) }
 {
     for i in (0..list.len()).rev() {
@@ -236,7 +236,7 @@ fn branches<'a>(
     marks: JumpMarks,
     code: &mut Code<'a>,
 ) -> Result<(), AllocError>
-    requires { AreWithin marks (length (lines_in code.old)) }
+    requires { AreExitsWithin marks (length (lines_in code.old)) }
     ensures { OnOk result (Puts (if_lines (source_of scope.entry.source.now) scope.entry.slots.now.places.items results (exits_of marks (length (lines_in code.old))) (if_view branch.now)) code.old code.new) }
 {
     let end = code.len();
@@ -258,7 +258,7 @@ fn otherwise<'a>(
     marks: JumpMarks,
     code: &mut Code<'a>,
 ) -> Result<bool, AllocError>
-    requires { AreWithin marks (length (lines_in code.old)) }
+    requires { AreExitsWithin marks (length (lines_in code.old)) }
     ensures { IfOk result (λ has_else. PutsElse (else_lines (source_of scope.entry.source.now) scope.entry.slots.now.places.items results (exits_of marks (length (lines_in code.old))) (else_view other.now)) has_else code.old code.new) }
 {
     match other {

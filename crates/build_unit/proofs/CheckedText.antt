@@ -11,7 +11,7 @@ use Rattle.types_declared.specs.Package.{Package}
 use Rattle.types_expr.specs.declared.exports.ExportData.{ExportData as FoundExportData}
 use Rattle.types_declared.specs.ExportTablesView.{export_data_of}
 use Rattle.types_check.specs.Exports.{IsExportData}
-use Rattle.build_object.specs.ObjectView.{AreOwnDefinitions}
+use Rattle.build_object.specs.ObjectView.{AreObjectDefinitions}
 use Rattle.build_unit.specs.Compiling.{found_definitions}
 
 -- its files
@@ -24,6 +24,6 @@ parsed_all w n p files at is read =
 
 -- the definitions of the interface that was found, where no fault was
 pub own_found : {X : Type 0} (p : Package) (faults : List X) (o : Option FoundExportData) → faults ≡ [] →
-    MatchOption o (faults ≡ [] → ⊥) (λ i. (faults ≡ []) × IsExportData p (export_data_of p.path i)) → AreOwnDefinitions p (found_definitions o)
+    MatchOption o (faults ≡ [] → ⊥) (λ i. (faults ≡ []) × IsExportData p (export_data_of p.path i)) → AreObjectDefinitions p (found_definitions o)
 own_found p faults None none h = absurd (h none)
 own_found p faults (Some i) none h = record { own = λ rank d at. h.1.definitions rank d at; beyond = λ rank past. h.1.beyond rank past }

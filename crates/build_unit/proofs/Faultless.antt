@@ -21,7 +21,7 @@ use Rattle.types_check.specs.Exports.{IsExportData}
 use Rattle.types_declared.specs.ExportTablesView.{export_data_known}
 use Rattle.types_info.specs.MemberUses.{AreMemberUses, uses_in}
 use Rattle.types_declared.specs.Package.{Package, ExportData, symbol_in}
-use Rattle.workspace_check.specs.FaultLists.{AreListed}
+use Rattle.workspace_check.specs.FaultLists.{AreListedFaults}
 use Rattle.workspace_check.specs.Steps.{SeesExactly}
 use Rattle.workspace_check.specs.KnownFindings.{verdicts_by, verdict_from, IsFinding, IsFindingOf}
 use Rattle.workspace_check.specs.Verdicts.{Verdicts, AreSeen, AreVerdictsBelow, HasExportData, IsFaultBy, IsPackageIn, IsVerdict, IsVerdictBy}
@@ -30,13 +30,13 @@ use Rattle.workspace_check.proofs.Adding.{finding_as}
 use Rattle.workspace_check.proofs.OnePackage.{all_read, one_checked}
 use Rattle.workspace_check.proofs.OneVerdict.{checked_as_one, right_alike, verdict_by}
 use Rattle.build_object.specs.declared.packages.ObjectNames.{ObjectNames}
-use Rattle.build_object.specs.ObjectView.{AreOwnDefinitions, IsObjectTextOf, OwnDefinitionsOf}
-use Rattle.build_unit.specs.Compiling.{HaveNamesBelow, IsFaultless, IsFaultlessBySeen, IsTextOf}
+use Rattle.build_object.specs.ObjectView.{AreObjectDefinitions, IsObjectTextOf, OwnDefinitionsOf}
+use Rattle.build_unit.specs.Compiling.{HaveNamesBelow, IsFaultlessPackage, IsFaultlessBySeen, IsTextOf}
 use Rattle.build_unit.specs.Units.{IsCompiled}
 
 -- the definitions of an interface are those of the package, by their ranks
 own_definitions : (p : Package) (known : Option FoundExportData) (list : List Definition) → IsExportData p (export_data_known p.path known) →
-    ((rank : ℕ) → slice_get list rank ≡ ranked (definitions_listed known) rank) → AreOwnDefinitions p list
+    ((rank : ℕ) → slice_get list rank ≡ ranked (definitions_listed known) rank) → AreObjectDefinitions p list
 own_definitions p known list i same = record {
   own = λ rank d at. subst (λ (o : Option Definition). IsDefinition p rank (definition_or_none (symbol_in p rank) o)) (sym (same rank))
       (i.definitions rank d at);
@@ -44,7 +44,7 @@ own_definitions p known list i same = record {
 }
 
 module _ (w : Workspace) (p : List ℕ) (known : Verdicts) (one : Option FoundExportData) (members : List (Vec MemberUse))
-    (found : IsFaultless w known one p members) where
+    (found : IsFaultlessPackage w known one p members) where
   -- what others see of it
   own : HasExportData w known p (export_data_known p one)
   own =
@@ -122,7 +122,7 @@ seen_faultless w p seen one f below told right g empty =
       faultless = record {
         below = below;
         verdict = right;
-        listed = subst (λ l. AreListed (IsFaultBy w known p) l) empty is.listed;
+        listed = subst (λ l. AreListedFaults (IsFaultBy w known p) l) empty is.listed;
         uses = is.members empty;
       };
       are_seen = told;

@@ -14,7 +14,7 @@ use Rattle.types_expr.specs.declared.exports.ExportData.{ExportData}
 use Rattle.types_declared.specs.declared.export_tables.ExportTable.{ExportTable}
 use Rattle.types_declared.specs.ExportTablesView.{export_data_in, export_data_known, name_in}
 use Rattle.workspace_check.specs.declared.fault.FileFault.{FileFault}
-use Rattle.workspace_check.specs.FaultLists.{AreListed}
+use Rattle.workspace_check.specs.FaultLists.{AreListedFaults}
 use Rattle.workspace_check.specs.Found.{AreVerdictsOf, KnowsVerdicts}
 use Rattle.workspace_check.specs.KnownFindings.{verdict_from, AreUsesOf}
 use Rattle.workspace_check.specs.Verdicts.{Verdicts, AreSeen, IsFaultBy, IsPackageIn, IsVerdict, AreVerdictsBelow}
@@ -28,7 +28,7 @@ use Rattle.build_unit.specs.Units.{AreFilesBelow, IsUnitIn, IsUnitOf, KnowsOnly,
 
 -- `at` is the package p of its graph: it has the number of p, the numbers of the packages in the closure of p, in order, and right
 -- verdicts.
-pub record IsPackageAt (at : PackageAt) (p : List ℕ) : Type 0 where
+pub record IsPackageToBuild (at : PackageAt) (p : List ℕ) : Type 0 where
   pub has_path : slice_get (package_paths at.graph.now) at.number ≡ Some p
   pub closure : ListsPackages at.graph.now (IsInClosure at.graph.now p) at.closure.now
   pub rising : IsStrictlyIncreasing at.closure.now
@@ -42,17 +42,17 @@ pub record HaveNamesBelow (w : Workspace) (p : List ℕ) (packages : ObjectNames
 
 -- The package p has no fault. `known` are the verdicts on the packages that it builds on. `own` is its export data as far as known.
 -- `members` are the uses of members in its files.
-pub record IsFaultless (w : Workspace) (known : Verdicts) (own : Option ExportData) (p : List ℕ) (members : List (Vec MemberUse)) : Type 0 where
+pub record IsFaultlessPackage (w : Workspace) (known : Verdicts) (own : Option ExportData) (p : List ℕ) (members : List (Vec MemberUse)) : Type 0 where
   pub below : AreVerdictsBelow w p known
   pub verdict : IsVerdict w p (verdict_from p own)
-  pub listed : AreListed (IsFaultBy w known p) []
+  pub listed : AreListedFaults (IsFaultBy w known p) []
   pub uses : AreUsesOf w known p members
 
 -- The package p has no fault, by some verdicts on the packages that it builds on. `seen` has exactly the export data that p sees of other
 -- packages. `own` is the export data of p as far as known. `members` are the uses of members in its files.
 pub record IsFaultlessBySeen (w : Workspace) (seen : ExportTable) (own : Option ExportData) (p : List ℕ) (members : List (Vec MemberUse)) : Type 0 where
   pub known : Verdicts
-  pub faultless : IsFaultless w known own p members
+  pub faultless : IsFaultlessPackage w known own p members
   pub are_seen : AreSeen w known p (name_in seen) (export_data_in seen)
 
 -- `one` has the export data `known` under `path`, and knows nothing of any other path.

@@ -13,9 +13,9 @@ ghost use Rattle.types_check.specs.Check.{IsFindingBy, IsFindingIn, IsSoundTable
 ghost use Rattle.workspace_check.specs.Steps.{IsCheckResult, IsGathered, SeesExactly, IsProgress};
 ghost use Rattle.workspace_check.specs.KnownFindings.{verdicts_by, AreNamedEntries};
 ghost use Rattle.workspace_check.specs.Verdicts.{AreSeen, AreStates, AreVerdictsBelow, Verdicts};
-ghost use Rattle.build_object.specs.ObjectView.{AreOwnDefinitions, HaveNames};
+ghost use Rattle.build_object.specs.ObjectView.{AreObjectDefinitions, HaveNames};
 ghost use Rattle.build_object.specs.Sources.{IsObjectText};
-ghost use Rattle.build_unit.specs.Compiling.{IsPackageAt, MayBeText, MayPrint, found_definitions};
+ghost use Rattle.build_unit.specs.Compiling.{IsPackageToBuild, MayBeText, MayPrint, found_definitions};
 
 use crate::known_text::known_text;
 use crate::naming::names_below;
@@ -61,7 +61,7 @@ fn printed<'a>(
 ) -> Result<FileText, AllocError>
     requires index { IsIndexOf (package_of unit) index.now }
     requires bounds { AreMeanings (package_of unit) bounds.old.list.items bounds.old.of.items }
-    requires definitions { AreOwnDefinitions (package_of unit) (found_definitions checked.now.export_data) }
+    requires definitions { AreObjectDefinitions (package_of unit) (found_definitions checked.now.export_data) }
     ensures { IfOk result (λ text. (files_of : List ℕ → List SourceFile) → AreMemberUses (package_of unit.entry) (map uses_in checked.now.members.items) → HaveNames packages.now files_of → IsObjectText (package_of unit.entry) files_of text) }
 {
     let given = Faultless {
@@ -83,7 +83,7 @@ fn with_text(
     found: CheckedPackage,
 ) -> Result<CheckedText, AllocError>
     requires number { at.number < length (package_paths at.graph.now) }
-    requires at { OfPackage at.graph.now at.number (IsPackageAt at) }
+    requires at { OfPackage at.graph.now at.number (IsPackageToBuild at) }
     requires index { IsIndexOf (package_of unit) index.now }
     requires checked { IsFindingBy (IsLaterFault (package_of unit)) (package_of unit) found.checked }
     requires bounds { AreMeaningsFound (package_of unit) found }
@@ -109,7 +109,7 @@ fn with_text(
 /// Checks a package whose clauses and imports have no faults, and prints its object if it has none at all.
 fn unit_text(alloc: Global, at: PackageAt<'_>, unit: Package<'_>) -> Result<CheckedText, AllocError>
     requires number { at.number < length (package_paths at.graph.now) }
-    requires at { OfPackage at.graph.now at.number (IsPackageAt at) }
+    requires at { OfPackage at.graph.now at.number (IsPackageToBuild at) }
     ensures checked { IfOk result (λ made. IsFindingBy (IsLaterFault (package_of unit.entry)) (package_of unit.entry) made.checked) }
     ensures text { IfOk result (λ made. OfPackage at.entry.graph.now at.entry.number (λ p. MayPrint at.entry.graph.now p (package_of unit.entry) made.text)) }
 {
@@ -151,7 +151,7 @@ fn table_text<'a>(
     of: Seeing<'a>,
     table: ScopeTable<'a>,
 ) -> Result<CheckedText, AllocError>
-    requires at { IsPackageAt at of.path.now }
+    requires at { IsPackageToBuild at of.path.now }
     requires files { IsPackage at.graph.now at.number of.files.now }
     requires read { of.files.now.faulty.items ≡ [] }
     ensures checked { IfOk result (λ made. (known : Verdicts) → (state : List ℕ → ImportState) → IsSoundTable of.entry.files.now.trees.items state (name_in of.entry.export_table.now) table.entry → AreSeen at.entry.graph.now known of.entry.path.now (name_in of.entry.export_table.now) (export_data_in of.entry.export_table.now) → AreStates at.entry.graph.now known of.entry.path.now state → IsCheckResult at.entry.graph.now known of.entry.path.now made.checked) }
@@ -174,7 +174,7 @@ fn laid_text<'a>(
     of: Seeing<'a>,
     found: Option<ScopeTable<'a>>,
 ) -> Result<CheckedText, AllocError>
-    requires at { IsPackageAt at of.path.now }
+    requires at { IsPackageToBuild at of.path.now }
     requires files { IsPackage at.graph.now at.number of.files.now }
     requires read { of.files.now.faulty.items ≡ [] }
     requires found { IsTableFound of.files.now.trees.items (state_in of.export_table.now.states) (name_in of.export_table.now) found }
@@ -195,7 +195,7 @@ fn seen_text<'a>(
     files: &'a Folder,
     export_table: &'a ExportTable,
 ) -> Result<CheckedText, AllocError>
-    requires at { IsPackageAt at path.now }
+    requires at { IsPackageToBuild at path.now }
     requires files { IsPackage at.graph.now at.number files.now }
     requires read { files.now.faulty.items ≡ [] }
     ensures checked { IfOk result (λ made. (known : Verdicts) → AreSeen at.entry.graph.now known path.now (name_in export_table.now) (export_data_in export_table.now) → AreStates at.entry.graph.now known path.now (state_in export_table.now.states) → IsCheckResult at.entry.graph.now known path.now made.checked) }
@@ -218,7 +218,7 @@ fn text_by_imports(
     files: &Folder,
     all: &ExportTable,
 ) -> Result<CheckedText, AllocError>
-    requires at { IsPackageAt at path.now }
+    requires at { IsPackageToBuild at path.now }
     requires files { IsPackage at.graph.now at.number files.now }
     requires read { files.now.faulty.items ≡ [] }
     requires whole { AreNamedEntries all.now }
@@ -237,7 +237,7 @@ fn text_by_states<'a>(
     of: Seeing<'a>,
     noted: &ExportTable,
 ) -> Result<CheckedText, AllocError>
-    requires at { IsPackageAt at of.path.now }
+    requires at { IsPackageToBuild at of.path.now }
     requires files { IsPackage at.graph.now at.number of.files.now }
     requires read { of.files.now.faulty.items ≡ [] }
     requires whole { AreNamedEntries of.export_table.now }
@@ -262,7 +262,7 @@ fn gathered_text(
     files: &Folder,
     progress: &Progress,
 ) -> Result<CheckedText, AllocError>
-    requires at { IsPackageAt at path.now }
+    requires at { IsPackageToBuild at path.now }
     requires files { IsPackage at.graph.now at.number files.now }
     requires read { files.now.faulty.items ≡ [] }
     requires right { IsProgress at.graph.now at.number progress.now }
@@ -288,7 +288,7 @@ fn learn_text(
     files: &Folder,
     progress: &mut Progress,
 ) -> Result<Option<FileText>, AllocError>
-    requires at { IsPackageAt at path.now }
+    requires at { IsPackageToBuild at path.now }
     requires files { IsPackage at.graph.now at.number files.now }
     requires read { files.now.faulty.items ≡ [] }
     requires right { IsProgress at.graph.now at.number progress.old }
@@ -312,7 +312,7 @@ pub(crate) fn text_if_faultless(
     path: &SharedPath,
     progress: &mut Progress,
 ) -> Result<Option<FileText>, AllocError>
-    requires at { IsPackageAt at path.now }
+    requires at { IsPackageToBuild at path.now }
     requires right { IsProgress at.graph.now at.number progress.old }
     requires told { SeesExactly at.graph.now path.now progress.old.all.export_table }
     requires unknown { IsGathered progress.old.all.findings.items at.number → ⊥ }

@@ -6,7 +6,7 @@ ghost use Rattle.types_expr.specs.WorldView.{known_at};
 ghost use Rattle.types_declared.specs.ExportTablesView.{export_data_in};
 ghost use Rattle.workspace_check.specs.Found.{IsFindingWith, KnowsVerdicts};
 ghost use Rattle.workspace_check.specs.KnownFindings.{verdicts_by, AreNamedEntries};
-ghost use Rattle.build_unit.specs.Compiling.{HasExactly, HoldsFaults, IsFaultless, IsMadeUnit, IsMadeUnitIn, IsPackageAt, MayBeText};
+ghost use Rattle.build_unit.specs.Compiling.{HasExactly, HoldsFaults, IsFaultlessPackage, IsMadeUnit, IsMadeUnitIn, IsPackageToBuild, MayBeText};
 ghost use Rattle.build_unit.specs.Units.{IsCompiled, IsUnitOf};
 
 use crate::checked_text::text_if_faultless;
@@ -63,9 +63,9 @@ fn faultless_unit(
     all: &ExportTable,
     members: &[Vec<MemberUse>],
 ) -> Result<Unit, AllocError>
-    requires at { IsPackageAt at path.now }
+    requires at { IsPackageToBuild at path.now }
     requires whole { AreNamedEntries all.now }
-    requires found { IsFaultless at.graph.now (verdicts_by all.now) (known_at all.now.definitions path.now) path.now members.now }
+    requires found { IsFaultlessPackage at.graph.now (verdicts_by all.now) (known_at all.now.definitions path.now) path.now members.now }
     ensures { IfOk result (IsUnitOf at.entry.graph.now path.now) }
 {
     let export_table = seen(alloc, at.graph, at.number, all)?;
@@ -121,7 +121,7 @@ fn unit_by(
     all: &ExportTable,
     text: Option<FileText>,
 ) -> Result<Unit, AllocError>
-    requires at { IsPackageAt at path.now }
+    requires at { IsPackageToBuild at path.now }
     requires found { IsFindingWith at.graph.now path.now all.now finding.now }
     requires text { MayBeText at.graph.now path.now text }
     ensures { IfOk result (IsUnitOf at.entry.graph.now path.now) }
@@ -141,7 +141,7 @@ pub(crate) fn unit_of(
     at: PackageAt<'_>,
     path: &SharedPath,
 ) -> Result<MadeUnit, AllocError>
-    requires { IsPackageAt at path.now }
+    requires { IsPackageToBuild at path.now }
     ensures { IfOk result (IsMadeUnit at.entry.graph.now path.now) }
 {
     let mut progress = Progress::before(alloc, at.graph, at.number, at.closure, at.known)?;

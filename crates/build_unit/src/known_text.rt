@@ -4,7 +4,7 @@ ghost use Rattle.types_expr.specs.WorldView.{definitions_listed, ranked};
 ghost use Rattle.types_declared.specs.ExportTablesView.{export_data_known};
 ghost use Rattle.workspace_check.specs.Steps.{SeesExactly, IsProgress};
 ghost use Rattle.workspace_check.specs.KnownFindings.{IsKnownVerdict};
-ghost use Rattle.build_unit.specs.Compiling.{IsFaultlessBySeen, IsPackageAt, MayBeText};
+ghost use Rattle.build_unit.specs.Compiling.{IsFaultlessBySeen, IsPackageToBuild, MayBeText};
 ghost use Rattle.build_unit.specs.Units.{IsCompiled};
 
 use crate::naming::names_below;
@@ -38,7 +38,7 @@ pub(crate) fn object_of(
     own: Option<&ExportData>,
     members: &[Vec<MemberUse>],
 ) -> Result<FileText, AllocError>
-    requires at { IsPackageAt at path.now }
+    requires at { IsPackageToBuild at path.now }
     requires found { IsFaultlessBySeen at.graph.now seen.now (option_copied own) path.now members.now }
     ensures { IfOk result (λ text. IsCompiled at.entry.graph.now path.now (export_data_known path.now (option_copied own.entry)) text) }
 {
@@ -64,7 +64,7 @@ pub(crate) fn known_text(
     verdict: &KnownVerdict,
     progress: &Progress,
 ) -> Result<Option<FileText>, AllocError>
-    requires at { IsPackageAt at path.now }
+    requires at { IsPackageToBuild at path.now }
     requires verdict { IsKnownVerdict at.graph.now path.now verdict.now }
     requires right { IsProgress at.graph.now at.number progress.now }
     requires told { SeesExactly at.graph.now path.now progress.now.all.export_table }

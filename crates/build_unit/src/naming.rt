@@ -3,7 +3,7 @@ ghost use Rattle.std.specs.Prelude.{◌≡◌, ◌<◌, length, IfOk, OnOk};
 ghost use Rattle.base_files.specs.Packages.{package_paths};
 ghost use Rattle.workspace_graph.specs.Graphs.{OfPackage};
 ghost use Rattle.workspace_check.specs.Found.{KnowsVerdicts};
-ghost use Rattle.build_unit.specs.Compiling.{HaveNamesBelow, IsPackageAt};
+ghost use Rattle.build_unit.specs.Compiling.{HaveNamesBelow, IsPackageToBuild};
 ghost use Rattle.build_unit.specs.Naming.{AreTablesBy, without_tables};
 
 use crate::package_at::PackageAt;
@@ -89,7 +89,7 @@ fn all_names<'a>(
     at: PackageAt<'a>,
 ) -> Result<PathTable<NamedPackage<'a>>, AllocError>
     requires number { at.number < length (package_paths at.graph.now) }
-    requires at { OfPackage at.graph.now at.number (IsPackageAt at) }
+    requires at { OfPackage at.graph.now at.number (IsPackageToBuild at) }
     ensures { IfOk result (λ names. OfPackage at.entry.graph.now at.entry.number (λ p. HaveNamesBelow at.entry.graph.now p (without_tables names))) }
 {
     let mut names = PathTable::with_capacity(alloc, at.closure.len())?;
@@ -158,7 +158,7 @@ pub(crate) fn names_below<'a>(
     at: PackageAt<'a>,
 ) -> Result<ObjectNames<'a>, AllocError>
     requires number { at.number < length (package_paths at.graph.now) }
-    requires at { OfPackage at.graph.now at.number (IsPackageAt at) }
+    requires at { OfPackage at.graph.now at.number (IsPackageToBuild at) }
     ensures { IfOk result (λ packages. OfPackage at.entry.graph.now at.entry.number (λ p. HaveNamesBelow at.entry.graph.now p packages)) }
 {
     let names = all_names(alloc, at)?;

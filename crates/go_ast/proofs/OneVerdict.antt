@@ -4,9 +4,9 @@ use Rattle.std.proofs.lemmas.List.Elements.{All-head, All-tail}
 use Rattle.std.specs.List.{All}
 use Rattle.go_ast.specs.declared.syntax.Token.{Token}
 use Rattle.go_ast.specs.declared.syntax.TokenFaultKind.TheVariants.{Syntax, Nesting}
-use Rattle.go_ast.specs.Grammar.{Symbol}
+use Rattle.go_ast.specs.Grammar.{GrammarSymbol}
 use Rattle.go_ast.specs.Language.{Derives, IsSyntaxFault, IsTooDeep, levels}
-use Rattle.go_ast.specs.Verdict.{Verdict, Whole, Faulty, IsWhole, IsVerdict}
+use Rattle.go_ast.specs.Verdict.{FileVerdict, Whole, Faulty, IsWhole, IsFileVerdict}
 
 -- two splits of one list: at one index, or the second further on
 data Cut (a b c d : List Token) : Type 0 where
@@ -26,7 +26,7 @@ cut (x ∷ a) b [] d e = first_longer x a refl (sym e)
 cut (x ∷ a) b (y ∷ c) d e = longer_cut x y a b c d (cc) (cut a b c d (cc))
 
 -- a derivation of an equal list, with equal levels
-moved : {ss : List Symbol} (d : ℕ) (ts us : List Token) → ts ≡ us → (x : Derives ss ts) → (y : Derives ss us) × (levels d y ≡ levels d x)
+moved : {ss : List GrammarSymbol} (d : ℕ) (ts us : List Token) → ts ≡ us → (x : Derives ss ts) → (y : Derives ss us) × (levels d y ≡ levels d x)
 moved {ss = ss} d ts us e x = let P : List Token → Type 0 = λ us. (y : Derives ss us) × (levels d y ≡ levels d x) in subst P e (x, refl)
 
 -- a longer prefix b and the tokens after it, as a shorter prefix a, the token after that, and the rest
@@ -39,7 +39,7 @@ further a b t mid e = let l = ap length e ∙ length-append a (t ∷ mid) in ome
 heads : (t u : Token) (a b : List Token) → t ∷ a ≡ u ∷ b → t ≡ u
 heads t u a b e = cc
 
-syntax_once : {ss : List Symbol} {l d : ℕ} {ts : List Token} {m n : ℕ} → IsSyntaxFault ss l d ts m → IsSyntaxFault ss l d ts n → m ≡ n
+syntax_once : {ss : List GrammarSymbol} {l d : ℕ} {ts : List Token} {m n : ℕ} → IsSyntaxFault ss l d ts m → IsSyntaxFault ss l d ts n → m ≡ n
 syntax_once {ss = ss} f g = elim (cut f.before f.rest g.before g.rest (sym f.split ∙ g.split)) [
   | alike p q ↦ sym f.left_is ∙ (ap length q ∙ g.left_is)
   | second_longer t mid p q ↦ absurd (f.dead t (mid ++ g.rest) (mid ++ g.viable.0) q
@@ -52,7 +52,7 @@ syntax_once {ss = ss} f g = elim (cut f.before f.rest g.before g.rest (sym f.spl
 too_deep : (l : ℕ) (xs ys : List ℕ) (k : ℕ) → ys ≡ xs → l < get_or ys k 0 → get_or xs k 0 ≤ l → ⊥
 too_deep l xs ys k e h i = let j : l < get_or xs k 0 = subst (λ z. l < get_or z k 0) e h in omega (arith, i, j)
 
-syntax_or_nesting : {ss : List Symbol} {l d : ℕ} {ts : List Token} {m n : ℕ} → IsSyntaxFault ss l d ts m → IsTooDeep ss l d ts n → ⊥
+syntax_or_nesting : {ss : List GrammarSymbol} {l d : ℕ} {ts : List Token} {m n : ℕ} → IsSyntaxFault ss l d ts m → IsTooDeep ss l d ts n → ⊥
 syntax_or_nesting {ss = ss} {l = l} {d = d} f g = elim (cut f.before f.rest g.before (g.t ∷ g.others) (sym f.split ∙ g.split)) [
   | alike p q ↦ f.dead g.t g.others g.viable.0 q (subst (λ x. Derives ss (x ++ (g.t ∷ g.viable.0))) (sym p) g.viable.1)
   | second_longer t mid p q ↦ f.dead t (mid ++ (g.t ∷ g.others)) (mid ++ (g.t ∷ g.viable.0)) q
@@ -64,14 +64,14 @@ syntax_or_nesting {ss = ss} {l = l} {d = d} f g = elim (cut f.before f.rest g.be
 ]
 
 -- the first of two nesting faults excludes the second
-earlier : {ss : List Symbol} {l d : ℕ} {ts : List Token} {m n : ℕ} (f : IsTooDeep ss l d ts m) (g : IsTooDeep ss l d ts n) (t : Token) (mid rest : List Token) →
+earlier : {ss : List GrammarSymbol} {l d : ℕ} {ts : List Token} {m n : ℕ} (f : IsTooDeep ss l d ts m) (g : IsTooDeep ss l d ts n) (t : Token) (mid rest : List Token) →
     g.before ≡ f.before ++ (t ∷ mid) → f.t ∷ f.others ≡ t ∷ rest → ⊥
 earlier {l = l} {d = d} f g t mid rest p q =
     let y = moved d _ _ (regrouped f.before g.before t f.t mid (g.t ∷ g.viable.0) p (heads f.t t f.others rest q)) g.viable.1 in
     too_deep l (levels d g.viable.1) (levels d y.0) (length f.before) y.1 (f.deep (mid ++ (g.t ∷ g.viable.0)) y.0)
     (g.first g.viable.0 g.viable.1 (length f.before) (further f.before g.before t mid p))
 
-nesting_once : {ss : List Symbol} {l d : ℕ} {ts : List Token} {m n : ℕ} → IsTooDeep ss l d ts m → IsTooDeep ss l d ts n → m ≡ n
+nesting_once : {ss : List GrammarSymbol} {l d : ℕ} {ts : List Token} {m n : ℕ} → IsTooDeep ss l d ts m → IsTooDeep ss l d ts n → m ≡ n
 nesting_once f g = elim (cut f.before (f.t ∷ f.others) g.before (g.t ∷ g.others) (sym f.split ∙ g.split)) [
   | alike p q ↦ sym f.left_is ∙ (ap length q ∙ g.left_is)
   | second_longer t mid p q ↦ absurd (earlier f g t mid (mid ++ (g.t ∷ g.others)) p q)
@@ -83,13 +83,13 @@ bounded l [] a k = omega arith
 bounded l (x ∷ xs) a zero = All-head (λ x. x ≤ l) x xs a
 bounded l (x ∷ xs) a (suc k) = bounded l xs (All-tail (λ x. x ≤ l) x xs a) k
 
-whole_or_nesting : {ts : List Token} {n : ℕ} → IsWhole ts → IsVerdict ts (Faulty Nesting n) → ⊥
+whole_or_nesting : {ts : List Token} {n : ℕ} → IsWhole ts → IsFileVerdict ts (Faulty Nesting n) → ⊥
 whole_or_nesting w g =
     let y = moved 0 _ _ g.split w.derived in
     too_deep 200 (levels 0 w.derived) (levels 0 y.0) (length g.before) y.1 (g.deep g.others y.0)
     (bounded 200 (levels 0 w.derived) (w.shallow w.derived) (length g.before))
 
-pub one_verdict : (ts : List Token) (v w : Verdict) → IsVerdict ts v → IsVerdict ts w → v ≡ w
+pub one_verdict : (ts : List Token) (v w : FileVerdict) → IsFileVerdict ts v → IsFileVerdict ts w → v ≡ w
 one_verdict ts Whole Whole a b = refl
 one_verdict ts Whole (Faulty Syntax n) a b = absurd (b.not_whole a.derived)
 one_verdict ts Whole (Faulty Nesting n) a b = absurd (whole_or_nesting a b)

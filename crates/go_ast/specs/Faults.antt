@@ -8,7 +8,7 @@ use Rattle.base_files.specs.declared.fault_kind.FaultKind.TheVariants as kind
 use Rattle.go_ast.specs.declared.syntax.TokenFaultKind.{TokenFaultKind as TokenFault}
 use Rattle.go_ast.specs.declared.syntax.TokenFaultKind.TheVariants.{Syntax, Nesting}
 use Rattle.go_ast.specs.Kinds.{kinds_of, place_of}
-use Rattle.go_ast.specs.Verdict.{IsWhole, IsVerdict, Faulty}
+use Rattle.go_ast.specs.Verdict.{IsWhole, IsFileVerdict, Faulty}
 
 -- the kind of fault of a file for a kind of fault of its token list
 abbrev pub kind_for : TokenFault → FaultKind
@@ -19,7 +19,7 @@ kind_for Nesting = kind.Nesting
 pub record IsParseFault (c : CutText) (f : TextFault) : Type 0 where
   pub kind : TokenFault
   pub left : ℕ
-  pub verdict : IsVerdict (kinds_of c) (Faulty kind left)
+  pub verdict : IsFileVerdict (kinds_of c) (Faulty kind left)
   pub kind_is : f.kind ≡ kind_for kind
   pub offset_is : f.offset ≡ place_of c left
 

@@ -181,11 +181,11 @@ pub data Part : Type 0 where
   AfterKey : Part
 
 -- the symbols of a rule: a token of a class, a token of a class that opens a level of nesting, the end of that level, a part
-pub data Symbol : Type 0 where
-  One : (Kind → Bool) → Symbol
-  Opening : (Kind → Bool) → Symbol
-  Close : Symbol
-  A : Part → Symbol
+pub data GrammarSymbol : Type 0 where
+  One : (Kind → Bool) → GrammarSymbol
+  Opening : (Kind → Bool) → GrammarSymbol
+  Close : GrammarSymbol
+  A : Part → GrammarSymbol
 
 -- j is the kind k
 abbrev pub is : Kind → Kind → Bool
@@ -245,8 +245,8 @@ unless h c k = cond (c k) (cond h false true) false
 
 -- A rule of a part. The first rule whose test the next token passes is selected; `Otherwise` has no test.
 pub data Rule : Type 0 where
-  Begins : (Kind → Bool) → List Symbol → Rule
-  Otherwise : List Symbol → Rule
+  Begins : (Kind → Bool) → List GrammarSymbol → Rule
+  Otherwise : List GrammarSymbol → Rule
 
 -- the rule of a selector, followed by a part
 abbrev pub selector : Part → Rule
@@ -265,7 +265,7 @@ abbrev pub or_literal : Bool → List Rule → List Rule
 or_literal h others = cond h others (Begins (is LeftBrace) (A Elements ∷ A (Links h) ∷ []) ∷ others)
 
 -- the symbols of a slice type, followed by others
-abbrev pub slice_type : List Symbol → List Symbol
+abbrev pub slice_type : List GrammarSymbol → List GrammarSymbol
 slice_type then = Opening (is LeftBracket) ∷ One (is RightBracket) ∷ A TypeUse ∷ Close ∷ then
 
 -- the empty rule

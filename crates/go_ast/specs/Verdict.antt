@@ -12,9 +12,9 @@ abbrev pub limit : ℕ
 limit = 200
 
 -- a whole file, or a fault of this kind with this number of tokens left, the one at fault among them
-pub data Verdict : Type 0 where
-  Whole : Verdict
-  Faulty : TokenFaultKind → ℕ → Verdict
+pub data FileVerdict : Type 0 where
+  Whole : FileVerdict
+  Faulty : TokenFaultKind → ℕ → FileVerdict
 
 -- the tokens are a file, and none of them opens a level over the limit
 pub record IsWhole (ts : List Token) : Type 0 where
@@ -22,7 +22,7 @@ pub record IsWhole (ts : List Token) : Type 0 where
   pub shallow : (x : Derives (A File ∷ []) ts) → All (λ l. l ≤ limit) (levels 0 x)
 
 -- the verdict is right for the token list
-abbrev pub IsVerdict : List Token → Verdict → Type 0
-IsVerdict ts Whole = IsWhole ts
-IsVerdict ts (Faulty Syntax left) = IsSyntaxFault (A File ∷ []) limit 0 ts left
-IsVerdict ts (Faulty Nesting left) = IsTooDeep (A File ∷ []) limit 0 ts left
+abbrev pub IsFileVerdict : List Token → FileVerdict → Type 0
+IsFileVerdict ts Whole = IsWhole ts
+IsFileVerdict ts (Faulty Syntax left) = IsSyntaxFault (A File ∷ []) limit 0 ts left
+IsFileVerdict ts (Faulty Nesting left) = IsTooDeep (A File ∷ []) limit 0 ts left

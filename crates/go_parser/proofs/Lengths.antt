@@ -10,7 +10,7 @@ use Rattle.go_ast.specs.Tree.{Binary, LiteralTree, literal}
 use Rattle.go_ast.specs.Flatten.{sign, sign_if, type_tokens, expr_tokens, literal_tokens, link_tokens, operand_tokens, element_tokens, key_tokens, prefix_kind}
 use Rattle.go_ast.specs.View.{expr_view, key_view}
 use Rattle.go_parser.specs.Spelling.{expr_spelled, element_spelled}
-use Rattle.go_ast.specs.Grammar.{Symbol}
+use Rattle.go_ast.specs.Grammar.{GrammarSymbol}
 use Rattle.go_parser.specs.Parsing.{Separates, Read, Leads}
 
 pub length_of : (a b : List Token) → length (a ++ b) ≡ length a + length b
@@ -65,16 +65,16 @@ behind_no_longer a ts rest e = let l = ap length e in omega (arith, l, length_of
 behind_shorter : (a ts rest : List Token) → 1 ≤ length a → ts ≡ a ++ rest → length rest < length ts
 behind_shorter a ts rest h e = let l = ap length e in omega (arith, l, h, length_of a rest)
 
-pub read_no_longer : {ss : List Symbol} {a : List Token} {d e : ℕ} {ts rest : List Token} → Read ss a d ts e rest → length rest ≤ length ts
+pub read_no_longer : {ss : List GrammarSymbol} {a : List Token} {d e : ℕ} {ts rest : List Token} → Read ss a d ts e rest → length rest ≤ length ts
 read_no_longer {a = a} {ts = ts} {rest = rest} r = behind_no_longer a ts rest r.text
 
-pub read_shorter : {ss : List Symbol} {a : List Token} {d e : ℕ} {ts rest : List Token} → 1 ≤ length a → Read ss a d ts e rest → length rest < length ts
+pub read_shorter : {ss : List GrammarSymbol} {a : List Token} {d e : ℕ} {ts rest : List Token} → 1 ≤ length a → Read ss a d ts e rest → length rest < length ts
 read_shorter {a = a} {ts = ts} {rest = rest} h r = behind_shorter a ts rest h r.text
 
-pub leads_no_longer : {x y : List Symbol} {a : List Token} {d e : ℕ} {ts rest : List Token} → Leads x y a d ts e rest → length rest ≤ length ts
+pub leads_no_longer : {x y : List GrammarSymbol} {a : List Token} {d e : ℕ} {ts rest : List Token} → Leads x y a d ts e rest → length rest ≤ length ts
 leads_no_longer {a = a} {ts = ts} {rest = rest} r = behind_no_longer a ts rest r.text
 
-pub leads_shorter : {x y : List Symbol} {a : List Token} {d e : ℕ} {ts rest : List Token} → 1 ≤ length a → Leads x y a d ts e rest → length rest < length ts
+pub leads_shorter : {x y : List GrammarSymbol} {a : List Token} {d e : ℕ} {ts rest : List Token} → 1 ≤ length a → Leads x y a d ts e rest → length rest < length ts
 leads_shorter {a = a} {ts = ts} {rest = rest} h r = behind_shorter a ts rest h r.text
 
 pub separator_no_longer : (k : Kind) (s : Option ℕ) (ts rest : List Token) → Separates k s ts rest → length rest ≤ length ts

@@ -2,7 +2,7 @@
 use Rattle.std.proofs.Common.{◌⊎◌, ℕ, ◌≡◌, ◌≢◌, true, false, List, [], ◌∷◌, ◌++◌, Option, Some, None, refl, ap, sym, ◌∙◌, subst, append_assoc, inl, inr}
 use Rattle.go_ast.specs.declared.syntax.Kind.TheVariants as kind
 use Rattle.go_ast.specs.declared.syntax.Token.{Token}
-use Rattle.go_ast.specs.Grammar.{ReturnValues, Expression, is, Symbol, One, A, Plain, Head, Post, LocalItem, Block, MoreStatements, Statement, IfHead}
+use Rattle.go_ast.specs.Grammar.{ReturnValues, Expression, is, GrammarSymbol, One, A, Plain, Head, Post, LocalItem, Block, MoreStatements, Statement, IfHead}
 use Rattle.go_ast.specs.Grammar.{IfBody, ElsePart, ForHead, ForRest, ForCondition, ForPost}
 use Rattle.go_ast.specs.Language.{tested, untested, below}
 use Rattle.go_ast.specs.Tree.{Item, ExprTree, SimpleTree, InitTree, ForTree, forever, while, clauses, StatementTree, Empty, Var, Simple, Inner, If, For}
@@ -20,16 +20,16 @@ use Rattle.go_parser.proofs.MadeStatements.{speaks, made_exprs, made_local}
 -- headers
 
 abbrev MakesBlock : BlockTree → Type 0
-MakesBlock b = (ss : List Symbol) (vs : Values ss) (ts : List Token) → Made ss vs ts → Made (A Block ∷ ss) (b, vs) (block_tokens b ++ ts)
+MakesBlock b = (ss : List GrammarSymbol) (vs : Values ss) (ts : List Token) → Made ss vs ts → Made (A Block ∷ ss) (b, vs) (block_tokens b ++ ts)
 
 abbrev MakesBody : BlockTree → ElseTree → Type 0
-MakesBody b rest = (ss : List Symbol) (vs : Values ss) (ts : List Token) → Made ss vs ts →
+MakesBody b rest = (ss : List GrammarSymbol) (vs : Values ss) (ts : List Token) → Made ss vs ts →
     Made (A IfBody ∷ ss) ((b, rest), vs) (block_tokens b ++ (else_tokens rest ++ ts))
 
 -- the clause before the condition of an `if`
 if_init : (simple : Option SimpleTree) (semicolon : ℕ) (e : ExprTree) (b : BlockTree) (rest : ElseTree) → IsNoneOr (IsSimple true) simple → IsExprIn true e →
     MakesBody b rest →
-    {ss : List Symbol} {vs : Values ss} {ts : List Token} → Made ss vs ts →
+    {ss : List GrammarSymbol} {vs : Values ss} {ts : List Token} → Made ss vs ts →
     Made (A IfHead ∷ ss) ((λ p. if_tree p (Some (record { simple = simple; semicolon = semicolon })) e b rest), vs)
     ((tokens_if simple_tokens simple ++ (sign kind.Semicolon semicolon ∷ [])) ++ (expr_tokens e ++ (block_tokens b ++ (else_tokens rest ++ ts))))
 if_init None semicolon e b rest w v f m = rule tested (one refl (made_expr true e v _ _ _ (f _ _ _ m))) refl
@@ -44,18 +44,18 @@ if_init (Some s) semicolon e b rest w v f {ss = ss} {vs = vs} {ts = ts} m =
 
 -- the header of an `if` and its bodies
 if_head : (init : Option InitTree) (e : ExprTree) (b : BlockTree) (rest : ElseTree) → IsNoneOr IsInit init → IsExprIn true e → MakesBody b rest →
-    {ss : List Symbol} {vs : Values ss} {ts : List Token} → Made ss vs ts →
+    {ss : List GrammarSymbol} {vs : Values ss} {ts : List Token} → Made ss vs ts →
     Made (A IfHead ∷ ss) ((λ p. if_tree p init e b rest), vs) (tokens_if init_tokens init ++ (expr_tokens e ++ (block_tokens b ++ (else_tokens rest ++ ts))))
 unfolding init_tokens
 if_head None e b rest w v f m = rule (below untested) (made_expr true e v _ _ _ (rule tested (f _ _ _ m) refl)) refl
 if_head (Some i) e b rest w v f m = if_init i.simple i.semicolon e b rest w v f m
 
-for_condition : (e : Option ExprTree) → IsNoneOr (IsExprIn true) e → {ss : List Symbol} {vs : Values ss} {ts : List Token} → Made ss vs ts →
+for_condition : (e : Option ExprTree) → IsNoneOr (IsExprIn true) e → {ss : List GrammarSymbol} {vs : Values ss} {ts : List Token} → Made ss vs ts →
     Made (A ForCondition ∷ ss) (e, vs) (tokens_if expr_tokens e ++ ts)
 for_condition None w m = rule (below untested) m refl
 for_condition (Some e) w m = rule tested (made_expr true e w _ _ _ m) refl
 
-for_post : (s : Option SimpleTree) → IsNoneOr IsPost s → {ss : List Symbol} {vs : Values ss} {ts : List Token} → Made ss vs ts →
+for_post : (s : Option SimpleTree) → IsNoneOr IsPost s → {ss : List GrammarSymbol} {vs : Values ss} {ts : List Token} → Made ss vs ts →
     Made (A ForPost ∷ ss) (s, vs) (tokens_if simple_tokens s ++ ts)
 for_post None w m = rule (below untested) m refl
 for_post (Some s) w {ss = ss} {vs = vs} {ts = ts} m =
@@ -65,13 +65,13 @@ for_post (Some s) w {ss = ss} {vs = vs} {ts = ts} m =
 -- the clauses of a `for` from the first semicolon on, and its block
 for_rest : (s : ℕ) (condition : Option ExprTree) (t : ℕ) (post : Option SimpleTree) (b : BlockTree) → IsNoneOr (IsExprIn true) condition →
     IsNoneOr IsPost post → MakesBlock b →
-    {ss : List Symbol} {vs : Values ss} {ts : List Token} → Made ss vs ts →
+    {ss : List GrammarSymbol} {vs : Values ss} {ts : List Token} → Made ss vs ts →
     Made (A ForRest ∷ ss) ((λ init. (clauses init s condition t post, b)), vs)
     (sign kind.Semicolon s ∷ (tokens_if expr_tokens condition ++ (sign kind.Semicolon t ∷ (tokens_if simple_tokens post ++ (block_tokens b ++ ts)))))
 for_rest s condition t post b w v f m = rule untested (one refl (for_condition condition w (one refl (for_post post v (f _ _ _ m))))) refl
 
 -- the header of a `for` and its block
-for_head : (f : ForTree) (b : BlockTree) → IsFor f → MakesBlock b → {ss : List Symbol} {vs : Values ss} {ts : List Token} → Made ss vs ts →
+for_head : (f : ForTree) (b : BlockTree) → IsFor f → MakesBlock b → {ss : List GrammarSymbol} {vs : Values ss} {ts : List Token} → Made ss vs ts →
     Made (A ForHead ∷ ss) ((f, b), vs) (for_tokens f ++ (block_tokens b ++ ts))
 unfolding for_tokens
 for_head forever b w f m = rule tested (f _ _ _ m) refl
@@ -105,7 +105,7 @@ statement_parts s (Some p) rest w = (w.0, (w.1, w.2))
 statement_is : (s : StatementTree) (semicolon : Option ℕ) (rest : StatementTrees) → statement s semicolon rest ≡ no_statement → ⊥
 statement_is s semicolon rest e = cc
 
-made_return : (es : List (Item ExprTree)) → (es ≡ []) ⊎ IsList (IsExprIn false) es → {ss : List Symbol} {vs : Values ss} {ts : List Token} → Made ss vs ts →
+made_return : (es : List (Item ExprTree)) → (es ≡ []) ⊎ IsList (IsExprIn false) es → {ss : List GrammarSymbol} {vs : Values ss} {ts : List Token} → Made ss vs ts →
     Made (A ReturnValues ∷ ss) (es, vs) (exprs_tokens es ++ ts)
 unfolding all_tokens
 made_return es (inl e) {ss = ss} {vs = vs} {ts = ts} m =
@@ -115,7 +115,7 @@ made_return es (inr w) m = rule tested (made_exprs false es w _ _ _ m) refl
 mutual
   unfolding IsStatement statement_tokens
 
-  made_statement : (s : StatementTree) → IsStatement s → (ss : List Symbol) (vs : Values ss) (ts : List Token) → Made ss vs ts →
+  made_statement : (s : StatementTree) → IsStatement s → (ss : List GrammarSymbol) (vs : Values ss) (ts : List Token) → Made ss vs ts →
       Made (A Statement ∷ ss) (s, vs) (statement_tokens s ++ ts)
   made_statement Empty w ss vs ts m = rule (below (below (below (below (below (below (below (below untested)))))))) m refl
   made_statement (Var p g) w ss vs ts m = rule tested (one refl (made_group LocalItem IsLocal local_tokens made_local g w m)) refl
@@ -138,7 +138,7 @@ mutual
   made_statement (Continue p) w ss vs ts m = rule (below (below (below (below (below tested))))) (one refl m) refl
   made_statement (Return p es) w ss vs ts m = rule (below (below (below (below (below (below tested)))))) (one refl (made_return es w m)) refl
 
-  pub made_block : (b : BlockTree) → IsBlock b → (ss : List Symbol) (vs : Values ss) (ts : List Token) → Made ss vs ts →
+  pub made_block : (b : BlockTree) → IsBlock b → (ss : List GrammarSymbol) (vs : Values ss) (ts : List Token) → Made ss vs ts →
       Made (A Block ∷ ss) (b, vs) (block_tokens b ++ ts)
   made_block (block o no_statement c) w ss vs ts m = absurd (w.0 refl)
   made_block (block o (statement s semicolon rest) c) w ss vs ts m =
@@ -149,7 +149,7 @@ mutual
       ∙ ap (λ z. statement_tokens s ++ z) (append_assoc (sign_if kind.Semicolon semicolon) (statements_tokens rest) (sign kind.RightBrace c ∷ ts)))))
       (rule untested (opens refl (made_statement s v.0 _ _ _ (more_statements rest semicolon v.1 _ _ _ (one refl (closes m))))) refl)
 
-  more_statements : (rest : StatementTrees) (semicolon : Option ℕ) → Follows semicolon rest → (ss : List Symbol) (vs : Values ss) (ts : List Token) →
+  more_statements : (rest : StatementTrees) (semicolon : Option ℕ) → Follows semicolon rest → (ss : List GrammarSymbol) (vs : Values ss) (ts : List Token) →
       Made ss vs ts →
       Made (A MoreStatements ∷ ss) ((λ x. statement x semicolon rest), vs) (sign_if kind.Semicolon semicolon ++ (statements_tokens rest ++ ts))
   more_statements no_statement None w ss vs ts m = rule (below untested) m refl
@@ -161,7 +161,7 @@ mutual
       ∙ ap (λ z. statement_tokens s ++ z) (append_assoc (sign_if kind.Semicolon semicolon) (statements_tokens rest) ts)))
       (rule tested (one refl (made_statement s v.0 _ _ _ (more_statements rest semicolon v.1 ss vs ts m))) refl)
 
-  made_else : (e : ElseTree) → IsElse e → (ss : List Symbol) (vs : Values ss) (ts : List Token) → Made ss vs ts →
+  made_else : (e : ElseTree) → IsElse e → (ss : List GrammarSymbol) (vs : Values ss) (ts : List Token) → Made ss vs ts →
       Made (A ElsePart ∷ ss) (e, vs) (else_tokens e ++ ts)
   made_else no_else w ss vs ts m = rule (below untested) m refl
   made_else (else_if p (if_tree q init e b rest)) w ss vs ts m =

@@ -3,7 +3,7 @@ use Rattle.std.proofs.Common.{ℕ, ◌≡◌, List, [], ◌∷◌, ◌++◌, Opt
 use Rattle.std.specs.List.{All}
 use Rattle.go_ast.specs.declared.syntax.Kind.TheVariants as kind
 use Rattle.go_ast.specs.declared.syntax.Token.{Token}
-use Rattle.go_ast.specs.Grammar.{Symbol, One, Close, A, is, is_literal, ImportItem, GlobalItem, TypeItem, Single, File, Imports, Tops, MoreNames}
+use Rattle.go_ast.specs.Grammar.{GrammarSymbol, One, Close, A, is, is_literal, ImportItem, GlobalItem, TypeItem, Single, File, Imports, Tops, MoreNames}
 use Rattle.go_ast.specs.Grammar.{GlobalValues, MoreLiterals, TypeBody, Fields, MoreFields, FuncHead, ReceiverStar, ReceiverEnd, Signature, Params}
 use Rattle.go_ast.specs.Grammar.{MoreParams, Result, Types, MoreTypes}
 use Rattle.go_ast.specs.Language.{tested, untested, below}
@@ -25,19 +25,19 @@ use Rattle.go_parser.proofs.FormedParts.{head_of, tail_of}
 
 -- imports
 
-import_of : (name : Option ℕ) (path : ℕ) (ss : List Symbol) (vs : Values ss) (ts : List Token) → Made ss vs ts →
+import_of : (name : Option ℕ) (path : ℕ) (ss : List GrammarSymbol) (vs : Values ss) (ts : List Token) → Made ss vs ts →
     Made (A (Single ImportItem) ∷ ss) (record { name = name; path = path }, vs) ((sign_if kind.Name name ++ (sign kind.Text path ∷ [])) ++ ts)
 import_of None path ss vs ts m = rule (below untested) (one refl m) refl
 import_of (Some n) path ss vs ts m = rule tested (one refl (one refl m)) refl
 
-made_import : (i : ImportTree) → Any i → (ss : List Symbol) (vs : Values ss) (ts : List Token) → Made ss vs ts →
+made_import : (i : ImportTree) → Any i → (ss : List GrammarSymbol) (vs : Values ss) (ts : List Token) → Made ss vs ts →
     Made (A (Single ImportItem) ∷ ss) (i, vs) (import_tokens i ++ ts)
 unfolding import_tokens
 made_import i w ss vs ts m = import_of i.name i.path ss vs ts m
 
 -- names and values
 
-more_names : (s : Option ℕ) (xs : List (Item ℕ)) → Behind s xs → All (λ x. Any x.value) xs → {ss : List Symbol} {vs : Values ss} {ts : List Token} →
+more_names : (s : Option ℕ) (xs : List (Item ℕ)) → Behind s xs → All (λ x. Any x.value) xs → {ss : List GrammarSymbol} {vs : Values ss} {ts : List Token} →
     Made ss vs ts →
     Made (A MoreNames ∷ ss) ((λ x. with_separator x s ∷ xs), vs) (sign_if kind.Comma s ++ (list_tokens kind.Comma name_tokens xs ++ ts))
 more_names s xs b a {ss = ss} {vs = vs} {ts = ts} m =
@@ -50,7 +50,7 @@ abbrev basic_token : BasicTree → Token
 basic_token (Integer n) = sign kind.Number n
 basic_token (String n) = sign kind.Text n
 
-one_basic : (x : BasicTree) {ss : List Symbol} {vs : Values ss} {ts : List Token} → Made ss vs ts →
+one_basic : (x : BasicTree) {ss : List GrammarSymbol} {vs : Values ss} {ts : List Token} → Made ss vs ts →
     Made (One is_literal ∷ ss) (basic_token x, vs) (basic_tokens x ++ ts)
 one_basic (Integer n) m = one refl m
 one_basic (String n) m = one refl m
@@ -60,7 +60,7 @@ basic_back (Integer n) = refl
 basic_back (String n) = refl
 
 more_literals : (s : Option ℕ) (xs : List (Item BasicTree)) → Behind s xs → All (λ x. Any x.value) xs →
-    {ss : List Symbol} {vs : Values ss} {ts : List Token} → Made ss vs ts →
+    {ss : List GrammarSymbol} {vs : Values ss} {ts : List Token} → Made ss vs ts →
     Made (A MoreLiterals ∷ ss) ((λ x. with_separator x s ∷ xs), vs) (sign_if kind.Comma s ++ (list_tokens kind.Comma basic_tokens xs ++ ts))
 more_literals s xs b a {ss = ss} {vs = vs} {ts = ts} m =
     joined_more Any basic_tokens (λ g us. Made (A MoreLiterals ∷ ss) (g, vs) us) ts
@@ -68,7 +68,7 @@ more_literals s xs b a {ss = ss} {vs = vs} {ts = ts} m =
     (λ p y v g us n. rule tested (one refl (one_basic y n)) (ap (λ z. ((λ x. with_separator x (Some p) ∷ g z), vs)) (basic_back y)))
     s xs b a
 
-global_list : (p : ℕ) (xs : List (Item BasicTree)) → IsList Any xs → {ss : List Symbol} {vs : Values ss} {ts : List Token} → Made ss vs ts →
+global_list : (p : ℕ) (xs : List (Item BasicTree)) → IsList Any xs → {ss : List GrammarSymbol} {vs : Values ss} {ts : List Token} → Made ss vs ts →
     Made (A GlobalValues ∷ ss) (Some (p, xs), vs) (sign kind.Assign p ∷ (list_tokens kind.Comma basic_tokens xs ++ ts))
 unfolding all_tokens
 global_list p [] w m = absurd w.some
@@ -77,14 +77,14 @@ global_list p (x ∷ xs) w {vs = vs} {ts = ts} m =
     (rule tested (one refl (one_basic x.value (more_literals x.separator xs (behind_item x xs w.joined) (tail_of (λ x. Any x.value) x xs w.each) m)))
     (ap (λ z. (Some (p, with_separator z x.separator ∷ xs), vs)) (basic_back x.value)))
 
-global_values : (v : Option (ℕ × List (Item BasicTree))) → IsNoneOr (λ v. IsList Any v.1) v → {ss : List Symbol} {vs : Values ss} {ts : List Token} →
+global_values : (v : Option (ℕ × List (Item BasicTree))) → IsNoneOr (λ v. IsList Any v.1) v → {ss : List GrammarSymbol} {vs : Values ss} {ts : List Token} →
     Made ss vs ts →
     Made (A GlobalValues ∷ ss) (v, vs) (tokens_if (value_tokens basic_tokens) v ++ ts)
 global_values None w m = rule (below untested) m refl
 global_values (Some v) w m = global_list v.0 v.1 w m
 
 global_names : (xs : List (Item ℕ)) (t : TypeTree) (v : Option (ℕ × List (Item BasicTree))) → IsList Any xs → IsNoneOr (λ v. IsList Any v.1) v →
-    (ss : List Symbol) (vs : Values ss) (ts : List Token) → Made ss vs ts →
+    (ss : List GrammarSymbol) (vs : Values ss) (ts : List Token) → Made ss vs ts →
     Made (A (Single GlobalItem) ∷ ss) (record { names = xs; type_use = t; values = v }, vs)
     ((list_tokens kind.Comma name_tokens xs ++ (type_tokens t ++ tokens_if (value_tokens basic_tokens) v)) ++ ts)
 unfolding all_tokens
@@ -97,7 +97,7 @@ global_names (x ∷ xs) t v w u ss vs ts m =
     (rule untested (one refl (more_names x.separator xs (behind_item x xs w.joined) (tail_of (λ x. Any x.value) x xs w.each)
     (made_type t (global_values v u m)))) refl)
 
-made_global : (g : GlobalTree) → IsGlobal g → (ss : List Symbol) (vs : Values ss) (ts : List Token) → Made ss vs ts →
+made_global : (g : GlobalTree) → IsGlobal g → (ss : List GrammarSymbol) (vs : Values ss) (ts : List Token) → Made ss vs ts →
     Made (A (Single GlobalItem) ∷ ss) (g, vs) (global_tokens g ++ ts)
 unfolding global_tokens
 made_global g w ss vs ts m = global_names g.names g.type_use g.values w.names w.values ss vs ts m
@@ -105,7 +105,7 @@ made_global g w ss vs ts m = global_names g.names g.type_use g.values w.names w.
 -- types
 
 field_names : (xs : List (Item ℕ)) (t : TypeTree) → IsList Any xs →
-    {ss : List Symbol} {vs : Values ss} {g : FieldTree → List (Item FieldTree) × ℕ} {ts : List Token} →
+    {ss : List GrammarSymbol} {vs : Values ss} {g : FieldTree → List (Item FieldTree) × ℕ} {ts : List Token} →
     Made (A MoreFields ∷ ss) (g, vs) ts → Made (A Fields ∷ ss) (g (record { names = xs; type_use = t }), vs)
     ((list_tokens kind.Comma name_tokens xs ++ type_tokens t) ++ ts)
 unfolding all_tokens
@@ -115,7 +115,7 @@ field_names (x ∷ xs) t w {ts = ts} m =
     ∙ apart (name_tokens x.value) (sign_if kind.Comma x.separator) (list_tokens kind.Comma name_tokens xs) (type_tokens t ++ ts))
     (rule (below untested) (one refl (more_names x.separator xs (behind_item x xs w.joined) (tail_of (λ x. Any x.value) x xs w.each) (made_type t m))) refl)
 
-made_body : (b : BodyTree) → IsBody b → {ss : List Symbol} {vs : Values ss} {ts : List Token} → Made ss vs ts →
+made_body : (b : BodyTree) → IsBody b → {ss : List GrammarSymbol} {vs : Values ss} {ts : List Token} → Made ss vs ts →
     Made (A TypeBody ∷ ss) (b, vs) (body_tokens b ++ ts)
 unfolding body_tokens field_tokens
 made_body (Other t) w m = rule (below untested) (made_type t m) refl
@@ -131,7 +131,7 @@ made_body (Struct s o fs c) w {ss = ss} {vs = vs} {ts = ts} m =
     (rule (below untested) (one refl (closes m)) refl)
     fs w.separated w.each))) refl)
 
-made_type_spec : (t : TypeSpecTree) → IsTypeSpec t → (ss : List Symbol) (vs : Values ss) (ts : List Token) → Made ss vs ts →
+made_type_spec : (t : TypeSpecTree) → IsTypeSpec t → (ss : List GrammarSymbol) (vs : Values ss) (ts : List Token) → Made ss vs ts →
     Made (A (Single TypeItem) ∷ ss) (t, vs) (type_spec_tokens t ++ ts)
 unfolding type_spec_tokens
 made_type_spec t w ss vs ts m = rule untested (one refl (made_body t.body w m)) refl
@@ -139,7 +139,7 @@ made_type_spec t w ss vs ts m = rule untested (one refl (made_body t.body w m)) 
 -- functions
 
 param_names : (xs : List (Item IdentTree)) (t : TypeTree) → IsList Any xs →
-    {ss : List Symbol} {vs : Values ss} {g : ParamTree → List (Item ParamTree) × ℕ} {ts : List Token} →
+    {ss : List GrammarSymbol} {vs : Values ss} {g : ParamTree → List (Item ParamTree) × ℕ} {ts : List Token} →
     Made (A MoreParams ∷ ss) (g, vs) ts → Made (A Params ∷ ss) (g (record { names = xs; type_use = t }), vs)
     ((list_tokens kind.Comma ident_tokens xs ++ type_tokens t) ++ ts)
 unfolding all_tokens
@@ -151,7 +151,7 @@ param_names (x ∷ xs) t w {vs = vs} {g = g} {ts = ts} m =
     (made_type t m)))
     (ap (λ z. (g (record { names = with_separator z x.separator ∷ xs; type_use = t }), vs)) (ident_back x.value)))
 
-made_params : (ps : List (Item ParamTree)) (c : ℕ) → IsOpenList IsParam ps → {ss : List Symbol} {vs : Values ss} {ts : List Token} → Made ss vs ts →
+made_params : (ps : List (Item ParamTree)) (c : ℕ) → IsOpenList IsParam ps → {ss : List GrammarSymbol} {vs : Values ss} {ts : List Token} → Made ss vs ts →
     Made (A Params ∷ Close ∷ ss) ((ps, c), vs) (list_tokens kind.Comma param_tokens ps ++ (sign kind.RightParen c ∷ ts))
 unfolding param_tokens
 made_params ps c w {ss = ss} {vs = vs} {ts = ts} m =
@@ -164,10 +164,10 @@ made_params ps c w {ss = ss} {vs = vs} {ts = ts} m =
     ps w.separated w.each
 
 -- one result, by what its type begins with
-one_type : (t : TypeTree) {ss : List Symbol} {vs : Values ss} {ts : List Token} → Made ss vs ts → Made (A Result ∷ ss) (one_result t, vs) (type_tokens t ++ ts)
+one_type : (t : TypeTree) {ss : List GrammarSymbol} {vs : Values ss} {ts : List Token} → Made ss vs ts → Made (A Result ∷ ss) (one_result t, vs) (type_tokens t ++ ts)
 one_type t m = rule (below tested) (made_type t m) refl
 
-made_result : (r : ResultTree) → IsResult r → {ss : List Symbol} {vs : Values ss} {ts : List Token} → Made ss vs ts →
+made_result : (r : ResultTree) → IsResult r → {ss : List GrammarSymbol} {vs : Values ss} {ts : List Token} → Made ss vs ts →
     Made (A Result ∷ ss) (r, vs) (result_tokens r ++ ts)
 unfolding result_tokens
 made_result no_result w m = rule (below (below untested)) m refl
@@ -183,24 +183,24 @@ made_result (results o rs c) w {ss = ss} {vs = vs} {ts = ts} m =
     (rule (below untested) (one refl (closes m)) refl)
     rs w.separated w.each)) refl)
 
-made_star : (s : Option ℕ) {ss : List Symbol} {vs : Values ss} {ts : List Token} → Made ss vs ts →
+made_star : (s : Option ℕ) {ss : List GrammarSymbol} {vs : Values ss} {ts : List Token} → Made ss vs ts →
     Made (A ReceiverStar ∷ ss) (s, vs) (sign_if kind.Star s ++ ts)
 made_star None m = rule (below untested) m refl
 made_star (Some p) m = rule tested (one refl m) refl
 
-made_end : (s : Option ℕ) (c : ℕ) {ss : List Symbol} {vs : Values ss} {ts : List Token} → Made ss vs ts →
+made_end : (s : Option ℕ) (c : ℕ) {ss : List GrammarSymbol} {vs : Values ss} {ts : List Token} → Made ss vs ts →
     Made (A ReceiverEnd ∷ ss) ((s, c), vs) (sign_if kind.Comma s ++ (sign kind.RightParen c ∷ ts))
 made_end None c m = rule (below untested) (one refl m) refl
 made_end (Some p) c m = rule tested (one refl (one refl m)) refl
 
 -- a function from its parameters on
 signature : (lparen : ℕ) (ps : List (Item ParamTree)) (rparen : ℕ) (r : ResultTree) (b : BlockTree) → IsOpenList IsParam ps → IsResult r → IsBlock b →
-    {ss : List Symbol} {vs : Values ss} {ts : List Token} → Made ss vs ts →
+    {ss : List GrammarSymbol} {vs : Values ss} {ts : List Token} → Made ss vs ts →
     Made (A Signature ∷ ss) ((λ receiver n. record { receiver = receiver; name = n; lparen = lparen; params = ps; rparen = rparen; result = r; body = b }), vs)
     (sign kind.LeftParen lparen ∷ (list_tokens kind.Comma param_tokens ps ++ (sign kind.RightParen rparen ∷ (result_tokens r ++ (block_tokens b ++ ts)))))
 signature lparen ps rparen r b w u v m = rule untested (opens refl (made_params ps rparen w (made_result r u (made_block b v _ _ _ m)))) refl
 
-func_head : (receiver : Option ReceiverTree) (n : ℕ) {ss : List Symbol} {vs : Values ss} {f : Option ReceiverTree → ℕ → FuncTree} {ts : List Token} →
+func_head : (receiver : Option ReceiverTree) (n : ℕ) {ss : List GrammarSymbol} {vs : Values ss} {f : Option ReceiverTree → ℕ → FuncTree} {ts : List Token} →
     Made (A Signature ∷ ss) (f, vs) ts → Made (A FuncHead ∷ ss) (f receiver n, vs) (tokens_if receiver_tokens receiver ++ (sign kind.Name n ∷ ts))
 unfolding receiver_tokens
 func_head None n m = rule (below untested) (one refl m) refl
@@ -215,7 +215,7 @@ func_head (Some r) n {vs = vs} {f = f} {ts = ts} m =
     (ap (λ z. (f (Some (record { lparen = r.lparen; name = z; star = r.star; type_name = r.type_name; comma = r.comma; rparen = r.rparen })) n, vs))
     (ident_back r.name)))
 
-made_func : (f : FuncTree) → IsFunc f → {ss : List Symbol} {vs : Values ss} {ts : List Token} → Made ss vs ts →
+made_func : (f : FuncTree) → IsFunc f → {ss : List GrammarSymbol} {vs : Values ss} {ts : List Token} → Made ss vs ts →
     Made (A FuncHead ∷ ss) (f, vs) (func_tokens f ++ ts)
 unfolding func_tokens
 made_func f w {ts = ts} m =
@@ -229,7 +229,7 @@ made_func f w {ts = ts} m =
 
 -- files
 
-made_decls : (ds : List DeclTree) → All IsDecl ds → {ss : List Symbol} {vs : Values ss} {ts : List Token} → Made ss vs ts →
+made_decls : (ds : List DeclTree) → All IsDecl ds → {ss : List GrammarSymbol} {vs : Values ss} {ts : List Token} → Made ss vs ts →
     Made (A Tops ∷ ss) (ds, vs) (all_tokens decl_tokens ds ++ ts)
 unfolding all_tokens decl_tokens
 made_decls [] a m = rule (below (below (below untested))) m refl
@@ -251,7 +251,7 @@ made_decls (FuncDecl k f s ∷ ds) a {ts = ts} m =
     ∙ ap (λ z. sign kind.Func k ∷ z) (append_assoc (func_tokens f) (sign kind.Semicolon s ∷ []) (all_tokens decl_tokens ds ++ ts)))
     (rule (below (below tested)) (one refl (made_func f w (one refl (made_decls ds (tail_of IsDecl (FuncDecl k f s) ds a) m)))) refl)
 
-made_imports : (is : List ImportsTree) → All IsImports is → {ds : List DeclTree} {ss : List Symbol} {vs : Values ss} {ts : List Token} →
+made_imports : (is : List ImportsTree) → All IsImports is → {ds : List DeclTree} {ss : List GrammarSymbol} {vs : Values ss} {ts : List Token} →
     Made (A Tops ∷ ss) (ds, vs) ts →
     Made (A Imports ∷ ss) ((is, ds), vs) (all_tokens imports_tokens is ++ ts)
 unfolding all_tokens imports_tokens
@@ -263,7 +263,7 @@ made_imports (i ∷ is) a {ts = ts} m =
     (rule tested (one refl (made_group ImportItem Any import_tokens made_import i.imports (head_of IsImports i is a)
     (one refl (made_imports is (tail_of IsImports i is a) m)))) refl)
 
-pub made_file : (f : FileTree) → IsFile f → {ss : List Symbol} {vs : Values ss} {ts : List Token} → Made ss vs ts → Made (A File ∷ ss) (f, vs) (flatten f ++ ts)
+pub made_file : (f : FileTree) → IsFile f → {ss : List GrammarSymbol} {vs : Values ss} {ts : List Token} → Made ss vs ts → Made (A File ∷ ss) (f, vs) (flatten f ++ ts)
 unfolding flatten
 made_file f w {ts = ts} m =
     along (ap (λ z. sign kind.Package f.keyword ∷ sign kind.Name f.name ∷ sign kind.Semicolon f.semicolon ∷ z)

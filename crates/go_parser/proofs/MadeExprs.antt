@@ -6,7 +6,7 @@ use Rattle.go_ast.specs.declared.syntax.BinaryOp.{BinaryOp}
 use Rattle.go_ast.specs.declared.syntax.BinaryOp.TheVariants as binary
 use Rattle.go_ast.specs.declared.syntax.PrefixOp.{PrefixOp}
 use Rattle.go_ast.specs.declared.syntax.PrefixOp.TheVariants as prefix
-use Rattle.go_ast.specs.Grammar.{Symbol, Close, A, is_binary, is_prefix, Expression, Binaries, Unary, Operand, AfterName, AfterSelector, Links, Arguments}
+use Rattle.go_ast.specs.Grammar.{GrammarSymbol, Close, A, is_binary, is_prefix, Expression, Binaries, Unary, Operand, AfterName, AfterSelector, Links, Arguments}
 use Rattle.go_ast.specs.Grammar.{MoreArguments, Address as AddressPart, Elements, ElementList, MoreElements, Element}
 use Rattle.go_ast.specs.Language.{tested, untested, below}
 use Rattle.go_ast.specs.Tree.{TypeTree, Local, Imported, Pointer, Slice, ExprTree, Number, Text, Name, Blank, Composite, Paren, Prefix, Address, Chain}
@@ -41,35 +41,35 @@ prefix_back prefix.Plus = refl
 prefix_back _ = refl
 
 -- the beginning of an expression, by which the grammar tells a name from other operands
-pub data Starts (h : Bool) (ss : List Symbol) (vs : Values ss) (t : ExprTree) (ts : List Token) : Type 0 where
+pub data Starts (h : Bool) (ss : List GrammarSymbol) (vs : Values ss) (t : ExprTree) (ts : List Token) : Type 0 where
   by_name : (n : ℕ) (f : ℕ → ExprTree) (us : List Token) → ts ≡ sign kind.Name n ∷ us → f n ≡ t → Made (A (AfterName h) ∷ ss) (f, vs) us → Starts h ss vs t ts
   by_operand : Made (A (Operand h) ∷ ss) (t, vs) ts → Starts h ss vs t ts
 
-unary_of : {h : Bool} {ss : List Symbol} {vs : Values ss} {t : ExprTree} {ts : List Token} → Starts h ss vs t ts → Made (A (Unary h) ∷ ss) (t, vs) ts
+unary_of : {h : Bool} {ss : List GrammarSymbol} {vs : Values ss} {t : ExprTree} {ts : List Token} → Starts h ss vs t ts → Made (A (Unary h) ∷ ss) (t, vs) ts
 unary_of {vs = vs} (by_name n f us e q m) = along e (rule tested (one refl m) (ap (λ x. (x, vs)) q))
 unary_of (by_operand m) = rule (below untested) m refl
 
-starts_along : {h : Bool} {ss : List Symbol} {vs : Values ss} {t : ExprTree} {ts us : List Token} → ts ≡ us → Starts h ss vs t us → Starts h ss vs t ts
+starts_along : {h : Bool} {ss : List GrammarSymbol} {vs : Values ss} {t : ExprTree} {ts us : List Token} → ts ≡ us → Starts h ss vs t us → Starts h ss vs t ts
 starts_along {h = h} {ss = ss} {vs = vs} {t = t} e s = subst (λ x. Starts h ss vs t x) (sym e) s
 
-starts_as : {h : Bool} {ss : List Symbol} {vs : Values ss} {t u : ExprTree} {ts : List Token} → t ≡ u → Starts h ss vs t ts → Starts h ss vs u ts
+starts_as : {h : Bool} {ss : List GrammarSymbol} {vs : Values ss} {t u : ExprTree} {ts : List Token} → t ≡ u → Starts h ss vs t ts → Starts h ss vs u ts
 starts_as {h = h} {ss = ss} {vs = vs} {ts = ts} e s = subst (λ x. Starts h ss vs x ts) e s
 
-element_of : {ss : List Symbol} {vs : Values ss} {os : OperandTrees} {u : ExprTree} {ts : List Token} →
+element_of : {ss : List GrammarSymbol} {vs : Values ss} {os : OperandTrees} {u : ExprTree} {ts : List Token} →
     Starts false (A (Binaries false) ∷ ss) (os, vs) u ts → Made (A Element ∷ ss) ((None, grouped u os), vs) ts
 element_of {vs = vs} {os = os} (by_name n f us e q m) = along e (rule tested (one refl (rule (below untested) m refl)) (ap (λ x. ((None, grouped x os), vs)) q))
 element_of (by_operand m) = rule (below untested) m refl
 
 -- links, behind an operand, a name, or a name with a selector
-pub record Linked (h : Bool) (ss : List Symbol) (vs : Values ss) (ls : LinkTrees) (ts : List Token) : Type 0 where
+pub record Linked (h : Bool) (ss : List GrammarSymbol) (vs : Values ss) (ls : LinkTrees) (ts : List Token) : Type 0 where
   pub links : Made (A (Links h) ∷ ss) (ls, vs) ts
   pub after_name : Made (A (AfterName h) ∷ ss) ((λ x. chain (Name x) ls), vs) ts
   pub after_selector : Made (A (AfterSelector h) ∷ ss) ((λ x e m. Chain (Name x) (selector e m ls)), vs) ts
 
-linked_along : {h : Bool} {ss : List Symbol} {vs : Values ss} {ls : LinkTrees} {ts us : List Token} → ts ≡ us → Linked h ss vs ls us → Linked h ss vs ls ts
+linked_along : {h : Bool} {ss : List GrammarSymbol} {vs : Values ss} {ls : LinkTrees} {ts us : List Token} → ts ≡ us → Linked h ss vs ls us → Linked h ss vs ls ts
 linked_along {h = h} {ss = ss} {vs = vs} {ls = ls} e k = subst (λ x. Linked h ss vs ls x) (sym e) k
 
-linked_none : (h : Bool) {ss : List Symbol} {vs : Values ss} {ts : List Token} → Made ss vs ts → Linked h ss vs no_link ts
+linked_none : (h : Bool) {ss : List GrammarSymbol} {vs : Values ss} {ts : List Token} → Made ss vs ts → Linked h ss vs no_link ts
 linked_none true m = record {
   links = rule (below (below (below untested))) m refl;
   after_name = rule (below (below (below untested))) m refl;
@@ -81,7 +81,7 @@ linked_none false m = record {
   after_selector = rule (below (below (below (below untested)))) m refl;
 }
 
-linked_selector : (h : Bool) (d n : ℕ) {ss : List Symbol} {vs : Values ss} {ls : LinkTrees} {ts : List Token} → Linked h ss vs ls ts →
+linked_selector : (h : Bool) (d n : ℕ) {ss : List GrammarSymbol} {vs : Values ss} {ls : LinkTrees} {ts : List Token} → Linked h ss vs ls ts →
     Linked h ss vs (selector d n ls) (sign kind.Dot d ∷ sign kind.Name n ∷ ts)
 linked_selector true d n k = record {
   links = rule tested (one refl (one refl k.links)) refl;
@@ -95,17 +95,17 @@ linked_selector false d n k = record {
 }
 
 abbrev pub MakesExpr : Bool → ExprTree → Type 0
-MakesExpr h e = (ss : List Symbol) (vs : Values ss) (ts : List Token) → Made ss vs ts → Made (A (Expression h) ∷ ss) (e, vs) (expr_tokens e ++ ts)
+MakesExpr h e = (ss : List GrammarSymbol) (vs : Values ss) (ts : List Token) → Made ss vs ts → Made (A (Expression h) ∷ ss) (e, vs) (expr_tokens e ++ ts)
 
 abbrev MakesArguments : ArgumentTrees → Type 0
-MakesArguments xs = (c : ℕ) (ss : List Symbol) (vs : Values ss) (ts : List Token) → Made ss vs ts →
+MakesArguments xs = (c : ℕ) (ss : List GrammarSymbol) (vs : Values ss) (ts : List Token) → Made ss vs ts →
     Made (A Arguments ∷ ss) ((xs, c), vs) (argument_tokens xs ++ (sign kind.RightParen c ∷ ts))
 
 abbrev MakesElements : ElementTrees → Type 0
-MakesElements es = (c : ℕ) (ss : List Symbol) (vs : Values ss) (ts : List Token) → Made ss vs ts →
+MakesElements es = (c : ℕ) (ss : List GrammarSymbol) (vs : Values ss) (ts : List Token) → Made ss vs ts →
     Made (A ElementList ∷ ss) ((es, c), vs) (element_tokens es ++ (sign kind.RightBrace c ∷ ts))
 
-linked_index : (h : Bool) (o : ℕ) (e : ExprTree) (c : ℕ) {ss : List Symbol} {vs : Values ss} {ls : LinkTrees} {ts : List Token} → MakesExpr false e →
+linked_index : (h : Bool) (o : ℕ) (e : ExprTree) (c : ℕ) {ss : List GrammarSymbol} {vs : Values ss} {ls : LinkTrees} {ts : List Token} → MakesExpr false e →
     Linked h ss vs ls ts →
     Linked h ss vs (index o e c ls) (sign kind.LeftBracket o ∷ (expr_tokens e ++ (sign kind.RightBracket c ∷ ts)))
 linked_index true o e c f k = record {
@@ -119,7 +119,7 @@ linked_index false o e c f k = record {
   after_selector = rule (below (below tested)) (opens refl (f _ _ _ (one refl (closes k.links)))) refl;
 }
 
-linked_call : (h : Bool) (o : ℕ) (xs : ArgumentTrees) (c : ℕ) {ss : List Symbol} {vs : Values ss} {ls : LinkTrees} {ts : List Token} → MakesArguments xs →
+linked_call : (h : Bool) (o : ℕ) (xs : ArgumentTrees) (c : ℕ) {ss : List GrammarSymbol} {vs : Values ss} {ls : LinkTrees} {ts : List Token} → MakesArguments xs →
     Linked h ss vs ls ts →
     Linked h ss vs (call o xs c ls) (sign kind.LeftParen o ∷ (argument_tokens xs ++ (sign kind.RightParen c ∷ ts)))
 linked_call true o xs c f k = record {
@@ -135,13 +135,13 @@ linked_call false o xs c f k = record {
 
 -- literals
 
-braced : (o : ℕ) (es : ElementTrees) (c : ℕ) → MakesElements es → {ss : List Symbol} {vs : Values ss} {ts : List Token} → Made ss vs ts →
+braced : (o : ℕ) (es : ElementTrees) (c : ℕ) → MakesElements es → {ss : List GrammarSymbol} {vs : Values ss} {ts : List Token} → Made ss vs ts →
     Made (A Elements ∷ ss) ((λ t. literal t o es c), vs) (sign kind.LeftBrace o ∷ ((element_tokens es ++ (sign kind.RightBrace c ∷ [])) ++ ts))
 braced o es c f {ts = ts} m = rule untested (opens refl (along (append_assoc (element_tokens es) (sign kind.RightBrace c ∷ []) ts) (f c _ _ _ (closes m)))) refl
 
 literal_starts : (h : Bool) (t : TypeTree) (o : ℕ) (es : ElementTrees) (c : ℕ) → IsLiteralType t → (h ≡ true → IsUnnamed (literal t o es c)) →
     MakesElements es →
-    (ls : LinkTrees) (ss : List Symbol) (vs : Values ss) (ts : List Token) → Linked h ss vs ls ts →
+    (ls : LinkTrees) (ss : List GrammarSymbol) (vs : Values ss) (ts : List Token) → Linked h ss vs ls ts →
     Starts h ss vs (chain (Composite (literal t o es c)) ls) (literal_tokens (literal t o es c) ++ ts)
 unfolding expr_tokens type_tokens
 literal_starts true (Local n) o es c w u f ls ss vs ts k = absurd (u refl)
@@ -158,7 +158,7 @@ literal_starts h (Slice b d t) o es c w u f ls ss vs ts k =
     (made_type t (closes (braced o es c f k.links)))))) refl)
 
 addressed : (h : Bool) (t : TypeTree) (o : ℕ) (es : ElementTrees) (c : ℕ) → IsLiteralType t → (h ≡ true → IsUnnamed (literal t o es c)) → MakesElements es →
-    {ss : List Symbol} {vs : Values ss} {ts : List Token} → Made ss vs ts →
+    {ss : List GrammarSymbol} {vs : Values ss} {ts : List Token} → Made ss vs ts →
     Made (A (AddressPart h) ∷ ss) (literal t o es c, vs) (literal_tokens (literal t o es c) ++ ts)
 unfolding expr_tokens type_tokens
 addressed true (Local n) o es c w u f m = absurd (u refl)
@@ -177,7 +177,7 @@ addressed false (Slice b d t) o es c w u f {ts = ts} m =
 -- what follows an argument, or an element
 
 more_arguments : (comma : Option ℕ) (rest : ArgumentTrees) (c : ℕ) → (comma ≡ None → rest ≡ no_argument) → MakesArguments rest →
-    {ss : List Symbol} {vs : Values ss} {ts : List Token} → Made ss vs ts →
+    {ss : List GrammarSymbol} {vs : Values ss} {ts : List Token} → Made ss vs ts →
     Made (A MoreArguments ∷ ss) ((λ e. (argument e comma rest, c)), vs) (sign_if kind.Comma comma ++ (argument_tokens rest ++ (sign kind.RightParen c ∷ ts)))
 unfolding expr_tokens
 more_arguments (Some p) rest c q f m = rule tested (one refl (f c _ _ _ m)) refl
@@ -186,7 +186,7 @@ more_arguments None rest c q f {ss = ss} {vs = vs} {ts = ts} m =
     (rule (below untested) (one refl m) refl)
 
 more_elements : (comma : Option ℕ) (rest : ElementTrees) (c : ℕ) → (comma ≡ None → rest ≡ no_element) → MakesElements rest →
-    {ss : List Symbol} {vs : Values ss} {ts : List Token} → Made ss vs ts →
+    {ss : List GrammarSymbol} {vs : Values ss} {ts : List Token} → Made ss vs ts →
     Made (A MoreElements ∷ ss) ((λ key e. (element key e comma rest, c)), vs)
     (sign_if kind.Comma comma ++ (element_tokens rest ++ (sign kind.RightBrace c ∷ ts)))
 unfolding expr_tokens
@@ -198,13 +198,13 @@ more_elements None rest c q f {ss = ss} {vs = vs} {ts = ts} m =
 -- expressions
 
 abbrev Operates : Bool → ExprTree → Type 0
-Operates h t = (ls : LinkTrees) (ss : List Symbol) (vs : Values ss) (ts : List Token) → Linked h ss vs ls ts → Starts h ss vs (chain t ls) (expr_tokens t ++ ts)
+Operates h t = (ls : LinkTrees) (ss : List GrammarSymbol) (vs : Values ss) (ts : List Token) → Linked h ss vs ls ts → Starts h ss vs (chain t ls) (expr_tokens t ++ ts)
 
 abbrev Stands : Bool → ExprTree → Type 0
-Stands h t = (ss : List Symbol) (vs : Values ss) (ts : List Token) → Made ss vs ts → Starts h ss vs t (expr_tokens t ++ ts)
+Stands h t = (ss : List GrammarSymbol) (vs : Values ss) (ts : List Token) → Made ss vs ts → Starts h ss vs t (expr_tokens t ++ ts)
 
 abbrev Spreads : Bool → ExprTree → Type 0
-Spreads h t = (ss : List Symbol) (vs : Values ss) (os : OperandTrees) (ts : List Token) → Made (A (Binaries h) ∷ ss) (os, vs) ts →
+Spreads h t = (ss : List GrammarSymbol) (vs : Values ss) (os : OperandTrees) (ts : List Token) → Made (A (Binaries h) ∷ ss) (os, vs) ts →
     Starts h (A (Binaries h) ∷ ss) (tail_of t os, vs) (head_of t) (expr_tokens t ++ ts)
 
 -- how an expression is derived: as an operand of a chain, of an operator, and with the operators behind it
@@ -278,7 +278,7 @@ mutual
       }
 
   operands : (os : OperandTrees) (h : Bool) (k : ℕ) → AreOperands k os → (h ≡ true → HaveNoNamedLiteral os) →
-      (ss : List Symbol) (vs : Values ss) (more : OperandTrees) (ts : List Token) → Made (A (Binaries h) ∷ ss) (more, vs) ts →
+      (ss : List GrammarSymbol) (vs : Values ss) (more : OperandTrees) (ts : List Token) → Made (A (Binaries h) ∷ ss) (more, vs) ts →
       Made (A (Binaries h) ∷ ss) (spread os more, vs) (operand_tokens os ++ ts)
   operands no_operand h k w u ss vs more ts m = m
   operands (operand op p e os) h k w u ss vs more ts m =
@@ -287,7 +287,7 @@ mutual
       (unary_of (r.spreads ss vs (spread os more) (operand_tokens os ++ ts) (operands os h k w.3 (λ q. (u q).1) ss vs more ts m)))))
       (ap (λ x. (operand x p (head_of e) (tail_of e (spread os more)), vs)) (binary_back op))
 
-  links : (ls : LinkTrees) (h : Bool) → AreLinks ls → (ss : List Symbol) (vs : Values ss) (ts : List Token) → Made ss vs ts →
+  links : (ls : LinkTrees) (h : Bool) → AreLinks ls → (ss : List GrammarSymbol) (vs : Values ss) (ts : List Token) → Made ss vs ts →
       Linked h ss vs ls (link_tokens ls ++ ts)
   links no_link h w ss vs ts m = linked_none h m
   links (selector d n ls) h w ss vs ts m = linked_selector h d n (links ls h w ss vs ts m)

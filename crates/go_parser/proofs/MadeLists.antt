@@ -5,7 +5,7 @@ use Rattle.std.specs.Option.{IsSome}
 use Rattle.go_ast.specs.declared.syntax.Kind.{Kind}
 use Rattle.go_ast.specs.declared.syntax.Kind.TheVariants as kind
 use Rattle.go_ast.specs.declared.syntax.Token.{Token}
-use Rattle.go_ast.specs.Grammar.{Symbol, Close, A, Item as Sort, GroupOf, Items, MoreItems, Single}
+use Rattle.go_ast.specs.Grammar.{GrammarSymbol, Close, A, Item as Sort, GroupOf, Items, MoreItems, Single}
 use Rattle.go_ast.specs.Language.{tested, untested, below}
 use Rattle.go_ast.specs.Tree.{Item, Group, single, several}
 use Rattle.go_ast.specs.Flatten.{sign, sign_if, all_tokens, list_tokens, group_tokens}
@@ -79,8 +79,8 @@ open_list P f k c M N ts empty item more last (x ∷ xs) s a =
 
 -- a group in parentheses, or one item
 pub made_group : (i : Sort) (P : ItemOf i → Type 0) (f : ItemOf i → List Token) →
-    ((x : ItemOf i) → P x → (ss : List Symbol) (vs : Values ss) (ts : List Token) → Made ss vs ts → Made (A (Single i) ∷ ss) (x, vs) (f x ++ ts)) →
-    (g : Group (ItemOf i)) → IsGroup P g → {ss : List Symbol} {vs : Values ss} {ts : List Token} → Made ss vs ts →
+    ((x : ItemOf i) → P x → (ss : List GrammarSymbol) (vs : Values ss) (ts : List Token) → Made ss vs ts → Made (A (Single i) ∷ ss) (x, vs) (f x ++ ts)) →
+    (g : Group (ItemOf i)) → IsGroup P g → {ss : List GrammarSymbol} {vs : Values ss} {ts : List Token} → Made ss vs ts →
     Made (A (GroupOf i) ∷ ss) (g, vs) (group_tokens f g ++ ts)
 unfolding group_tokens
 made_group i P f make (single x) w m = rule (below untested) (make x w _ _ _ m) refl

@@ -9,7 +9,7 @@ use Rattle.go_ast.specs.declared.syntax.StepOp.{StepOp}
 use Rattle.go_ast.specs.declared.syntax.StepOp.TheVariants as step
 use Rattle.go_ast.specs.declared.syntax.UpdateOp.{UpdateOp}
 use Rattle.go_ast.specs.declared.syntax.UpdateOp.TheVariants as update
-use Rattle.go_ast.specs.Grammar.{Symbol, One, A, is_ident, is_step, is_update, may_set, Setting, Plain, Head, Post, in_head, LocalItem, Single, MoreIdents}
+use Rattle.go_ast.specs.Grammar.{GrammarSymbol, One, A, is_ident, is_step, is_update, may_set, Setting, Plain, Head, Post, in_head, LocalItem, Single, MoreIdents}
 use Rattle.go_ast.specs.Grammar.{LocalRest, LocalValues, Expressions, MoreExpressions, SimpleRest}
 use Rattle.go_ast.specs.Language.{tested, untested, below}
 use Rattle.go_ast.specs.Tree.{Item, IdentTree, Named, Underscore, TypeTree, ExprTree, SimpleTree, Alone, Step, Update, Assign, Define, LocalTree}
@@ -26,7 +26,7 @@ use Rattle.go_parser.proofs.FormedParts.{head_of, tail_of}
 
 -- lists of expressions
 
-pub made_exprs : (h : Bool) (es : List (Item ExprTree)) → IsList (IsExprIn h) es → (ss : List Symbol) (vs : Values ss) (ts : List Token) → Made ss vs ts →
+pub made_exprs : (h : Bool) (es : List (Item ExprTree)) → IsList (IsExprIn h) es → (ss : List GrammarSymbol) (vs : Values ss) (ts : List Token) → Made ss vs ts →
     Made (A (Expressions h) ∷ ss) (es, vs) (exprs_tokens es ++ ts)
 unfolding all_tokens
 made_exprs h [] w ss vs ts m = absurd w.some
@@ -58,7 +58,7 @@ update_back update.Add = refl
 update_back _ = refl
 
 -- a simple statement with these tokens: its first expression, and the tokens after that
-pub record Spoken (s : Setting) (ss : List Symbol) (vs : Values ss) (t : SimpleTree) (ts : List Token) : Type 0 where
+pub record Spoken (s : Setting) (ss : List GrammarSymbol) (vs : Values ss) (t : SimpleTree) (ts : List Token) : Type 0 where
   pub e : ExprTree
   pub proper : IsExprIn (in_head s) e
   pub others : List Token
@@ -102,7 +102,7 @@ set_tokens_apart e c es fs t ts =
 
 set_more : (s : Setting) (k : Kind) (p : ℕ) → may_set s k ≡ true → (x : ExprTree) (c : Option ℕ) (es fs : List (Item ExprTree)) → IsExprIn (in_head s) x →
     IsSome c →
-    IsList (IsExprIn (in_head s)) es → IsList (IsExprIn (in_head s)) fs → (ss : List Symbol) (vs : Values ss) (ts : List Token) → Made ss vs ts →
+    IsList (IsExprIn (in_head s)) es → IsList (IsExprIn (in_head s)) fs → (ss : List GrammarSymbol) (vs : Values ss) (ts : List Token) → Made ss vs ts →
     Spoken s ss vs (set_by (sign k p) (with_separator x c ∷ es) fs) ((exprs_tokens (with_separator x c ∷ es) ++ (sign k p ∷ exprs_tokens fs)) ++ ts)
 set_more s k p a x None es fs u i v w ss vs ts m = absurd (no i)
 set_more s k p a x (Some c) es fs u i v w ss vs ts m = record {
@@ -116,7 +116,7 @@ set_more s k p a x (Some c) es fs u i v w ss vs ts m = record {
 }
 
 set_starts : (s : Setting) (k : Kind) (p : ℕ) → may_set s k ≡ true → (es fs : List (Item ExprTree)) →
-    IsList (IsExprIn (in_head s)) es → IsList (IsExprIn (in_head s)) fs → (ss : List Symbol) (vs : Values ss) (ts : List Token) → Made ss vs ts →
+    IsList (IsExprIn (in_head s)) es → IsList (IsExprIn (in_head s)) fs → (ss : List GrammarSymbol) (vs : Values ss) (ts : List Token) → Made ss vs ts →
     Spoken s ss vs (set_by (sign k p) es fs) ((exprs_tokens es ++ (sign k p ∷ exprs_tokens fs)) ++ ts)
 unfolding all_tokens
 set_starts s k p a [] fs v w ss vs ts m = absurd v.some
@@ -134,7 +134,7 @@ set_starts s k p a (x ∷ (y ∷ ys)) fs v w ss vs ts m =
     set_more s k p a x.value x.separator (y ∷ ys) fs (head_of (λ x. IsExprIn (in_head s) x.value) x (y ∷ ys) v.each) v.joined.0
     (record { some = tt; joined = v.joined.1; each = tail_of (λ x. IsExprIn (in_head s) x.value) x (y ∷ ys) v.each }) w ss vs ts m
 
-pub speaks : (s : Setting) (t : SimpleTree) → IsSimpleAt s t → (ss : List Symbol) (vs : Values ss) (ts : List Token) → Made ss vs ts →
+pub speaks : (s : Setting) (t : SimpleTree) → IsSimpleAt s t → (ss : List GrammarSymbol) (vs : Values ss) (ts : List Token) → Made ss vs ts →
     Spoken s ss vs t (simple_tokens t ++ ts)
 unfolding simple_tokens
 speaks s (Alone e) w ss vs ts m = record {
@@ -177,7 +177,7 @@ abbrev pub ident_token : IdentTree → Token
 ident_token (Named n) = sign kind.Name n
 ident_token (Underscore n) = sign kind.Blank n
 
-pub one_ident : (x : IdentTree) {ss : List Symbol} {vs : Values ss} {ts : List Token} → Made ss vs ts →
+pub one_ident : (x : IdentTree) {ss : List GrammarSymbol} {vs : Values ss} {ts : List Token} → Made ss vs ts →
     Made (One is_ident ∷ ss) (ident_token x, vs) (ident_tokens x ++ ts)
 one_ident (Named n) m = one refl m
 one_ident (Underscore n) m = one refl m
@@ -187,7 +187,7 @@ ident_back (Named n) = refl
 ident_back (Underscore n) = refl
 
 pub more_idents : (s : Option ℕ) (xs : List (Item IdentTree)) → Behind s xs → All (λ x. Any x.value) xs →
-    {ss : List Symbol} {vs : Values ss} {ts : List Token} → Made ss vs ts →
+    {ss : List GrammarSymbol} {vs : Values ss} {ts : List Token} → Made ss vs ts →
     Made (A MoreIdents ∷ ss) ((λ x. with_separator x s ∷ xs), vs) (sign_if kind.Comma s ++ (list_tokens kind.Comma ident_tokens xs ++ ts))
 more_idents s xs b a {ss = ss} {vs = vs} {ts = ts} m =
     joined_more Any ident_tokens (λ g us. Made (A MoreIdents ∷ ss) (g, vs) us) ts
@@ -196,20 +196,20 @@ more_idents s xs b a {ss = ss} {vs = vs} {ts = ts} m =
     s xs b a
 
 local_values : (v : Option (ℕ × List (Item ExprTree))) → IsNoneOr (λ v. IsList (IsExprIn false) v.1) v →
-    {ss : List Symbol} {vs : Values ss} {ts : List Token} → Made ss vs ts →
+    {ss : List GrammarSymbol} {vs : Values ss} {ts : List Token} → Made ss vs ts →
     Made (A LocalValues ∷ ss) (v, vs) (tokens_if (value_tokens expr_tokens) v ++ ts)
 local_values None w m = rule (below untested) m refl
 local_values (Some v) w m = rule tested (one refl (made_exprs false v.1 w _ _ _ m)) refl
 
 local_rest : (t : Option TypeTree) (v : Option (ℕ × List (Item ExprTree))) → (t ≡ None → v ≢ None) → IsNoneOr (λ v. IsList (IsExprIn false) v.1) v →
-    {ss : List Symbol} {vs : Values ss} {ts : List Token} → Made ss vs ts →
+    {ss : List GrammarSymbol} {vs : Values ss} {ts : List Token} → Made ss vs ts →
     Made (A LocalRest ∷ ss) ((t, v), vs) (tokens_if type_tokens t ++ (tokens_if (value_tokens expr_tokens) v ++ ts))
 local_rest (Some t) v q w m = rule (below untested) (made_type t (local_values v w m)) refl
 local_rest None None q w m = absurd (q refl refl)
 local_rest None (Some v) q w m = rule tested (one refl (made_exprs false v.1 w _ _ _ m)) refl
 
 local_names : (xs : List (Item IdentTree)) (t : Option TypeTree) (v : Option (ℕ × List (Item ExprTree))) → IsList Any xs → (t ≡ None → v ≢ None) →
-    IsNoneOr (λ v. IsList (IsExprIn false) v.1) v → (ss : List Symbol) (vs : Values ss) (ts : List Token) → Made ss vs ts →
+    IsNoneOr (λ v. IsList (IsExprIn false) v.1) v → (ss : List GrammarSymbol) (vs : Values ss) (ts : List Token) → Made ss vs ts →
     Made (A (Single LocalItem) ∷ ss) (record { names = xs; type_use = t; values = v }, vs)
     ((list_tokens kind.Comma ident_tokens xs ++ (tokens_if type_tokens t ++ tokens_if (value_tokens expr_tokens) v)) ++ ts)
 unfolding all_tokens
@@ -223,7 +223,7 @@ local_names (x ∷ xs) t v w q u ss vs ts m =
     (rule untested (one_ident x.value (more_idents x.separator xs (behind_item x xs w.joined) (tail_of (λ x. Any x.value) x xs w.each) (local_rest t v q u m)))
     (ap (λ z. (record { names = with_separator z x.separator ∷ xs; type_use = t; values = v }, vs)) (ident_back x.value)))
 
-pub made_local : (l : LocalTree) → IsLocal l → (ss : List Symbol) (vs : Values ss) (ts : List Token) → Made ss vs ts →
+pub made_local : (l : LocalTree) → IsLocal l → (ss : List GrammarSymbol) (vs : Values ss) (ts : List Token) → Made ss vs ts →
     Made (A (Single LocalItem) ∷ ss) (l, vs) (local_tokens l ++ ts)
 unfolding local_tokens
 made_local l w ss vs ts m = local_names l.names l.type_use l.values w.names w.told w.values ss vs ts m

@@ -3,9 +3,9 @@ use Rattle.std.proofs.Common.{ℕ, ◌≡◌, ap, sym, ◌∙◌, subst, Bool, t
 use Rattle.go_ast.specs.declared.syntax.Kind.{Kind}
 use Rattle.go_ast.specs.declared.syntax.Kind.TheVariants as kind
 use Rattle.go_ast.specs.declared.syntax.Token.{Token}
-use Rattle.go_ast.specs.Grammar.{Symbol, One, A, rules, is, Links, AfterName, AfterSelector, AfterTypeName, AfterLiteralName, Address, Elements, Element}
+use Rattle.go_ast.specs.Grammar.{GrammarSymbol, One, A, rules, is, Links, AfterName, AfterSelector, AfterTypeName, AfterLiteralName, Address, Elements, Element}
 use Rattle.go_ast.specs.Grammar.{Expression, Unary, slice_type}
-use Rattle.go_parser.specs.Machine.{Run, take, refused, expand, Selects, first, later, last, at, Outcome}
+use Rattle.go_parser.specs.Machine.{ParserRun, take, refused, expand, Selects, first, later, last, at, Outcome}
 use Rattle.go_parser.specs.Lookahead.{the_rest, names_literal, begins_key}
 use Rattle.go_parser.specs.Parsing.{Leads}
 use Rattle.go_parser.proofs.KindTests.{is_only}
@@ -41,9 +41,9 @@ or_other_left : (a b : Bool) → (a || b) ≡ true → b ≡ false → a ≡ tru
 or_other_left true b e h = refl
 or_other_left false b e h = clash (sym h ∙ e)
 
-pub under_one : {c : Kind → Bool} {x y : List Symbol} {d : ℕ} {ts : List Token} {o : Outcome} →
-    ((t : Token) (rest : List Token) → ts ≡ t ∷ rest → c t.kind ≡ true → Run d x rest o → Run d y rest o) →
-    Run d (One c ∷ x) ts o → Run d (One c ∷ y) ts o
+pub under_one : {c : Kind → Bool} {x y : List GrammarSymbol} {d : ℕ} {ts : List Token} {o : Outcome} →
+    ((t : Token) (rest : List Token) → ts ≡ t ∷ rest → c t.kind ≡ true → ParserRun d x rest o → ParserRun d y rest o) →
+    ParserRun d (One c ∷ x) ts o → ParserRun d (One c ∷ y) ts o
 under_one h (take {t = t} {ts = ts} e r) = take e (h t ts refl e r)
 under_one h (refused e) = refused e
 
@@ -57,9 +57,9 @@ behind_is t ts rest c b e h = sym (ap (λ x. at c (the_rest x)) e) ∙ h
 
 -- names and literals
 
-literal_behind : {d : ℕ} {ss : List Symbol} {ts : List Token} {o : Outcome} →
+literal_behind : {d : ℕ} {ss : List GrammarSymbol} {ts : List Token} {o : Outcome} →
     (at (is kind.LeftBrace) ts || (at (is kind.Dot) ts && (at (is kind.Name) (the_rest ts) && at (is kind.LeftBrace) (the_rest (the_rest ts))))) ≡ true →
-    Run d (A AfterTypeName ∷ A Elements ∷ A (Links false) ∷ ss) ts o → Run d (A (AfterName false) ∷ ss) ts o
+    ParserRun d (A AfterTypeName ∷ A Elements ∷ A (Links false) ∷ ss) ts o → ParserRun d (A (AfterName false) ∷ ss) ts o
 literal_behind {ts = ts} h (expand (first e) r) =
     let brace : at (is kind.LeftBrace) ts ≡ false = not_at kind.Dot kind.LeftBrace ts refl e in
     let g = and_right (at (is kind.Name) (the_rest ts)) (at (is kind.LeftBrace) (the_rest (the_rest ts)))
@@ -82,15 +82,15 @@ unary_literal false d ts e g = record {
   leads = λ after o r. expand (first e) (under_one (λ t rest f m r. literal_behind (sym (ap names_literal f) ∙ g) r) r);
 }
 
-same_links : (h : Bool) {d : ℕ} {ss : List Symbol} {ts : List Token} {o : Outcome} → (h ≡ false → at (is kind.LeftBrace) ts ≡ false) →
-    Run d (A (Links h) ∷ ss) ts o → Run d (A (AfterSelector h) ∷ ss) ts o
+same_links : (h : Bool) {d : ℕ} {ss : List GrammarSymbol} {ts : List Token} {o : Outcome} → (h ≡ false → at (is kind.LeftBrace) ts ≡ false) →
+    ParserRun d (A (Links h) ∷ ss) ts o → ParserRun d (A (AfterSelector h) ∷ ss) ts o
 same_links true g (expand s r) = expand s r
 same_links false g (expand s r) = expand (later (g refl) s) r
 
-links_behind : (h : Bool) {d : ℕ} {ss : List Symbol} {ts : List Token} {o : Outcome} →
+links_behind : (h : Bool) {d : ℕ} {ss : List GrammarSymbol} {ts : List Token} {o : Outcome} →
     (h ≡ false → (at (is kind.LeftBrace) ts || (at (is kind.Dot) ts && (at (is kind.Name) (the_rest ts) && at (is kind.LeftBrace) (the_rest (the_rest ts))))) ≡
     false) →
-    Run d (A (Links h) ∷ ss) ts o → Run d (A (AfterName h) ∷ ss) ts o
+    ParserRun d (A (Links h) ∷ ss) ts o → ParserRun d (A (AfterName h) ∷ ss) ts o
 links_behind true {ts = ts} g (expand (first e) r) =
     expand (first e) (under_one (λ t rest f m r. under_one (λ u more f' n r. same_links true (λ x. clash (sym x)) r) r) r)
 links_behind true g (expand (later e s) r) = expand (later e s) r
@@ -119,8 +119,8 @@ unary_name h d ts e g = record {
 
 -- composite literals after `&`
 
-literal_name : {d : ℕ} {ss : List Symbol} {ts : List Token} {o : Outcome} →
-    Run d (A AfterTypeName ∷ A Elements ∷ ss) ts o → Run d (A AfterLiteralName ∷ ss) ts o
+literal_name : {d : ℕ} {ss : List GrammarSymbol} {ts : List Token} {o : Outcome} →
+    ParserRun d (A AfterTypeName ∷ A Elements ∷ ss) ts o → ParserRun d (A AfterLiteralName ∷ ss) ts o
 literal_name (expand (first e) r) = expand (first e) r
 literal_name (expand (later e last) r) = expand (later e last) r
 
@@ -144,8 +144,8 @@ element_key d ts e = record {
       (and_right (at (is kind.Name) ts) (at (is kind.Colon) (the_rest ts)) e))) r) r);
 }
 
-element_run : {d : ℕ} {ss : List Symbol} {ts : List Token} {o : Outcome} → begins_key ts ≡ false →
-    Run d (A (Expression false) ∷ ss) ts o → Run d (A Element ∷ ss) ts o
+element_run : {d : ℕ} {ss : List GrammarSymbol} {ts : List Token} {o : Outcome} → begins_key ts ≡ false →
+    ParserRun d (A (Expression false) ∷ ss) ts o → ParserRun d (A Element ∷ ss) ts o
 element_run {ts = ts} e (expand last (expand (first n) r)) =
     expand (first n) (under_one (λ t rest f m r. expand
     (later (behind_is t ts rest (is kind.Colon) false f (and_off (at (is kind.Name) ts) (at (is kind.Colon) (the_rest ts)) e n)) last) r) r)

@@ -8,7 +8,7 @@ use Rattle.go_ast.specs.declared.syntax.Kind.{Kind}
 use Rattle.go_ast.specs.declared.syntax.Kind.TheVariants as kind
 use Rattle.go_ast.specs.declared.syntax.Token.{Token}
 use Rattle.go_ast.specs.declared.syntax.TokenFaultKind.TheVariants.{Syntax, Nesting}
-use Rattle.go_ast.specs.Grammar.{number_of, Symbol, One, Opening, Close, A, Part, Rule, Begins, Otherwise, rules, is, Item, ImportItem, GlobalItem}
+use Rattle.go_ast.specs.Grammar.{number_of, GrammarSymbol, One, Opening, Close, A, Part, Rule, Begins, Otherwise, rules, is, Item, ImportItem, GlobalItem}
 use Rattle.go_ast.specs.Grammar.{TypeItem, LocalItem, Plain, Head, Post, File, Imports, Tops, GroupOf, Items, MoreItems, Single, MoreNames, GlobalValues}
 use Rattle.go_ast.specs.Grammar.{MoreLiterals, TypeBody, Fields, MoreFields, MoreIdents, LocalRest, LocalValues, FuncHead, ReceiverStar, ReceiverEnd}
 use Rattle.go_ast.specs.Grammar.{Signature, Params, MoreParams, Result, Types, MoreTypes, Block, MoreStatements, Statement, ReturnValues, Expressions}
@@ -16,7 +16,7 @@ use Rattle.go_ast.specs.Grammar.{MoreExpressions, SimpleRest, IfHead, IfAfter, I
 use Rattle.go_ast.specs.Grammar.{ForPost, TypeUse, AfterTypeName, Expression, Binaries, Unary, Operand, AfterName, AfterSelector, Links, Arguments}
 use Rattle.go_ast.specs.Grammar.{MoreArguments, Address, AfterLiteralName, Elements, ElementList, MoreElements, Element, AfterKey}
 use Rattle.go_ast.specs.Language.{levels, IsTooDeep, Among, tested, untested, below, Derives, ends, token, opening, closing, by_rule}
-use Rattle.go_parser.specs.Machine.{Run, take, opens, closes, expand, refused, refused_opening, left_over, too_deep, Stopped, Accepted, accept, Selects}
+use Rattle.go_parser.specs.Machine.{ParserRun, take, opens, closes, expand, refused, refused_opening, left_over, too_deep, Stopped, Accepted, accept, Selects}
 use Rattle.go_parser.specs.Machine.{first as selects_first, later, last, at}
 use Rattle.go_parser.proofs.KindTests.{kinds, at_number}
 use Rattle.go_parser.proofs.Tables.{nullable, first, follow, firsts, nullables, implies, looks, followed, symbols_of, rule_fits, rules_fit, none_looks}
@@ -46,7 +46,7 @@ every_at f (x ∷ xs) (suc n) d e h = every_at f xs n d (and_right (f x) (every 
 
 -- firsts
 
-firsts_append : (a b : List Symbol) (k : Kind) → firsts (a ++ b) k ≡ true →
+firsts_append : (a b : List GrammarSymbol) (k : Kind) → firsts (a ++ b) k ≡ true →
     (firsts a k ≡ true) ⊎ ((nullables a ≡ true) × (firsts b k ≡ true))
 firsts_append [] b k e = inr (refl, e)
 firsts_append (One c ∷ a) b k e = inl e
@@ -60,7 +60,7 @@ firsts_append (A p ∷ a) b k e = elim (or_cases (first p k) (nullable p && firs
   ]
 ]
 
-pub looks_append : (p : Part) (a b : List Symbol) (k : Kind) → ((k : Kind) → firsts b k ≡ true → follow p k ≡ true) →
+pub looks_append : (p : Part) (a b : List GrammarSymbol) (k : Kind) → ((k : Kind) → firsts b k ≡ true → follow p k ≡ true) →
     firsts (a ++ b) k ≡ true → looks p a k ≡ true
 looks_append p a b k good e = elim (firsts_append a b k e) [
   | inl h ↦ or_left (firsts a k) (nullables a && follow p k) h
@@ -73,16 +73,16 @@ pub sound_at : (p : Part) (k : Kind) → sound p k ≡ true
 sound_at p k = subst (λ j. sound p j ≡ true) (at_number k)
     (every_at (sound p) kinds (number_of k) kind.Name (checked p) (and_left (sound p kind.Name) (every (sound p) (drop 1 kinds)) (checked p)))
 
-fits_at : (p : Part) (rs : List Rule) (k : Kind) (then : List Symbol) → Among rs then → rules_fit p rs k ≡ true → rule_fits p then k ≡ true
+fits_at : (p : Part) (rs : List Rule) (k : Kind) (then : List GrammarSymbol) → Among rs then → rules_fit p rs k ≡ true → rule_fits p then k ≡ true
 fits_at p [] k then a e = elim a [ ]
 fits_at p (Begins c t ∷ rs) k then tested e = and_left (rule_fits p then k) (rules_fit p rs k) e
 fits_at p (Otherwise t ∷ rs) k then untested e = and_left (rule_fits p then k) (rules_fit p rs k) e
 fits_at p (r ∷ rs) k then (below a) e = fits_at p rs k then a (and_right (rule_fits p (symbols_of r) k) (rules_fit p rs k) e)
 
-pub rule_at : (p : Part) (then : List Symbol) (k : Kind) → Among (rules p) then → rule_fits p then k ≡ true
+pub rule_at : (p : Part) (then : List GrammarSymbol) (k : Kind) → Among (rules p) then → rule_fits p then k ≡ true
 rule_at p then k a = fits_at p (rules p) k then a (and_left (rules_fit p (rules p) k) (decides p (rules p) k) (sound_at p k))
 
-firsts_rule : (p : Part) (then ss : List Symbol) (k : Kind) → rule_fits p then k ≡ true → firsts (then ++ ss) k ≡ true → firsts (A p ∷ ss) k ≡ true
+firsts_rule : (p : Part) (then ss : List GrammarSymbol) (k : Kind) → rule_fits p then k ≡ true → firsts (then ++ ss) k ≡ true → firsts (A p ∷ ss) k ≡ true
 firsts_rule p then ss k fits e = elim (firsts_append then ss k e) [
   | inl h ↦ or_left (first p k) (nullable p && firsts ss k)
       (implied (firsts then k) (first p k) (and_left (implies (firsts then k) (first p k)) (implies (nullables then) (nullable p) && followed p then k) fits) h)
@@ -92,7 +92,7 @@ firsts_rule p then ss k fits e = elim (firsts_append then ss k e) [
       h.1)
 ]
 
-pub begins_so : {ss : List Symbol} {t : Token} {ts : List Token} → Derives ss (t ∷ ts) → firsts ss t.kind ≡ true
+pub begins_so : {ss : List GrammarSymbol} {t : Token} {ts : List Token} → Derives ss (t ∷ ts) → firsts ss t.kind ≡ true
 begins_so (token e d) = e
 begins_so (opening e d) = e
 begins_so (closing d) = begins_so d
@@ -100,15 +100,15 @@ begins_so {t = t} (by_rule {p = p} {then = then} {ss = ss} a d) = firsts_rule p 
 
 -- each part of a stack may be followed by the rest of the stack
 
-abbrev pub Good : List Symbol → Type 0
+abbrev pub Good : List GrammarSymbol → Type 0
 Good [] = Unit {0}
 Good (One c ∷ ss) = Good ss
 Good (Opening c ∷ ss) = Good ss
 Good (Close ∷ ss) = Good ss
 Good (A p ∷ ss) = ((k : Kind) → firsts ss k ≡ true → follow p k ≡ true) × Good ss
 
-pub good_rule : (p : Part) (ss : List Symbol) → ((k : Kind) → firsts ss k ≡ true → follow p k ≡ true) → Good ss →
-    (then : List Symbol) → ((k : Kind) → followed p then k ≡ true) → Good (then ++ ss)
+pub good_rule : (p : Part) (ss : List GrammarSymbol) → ((k : Kind) → firsts ss k ≡ true → follow p k ≡ true) → Good ss →
+    (then : List GrammarSymbol) → ((k : Kind) → followed p then k ≡ true) → Good (then ++ ss)
 good_rule p ss f g [] h = g
 good_rule p ss f g (One c ∷ then) h = good_rule p ss f g then h
 good_rule p ss f g (Opening c ∷ then) h = good_rule p ss f g then h
@@ -118,27 +118,27 @@ good_rule p ss f g (A q ∷ then) h = (
   good_rule p ss f g then (λ k. and_right (implies (looks p then k) (follow q k)) (followed p then k) (h k)),
 )
 
-pub followed_at : (p : Part) (then : List Symbol) → Among (rules p) then → (k : Kind) → followed p then k ≡ true
+pub followed_at : (p : Part) (then : List GrammarSymbol) → Among (rules p) then → (k : Kind) → followed p then k ≡ true
 followed_at p then a k = and_right (implies (nullables then) (nullable p)) (followed p then k)
     (and_right (implies (firsts then k) (first p k)) (implies (nullables then) (nullable p) && followed p then k) (rule_at p then k a))
 
-pub selected : {rs : List Rule} {ts : List Token} {then : List Symbol} → Selects rs ts then → Among rs then
+pub selected : {rs : List Rule} {ts : List Token} {then : List GrammarSymbol} → Selects rs ts then → Among rs then
 selected (selects_first e) = tested
 selected (later e s) = below (selected s)
 selected last = untested
 
-selects_same : {rs : List Rule} {t : Token} {us vs : List Token} {then : List Symbol} → Selects rs (t ∷ us) then → Selects rs (t ∷ vs) then
+selects_same : {rs : List Rule} {t : Token} {us vs : List Token} {then : List GrammarSymbol} → Selects rs (t ∷ us) then → Selects rs (t ∷ vs) then
 selects_same (selects_first e) = selects_first e
 selects_same (later e s) = later e (selects_same s)
 selects_same last = last
 
-pub none_at : (p : Part) (rs : List Rule) (k : Kind) (other : List Symbol) → Among rs other → none_looks p rs k ≡ true → looks p other k ≡ true → ⊥
+pub none_at : (p : Part) (rs : List Rule) (k : Kind) (other : List GrammarSymbol) → Among rs other → none_looks p rs k ≡ true → looks p other k ≡ true → ⊥
 none_at p [] k other a e l = elim a [ ]
 none_at p (Begins c t ∷ rs) k other tested e l = no (implied (looks p other k) false (and_left (implies (looks p other k) false) (none_looks p rs k) e) l)
 none_at p (Otherwise t ∷ rs) k other untested e l = no (implied (looks p other k) false (and_left (implies (looks p other k) false) (none_looks p rs k) e) l)
 none_at p (r ∷ rs) k other (below a) e l = none_at p rs k other a (and_right (implies (looks p (symbols_of r) k) false) (none_looks p rs k) e) l
 
-forced : (p : Part) (rs : List Rule) (u : Token) (us : List Token) (then other : List Symbol) → Selects rs (u ∷ us) then → Among rs other →
+forced : (p : Part) (rs : List Rule) (u : Token) (us : List Token) (then other : List GrammarSymbol) → Selects rs (u ∷ us) then → Among rs other →
     decides p rs u.kind ≡ true → looks p other u.kind ≡ true → other ≡ then
 forced p [] u us then other s a e l = elim a [ ]
 forced p (Begins c x ∷ rs) u us then other (selects_first h) tested e l = refl
@@ -156,7 +156,7 @@ forced p (Otherwise x ∷ rs) u us then other last untested e l = refl
 forced p (Otherwise x ∷ rs) u us then other last (below a) e l = absurd (none_at p rs u.kind other a e l)
 
 -- a derivation goes by the selected rule
-pub goes_by : {p : Part} {ss : List Symbol} {u : Token} {us vs : List Token} {then : List Symbol} →
+pub goes_by : {p : Part} {ss : List GrammarSymbol} {u : Token} {us vs : List Token} {then : List GrammarSymbol} →
     Good (A p ∷ ss) → Selects (rules p) (u ∷ vs) then → Derives (A p ∷ ss) (u ∷ us) → Derives (then ++ ss) (u ∷ us)
 goes_by {u = u} {us = us} {then = then} g s (by_rule {p = p} {then = other} {ss = ss} a d) =
     subst (λ x. Derives (x ++ ss) (u ∷ us))
@@ -170,7 +170,7 @@ abbrev some_kind : (Kind → Bool) → List Kind → Bool
 some_kind c [] = false
 some_kind c (x ∷ xs) = c x || some_kind c xs
 
-abbrev alive : List Symbol → Bool
+abbrev alive : List GrammarSymbol → Bool
 alive [] = true
 alive (One c ∷ ss) = some_kind c kinds && alive ss
 alive (Opening c ∷ ss) = some_kind c kinds && alive ss
@@ -184,10 +184,10 @@ some_of c (x ∷ xs) e = elim (or_cases (c x) (some_kind c xs) e) [ inl h ↦ (x
 abbrev at_place : Kind → Token
 at_place k = record { kind = k; place = 0 }
 
-abbrev Text : List Symbol → Type 0
+abbrev Text : List GrammarSymbol → Type 0
 Text ss = (ts : List Token) × Derives ss ts
 
-derives_append : {a b : List Symbol} {x y : List Token} → Derives a x → Derives b y → Derives (a ++ b) (x ++ y)
+derives_append : {a b : List GrammarSymbol} {x y : List Token} → Derives a x → Derives b y → Derives (a ++ b) (x ++ y)
 derives_append ends e = e
 derives_append (token h d) e = token h (derives_append d e)
 derives_append (opening h d) e = opening h (derives_append d e)
@@ -340,7 +340,7 @@ part_text MoreElements = (at_place kind.RightBrace ∷ [], by_rule (below untest
 part_text Element = (_, by_rule (below untested) (derives_append (operand false) (binaries false)))
 part_text AfterKey = (_, by_rule (below untested) (derives_append (after_name false) (binaries false)))
 
-some_text : (ss : List Symbol) → alive ss ≡ true → Text ss
+some_text : (ss : List GrammarSymbol) → alive ss ≡ true → Text ss
 some_text [] e = ([], ends)
 some_text (One c ∷ ss) e =
     let k = some_of c kinds (and_left (some_kind c kinds) (alive ss) e) in
@@ -446,13 +446,13 @@ part_alive MoreElements = refl
 part_alive Element = refl
 part_alive AfterKey = refl
 
-alive_in : (rs : List Rule) (then : List Symbol) → Among rs then → rules_alive rs ≡ true → alive then ≡ true
+alive_in : (rs : List Rule) (then : List GrammarSymbol) → Among rs then → rules_alive rs ≡ true → alive then ≡ true
 alive_in [] then a e = elim a [ ]
 alive_in (Begins c x ∷ rs) then tested e = and_left (alive then) (rules_alive rs) e
 alive_in (Otherwise x ∷ rs) then untested e = and_left (alive then) (rules_alive rs) e
 alive_in (r ∷ rs) then (below a) e = alive_in rs then a (and_right (alive (symbols_of r)) (rules_alive rs) e)
 
-alive_append : (a b : List Symbol) → alive a ≡ true → alive b ≡ true → alive (a ++ b) ≡ true
+alive_append : (a b : List GrammarSymbol) → alive a ≡ true → alive b ≡ true → alive (a ++ b) ≡ true
 alive_append [] b e f = f
 alive_append (One c ∷ a) b e f = and_from (some_kind c kinds) (alive (a ++ b)) (and_left (some_kind c kinds) (alive a) e)
     (alive_append a b (and_right (some_kind c kinds) (alive a) e) f)
@@ -463,24 +463,24 @@ alive_append (A p ∷ a) b e f = alive_append a b e f
 
 -- the theorem
 
-abbrev pub after_token : {c : Kind → Bool} {u : Token} {ss : List Symbol} {ts : List Token} → Derives (One c ∷ ss) (u ∷ ts) → Derives ss ts
+abbrev pub after_token : {c : Kind → Bool} {u : Token} {ss : List GrammarSymbol} {ts : List Token} → Derives (One c ∷ ss) (u ∷ ts) → Derives ss ts
 after_token (token e d) = d
 
-abbrev pub after_opening : {c : Kind → Bool} {u : Token} {ss : List Symbol} {ts : List Token} → Derives (Opening c ∷ ss) (u ∷ ts) → Derives ss ts
+abbrev pub after_opening : {c : Kind → Bool} {u : Token} {ss : List GrammarSymbol} {ts : List Token} → Derives (Opening c ∷ ss) (u ∷ ts) → Derives ss ts
 after_opening (opening e d) = d
 
-abbrev pub after_closing : {ss : List Symbol} {ts : List Token} → Derives (Close ∷ ss) ts → Derives ss ts
+abbrev pub after_closing : {ss : List GrammarSymbol} {ts : List Token} → Derives (Close ∷ ss) ts → Derives ss ts
 after_closing (closing d) = d
 
-pub fits_token : {c : Kind → Bool} {u : Token} {ss : List Symbol} {ts : List Token} → Derives (One c ∷ ss) (u ∷ ts) → c u.kind ≡ true
+pub fits_token : {c : Kind → Bool} {u : Token} {ss : List GrammarSymbol} {ts : List Token} → Derives (One c ∷ ss) (u ∷ ts) → c u.kind ≡ true
 fits_token (token e d) = e
 
-fits_opening : {c : Kind → Bool} {u : Token} {ss : List Symbol} {ts : List Token} → Derives (Opening c ∷ ss) (u ∷ ts) → c u.kind ≡ true
+fits_opening : {c : Kind → Bool} {u : Token} {ss : List GrammarSymbol} {ts : List Token} → Derives (Opening c ∷ ss) (u ∷ ts) → c u.kind ≡ true
 fits_opening (opening e d) = e
 
 -- levels
 
-pub goes_by_levels : {p : Part} {ss : List Symbol} {u : Token} {us vs : List Token} {then : List Symbol} →
+pub goes_by_levels : {p : Part} {ss : List GrammarSymbol} {u : Token} {us vs : List Token} {then : List GrammarSymbol} →
     Good (A p ∷ ss) → Selects (rules p) (u ∷ vs) then → (x : Derives (A p ∷ ss) (u ∷ us)) →
     (y : Derives (then ++ ss) (u ∷ us)) × ((d : ℕ) → levels d x ≡ levels d y)
 goes_by_levels {u = u} {us = us} {then = then} g s (by_rule {p = p} {then = other} {ss = ss} a x) =
@@ -489,21 +489,21 @@ goes_by_levels {u = u} {us = us} {then = then} g s (by_rule {p = p} {then = othe
     (looks_append p other ss u.kind g.0 (begins_so x)))
     (x, λ d. refl)
 
-goes_on_levels : (p : Part) (ss then : List Symbol) (before : List Token) (u : Token) (others more ts : List Token) → ts ≡ before ++ (u ∷ others) →
+goes_on_levels : (p : Part) (ss then : List GrammarSymbol) (before : List Token) (u : Token) (others more ts : List Token) → ts ≡ before ++ (u ∷ others) →
     Selects (rules p) ts then → Good (A p ∷ ss) → (x : Derives (A p ∷ ss) (before ++ (u ∷ more))) →
     (y : Derives (then ++ ss) (before ++ (u ∷ more))) × ((d : ℕ) → levels d x ≡ levels d y)
 goes_on_levels p ss then [] u others more ts e s g x = goes_by_levels g (subst (λ z. Selects (rules p) z then) e s) x
 goes_on_levels p ss then (b ∷ before) u others more ts e s g x = goes_by_levels g (subst (λ z. Selects (rules p) z then) e s) x
 
-pub token_levels : {c : Kind → Bool} {u : Token} {ss : List Symbol} {ts : List Token} (d : ℕ) (x : Derives (One c ∷ ss) (u ∷ ts)) →
+pub token_levels : {c : Kind → Bool} {u : Token} {ss : List GrammarSymbol} {ts : List Token} (d : ℕ) (x : Derives (One c ∷ ss) (u ∷ ts)) →
     levels d x ≡ 0 ∷ levels d (after_token x)
 token_levels d (token e x) = refl
 
-pub opening_levels : {c : Kind → Bool} {u : Token} {ss : List Symbol} {ts : List Token} (d : ℕ) (x : Derives (Opening c ∷ ss) (u ∷ ts)) →
+pub opening_levels : {c : Kind → Bool} {u : Token} {ss : List GrammarSymbol} {ts : List Token} (d : ℕ) (x : Derives (Opening c ∷ ss) (u ∷ ts)) →
     levels d x ≡ suc d ∷ levels (suc d) (after_opening x)
 opening_levels d (opening e x) = refl
 
-pub closing_levels : {ss : List Symbol} {ts : List Token} (d : ℕ) (x : Derives (Close ∷ ss) ts) → levels (suc d) x ≡ levels d (after_closing x)
+pub closing_levels : {ss : List GrammarSymbol} {ts : List Token} (d : ℕ) (x : Derives (Close ∷ ss) ts) → levels (suc d) x ≡ levels d (after_closing x)
 closing_levels d (closing x) = ap (λ e. levels e x) (omega arith)
 
 first_or_later : (ls ms : List ℕ) (a n : ℕ) → ls ≡ a ∷ ms → a ≤ 200 → ((k : ℕ) → k < n → get_or ms k 0 ≤ 200) → (k : ℕ) → k < suc n → get_or ls k 0 ≤ 200
@@ -511,7 +511,7 @@ first_or_later ls ms a n e h f zero less = subst (λ z. get_or z zero 0 ≤ 200)
 first_or_later ls ms a n e h f (suc k) less = subst (λ z. get_or z (suc k) 0 ≤ 200) (sym e) (f k (omega (arith, less)))
 
 -- a derivation of the tokens before a fault goes by the selected rules too
-before_levels : (p : Part) (ss then : List Symbol) (d : ℕ) (before rest more ts : List Token) → ts ≡ before ++ rest →
+before_levels : (p : Part) (ss then : List GrammarSymbol) (d : ℕ) (before rest more ts : List Token) → ts ≡ before ++ rest →
     Selects (rules p) ts then → Good (A p ∷ ss) →
     ((y : Derives (then ++ ss) (before ++ more)) → (k : ℕ) → k < length before → get_or (levels d y) k 0 ≤ 200) →
     (x : Derives (A p ∷ ss) (before ++ more)) → (k : ℕ) → k < length before → get_or (levels d x) k 0 ≤ 200
@@ -520,13 +520,13 @@ before_levels p ss then d (b ∷ before) rest more ts e s g f x k h =
     let y = goes_by_levels g (subst (λ z. Selects (rules p) z then) e s) x in
     subst (λ z. get_or z k 0 ≤ 200) (sym (y.1 d)) (f y.0 k h)
 
-goes_on : (p : Part) (ss then : List Symbol) (before : List Token) (u : Token) (others more ts : List Token) → ts ≡ before ++ (u ∷ others) →
+goes_on : (p : Part) (ss then : List GrammarSymbol) (before : List Token) (u : Token) (others more ts : List Token) → ts ≡ before ++ (u ∷ others) →
     Selects (rules p) ts then → Good (A p ∷ ss) → Derives (A p ∷ ss) (before ++ (u ∷ more)) → Derives (then ++ ss) (before ++ (u ∷ more))
 goes_on p ss then [] u others more ts e s g d = goes_by g (subst (λ x. Selects (rules p) x then) e s) d
 goes_on p ss then (b ∷ before) u others more ts e s g d = goes_by g (subst (λ x. Selects (rules p) x then) e s) d
 
 -- `rest` is where a run halts: some text begins with the tokens before it, and none with these and the first token of `rest`
-pub record Halts (symbols : List Symbol) (limit d : ℕ) (ts : List Token) (left : ℕ) : Type 0 where
+pub record Halts (symbols : List GrammarSymbol) (limit d : ℕ) (ts : List Token) (left : ℕ) : Type 0 where
   pub before : List Token
   pub rest : List Token
   pub split : ts ≡ before ++ rest
@@ -535,7 +535,7 @@ pub record Halts (symbols : List Symbol) (limit d : ℕ) (ts : List Token) (left
   pub dead : (t : Token) → (others more : List Token) → rest ≡ t ∷ others → Derives symbols (before ++ (t ∷ more)) → ⊥
   pub shallow : (more : List Token) → (x : Derives symbols (before ++ more)) → (k : ℕ) → k < length before → get_or (levels d x) k 0 ≤ limit
 
-pub stops_at : {d : ℕ} {ss : List Symbol} {ts : List Token} {n : ℕ} → Run d ss ts (Stopped Syntax n) → Good ss → alive ss ≡ true → Halts ss 200 d ts n
+pub stops_at : {d : ℕ} {ss : List GrammarSymbol} {ts : List Token} {n : ℕ} → ParserRun d ss ts (Stopped Syntax n) → Good ss → alive ss ≡ true → Halts ss 200 d ts n
 stops_at {d = d} (take {c = c} {t = u} {ss = ss} {ts = ts} e r) g a =
     let f = stops_at r g (and_right (some_kind c kinds) (alive ss) a) in
     record {
@@ -611,14 +611,14 @@ stops_at (left_over {t = u} {ts = ts}) g a = record {
   shallow = λ more x k h. absurd (omega (arith, h));
 }
 
-pub accepts : {d : ℕ} {ss : List Symbol} {ts : List Token} → Run d ss ts Accepted → Derives ss ts
+pub accepts : {d : ℕ} {ss : List GrammarSymbol} {ts : List Token} → ParserRun d ss ts Accepted → Derives ss ts
 accepts accept = ends
 accepts (take e r) = token e (accepts r)
 accepts (opens e b r) = opening e (accepts r)
 accepts (closes r) = closing (accepts r)
 accepts (expand s r) = by_rule (selected s) (accepts r)
 
-pub deep_at : {d : ℕ} {ss : List Symbol} {ts : List Token} {n : ℕ} → Run d ss ts (Stopped Nesting n) → Good ss → alive ss ≡ true → IsTooDeep ss 200 d ts n
+pub deep_at : {d : ℕ} {ss : List GrammarSymbol} {ts : List Token} {n : ℕ} → ParserRun d ss ts (Stopped Nesting n) → Good ss → alive ss ≡ true → IsTooDeep ss 200 d ts n
 deep_at {d = d} (take {c = c} {t = u} {ss = ss} {ts = ts} e r) g a =
     let f = deep_at r g (and_right (some_kind c kinds) (alive ss) a) in
     record {
@@ -687,5 +687,5 @@ deep_at {d = d} (too_deep {c = c} {t = u} {ss = ss} {ts = ts} e b) g a =
 
 -- at a file
 
-pub file_deep : {ts : List Token} {n : ℕ} → Run 0 (A File ∷ []) ts (Stopped Nesting n) → IsTooDeep (A File ∷ []) 200 0 ts n
+pub file_deep : {ts : List Token} {n : ℕ} → ParserRun 0 (A File ∷ []) ts (Stopped Nesting n) → IsTooDeep (A File ∷ []) 200 0 ts n
 file_deep r = deep_at r ((λ k e. cc), tt) refl

@@ -4,7 +4,7 @@ use Rattle.std.proofs.Common.{◌≡◌, Bool, true, false, List, [], ◌∷◌,
 use Rattle.std.specs.Prelude.{◌&&◌, ◌||◌}
 use Rattle.go_ast.specs.declared.syntax.Kind.{Kind}
 use Rattle.go_ast.specs.declared.syntax.Kind.TheVariants as kind
-use Rattle.go_ast.specs.Grammar.{Symbol, One, Opening, Close, A, Part, Rule, Begins, Otherwise, rules, is, is_binary, is_ident, is_step, is_update, may_set}
+use Rattle.go_ast.specs.Grammar.{GrammarSymbol, One, Opening, Close, A, Part, Rule, Begins, Otherwise, rules, is, is_binary, is_ident, is_step, is_update, may_set}
 use Rattle.go_ast.specs.Grammar.{one_of, begins_type, begins_operand, begins_expression, unless, Item, ImportItem, GlobalItem, TypeItem, LocalItem}
 use Rattle.go_ast.specs.Grammar.{Setting, Plain, Head, Post, File, Imports, Tops, GroupOf, Items, MoreItems, Single, MoreNames, GlobalValues, MoreLiterals}
 use Rattle.go_ast.specs.Grammar.{TypeBody, Fields, MoreFields, MoreIdents, LocalRest, LocalValues, FuncHead, ReceiverStar, ReceiverEnd, Signature, Params}
@@ -182,14 +182,14 @@ follow Element = one_of (kind.Comma ∷ kind.RightBrace ∷ [])
 follow AfterKey = one_of (kind.Comma ∷ kind.RightBrace ∷ [])
 follow _ = λ k. true
 
-abbrev pub firsts : List Symbol → Kind → Bool
+abbrev pub firsts : List GrammarSymbol → Kind → Bool
 firsts [] k = false
 firsts (One c ∷ ss) k = c k
 firsts (Opening c ∷ ss) k = c k
 firsts (Close ∷ ss) k = firsts ss k
 firsts (A p ∷ ss) k = first p k || (nullable p && firsts ss k)
 
-abbrev pub nullables : List Symbol → Bool
+abbrev pub nullables : List GrammarSymbol → Bool
 nullables [] = true
 nullables (One c ∷ ss) = false
 nullables (Opening c ∷ ss) = false
@@ -200,21 +200,21 @@ abbrev pub implies : Bool → Bool → Bool
 implies a b = cond a b true
 
 -- the tokens before which a rule of the part may be applied
-abbrev pub looks : Part → List Symbol → Kind → Bool
+abbrev pub looks : Part → List GrammarSymbol → Kind → Bool
 looks p then k = firsts then k || (nullables then && follow p k)
 
-abbrev pub followed : Part → List Symbol → Kind → Bool
+abbrev pub followed : Part → List GrammarSymbol → Kind → Bool
 followed p [] k = true
 followed p (One c ∷ ss) k = followed p ss k
 followed p (Opening c ∷ ss) k = followed p ss k
 followed p (Close ∷ ss) k = followed p ss k
 followed p (A q ∷ ss) k = implies (looks p ss k) (follow q k) && followed p ss k
 
-abbrev pub symbols_of : Rule → List Symbol
+abbrev pub symbols_of : Rule → List GrammarSymbol
 symbols_of (Begins c then) = then
 symbols_of (Otherwise then) = then
 
-abbrev pub rule_fits : Part → List Symbol → Kind → Bool
+abbrev pub rule_fits : Part → List GrammarSymbol → Kind → Bool
 rule_fits p then k = implies (firsts then k) (first p k) && (implies (nullables then) (nullable p) && followed p then k)
 
 abbrev pub rules_fit : Part → List Rule → Kind → Bool

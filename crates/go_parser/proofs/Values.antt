@@ -11,7 +11,7 @@ use Rattle.go_ast.specs.declared.syntax.StepOp.{StepOp}
 use Rattle.go_ast.specs.declared.syntax.StepOp.TheVariants as step
 use Rattle.go_ast.specs.declared.syntax.UpdateOp.{UpdateOp}
 use Rattle.go_ast.specs.declared.syntax.UpdateOp.TheVariants as update
-use Rattle.go_ast.specs.Grammar.{Symbol, One, Opening, Close, A, Part, Rule, rules, Item as Sort, ImportItem, GlobalItem, TypeItem, LocalItem, File}
+use Rattle.go_ast.specs.Grammar.{GrammarSymbol, One, Opening, Close, A, Part, Rule, rules, Item as Sort, ImportItem, GlobalItem, TypeItem, LocalItem, File}
 use Rattle.go_ast.specs.Grammar.{Imports, Tops, GroupOf, Items, MoreItems, Single, MoreNames, GlobalValues, MoreLiterals, TypeBody, Fields, MoreFields}
 use Rattle.go_ast.specs.Grammar.{MoreIdents, LocalRest, LocalValues, FuncHead, ReceiverStar, ReceiverEnd, Signature, Params, MoreParams, Result, Types}
 use Rattle.go_ast.specs.Grammar.{MoreTypes, Block, MoreStatements, Statement, ReturnValues, Expressions, MoreExpressions, SimpleRest, IfHead, IfAfter}
@@ -181,7 +181,7 @@ Value Element = Option (ℕ × ℕ) × ExprTree
 Value AfterKey = ℕ → Option (ℕ × ℕ) × ExprTree
 
 -- a function of a rule's tokens and parts
-abbrev pub Takes : List Symbol → Type 0 → Type 0
+abbrev pub Takes : List GrammarSymbol → Type 0 → Type 0
 Takes [] V = V
 Takes (One c ∷ ss) V = Token → Takes ss V
 Takes (Opening c ∷ ss) V = Token → Takes ss V

@@ -14,7 +14,7 @@ use Rattle.go_parser.specs.declared.token_classes.Setting.{Setting}
 use Rattle.go_parser.specs.declared.token_classes.Setting.TheVariants as setting
 use Rattle.go_parser.specs.declared.token_classes.SetOp.{SetOp}
 use Rattle.go_ast.specs.Grammar.{One, is_ident, is_literal, is_step, is_update, may_set}
-use Rattle.go_parser.specs.Machine.{Run, take}
+use Rattle.go_parser.specs.Machine.{ParserRun, take}
 use Rattle.go_parser.specs.Parsing.{Read, Fails}
 use Rattle.go_ast.specs.Flatten.{sign, step_kind, update_kind}
 use Rattle.go_parser.specs.Spelling.{ident_spelled, basic_spelled}
@@ -35,7 +35,7 @@ pub read_class : (c : Kind → Bool) (k : Kind) (t : Token) {d : ℕ} {ts rest :
     Read (One c ∷ []) (sign k t.place ∷ []) d ts d rest
 read_class c k t {d = d} {rest = rest} e within same = record {
   text = e ∙ ap (λ j. sign j t.place ∷ rest) same;
-  passes = record { runs = λ after o r. subst (λ ts. Run d (One c ∷ after) ts o) (sym e) (take within r) };
+  passes = record { runs = λ after o r. subst (λ ts. ParserRun d (One c ∷ after) ts o) (sym e) (take within r) };
 }
 
 -- a token of another class is refused

@@ -4,7 +4,7 @@ use Rattle.go_ast.specs.declared.syntax.Kind.{Kind}
 use Rattle.go_ast.specs.declared.syntax.Token.{Token}
 use Rattle.go_ast.specs.declared.syntax.TokenFaultKind.{TokenFaultKind}
 use Rattle.go_ast.specs.declared.syntax.TokenFaultKind.TheVariants.{Syntax, Nesting}
-use Rattle.go_ast.specs.Grammar.{Symbol, One, Opening, Close, A, Part, Rule, Begins, Otherwise, rules}
+use Rattle.go_ast.specs.Grammar.{GrammarSymbol, One, Opening, Close, A, Part, Rule, Begins, Otherwise, rules}
 use Rattle.go_ast.specs.Verdict.{limit}
 
 -- the first token is of a class; false where there is no token
@@ -13,12 +13,12 @@ at c [] = false
 at c (t ∷ ts) = c t.kind
 
 -- the next token selects the rule with these symbols
-pub data Selects : List Rule → List Token → List Symbol → Type 0 where
-  first : {c : Kind → Bool} {then : List Symbol} {rs : List Rule} {ts : List Token} →
+pub data Selects : List Rule → List Token → List GrammarSymbol → Type 0 where
+  first : {c : Kind → Bool} {then : List GrammarSymbol} {rs : List Rule} {ts : List Token} →
       at c ts ≡ true → Selects (Begins c then ∷ rs) ts then
-  later : {c : Kind → Bool} {other then : List Symbol} {rs : List Rule} {ts : List Token} →
+  later : {c : Kind → Bool} {other then : List GrammarSymbol} {rs : List Rule} {ts : List Token} →
       at c ts ≡ false → Selects rs ts then → Selects (Begins c other ∷ rs) ts then
-  last : {then : List Symbol} {rs : List Rule} {ts : List Token} → Selects (Otherwise then ∷ rs) ts then
+  last : {then : List GrammarSymbol} {rs : List Rule} {ts : List Token} → Selects (Otherwise then ∷ rs) ts then
 
 -- the outcome of a run: all tokens taken, or a fault with this number of tokens left, the one at fault among them
 pub data Outcome : Type 0 where
@@ -26,19 +26,19 @@ pub data Outcome : Type 0 where
   Stopped : TokenFaultKind → ℕ → Outcome
 
 -- a run of the machine, by the number of open levels, the symbols that must still come, and the tokens left
-pub data Run : ℕ → List Symbol → List Token → Outcome → Type 0 where
-  accept : {d : ℕ} → Run d [] [] Accepted
-  take : {d : ℕ} {c : Kind → Bool} {t : Token} {ss : List Symbol} {ts : List Token} {o : Outcome} →
-      c t.kind ≡ true → Run d ss ts o → Run d (One c ∷ ss) (t ∷ ts) o
-  opens : {d : ℕ} {c : Kind → Bool} {t : Token} {ss : List Symbol} {ts : List Token} {o : Outcome} →
-      c t.kind ≡ true → d < limit → Run (suc d) ss ts o → Run d (Opening c ∷ ss) (t ∷ ts) o
-  too_deep : {d : ℕ} {c : Kind → Bool} {t : Token} {ss : List Symbol} {ts : List Token} →
-      c t.kind ≡ true → limit ≤ d → Run d (Opening c ∷ ss) (t ∷ ts) (Stopped Nesting (suc (length ts)))
-  closes : {d : ℕ} {ss : List Symbol} {ts : List Token} {o : Outcome} → Run d ss ts o → Run (suc d) (Close ∷ ss) ts o
-  expand : {d : ℕ} {p : Part} {then ss : List Symbol} {ts : List Token} {o : Outcome} →
-      Selects (rules p) ts then → Run d (then ++ ss) ts o → Run d (A p ∷ ss) ts o
-  refused : {d : ℕ} {c : Kind → Bool} {ss : List Symbol} {ts : List Token} →
-      at c ts ≡ false → Run d (One c ∷ ss) ts (Stopped Syntax (length ts))
-  refused_opening : {d : ℕ} {c : Kind → Bool} {ss : List Symbol} {ts : List Token} →
-      at c ts ≡ false → Run d (Opening c ∷ ss) ts (Stopped Syntax (length ts))
-  left_over : {d : ℕ} {t : Token} {ts : List Token} → Run d [] (t ∷ ts) (Stopped Syntax (suc (length ts)))
+pub data ParserRun : ℕ → List GrammarSymbol → List Token → Outcome → Type 0 where
+  accept : {d : ℕ} → ParserRun d [] [] Accepted
+  take : {d : ℕ} {c : Kind → Bool} {t : Token} {ss : List GrammarSymbol} {ts : List Token} {o : Outcome} →
+      c t.kind ≡ true → ParserRun d ss ts o → ParserRun d (One c ∷ ss) (t ∷ ts) o
+  opens : {d : ℕ} {c : Kind → Bool} {t : Token} {ss : List GrammarSymbol} {ts : List Token} {o : Outcome} →
+      c t.kind ≡ true → d < limit → ParserRun (suc d) ss ts o → ParserRun d (Opening c ∷ ss) (t ∷ ts) o
+  too_deep : {d : ℕ} {c : Kind → Bool} {t : Token} {ss : List GrammarSymbol} {ts : List Token} →
+      c t.kind ≡ true → limit ≤ d → ParserRun d (Opening c ∷ ss) (t ∷ ts) (Stopped Nesting (suc (length ts)))
+  closes : {d : ℕ} {ss : List GrammarSymbol} {ts : List Token} {o : Outcome} → ParserRun d ss ts o → ParserRun (suc d) (Close ∷ ss) ts o
+  expand : {d : ℕ} {p : Part} {then ss : List GrammarSymbol} {ts : List Token} {o : Outcome} →
+      Selects (rules p) ts then → ParserRun d (then ++ ss) ts o → ParserRun d (A p ∷ ss) ts o
+  refused : {d : ℕ} {c : Kind → Bool} {ss : List GrammarSymbol} {ts : List Token} →
+      at c ts ≡ false → ParserRun d (One c ∷ ss) ts (Stopped Syntax (length ts))
+  refused_opening : {d : ℕ} {c : Kind → Bool} {ss : List GrammarSymbol} {ts : List Token} →
+      at c ts ≡ false → ParserRun d (Opening c ∷ ss) ts (Stopped Syntax (length ts))
+  left_over : {d : ℕ} {t : Token} {ts : List Token} → ParserRun d [] (t ∷ ts) (Stopped Syntax (suc (length ts)))

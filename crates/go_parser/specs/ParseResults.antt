@@ -8,7 +8,7 @@ use Rattle.go_parser.specs.declared.parse_error.ParseError.TheVariants as error
 use Rattle.go_parser.specs.declared.refusal.ParseRefusal.{ParseRefusal}
 use Rattle.go_parser.specs.declared.refusal.ParseRefusal.TheVariants as refusal
 use Rattle.go_ast.specs.Grammar.{A, File}
-use Rattle.go_parser.specs.Machine.{Run, Accepted, Stopped}
+use Rattle.go_parser.specs.Machine.{ParserRun, Accepted, Stopped}
 use Rattle.go_ast.specs.Kinds.{place_of}
 use Rattle.go_ast.specs.Faults.{kind_for, IsParseFault, IsFaultOf}
 
@@ -19,8 +19,8 @@ IsRefusalOfTokens c refusal.Memory = Unit {0}
 
 -- the result is what the machine makes of all the tokens: a tree that has these tokens, or the fault at which it stops
 abbrev pub IsParseResult : {F : Type 0} → (F → List Token) → List Token → Result F ParseError → Type 0
-IsParseResult spelled tokens (Ok f) = (spelled f ≡ tokens) × Run 0 (A File ∷ []) tokens Accepted
-IsParseResult spelled tokens (Err e) = (k : TokenFault) (left : ℕ) → e ≡ error.Fault k left → Run 0 (A File ∷ []) tokens (Stopped k left)
+IsParseResult spelled tokens (Ok f) = (spelled f ≡ tokens) × ParserRun 0 (A File ∷ []) tokens Accepted
+IsParseResult spelled tokens (Err e) = (k : TokenFault) (left : ℕ) → e ≡ error.Fault k left → ParserRun 0 (A File ∷ []) tokens (Stopped k left)
 
 -- the refusal of a file for an error of its token list
 abbrev pub refusal_of : CutText → ParseError → ParseRefusal

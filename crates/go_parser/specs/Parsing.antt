@@ -4,33 +4,33 @@ use Rattle.go_ast.specs.declared.syntax.Token.{Token}
 use Rattle.go_ast.specs.declared.syntax.TokenFaultKind.{TokenFaultKind}
 use Rattle.go_parser.specs.declared.parse_error.ParseError.{ParseError}
 use Rattle.go_parser.specs.declared.parse_error.ParseError.TheVariants as errors
-use Rattle.go_ast.specs.Grammar.{Symbol, A, Part, One, Opening, is}
-use Rattle.go_parser.specs.Machine.{Run, Outcome, Stopped, at}
+use Rattle.go_ast.specs.Grammar.{GrammarSymbol, A, Part, One, Opening, is}
+use Rattle.go_parser.specs.Machine.{ParserRun, Outcome, Stopped, at}
 use Rattle.go_ast.specs.Verdict.{limit}
 use Rattle.go_ast.specs.Flatten.{sign}
 use Rattle.go_ast.specs.declared.syntax.Kind.{Kind}
 
 -- the machine takes the symbols: with d levels open and tokens ts it comes to e levels and tokens rest
-pub record Passes (symbols : List Symbol) (d : ℕ) (ts : List Token) (e : ℕ) (rest : List Token) : Type 0 where
-  pub runs : (after : List Symbol) → (o : Outcome) → Run e after rest o → Run d (symbols ++ after) ts o
+pub record Passes (symbols : List GrammarSymbol) (d : ℕ) (ts : List Token) (e : ℕ) (rest : List Token) : Type 0 where
+  pub runs : (after : List GrammarSymbol) → (o : Outcome) → ParserRun e after rest o → ParserRun d (symbols ++ after) ts o
 
 -- if the error e is a fault, the machine stops there, within the symbols
-pub record Fails (symbols : List Symbol) (d : ℕ) (ts : List Token) (e : ParseError) : Type 0 where
+pub record Fails (symbols : List GrammarSymbol) (d : ℕ) (ts : List Token) (e : ParseError) : Type 0 where
   pub stops : (fault : TokenFaultKind) → (left : ℕ) → e ≡ errors.Fault fault left →
-      (after : List Symbol) → Run d (symbols ++ after) ts (Stopped fault left)
+      (after : List GrammarSymbol) → ParserRun d (symbols ++ after) ts (Stopped fault left)
 
 -- the tokens ts begin with `spelled`, which the machine takes by the symbols
-pub record Read (symbols : List Symbol) (spelled : List Token) (d : ℕ) (ts : List Token) (e : ℕ) (rest : List Token) : Type 0 where
+pub record Read (symbols : List GrammarSymbol) (spelled : List Token) (d : ℕ) (ts : List Token) (e : ℕ) (rest : List Token) : Type 0 where
   pub text : ts ≡ spelled ++ rest
   pub passes : Passes symbols d ts e rest
 
 -- the value of an `Ok` satisfies `found`, and a fault is where the machine stops within the symbols
-abbrev pub Gives : {Y : Type 0} → (Y → Type 0) → List Symbol → ℕ → List Token → Result Y ParseError → Type 0
+abbrev pub Gives : {Y : Type 0} → (Y → Type 0) → List GrammarSymbol → ℕ → List Token → Result Y ParseError → Type 0
 Gives found symbols d ts (Ok y) = found y
 Gives found symbols d ts (Err e) = Fails symbols d ts e
 
 -- the parsed value has the tokens that the machine takes by the symbols; a fault is where the machine stops
-abbrev pub Parses : {Y : Type 0} → List Symbol → (Y → List Token) → (Y → List Token) → ℕ → List Token → Result Y ParseError → Type 0
+abbrev pub Parses : {Y : Type 0} → List GrammarSymbol → (Y → List Token) → (Y → List Token) → ℕ → List Token → Result Y ParseError → Type 0
 Parses symbols spelled rest d ts = Gives (λ y. Read symbols (spelled y) d ts d (rest y)) symbols d ts
 
 -- a token of a class is taken that opens a level; e levels are open after it, at most the limit
@@ -48,21 +48,21 @@ abbrev pub Opens : {Y : Type 0} → Kind → (Y → ℕ) → (Y → ℕ) → (Y 
 Opens kind place depth rest d ts = OpensAs (is kind) (λ y. sign kind (place y) ∷ []) depth rest d ts
 
 -- the machine goes from some symbols to others over the tokens `spelled`
-pub record Leads (from to : List Symbol) (spelled : List Token) (d : ℕ) (ts : List Token) (e : ℕ) (rest : List Token) : Type 0 where
+pub record Leads (from to : List GrammarSymbol) (spelled : List Token) (d : ℕ) (ts : List Token) (e : ℕ) (rest : List Token) : Type 0 where
   pub text : ts ≡ spelled ++ rest
-  pub leads : (after : List Symbol) → (o : Outcome) → Run e (to ++ after) rest o → Run d (from ++ after) ts o
+  pub leads : (after : List GrammarSymbol) → (o : Outcome) → ParserRun e (to ++ after) rest o → ParserRun d (from ++ after) ts o
 
 -- the parsed value has the tokens over which the machine goes from some symbols to others; a fault is where it stops
-abbrev pub LeadsTo : {Y : Type 0} → List Symbol → List Symbol → (Y → List Token) → (Y → List Token) → ℕ → List Token → Result Y ParseError → Type 0
+abbrev pub LeadsTo : {Y : Type 0} → List GrammarSymbol → List GrammarSymbol → (Y → List Token) → (Y → List Token) → ℕ → List Token → Result Y ParseError → Type 0
 LeadsTo from to spelled rest d ts = Gives (λ y. Leads from to (spelled y) d ts d (rest y)) from d ts
 
 -- the tokens `begun`, taken before, and those taken by the symbols are together `spelled`
-pub record Continued (symbols : List Symbol) (begun spelled : List Token) (d : ℕ) (ts : List Token) (rest : List Token) : Type 0 where
+pub record Continued (symbols : List GrammarSymbol) (begun spelled : List Token) (d : ℕ) (ts : List Token) (rest : List Token) : Type 0 where
   pub text : begun ++ ts ≡ spelled ++ rest
   pub passes : Passes symbols d ts d rest
 
 -- the parsed value has the tokens `begun` and those taken by the symbols; a fault is where the machine stops
-abbrev pub Continues : {Y : Type 0} → List Symbol → List Token → (Y → List Token) → (Y → List Token) → ℕ → List Token → Result Y ParseError → Type 0
+abbrev pub Continues : {Y : Type 0} → List GrammarSymbol → List Token → (Y → List Token) → (Y → List Token) → ℕ → List Token → Result Y ParseError → Type 0
 Continues symbols begun spelled rest d ts = Gives (λ y. Continued symbols begun (spelled y) d ts (rest y)) symbols d ts
 
 -- an optional separator of this kind is taken from the tokens ts, and rest are left
@@ -71,11 +71,11 @@ Separates kind None ts rest = (at (is kind) ts ≡ false) × (ts ≡ rest)
 Separates kind (Some place) ts rest = ts ≡ sign kind place ∷ rest
 
 -- the symbols after an item of a list in brackets: more of the list after a separator, else the closing bracket
-abbrev pub list_rest : Part → Kind → Bool → List Symbol
+abbrev pub list_rest : Part → Kind → Bool → List GrammarSymbol
 list_rest list closer true = A list ∷ []
 list_rest list closer false = One (is closer) ∷ []
 
 -- an item is parsed; the symbols after it depend on whether a separator followed
-abbrev pub LeadsBy : {Y : Type 0} → List Symbol → (Bool → List Symbol) → (Y → Option ℕ) → (Y → List Token) → (Y → List Token) → ℕ → List Token →
+abbrev pub LeadsBy : {Y : Type 0} → List GrammarSymbol → (Bool → List GrammarSymbol) → (Y → Option ℕ) → (Y → List Token) → (Y → List Token) → ℕ → List Token →
     Result Y ParseError → Type 0
 LeadsBy from to separator spelled rest d ts = Gives (λ y. Leads from (to (is_some (separator y))) (spelled y) d ts d (rest y)) from d ts

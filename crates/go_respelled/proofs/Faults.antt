@@ -11,7 +11,7 @@ use Rattle.base_edits.specs.declared.edit.Edit.{Edit}
 use Rattle.base_edits.proofs.MovedPlaces.{moves_end}
 use Rattle.go_ast.specs.Faults.{IsParseFault}
 use Rattle.go_ast.specs.Kinds.{begins_at, place_of}
-use Rattle.go_ast.specs.Verdict.{Faulty, IsVerdict}
+use Rattle.go_ast.specs.Verdict.{Faulty, IsFileVerdict}
 use Rattle.go_respelled.specs.Renamings.{AreNameEdits, moved_piece, recut}
 use Rattle.go_respelled.specs.Trees.{KeepKinds, moved_fault}
 use Rattle.go_respelled.proofs.KeptBytes.{within}
@@ -38,7 +38,7 @@ pub fault_moves : (c : CutText) (edits : List Edit) (fault : TextFault) → IsCu
 fault_moves c edits fault cut are keep is = record {
   kind = is.kind;
   left = is.left;
-  verdict = subst (λ ts. IsVerdict ts (Faulty is.kind is.left)) (sym (kinds_stay c edits cut are keep)) is.verdict;
+  verdict = subst (λ ts. IsFileVerdict ts (Faulty is.kind is.left)) (sym (kinds_stay c edits cut are keep)) is.verdict;
   kind_is = is.kind_is;
   offset_is = ap (moved_offset edits) is.offset_is ∙ sym (place_moved c edits cut are is.left);
 }

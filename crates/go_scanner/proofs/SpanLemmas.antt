@@ -14,7 +14,7 @@ use Rattle.go_scanner.specs.declared.piece.Piece.{Piece}
 use Rattle.go_scanner.specs.Pieces.{IsPiece}
 use Rattle.go_scanner.specs.Cuts.{CutsTo, IsCut, mark_of, mark_len, byte_order_mark, bytes_of}
 use Rattle.go_scanner.specs.Tokens.{is_trivia, ends_statement, line_ends, semicolon, tokens_of}
-use Rattle.go_scanner.specs.Spans.{CoversFrom, FollowFrom, starts, AreInOrder, IsPieceText, IsTokenText}
+use Rattle.go_scanner.specs.Spans.{CoversFrom, FollowFrom, starts, AreTokensInOrder, IsPieceText, IsTokenText}
 use Rattle.go_scanner.proofs.IntegerLemmas.{by_test}
 
 -- a cut covers its text
@@ -120,7 +120,7 @@ starts_rise text from to (p ∷ ps) covers =
     ))
     (λ goes. rw (token, goes) (later, rest)))
 
-pub tokens_in_order : (text : List ℕ) (ps : List Piece) → IsCut text ps → AreInOrder text (tokens_of text ps)
+pub tokens_in_order : (text : List ℕ) (ps : List Piece) → IsCut text ps → AreTokensInOrder text (tokens_of text ps)
 tokens_in_order text ps cut =
     let covers = cut_covers text ps cut in
     record { follow = follow_tokens text 0 (length text) ps covers; rise = starts_rise text 0 (length text) ps covers }

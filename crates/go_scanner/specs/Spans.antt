@@ -24,7 +24,7 @@ abbrev pub starts : List Piece → List ℕ
 starts ts = map (λ t. t.span.start) ts
 
 -- the tokens lie in the text in order: no two overlap, and no two begin at one offset
-pub record AreInOrder (text : List ℕ) (tokens : List Piece) : Type 0 where
+pub record AreTokensInOrder (text : List ℕ) (tokens : List Piece) : Type 0 where
   pub follow : FollowFrom 0 tokens (length text)
   pub rise : IsStrictlySortedBy nat_cmp (starts tokens)
 

@@ -5,7 +5,7 @@ ghost use Rattle.go_scanner.specs.declared.piece.Piece.{Piece};
 ghost use Rattle.go_scanner.specs.declared.refusal.TextFault.{TextFault};
 ghost use Rattle.std.specs.List.{AllByRecursion};
 ghost use Rattle.go_scanner.specs.Cuts.{bytes_of, IsCut, IsFirstFault};
-ghost use Rattle.go_scanner.specs.Spans.{CoversFrom, AreInOrder, IsPieceText, IsTokenText};
+ghost use Rattle.go_scanner.specs.Spans.{CoversFrom, AreTokensInOrder, IsPieceText, IsTokenText};
 ghost use Rattle.go_scanner.specs.Contexts.{MayFollow};
 ghost use Rattle.go_scanner.specs.Pieces.{IsPiece, Stands};
 ghost use Rattle.go_scanner.specs.StringValues.{HasStringValue};
@@ -48,7 +48,7 @@ pub fn cut_pieces()
 
 /// The tokens of a cut lie in the text in order: no two overlap, and no two begin at one offset.
 pub fn tokens_in_order()
-    ensures { (text : List ℕ) (ps : List Piece) → IsCut text ps → AreInOrder text (tokens_of text ps) }
+    ensures { (text : List ℕ) (ps : List Piece) → IsCut text ps → AreTokensInOrder text (tokens_of text ps) }
 {}
 
 /// The bytes of each token are a piece of its class. An inserted semicolon has no bytes.

@@ -2,7 +2,7 @@
 ghost use Rattle.std.specs.Prelude.{◌≡◌, ◌<◌, ◌≤◌, ◌-◌, length, take, drop, IfOk};
 ghost use Rattle.go_scanner.specs.Cuts.{IsCut, bytes_of};
 ghost use Rattle.go_scanner.specs.TokenValues.{HasTokenValue};
-ghost use Rattle.go_scanner.specs.Spans.{IsTokenText, AreInOrder};
+ghost use Rattle.go_scanner.specs.Spans.{IsTokenText, AreTokensInOrder};
 ghost use Rattle.go_scanner.specs.CutText.{HasTokens, IsCutText, token_at, tokens_in};
 
 use crate::piece::{Class, Piece};
@@ -74,7 +74,7 @@ impl Pieces {
     /// The tokens in order. An inserted semicolon is empty and lies at the end of the token before it.
     pub fn tokens(&self) -> &[Piece]
         ensures tokens { result.now ≡ tokens_in self.now }
-        ensures order { AreInOrder self.now.text (tokens_in self.now) }
+        ensures order { AreTokensInOrder self.now.text (tokens_in self.now) }
     {
         &self.tokens
     }

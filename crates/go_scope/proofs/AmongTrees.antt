@@ -20,7 +20,7 @@ use Rattle.go_scope.specs.declared.model.Block.{Block}
 use Rattle.go_scope.specs.declared.model.Block.TheVariants as blocks
 use Rattle.go_scope.specs.declared.model.Role.{Role}
 use Rattle.go_scope.specs.declared.model.Role.TheVariants.{Use, Declaring, NotLexical}
-use Rattle.go_scope.specs.Site.{Site, Source, site}
+use Rattle.go_scope.specs.Site.{Site, TokenSpellings, site}
 use Rattle.go_scope.specs.ExpressionSites.{sites_if, list_sites, type_sites, key_sites, expr_sites, operand_sites, link_sites, argument_sites}
 use Rattle.go_scope.specs.ExpressionSites.{literal_sites, element_sites, exprs_sites}
 use Rattle.go_scope.specs.StatementSites.{ident_sites, left_sites, assigned_sites, simple_sites, value_sites, local_sites, init_sites, for_sites, open_of}
@@ -31,7 +31,7 @@ use Rattle.go_scope.specs.FileSites.{decl_sites, file_sites}
 use Rattle.go_scope.proofs.AmongTokens.{AreAmong, ends, skips, takes, none_among, among_append, among_pad, among_behind, all_among, list_among, group_among}
 use Rattle.go_scope.proofs.AmongTokens.{option_among}
 
-module _ (s : Source) where
+module _ (s : TokenSpellings) where
   abbrev Among : List Site → List Token → Type 0
   Among xs ts = AreAmong s.rank xs ts
 

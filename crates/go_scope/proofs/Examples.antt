@@ -5,7 +5,7 @@ use Rattle.go_scope.specs.declared.model.Block.TheVariants as blocks
 use Rattle.go_scope.specs.declared.model.Role.{Role}
 use Rattle.go_scope.specs.declared.model.Role.TheVariants.{Use, Declaring, LeftName, NotLexical}
 use Rattle.go_scope.specs.declared.model.Purpose.TheVariants as purpose
-use Rattle.go_scope.specs.Site.{Site, Source}
+use Rattle.go_scope.specs.Site.{Site, TokenSpellings}
 use Rattle.go_scope.specs.ExpressionSites.{type_sites, expr_sites, literal_sites, element_sites, link_sites, argument_sites}
 use Rattle.go_scope.specs.StatementSites.{simple_sites, local_sites, separated_sites, group_sites, init_sites, for_sites, statement_sites, block_sites}
 use Rattle.go_scope.specs.StatementSites.{statements_sites, if_sites, else_sites}
@@ -23,7 +23,7 @@ abbrev marks : List Site → List (ℕ × Role)
 marks xs = map mark xs
 
 -- a file of rank 0 in which all tokens are called `init`
-abbrev source : Source
+abbrev source : TokenSpellings
 source = record { rank = 0; spell = λ i. codes "init" }
 
 abbrev only : {X : Type 0} → X → List (Item X)

@@ -6,7 +6,7 @@ use Rattle.go_scope.specs.declared.model.Block.TheVariants.{Inner}
 use Rattle.go_scope.specs.declared.model.Role.{Role}
 use Rattle.go_scope.specs.declared.model.Role.TheVariants.{NotLexical}
 use Rattle.go_scope.specs.declared.model.Purpose.TheVariants as purpose
-use Rattle.go_scope.specs.Site.{Site, Source, site}
+use Rattle.go_scope.specs.Site.{Site, TokenSpellings, site}
 use Rattle.go_scope.specs.ExpressionSites.{sites_if, list_sites, type_sites}
 use Rattle.go_scope.specs.StatementSites.{separated_sites, group_sites, open_of, close_of, block_sites}
 use Rattle.go_scope.specs.FileSites.{global_name, member_name, spec_sites, global_sites, field_sites, body_sites, type_spec_sites, receiver_sites}
@@ -35,34 +35,34 @@ use Rattle.go_ast.specs.declared.tree.ImportSpec.{ImportSpec}
 use Rattle.go_ast.specs.declared.tree.ImportDecl.{ImportDecl}
 use Rattle.go_ast.specs.declared.tree.Decl.{Decl}
 
-abbrev pub global_part : Source → Item ℕ → List Site
+abbrev pub global_part : TokenSpellings → Item ℕ → List Site
 global_part s x = global_name s x.value
 
-abbrev pub member_part : Source → Item ℕ → List Site
+abbrev pub member_part : TokenSpellings → Item ℕ → List Site
 member_part s x = member_name s x.value
 
-abbrev pub field_part : Source → Item FieldDecl → List Site
+abbrev pub field_part : TokenSpellings → Item FieldDecl → List Site
 field_part s x = field_sites s (field_view x.value)
 
-abbrev pub param_part : Source → Block → ℕ → Item Param → List Site
+abbrev pub param_part : TokenSpellings → Block → ℕ → Item Param → List Site
 param_part s b start x = param_sites s b start (param_view x.value)
 
-abbrev pub type_part : Source → Item TypeExpr → List Site
+abbrev pub type_part : TokenSpellings → Item TypeExpr → List Site
 type_part s x = type_sites s (type_view x.value)
 
-abbrev pub import_part : Source → Item ImportSpec → List Site
+abbrev pub import_part : TokenSpellings → Item ImportSpec → List Site
 import_part s x = import_sites s (import_view x.value)
 
-abbrev pub global_spec_part : Source → Item VarSpec → List Site
+abbrev pub global_spec_part : TokenSpellings → Item VarSpec → List Site
 global_spec_part s x = global_sites s (global_view x.value)
 
-abbrev pub type_spec_part : Source → Item TypeSpec → List Site
+abbrev pub type_spec_part : TokenSpellings → Item TypeSpec → List Site
 type_spec_part s x = type_spec_sites s (type_spec_view x.value)
 
-abbrev pub imports_part : Source → ImportDecl → List Site
+abbrev pub imports_part : TokenSpellings → ImportDecl → List Site
 imports_part s x = imports_sites s (imports_view x)
 
-abbrev pub decl_part : Source → Decl → List Site
+abbrev pub decl_part : TokenSpellings → Decl → List Site
 decl_part s x = decl_sites s (decl_view x)
 
 pub spec_from : {X Y : Type 0} (f : Y → List Site) (v : X → Y) (g : Group X) (o : ℕ) (items : _) (c : ℕ) (xs : List (Item X)) →
@@ -72,19 +72,19 @@ unfolding group_sites group_view separated_sites
 spec_from f v g o items c xs eg ex = ap (flat_map (λ x. f (v x.value))) ex ∙ flat_map-map (λ x. f x.value) (item_view v) items.items ∙
     ap (λ z. spec_sites f (group_view v z)) (sym eg)
 
-pub struct_from : (s : Source) (b : TypeBody) (p o : ℕ) (fields : _) (c : ℕ) (xs : List (Item FieldDecl)) → b ≡ body.Struct p o fields c → xs ≡ fields.items →
+pub struct_from : (s : TokenSpellings) (b : TypeBody) (p o : ℕ) (fields : _) (c : ℕ) (xs : List (Item FieldDecl)) → b ≡ body.Struct p o fields c → xs ≡ fields.items →
     flat_map (field_part s) xs ≡ body_sites s (body_view b)
 unfolding body_sites body_view
 struct_from s b p o fields c xs eb ex = ap (flat_map (field_part s)) ex ∙ flat_map-map (λ x. field_sites s x.value) (item_view field_view) fields.items ∙
     ap (λ z. body_sites s (body_view z)) (sym eb)
 
-pub results_from : (s : Source) (r : Results) (o : ℕ) (types : _) (c : ℕ) (xs : List (Item TypeExpr)) → r ≡ results.Several o types c → xs ≡ types.items →
+pub results_from : (s : TokenSpellings) (r : Results) (o : ℕ) (types : _) (c : ℕ) (xs : List (Item TypeExpr)) → r ≡ results.Several o types c → xs ≡ types.items →
     flat_map (type_part s) xs ≡ result_sites s (results_view r)
 unfolding result_sites results_view
 results_from s r o types c xs er ex = ap (flat_map (type_part s)) ex ∙ flat_map-map (λ x. type_sites s x.value) (item_view type_view) types.items ∙
     ap (λ z. result_sites s (results_view z)) (sym er)
 
-func_parts : Source → FuncDecl → ℕ → ℕ → Role → List (Item Param) → List Site
+func_parts : TokenSpellings → FuncDecl → ℕ → ℕ → Role → List (Item Param) → List Site
 func_parts s f o c role ps =
     sites_if (receiver_sites s (Inner s.rank o c) o) (option_view receiver_view f.receiver) ++ (site s f.name role ∷
     (list_sites (param_sites s (Inner s.rank o c) o) (list_view param_view ps) ++
@@ -94,7 +94,7 @@ close_from : (x : trees.BlockStmt) → (out-BlockStmt x).close ≡ close_of (blo
 unfolding block_view
 close_from (BlockStmt' o shape row c) = ap (λ r. r.close) (outs-BlockStmt' o shape row c)
 
-pub func_read : (s : Source) (f : FuncDecl) (role : Role) (ps : List (Item Param)) →
+pub func_read : (s : TokenSpellings) (f : FuncDecl) (role : Role) (ps : List (Item Param)) →
     role ≡ func_role (option_view receiver_view f.receiver) (s.spell f.name) → ps ≡ f.params.items →
     sites_if (receiver_sites s (Inner s.rank (out-BlockStmt f.body).«open» (out-BlockStmt f.body).close) (out-BlockStmt f.body).«open»)
     (option_view receiver_view f.receiver) ++ (site s f.name role ∷
@@ -110,7 +110,7 @@ func_read s f role ps er ep =
     ap (λ c. func_parts s f (open_of (block_view f.body)) c (func_role (option_view receiver_view f.receiver) (s.spell f.name)) f.params.items)
     (close_from f.body)
 
-pub file_read : (s : Source) (f : File) (is : List ImportDecl) (ds : List Decl) → is ≡ f.imports.items → ds ≡ f.decls.items →
+pub file_read : (s : TokenSpellings) (f : File) (is : List ImportDecl) (ds : List Decl) → is ≡ f.imports.items → ds ≡ f.decls.items →
     site s f.name (NotLexical purpose.PackageClause) ∷ (flat_map (imports_part s) is ++ flat_map (decl_part s) ds) ≡ file_sites s (file_view f)
 unfolding file_sites file_view
 file_read s f is ds ei ed =

@@ -8,7 +8,7 @@ use Rattle.go_scope.specs.declared.model.Role.{Role}
 use Rattle.go_scope.specs.declared.model.Role.TheVariants.{Use, Declaring, NotLexical}
 use Rattle.go_scope.specs.declared.model.Purpose.TheVariants as purpose
 use Rattle.go_scope.specs.Bindings.{may_declare}
-use Rattle.go_scope.specs.Site.{Site, Source, site}
+use Rattle.go_scope.specs.Site.{Site, TokenSpellings, site}
 use Rattle.go_scope.specs.ExpressionSites.{sites_if, list_sites, type_sites}
 use Rattle.go_scope.specs.StatementSites.{ident_sites, separated_sites, group_sites, open_of, close_of, block_sites}
 use Rattle.go_scope.specs.FileSites.{global_name, member_name, spec_sites, global_sites, field_sites, body_sites, type_spec_sites, receiver_sites}
@@ -40,52 +40,52 @@ unfolding group_sites separated_sites
 level_group f h (single x) = h x
 level_group f h (several o xs c) = level_list f h xs
 
-flat_package : (s : Source) (i : ℕ) → Flat (site s i (Declaring Package 0))
+flat_package : (s : TokenSpellings) (i : ℕ) → Flat (site s i (Declaring Package 0))
 flat_package s i = record { apart = λ f a b e. cc; start = refl; not_left = λ e. cc }
 
-flat_file : (s : Source) (i : ℕ) → Flat (site s i (Declaring (File s.rank) 0))
+flat_file : (s : TokenSpellings) (i : ℕ) → Flat (site s i (Declaring (File s.rank) 0))
 flat_file s i = record { apart = λ f a b e. cc; start = refl; not_left = λ e. cc }
 
-level_name : (s : Source) (n : ℕ) → Level (global_name s n)
+level_name : (s : TokenSpellings) (n : ℕ) → Level (global_name s n)
 level_name s n = ((λ m. flat_package s n), tt)
 
-plain_member : (s : Source) (n : ℕ) → Plain (member_name s n)
+plain_member : (s : TokenSpellings) (n : ℕ) → Plain (member_name s n)
 plain_member s n = (refl, tt)
 
-level_global : (s : Source) (g : GlobalTree) → Level (global_sites s g)
+level_global : (s : TokenSpellings) (g : GlobalTree) → Level (global_sites s g)
 unfolding global_sites
 level_global s g = level_append (list_sites (global_name s) g.names) (type_sites s g.type_use) (level_list (global_name s) (level_name s) g.names)
     (level_plain (type_sites s g.type_use) (plain_type s g.type_use))
 
-plain_field : (s : Source) (f : FieldTree) → Plain (field_sites s f)
+plain_field : (s : TokenSpellings) (f : FieldTree) → Plain (field_sites s f)
 unfolding field_sites
 plain_field s f = plain_append (list_sites (member_name s) f.names) (type_sites s f.type_use) (plain_list (member_name s) (plain_member s) f.names)
     (plain_type s f.type_use)
 
-plain_body : (s : Source) (b : BodyTree) → Plain (body_sites s b)
+plain_body : (s : TokenSpellings) (b : BodyTree) → Plain (body_sites s b)
 unfolding body_sites
 plain_body s (Other t) = plain_type s t
 plain_body s (Struct p o fs c) = plain_list (field_sites s) (plain_field s) fs
 
-level_type_spec : (s : Source) (t : TypeSpecTree) → Level (type_spec_sites s t)
+level_type_spec : (s : TokenSpellings) (t : TypeSpecTree) → Level (type_spec_sites s t)
 unfolding type_spec_sites
 level_type_spec s t = level_append (global_name s t.name) (body_sites s t.body) (level_name s t.name) (level_plain (body_sites s t.body) (plain_body s t.body))
 
-level_import_name : (s : Source) (n : Option ℕ) → Level (import_name s n)
+level_import_name : (s : TokenSpellings) (n : Option ℕ) → Level (import_name s n)
 level_import_name s None = tt
 level_import_name s (Some n) = ((λ m. flat_file s n), tt)
 
-level_import : (s : Source) (i : ImportTree) → Level (import_sites s i)
+level_import : (s : TokenSpellings) (i : ImportTree) → Level (import_sites s i)
 unfolding import_sites
 level_import s i =
     level_append (import_name s i.name) (site s i.path (NotLexical (import_purpose i.name)) ∷ []) (level_import_name s i.name)
     (level_plain (site s i.path (NotLexical (import_purpose i.name)) ∷ []) (refl, tt))
 
-level_imports : (s : Source) (i : ImportsTree) → Level (imports_sites s i)
+level_imports : (s : TokenSpellings) (i : ImportsTree) → Level (imports_sites s i)
 unfolding imports_sites
 level_imports s i = level_group (import_sites s) (level_import s) i.imports
 
-level_all_imports : (s : Source) (xs : List ImportsTree) → Level (flat_map (imports_sites s) xs)
+level_all_imports : (s : TokenSpellings) (xs : List ImportsTree) → Level (flat_map (imports_sites s) xs)
 level_all_imports s [] = tt
 level_all_imports s (x ∷ xs) = level_append (imports_sites s x) (flat_map (imports_sites s) xs) (level_imports s x) (level_all_imports s xs)
 
@@ -94,7 +94,7 @@ absurd_may e = cc
 
 -- functions
 
-plain_result : (s : Source) (r : ResultTree) → Plain (result_sites s r)
+plain_result : (s : TokenSpellings) (r : ResultTree) → Plain (result_sites s r)
 unfolding result_sites
 plain_result s no_result = tt
 plain_result s (one_result t) = plain_type s t
@@ -102,13 +102,13 @@ plain_result s (results o ts c) = plain_list (type_sites s) (plain_type s) ts
 
 -- the receiver and the parameters of a body from o to c, whose scopes begin with it
 
-abbrev Head : Source → ℕ → ℕ → List Site → Type 0
+abbrev Head : TokenSpellings → ℕ → ℕ → List Site → Type 0
 Head s o c xs = Each (Together s.rank o c o o) xs
 
-head_append : (s : Source) (o c : ℕ) (xs ys : List Site) → Head s o c xs → Head s o c ys → Head s o c (xs ++ ys)
+head_append : (s : TokenSpellings) (o c : ℕ) (xs ys : List Site) → Head s o c xs → Head s o c ys → Head s o c (xs ++ ys)
 head_append s o c xs ys a b = each_append (Together s.rank o c o o) xs ys a b
 
-head_receiver : (s : Source) (o c n m : ℕ) (r : Option ReceiverTree) → m ≤ o → Rises n (tokens_if receiver_tokens r) m →
+head_receiver : (s : TokenSpellings) (o c n m : ℕ) (r : Option ReceiverTree) → m ≤ o → Rises n (tokens_if receiver_tokens r) m →
     Head s o c (sites_if (receiver_sites s (Inner s.rank o c) o) r)
 unfolding receiver_sites receiver_tokens
 head_receiver s o c n m None mo h = tt
@@ -119,7 +119,7 @@ head_receiver s o c n m (Some r) mo h =
     head_append s o c (ident_sites s (Declaring (Inner s.rank o c) o) r.name) (site s r.type_name Use ∷ [])
     (ident_together s o c o o (suc r.lparen) u.0 r.name (omega arith) u.1.0) ((λ m. absurd_may m), tt)
 
-head_param : (s : Source) (o c n m : ℕ) (p : ParamTree) → m ≤ o → Rises n (param_tokens p) m → Head s o c (param_sites s (Inner s.rank o c) o p)
+head_param : (s : TokenSpellings) (o c n m : ℕ) (p : ParamTree) → m ≤ o → Rises n (param_tokens p) m → Head s o c (param_sites s (Inner s.rank o c) o p)
 unfolding param_sites param_tokens
 head_param s o c n m p mo h =
     let u = rises_split n (list_tokens kind.Comma ident_tokens p.names) (type_tokens p.type_use) m h in
@@ -128,21 +128,21 @@ head_param s o c n m p mo h =
     (idents_together s o c o o n u.0 p.names (omega arith) u.1.0)
     (together_plain s.rank o c o o (type_sites s p.type_use) (plain_type s p.type_use))
 
-head_params : (s : Source) (o c n m : ℕ) (ps : List (Item ParamTree)) → m ≤ o → Rises n (list_tokens kind.Comma param_tokens ps) m →
+head_params : (s : TokenSpellings) (o c n m : ℕ) (ps : List (Item ParamTree)) → m ≤ o → Rises n (list_tokens kind.Comma param_tokens ps) m →
     Head s o c (list_sites (param_sites s (Inner s.rank o c) o) ps)
 head_params s o c n m ps mo h =
     each_rising (Together s.rank o c o o) param_tokens (param_sites s (Inner s.rank o c) o) kind.Comma 0 o
     (λ i j p z le r. head_param s o c i j p le r) n m ps (omega arith) mo h
 
-init_name : (s : Source) (o c i : ℕ) (b : Bool) → Together s.rank o c o o (site s i (if b then NotLexical purpose.InitFunction else Declaring Package 0))
+init_name : (s : TokenSpellings) (o c i : ℕ) (b : Bool) → Together s.rank o c o o (site s i (if b then NotLexical purpose.InitFunction else Declaring Package 0))
 init_name s o c i true = λ m. absurd_may m
 init_name s o c i false = λ m. inl (flat_package s i)
 
-func_name : (s : Source) (o c i : ℕ) (r : Option ReceiverTree) (name : List ℕ) → Together s.rank o c o o (site s i (func_role r name))
+func_name : (s : TokenSpellings) (o c i : ℕ) (r : Option ReceiverTree) (name : List ℕ) → Together s.rank o c o o (site s i (func_role r name))
 func_name s o c i (Some r) name = λ m. absurd_may m
 func_name s o c i None name = init_name s o c i (bytes_eq name (codes "init"))
 
-body_fits : (s : Source) (k m : ℕ) (x : BlockTree) → IsBlock x → Rises k (block_tokens x) m →
+body_fits : (s : TokenSpellings) (k m : ℕ) (x : BlockTree) → IsBlock x → Rises k (block_tokens x) m →
     (k ≤ open_of x) × (open_of x < close_of x) × (suc (close_of x) ≤ m) ×
     Segment s.rank (open_of x) (close_of x) (suc (open_of x)) (close_of x) (block_sites s x)
 unfolding block_tokens block_sites IsBlock
@@ -153,7 +153,7 @@ body_fits s k m (block o ss c) w h =
     (h.0, omega arith, r.1.1.1, statements_fits s o c (suc o) c ss w.1 (omega arith) (omega arith) (rises_up (suc o) (statements_tokens ss) r.0 c rc r.1.0))
 
 -- the identifiers before the body, and those of the body
-func_body : (s : Source) (o c : ℕ) (receiver : Option ReceiverTree) (name : ℕ) (role : Role) (params : List (Item ParamTree)) (result : ResultTree)
+func_body : (s : TokenSpellings) (o c : ℕ) (receiver : Option ReceiverTree) (name : ℕ) (role : Role) (params : List (Item ParamTree)) (result : ResultTree)
     (body : List Site) →
     Head s o c (sites_if (receiver_sites s (Inner s.rank o c) o) receiver) → Together s.rank o c o o (site s name role) →
     Head s o c (list_sites (param_sites s (Inner s.rank o c) o) params) → o < c → Segment s.rank o c (suc o) c body →
@@ -170,7 +170,7 @@ func_body s o c receiver name role params result body received named given oc y 
     (segment_widen s.rank o c (suc o) c o c body (omega arith) (omega arith) y))))
 
 -- a function's block comes after its name
-func_fits : (s : Source) (b n m : ℕ) (f : FuncTree) → IsFunc f → m ≤ b → Rises n (func_tokens f) m →
+func_fits : (s : TokenSpellings) (b n m : ℕ) (f : FuncTree) → IsFunc f → m ≤ b → Rises n (func_tokens f) m →
     (q : ℕ) × ((n ≤ q) × (suc q ≤ m) × Segment s.rank 0 b n q (func_sites s f))
 unfolding func_tokens func_sites
 func_fits s b n m f w mb h =
@@ -203,7 +203,7 @@ func_fits s b n m f w mb h =
       ),
     )
 
-decl_fits : (s : Source) (b n m : ℕ) (d : DeclTree) → 0 < n → IsDecl d → m ≤ b → Rises n (decl_tokens d) m →
+decl_fits : (s : TokenSpellings) (b n m : ℕ) (d : DeclTree) → 0 < n → IsDecl d → m ≤ b → Rises n (decl_tokens d) m →
     (q : ℕ) × ((n ≤ q) × (suc q ≤ m) × Segment s.rank 0 b n q (decl_sites s d))
 unfolding decl_tokens decl_sites
 decl_fits s b n m (VarDecl k g semicolon) pos w mb h =
@@ -222,7 +222,7 @@ decl_fits s b n m (FuncDecl k f semicolon) pos w mb h =
     let ur : suc u.0 ≤ r.0 = u.1.1 in
     (u.0, (omega arith, omega arith, segment_widen s.rank 0 b (suc k) u.0 n u.0 (func_sites s f) (omega arith) (omega arith) u.1.2))
 
-decls_fit : (s : Source) (b n m : ℕ) (ds : List DeclTree) → 0 < n → All IsDecl ds → m ≤ b → Rises n (all_tokens decl_tokens ds) m →
+decls_fit : (s : TokenSpellings) (b n m : ℕ) (ds : List DeclTree) → 0 < n → All IsDecl ds → m ≤ b → Rises n (all_tokens decl_tokens ds) m →
     Segment s.rank 0 b n m (flat_map (decl_sites s) ds)
 unfolding all_tokens
 decls_fit s b n m [] pos w mb h = (tt, tt)
@@ -235,7 +235,7 @@ decls_fit s b n m (d ∷ ds) pos w mb h =
     segment_join s.rank 0 b n u.0 m (decl_sites s d) (flat_map (decl_sites s) ds) (omega arith) (omega arith) u.1.2
     (decls_fit s b (suc u.0) m ds (omega arith) (All-tail IsDecl d ds w) mb (rises_down (suc u.0) r.0 (all_tokens decl_tokens ds) m ur r.1.1))
 
-pub file_fits : (s : Source) (m : ℕ) (f : FileTree) → IsFile f → Rises 0 (flatten f) m → Segment s.rank 0 m 0 m (file_sites s f)
+pub file_fits : (s : TokenSpellings) (m : ℕ) (f : FileTree) → IsFile f → Rises 0 (flatten f) m → Segment s.rank 0 m 0 m (file_sites s f)
 unfolding flatten file_sites
 file_fits s m f w h =
     let ks : suc f.keyword ≤ f.name = h.1.0 in

@@ -17,7 +17,7 @@ use Rattle.go_scope.specs.declared.outer_blocks.OuterName.{OuterName}
 use Rattle.go_scope.specs.Bindings.{Layout, Names, block_of}
 use Rattle.go_scope.specs.Leading.{IsLead, IsLeadInside, IsFirstIn}
 use Rattle.go_scope.specs.Numbering.{number_at, numerals, AreBelow}
-use Rattle.go_scope.specs.OpenBlocks.{IsLastOpen, AreLasts, AreLinked, AreNameLinks, AreNearest, IsVisibleInside}
+use Rattle.go_scope.specs.OpenBlocks.{IsLastOpen, AreLasts, AreOpenLinked, AreNameLinks, AreNearest, IsVisibleInside}
 use Rattle.go_scope.specs.OuterBlocks.{block_in, outer_of, AreOuter}
 use Rattle.go_scope.specs.Scopes.{Nests}
 use Rattle.go_scope.specs.Table.{IsNearest, layout_of}
@@ -160,7 +160,7 @@ module _ (l : Layout) (size : ℕ) (names : Names) where
       }
 
   pub linked_next : (d : ℕ) (around new : List (Option ℕ)) (next : Option ℕ) → new ≡ around ++ (next ∷ []) →
-      (IsLeadInside l names (names d) d → IsLastOpen l size names (names d) d next) → AreLinked l size names d around → AreLinked l size names (d + 1) new
+      (IsLeadInside l names (names d) d → IsLastOpen l size names (names d) d next) → AreOpenLinked l size names d around → AreOpenLinked l size names (d + 1) new
   linked_next d around new next e p h = record {
     sized = sized_next around new next d h.sized e;
     each = each_next (λ k x. IsLeadInside l names (names k) k → IsLastOpen l size names (names k) k x) around new next d h.sized e p h.each;
@@ -178,7 +178,7 @@ module _ (l : Layout) (size : ℕ) (names : Names) where
             subst Q (sym (get_or-replicate size name None x lt)) (λ k lower m. absurd (omega arith));
       })
 
-  pub linked_none : (around : List (Option ℕ)) → around ≡ [] → AreLinked l size names 0 around
+  pub linked_none : (around : List (Option ℕ)) → around ≡ [] → AreOpenLinked l size names 0 around
   linked_none around e = record { sized = ap length e; each = λ d x lt k. absurd (omega arith) }
 
 pub near_next : (l : Layout) (names : Names) (u : ℕ) (around new : List (Option ℕ)) (next : Option ℕ) → length around ≡ u → new ≡ around ++ (next ∷ []) →

@@ -8,7 +8,7 @@ use Rattle.go_scope.specs.declared.model.Block.TheVariants.{Inner}
 use Rattle.go_scope.specs.declared.model.Position.{Position}
 use Rattle.go_scope.specs.Bindings.{MayDeclare, start_of}
 use Rattle.go_scope.specs.FileSites.{SpelledFile, file_sites, files_sites, universe, universe_site, package_sites}
-use Rattle.go_scope.specs.Site.{Site, Source, or_blank, sites_layout}
+use Rattle.go_scope.specs.Site.{Site, TokenSpellings, or_blank, sites_layout}
 use Rattle.go_scope.specs.Trees.{IsNumbered, AreNumbered}
 use Rattle.go_scope.specs.WellFormed.{InBlock, InPlaceOrder}
 use Rattle.go_scope.proofs.AmongTokens.{UpTo, StandsFrom, position, places_rise}
@@ -24,7 +24,7 @@ files_rise : (rank : ℕ) (fs : List SpelledFile) → AreNumbered fs → Each (F
 unfolding files_sites
 files_rise rank [] w = (tt, tt)
 files_rise rank (f ∷ fs) w =
-    let s : Source = record { rank = rank; spell = f.spell } in
+    let s : TokenSpellings = record { rank = rank; spell = f.spell } in
     let one = All-head IsNumbered f fs w in
     let here = places_rise rank 0 (file_sites s f.tree) (flatten f.tree) (file_among s f.tree) one.rising in
     let rest = files_rise (suc rank) fs (All-tail IsNumbered f fs w) in (

@@ -6,7 +6,7 @@ use Rattle.std.proofs.lemmas.Bool.{cases_order}
 use Rattle.go_scope.specs.declared.model.Block.TheVariants.{Inner}
 use Rattle.go_scope.specs.Bindings.{Layout, MayDeclare, start_of, is_left_name, may_declare}
 use Rattle.go_scope.specs.WellFormed.{WellFormed, InBlockOrder, InBlock}
-use Rattle.go_scope.specs.Site.{Site, Source, or_blank, sites_layout}
+use Rattle.go_scope.specs.Site.{Site, TokenSpellings, or_blank, sites_layout}
 use Rattle.go_scope.specs.FileSites.{SpelledFile, file_sites, files_sites, universe, universe_site, package_sites}
 use Rattle.go_scope.specs.Trees.{IsNumbered, AreNumbered}
 use Rattle.go_scope.proofs.Nests.{left_may}
@@ -78,7 +78,7 @@ files_agree : (rank : ℕ) (fs : List SpelledFile) → AreNumbered fs → Each (
 unfolding files_sites
 files_agree rank [] w = (tt, tt)
 files_agree rank (f ∷ fs) w =
-    let s : Source = record { rank = rank; spell = f.spell } in
+    let s : TokenSpellings = record { rank = rank; spell = f.spell } in
     let one = All-head IsNumbered f fs w in
     let bound = rises_of 0 (flatten f.tree) one.rising in
     let here = file_fits s bound.0 f.tree one.grouped bound.1 in

@@ -1,6 +1,6 @@
 -- Types and expressions declare nothing.
 use Rattle.std.proofs.Common.{ℕ, List, [], ◌∷◌, ◌++◌, Option, Some, None, refl}
-use Rattle.go_scope.specs.Site.{Site, Source}
+use Rattle.go_scope.specs.Site.{Site, TokenSpellings}
 use Rattle.go_scope.specs.ExpressionSites.{sites_if, list_sites, type_sites, key_sites, expr_sites, operand_sites, link_sites, argument_sites}
 use Rattle.go_scope.specs.ExpressionSites.{literal_sites, element_sites, exprs_sites}
 use Rattle.go_scope.specs.Bindings.{may_declare}
@@ -22,21 +22,21 @@ pub plain_if : {X : Type 0} → (f : X → List Site) → ((x : X) → Plain (f 
 plain_if f h None = tt
 plain_if f h (Some x) = h x
 
-pub plain_type : (s : Source) (t : TypeTree) → Plain (type_sites s t)
+pub plain_type : (s : TokenSpellings) (t : TypeTree) → Plain (type_sites s t)
 unfolding type_sites
 plain_type s (Local n) = (refl, tt)
 plain_type s (Imported p d n) = (refl, (refl, tt))
 plain_type s (Pointer p t) = plain_type s t
 plain_type s (Slice o c t) = plain_type s t
 
-plain_key : (s : Source) (k : Option (ℕ × ℕ)) → Plain (key_sites s k)
+plain_key : (s : TokenSpellings) (k : Option (ℕ × ℕ)) → Plain (key_sites s k)
 plain_key s None = tt
 plain_key s (Some k) = (refl, tt)
 
 mutual
   unfolding expr_sites operand_sites link_sites argument_sites literal_sites element_sites
 
-  pub plain_expr : (s : Source) (e : ExprTree) → Plain (expr_sites s e)
+  pub plain_expr : (s : TokenSpellings) (e : ExprTree) → Plain (expr_sites s e)
   plain_expr s (Number n) = tt
   plain_expr s (Text n) = tt
   plain_expr s (Name n) = (refl, tt)
@@ -48,33 +48,33 @@ mutual
   plain_expr s (Chain e ls) = plain_append (expr_sites s e) (link_sites s ls) (plain_expr s e) (plain_links s ls)
   plain_expr s (Binary e os) = plain_append (expr_sites s e) (operand_sites s os) (plain_expr s e) (plain_operands s os)
 
-  plain_operands : (s : Source) (os : OperandTrees) → Plain (operand_sites s os)
+  plain_operands : (s : TokenSpellings) (os : OperandTrees) → Plain (operand_sites s os)
   plain_operands s no_operand = tt
   plain_operands s (operand op p e os) = plain_append (expr_sites s e) (operand_sites s os) (plain_expr s e) (plain_operands s os)
 
-  plain_links : (s : Source) (ls : LinkTrees) → Plain (link_sites s ls)
+  plain_links : (s : TokenSpellings) (ls : LinkTrees) → Plain (link_sites s ls)
   plain_links s no_link = tt
   plain_links s (selector d n ls) = (refl, plain_links s ls)
   plain_links s (index o e c ls) = plain_append (expr_sites s e) (link_sites s ls) (plain_expr s e) (plain_links s ls)
   plain_links s (call o xs c ls) = plain_append (argument_sites s xs) (link_sites s ls) (plain_arguments s xs) (plain_links s ls)
 
-  plain_arguments : (s : Source) (xs : ArgumentTrees) → Plain (argument_sites s xs)
+  plain_arguments : (s : TokenSpellings) (xs : ArgumentTrees) → Plain (argument_sites s xs)
   plain_arguments s no_argument = tt
   plain_arguments s (argument e comma rest) = plain_append (expr_sites s e) (argument_sites s rest) (plain_expr s e) (plain_arguments s rest)
 
-  plain_literal : (s : Source) (l : LiteralTree) → Plain (literal_sites s l)
+  plain_literal : (s : TokenSpellings) (l : LiteralTree) → Plain (literal_sites s l)
   plain_literal s (literal t o es c) = plain_append (type_sites s t) (element_sites s es) (plain_type s t) (plain_elements s es)
 
-  plain_elements : (s : Source) (es : ElementTrees) → Plain (element_sites s es)
+  plain_elements : (s : TokenSpellings) (es : ElementTrees) → Plain (element_sites s es)
   plain_elements s no_element = tt
   plain_elements s (element key e comma rest) =
       plain_append (key_sites s key) (expr_sites s e ++ element_sites s rest) (plain_key s key)
       (plain_append (expr_sites s e) (element_sites s rest) (plain_expr s e) (plain_elements s rest))
 
-pub plain_exprs : (s : Source) (es : List (Item ExprTree)) → Plain (exprs_sites s es)
+pub plain_exprs : (s : TokenSpellings) (es : List (Item ExprTree)) → Plain (exprs_sites s es)
 plain_exprs s es = plain_list (expr_sites s) (plain_expr s) es
 
-pub plain_assigned : (s : Source) (e : ExprTree) → Plain (assigned_sites s e)
+pub plain_assigned : (s : TokenSpellings) (e : ExprTree) → Plain (assigned_sites s e)
 unfolding expr_sites
 plain_assigned s (Blank n) = (refl, tt)
 plain_assigned s (Number n) = tt

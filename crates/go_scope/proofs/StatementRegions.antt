@@ -6,7 +6,7 @@ use Rattle.std.proofs.lemmas.List.Elements.{All-head, All-tail}
 use Rattle.go_scope.specs.declared.model.Block.{Block}
 use Rattle.go_scope.specs.declared.model.Block.TheVariants as blocks
 use Rattle.go_scope.specs.declared.model.Role.TheVariants.{Declaring}
-use Rattle.go_scope.specs.Site.{Site, Source}
+use Rattle.go_scope.specs.Site.{Site, TokenSpellings}
 use Rattle.go_scope.specs.ExpressionSites.{sites_if, list_sites, type_sites, expr_sites, exprs_sites}
 use Rattle.go_scope.specs.StatementSites.{ident_sites, left_sites, assigned_sites, simple_sites, value_sites, local_sites, separated_sites, group_sites}
 use Rattle.go_scope.specs.StatementSites.{init_sites, for_sites, open_of, close_of, statement_sites, block_sites, statements_sites, if_sites, else_sites}
@@ -43,7 +43,7 @@ module _ {X : Type 0} (P : Site → Type 0) (tokens : X → List Token) (sites :
 not_left : {A : Type 0} → false ≡ true → A
 not_left e = cc
 
-left_together : (s : Source) (a b q k : ℕ) → a ≤ k → (n m : ℕ) (x : ExprTree) → k ≤ n → m ≤ q → Rises n (expr_tokens x) m →
+left_together : (s : TokenSpellings) (a b q k : ℕ) → a ≤ k → (n m : ℕ) (x : ExprTree) → k ≤ n → m ≤ q → Rises n (expr_tokens x) m →
     Each (Together s.rank a b k q) (left_sites s (blocks.Inner s.rank a b) q x)
 unfolding expr_tokens
 left_together s a b q k ak n m (Name i) kn mq h = (
@@ -60,19 +60,19 @@ left_together s a b q k ak n m (Address p l) kn mq h = together_plain s.rank a b
 left_together s a b q k ak n m (Chain e ls) kn mq h = together_plain s.rank a b k q (expr_sites s (Chain e ls)) (plain_expr s (Chain e ls))
 left_together s a b q k ak n m (Binary e os) kn mq h = together_plain s.rank a b k q (expr_sites s (Binary e os)) (plain_expr s (Binary e os))
 
-pub ident_together : (s : Source) (a b q k n m : ℕ) (x : IdentTree) → m ≤ q → Rises n (ident_tokens x) m →
+pub ident_together : (s : TokenSpellings) (a b q k n m : ℕ) (x : IdentTree) → m ≤ q → Rises n (ident_tokens x) m →
     Each (Together s.rank a b k q) (ident_sites s (Declaring (blocks.Inner s.rank a b) q) x)
 ident_together s a b q k n m (Named i) mq h =
     ((λ may. inr (record { block = refl; start = refl; stands = (refl, omega (arith, h.1)); left = λ left. not_left left })), tt)
 ident_together s a b q k n m (Underscore i) mq h = ((λ may. not_left may), tt)
 
-pub idents_together : (s : Source) (a b q k n m : ℕ) (xs : List (Item IdentTree)) → m ≤ q → Rises n (list_tokens kind.Comma ident_tokens xs) m →
+pub idents_together : (s : TokenSpellings) (a b q k n m : ℕ) (xs : List (Item IdentTree)) → m ≤ q → Rises n (list_tokens kind.Comma ident_tokens xs) m →
     Each (Together s.rank a b k q) (list_sites (ident_sites s (Declaring (blocks.Inner s.rank a b) q)) xs)
 idents_together s a b q k n m xs mq h =
     each_rising (Together s.rank a b k q) ident_tokens (ident_sites s (Declaring (blocks.Inner s.rank a b) q)) kind.Comma 0 q
     (λ i j x z le r. ident_together s a b q k i j x le r) n m xs (omega arith) mq h
 
-pub simple_fits : (s : Source) (a b n following : ℕ) (x : SimpleTree) → a ≤ n → Rises n (simple_tokens x) following →
+pub simple_fits : (s : TokenSpellings) (a b n following : ℕ) (x : SimpleTree) → a ≤ n → Rises n (simple_tokens x) following →
     Segment s.rank a b n following (simple_sites s (blocks.Inner s.rank a b) following x)
 unfolding simple_sites simple_tokens
 simple_fits s a b n q (Alone e) an h = segment_plain s.rank a b n q (expr_sites s e) (plain_expr s e)
@@ -92,7 +92,7 @@ simple_fits s a b n q (Define es p fs) an h =
     (omega arith) kq r.1.0))
     (plain_exprs s fs)
 
-post_plain : (s : Source) (b : Block) (q : ℕ) (x : SimpleTree) → IsPost x → Plain (simple_sites s b q x)
+post_plain : (s : TokenSpellings) (b : Block) (q : ℕ) (x : SimpleTree) → IsPost x → Plain (simple_sites s b q x)
 unfolding simple_sites
 post_plain s b q (Alone e) h = plain_expr s e
 post_plain s b q (Step e op p) h = plain_expr s e
@@ -101,10 +101,10 @@ post_plain s b q (Assign es p fs) h = plain_append (list_sites (assigned_sites s
     (plain_list (assigned_sites s) (plain_assigned s) es) (plain_exprs s fs)
 post_plain s b q (Define es p fs) h = absurd h
 
-plain_values : (s : Source) (v : ℕ × List (Item ExprTree)) → Plain (value_sites s v)
+plain_values : (s : TokenSpellings) (v : ℕ × List (Item ExprTree)) → Plain (value_sites s v)
 plain_values s v = plain_exprs s v.1
 
-pub local_fits : (s : Source) (a b n following : ℕ) (x : LocalTree) → a ≤ n → Rises n (local_tokens x) following →
+pub local_fits : (s : TokenSpellings) (a b n following : ℕ) (x : LocalTree) → a ≤ n → Rises n (local_tokens x) following →
     Segment s.rank a b n following (local_sites s (blocks.Inner s.rank a b) following x)
 unfolding local_sites local_tokens
 local_fits s a b n q x an h =
@@ -165,13 +165,13 @@ module _ {X : Type 0} (P : X → Type 0) (tokens : X → List Token) (sites : �
       segment_widen f a b (suc o) c n q (separated_sites sites c xs) (omega arith) (omega arith)
       (separated_fits (suc o) c xs (omega arith) p.separated p.each (rises_up (suc o) (list_tokens kind.Semicolon tokens xs) r.0 c rc r.1.0))
 
-simple_if_fits : (s : Source) (a b n q : ℕ) (x : Option SimpleTree) → a ≤ n → Rises n (tokens_if simple_tokens x) q →
+simple_if_fits : (s : TokenSpellings) (a b n q : ℕ) (x : Option SimpleTree) → a ≤ n → Rises n (tokens_if simple_tokens x) q →
     Segment s.rank a b n q (sites_if (simple_sites s (blocks.Inner s.rank a b) q) x)
 simple_if_fits s a b n q None an h = (tt, tt)
 simple_if_fits s a b n q (Some x) an h = simple_fits s a b n q x an h
 
 -- the clause before a condition ends before the condition
-init_if_fits : (s : Source) (p b k : ℕ) (i : Option InitTree) → Rises (suc p) (tokens_if init_tokens i) k →
+init_if_fits : (s : TokenSpellings) (p b k : ℕ) (i : Option InitTree) → Rises (suc p) (tokens_if init_tokens i) k →
     (q : ℕ) × ((p ≤ q) × (suc q ≤ k) × Segment s.rank p b (suc p) q (sites_if (init_sites s (blocks.Inner s.rank p b)) i))
 unfolding init_tokens init_sites
 init_if_fits s p b k None h = (p, (omega arith, h, (tt, tt)))
@@ -187,7 +187,7 @@ init_if_fits s p b k (Some i) h =
       ),
     )
 
-post_if_plain : (s : Source) (b : Block) (q : ℕ) (x : Option SimpleTree) → IsNoneOr IsPost x → Plain (sites_if (simple_sites s b q) x)
+post_if_plain : (s : TokenSpellings) (b : Block) (q : ℕ) (x : Option SimpleTree) → IsNoneOr IsPost x → Plain (sites_if (simple_sites s b q) x)
 post_if_plain s b q None h = tt
 post_if_plain s b q (Some x) h = post_plain s b q x h
 
@@ -201,7 +201,7 @@ close_above n m (block o ss c) h =
     omega arith
 
 -- the header of a `for` ends before its block
-header_fits : (s : Source) (p b o k : ℕ) (x : ForTree) → IsFor x → Rises (suc p) (for_tokens x) k →
+header_fits : (s : TokenSpellings) (p b o k : ℕ) (x : ForTree) → IsFor x → Rises (suc p) (for_tokens x) k →
     (q : ℕ) × ((p ≤ q) × (suc q ≤ k) × Segment s.rank p b (suc p) q (for_sites s (blocks.Inner s.rank p b) o x))
 unfolding for_tokens for_sites
 header_fits s p b o k forever w h = (p, (omega arith, h, (tt, tt)))
@@ -230,7 +230,7 @@ mutual
   unfolding statement_tokens block_tokens statements_tokens if_tokens else_tokens statement_sites block_sites statements_sites if_sites else_sites
       IsStatement IsBlock AreStatements IsIf IsElse
 
-  pub statement_fits : (s : Source) (a b n q : ℕ) (x : StatementTree) → IsStatement x → a < n → q ≤ b → Rises n (statement_tokens x) q →
+  pub statement_fits : (s : TokenSpellings) (a b n q : ℕ) (x : StatementTree) → IsStatement x → a < n → q ≤ b → Rises n (statement_tokens x) q →
       Segment s.rank a b n q (statement_sites s (blocks.Inner s.rank a b) q x)
   statement_fits s a b n q Empty w an qb h = (tt, tt)
   statement_fits s a b n q (Var p g) w an qb h =
@@ -261,7 +261,7 @@ mutual
   statement_fits s a b n q (Continue p) w an qb h = (tt, tt)
   statement_fits s a b n q (Return p es) w an qb h = segment_plain s.rank a b n q (exprs_sites s es) (plain_exprs s es)
 
-  pub block_fits : (s : Source) (a b n m : ℕ) (x : BlockTree) → IsBlock x → a < n → m ≤ suc b → Rises n (block_tokens x) m →
+  pub block_fits : (s : TokenSpellings) (a b n m : ℕ) (x : BlockTree) → IsBlock x → a < n → m ≤ suc b → Rises n (block_tokens x) m →
       (suc (close_of x) ≤ m) × Segment s.rank a b n (close_of x) (block_sites s x)
   block_fits s a b n m (block o ss c) w an mb h =
       let no : n ≤ o = h.0 in
@@ -275,7 +275,7 @@ mutual
             (statements_fits s o c (suc o) c ss w.1 (omega arith) (omega arith) (rises_up (suc o) (statements_tokens ss) r.0 c rc r.1.0)),
       )
 
-  pub statements_fits : (s : Source) (a b n c : ℕ) (ss : StatementTrees) → AreStatements ss → a < n → c ≤ b → Rises n (statements_tokens ss) c →
+  pub statements_fits : (s : TokenSpellings) (a b n c : ℕ) (ss : StatementTrees) → AreStatements ss → a < n → c ≤ b → Rises n (statements_tokens ss) c →
       Segment s.rank a b n c (statements_sites s (blocks.Inner s.rank a b) c ss)
   statements_fits s a b n c no_statement w an cb h = (tt, tt)
   statements_fits s a b n c (statement x None rest) w an cb h =
@@ -294,7 +294,7 @@ mutual
       (statement_fits s a b n p x w.0 an (omega arith) (rises_up n (statement_tokens x) r.0 p rp r.1.0))
       (statements_fits s a b (suc p) c rest w.2 (omega arith) cb r.1.1.1)
 
-  pub if_fits : (s : Source) (a b n q : ℕ) (x : IfTree) → IsIf x → a < n → q ≤ b → Rises n (if_tokens x) q → Segment s.rank a b n q (if_sites s q x)
+  pub if_fits : (s : TokenSpellings) (a b n q : ℕ) (x : IfTree) → IsIf x → a < n → q ≤ b → Rises n (if_tokens x) q → Segment s.rank a b n q (if_sites s q x)
   if_fits s a b n q (if_tree p init e x rest) w an qb h =
       let np : n ≤ p = h.0 in
       let B = blocks.Inner s.rank p q in
@@ -317,7 +317,7 @@ mutual
       (segment_plain_before s.rank p q (suc u.0) q (expr_sites s e) (block_sites s x ++ else_sites s q rest) (plain_expr s e)
       (segment_join s.rank p q (suc u.0) (close_of x) q (block_sites s x) (else_sites s q rest) (omega arith) (omega arith) y.1 z)))
 
-  pub else_fits : (s : Source) (a b n q : ℕ) (x : ElseTree) → IsElse x → a < n → q ≤ b → Rises n (else_tokens x) q → Segment s.rank a b n q (else_sites s q x)
+  pub else_fits : (s : TokenSpellings) (a b n q : ℕ) (x : ElseTree) → IsElse x → a < n → q ≤ b → Rises n (else_tokens x) q → Segment s.rank a b n q (else_sites s q x)
   else_fits s a b n q no_else w an qb h = (tt, tt)
   else_fits s a b n q (else_if p x) w an qb h =
       let np : n ≤ p = h.0 in

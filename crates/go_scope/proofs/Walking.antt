@@ -4,7 +4,7 @@ use Rattle.std.specs.Option.{ForSome}
 use Rattle.std.proofs.lemmas.Bool.{cases_order}
 use Rattle.go_scope.specs.Bindings.{Layout, Names}
 use Rattle.go_scope.specs.Leading.{IsLeadInside}
-use Rattle.go_scope.specs.OpenBlocks.{IsOver, IsLastOpen, AreLinked}
+use Rattle.go_scope.specs.OpenBlocks.{IsOver, IsLastOpen, AreOpenLinked}
 use Rattle.go_scope.proofs.Following.{over_later}
 
 -- d is the next declaration or comes after it
@@ -46,14 +46,14 @@ module _ (l : Layout) (size : ℕ) (names : Names) (name : List ℕ) where
   ]
 
   -- the next declaration after d
-  next_last : (n : ℕ) (around : List (Option ℕ)) (d : ℕ) (next x : Option ℕ) → AreLinked l size names n around → (d < n) × IsLeadInside l names name d →
+  next_last : (n : ℕ) (around : List (Option ℕ)) (d : ℕ) (next x : Option ℕ) → AreOpenLinked l size names n around → (d < n) × IsLeadInside l names name d →
       next ≡ get_or around d x → IsLastOpen l size names name d next
   next_last n around d next x h k e =
       let P : Option ℕ → Type 0 = λ y. IsLastOpen l size names (names d) d y in
       let Q : List ℕ → Type 0 = λ y. IsLastOpen l size names y d next in
       subst Q k.1.named (subst P (sym e) (h.each d x k.0 (record { leads = k.1.leads; named = refl; inner = k.1.inner })))
 
-  module _ (n : ℕ) (around : List (Option ℕ)) (at next x : Option ℕ) (d : ℕ) (h : AreLinked l size names n around) (is : at ≡ Some d)
+  module _ (n : ℕ) (around : List (Option ℕ)) (at next x : Option ℕ) (d : ℕ) (h : AreOpenLinked l size names n around) (is : at ≡ Some d)
       (en : next ≡ get_or around d x) (k : IsKnown n at) where
     -- a declaration that is left at d, other than d, is left after d
     pub walk_left : (e : ℕ) → IsLeadInside l names name e → (IsOver l size d e → ⊥) → IsLeft at e → (e ≡ d → ⊥) → IsLeft next e
@@ -92,7 +92,7 @@ module _ (l : Layout) (size : ℕ) (names : Names) (name : List ℕ) where
     ],
   )
 
-  pub drop_over : (n : ℕ) (around : List (Option ℕ)) (at next x : Option ℕ) (d : ℕ) → AreLinked l size names n around → at ≡ Some d →
+  pub drop_over : (n : ℕ) (around : List (Option ℕ)) (at next x : Option ℕ) (d : ℕ) → AreOpenLinked l size names n around → at ≡ Some d →
       next ≡ get_or around d x → IsOver l size n d → IsLastOpen l size names name n at → IsLastOpen l size names name n next
   drop_over n around at next x d h is en over opened =
       let P : Option ℕ → Type 0 = λ a. IsLastOpen l size names name n a in

@@ -7,52 +7,52 @@ use Rattle.go_scope.specs.declared.model.Role.{Role}
 use Rattle.go_scope.specs.declared.model.Role.TheVariants.{Use, Declaring, Implied, NotLexical}
 use Rattle.go_scope.specs.declared.model.Purpose.{Purpose}
 use Rattle.go_scope.specs.declared.model.Purpose.TheVariants as purpose
-use Rattle.go_scope.specs.Site.{Site, Source, site}
+use Rattle.go_scope.specs.Site.{Site, TokenSpellings, site}
 use Rattle.go_scope.specs.ExpressionSites.{sites_if, list_sites, type_sites}
 use Rattle.go_scope.specs.StatementSites.{ident_sites, group_sites, open_of, close_of, block_sites}
 use Rattle.go_ast.specs.Tree.{Group, GlobalTree, FieldTree, BodyTree, Other, Struct, TypeSpecTree, ReceiverTree, ParamTree, ResultTree, no_result}
 use Rattle.go_ast.specs.Tree.{one_result, results, FuncTree, ImportTree, ImportsTree, DeclTree, VarDecl, TypeDecl, FuncDecl, FileTree}
 
 -- the identifier of a name that the package block declares
-abbrev pub global_name : Source → ℕ → List Site
+abbrev pub global_name : TokenSpellings → ℕ → List Site
 global_name s n = site s n (Declaring Package 0) ∷ []
 
 -- the identifier of a field's name in its declaration
-abbrev pub member_name : Source → ℕ → List Site
+abbrev pub member_name : TokenSpellings → ℕ → List Site
 member_name s n = site s n (NotLexical purpose.Member) ∷ []
 
 -- the identifiers of a group whose specs declare no local variables
 abbrev pub spec_sites : {X : Type 0} → (X → List Site) → Group X → List Site
 spec_sites f g = group_sites (λ following. f) 0 g
 
-unfoldable pub global_sites : Source → GlobalTree → List Site
+unfoldable pub global_sites : TokenSpellings → GlobalTree → List Site
 global_sites s g = list_sites (global_name s) g.names ++ type_sites s g.type_use
 
-unfoldable pub field_sites : Source → FieldTree → List Site
+unfoldable pub field_sites : TokenSpellings → FieldTree → List Site
 field_sites s f = list_sites (member_name s) f.names ++ type_sites s f.type_use
 
-unfoldable pub body_sites : Source → BodyTree → List Site
+unfoldable pub body_sites : TokenSpellings → BodyTree → List Site
 body_sites s (Other t) = type_sites s t
 body_sites s (Struct p o fs c) = list_sites (field_sites s) fs
 
-unfoldable pub type_spec_sites : Source → TypeSpecTree → List Site
+unfoldable pub type_spec_sites : TokenSpellings → TypeSpecTree → List Site
 type_spec_sites s t = global_name s t.name ++ body_sites s t.body
 
 -- the identifiers of a receiver, declared in the block b of the body with a scope from the token `start`
-unfoldable pub receiver_sites : Source → Block → ℕ → ReceiverTree → List Site
+unfoldable pub receiver_sites : TokenSpellings → Block → ℕ → ReceiverTree → List Site
 receiver_sites s b start r = ident_sites s (Declaring b start) r.name ++ (site s r.type_name Use ∷ [])
 
 -- the identifiers of parameters of one type, declared in the block b of the body with scopes from the token `start`
-unfoldable pub param_sites : Source → Block → ℕ → ParamTree → List Site
+unfoldable pub param_sites : TokenSpellings → Block → ℕ → ParamTree → List Site
 param_sites s b start p = list_sites (ident_sites s (Declaring b start)) p.names ++ type_sites s p.type_use
 
-unfoldable pub result_sites : Source → ResultTree → List Site
+unfoldable pub result_sites : TokenSpellings → ResultTree → List Site
 result_sites s no_result = []
 result_sites s (one_result t) = type_sites s t
 result_sites s (results o ts c) = list_sites (type_sites s) ts
 
 -- the block of a function's body
-abbrev pub func_block : Source → FuncTree → Block
+abbrev pub func_block : TokenSpellings → FuncTree → Block
 func_block s f = Inner s.rank (open_of f.body) (close_of f.body)
 
 -- the role of a function's name: a method is a member, a function `init` is declared in no block, any other in the package block
@@ -60,13 +60,13 @@ abbrev pub func_role : Option ReceiverTree → List ℕ → Role
 func_role None name = if bytes_eq name (codes "init") then NotLexical purpose.InitFunction else Declaring Package 0
 func_role (Some r) name = NotLexical purpose.Member
 
-unfoldable pub func_sites : Source → FuncTree → List Site
+unfoldable pub func_sites : TokenSpellings → FuncTree → List Site
 func_sites s f =
     sites_if (receiver_sites s (func_block s f) (open_of f.body)) f.receiver ++ (site s f.name (func_role f.receiver (s.spell f.name)) ∷
     (list_sites (param_sites s (func_block s f) (open_of f.body)) f.params ++ (result_sites s f.result ++ block_sites s f.body)))
 
 -- the identifier of an import's name, declared in the block of its file; none where the import has no name
-abbrev pub import_name : Source → Option ℕ → List Site
+abbrev pub import_name : TokenSpellings → Option ℕ → List Site
 import_name s None = []
 import_name s (Some n) = site s n (Declaring (File s.rank) 0) ∷ []
 
@@ -75,19 +75,19 @@ abbrev pub import_purpose : Option ℕ → Purpose
 import_purpose None = purpose.UnnamedImport
 import_purpose (Some n) = purpose.ImportPath
 
-unfoldable pub import_sites : Source → ImportTree → List Site
+unfoldable pub import_sites : TokenSpellings → ImportTree → List Site
 import_sites s i = import_name s i.name ++ (site s i.path (NotLexical (import_purpose i.name)) ∷ [])
 
-unfoldable pub imports_sites : Source → ImportsTree → List Site
+unfoldable pub imports_sites : TokenSpellings → ImportsTree → List Site
 imports_sites s i = spec_sites (import_sites s) i.imports
 
-unfoldable pub decl_sites : Source → DeclTree → List Site
+unfoldable pub decl_sites : TokenSpellings → DeclTree → List Site
 decl_sites s (VarDecl k g semicolon) = spec_sites (global_sites s) g
 decl_sites s (TypeDecl k g semicolon) = spec_sites (type_spec_sites s) g
 decl_sites s (FuncDecl k f semicolon) = func_sites s f
 
 -- the identifiers of a file
-unfoldable pub file_sites : Source → FileTree → List Site
+unfoldable pub file_sites : TokenSpellings → FileTree → List Site
 file_sites s f = site s f.name (NotLexical purpose.PackageClause) ∷ (flat_map (imports_sites s) f.imports ++ flat_map (decl_sites s) f.decls)
 
 -- the predeclared names of the Go subset

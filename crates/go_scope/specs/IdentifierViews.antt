@@ -3,14 +3,14 @@ use Rattle.std.specs.Prelude.{◌≡◌, List, ◌++◌, map}
 use Rattle.go_ast.specs.SourceFile as parsed
 use Rattle.go_scope.specs.declared.model.Identifier.{Identifier}
 use Rattle.go_scope.specs.declared.source.RankedFile.{RankedFile}
-use Rattle.go_scope.specs.Site.{Site, Source}
+use Rattle.go_scope.specs.Site.{Site, TokenSpellings}
 
 -- the identifier that the program's identifier stands for
 abbrev pub site_of : Identifier → Site
 site_of x = record { place = x.place; name = x.name.now; role = x.role }
 
 -- the file that the program's file stands for
-abbrev pub as_source : RankedFile → Source
+abbrev pub as_source : RankedFile → TokenSpellings
 as_source f = record { rank = f.rank; spell = parsed.spelling_of (parsed.source_of f.tree.now) }
 
 -- the list `new` is `old` with the identifiers `more` at its end

@@ -34,7 +34,7 @@ pub record AreLasts (l : Layout) (size : ℕ) (names : Names) (n : ℕ) (last : 
   pub each : (name : ℕ) (x : Option ℕ) → name < size → IsLastOpen l size names (name ∷ []) n (slice_index_or last name x)
 
 -- `around` gives, for each first declaration of a name in an inner block, the one before it as in `IsLastOpen`; it has n entries
-pub record AreLinked (l : Layout) (size : ℕ) (names : Names) (n : ℕ) (around : List (Option ℕ)) : Type 0 where
+pub record AreOpenLinked (l : Layout) (size : ℕ) (names : Names) (n : ℕ) (around : List (Option ℕ)) : Type 0 where
   pub sized : length around ≡ n
   pub each : (d : ℕ) (x : Option ℕ) → d < n → IsLeadInside l names (names d) d → IsLastOpen l size names (names d) d (slice_index_or around d x)
 
@@ -51,5 +51,5 @@ AreNearest l names n around =
 pub record AreNameLinks (xs : List Identifier) (numbers : List ℕ) (n : ℕ) (links : Links) : Type 0 where
   pub outer : AreOuter (layout_of xs) (numerals numbers) n links.outer
   pub lasts : AreLasts (layout_of xs) (length xs) (numerals numbers) n links.last.items
-  pub linked : AreLinked (layout_of xs) (length xs) (numerals numbers) n links.around.items
+  pub linked : AreOpenLinked (layout_of xs) (length xs) (numerals numbers) n links.around.items
   pub near : AreNearest (layout_of xs) (numerals numbers) n links.around.items

@@ -13,12 +13,12 @@ pub record Site : Type 0 where
   pub role : Role
 
 -- a file of a package: its rank by path, and the bytes of each token
-pub record Source : Type 0 where
+pub record TokenSpellings : Type 0 where
   pub rank : ℕ
   pub spell : ℕ → List ℕ
 
 -- the identifier of the token of index i, with this role
-abbrev pub site : Source → ℕ → Role → Site
+abbrev pub site : TokenSpellings → ℕ → Role → Site
 site s i role = record { place = record { file = s.rank; index = i }; name = s.spell i; role = role }
 
 -- an optional identifier; where there is none, a `_` without a name

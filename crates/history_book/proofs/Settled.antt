@@ -7,8 +7,8 @@ use Rattle.history_machine.specs.State.{State}
 use Rattle.history_machine.specs.Machine.{Content}
 use Rattle.history_book.specs.Outcomes.{HasOutcome, TakesInOutcome}
 use Rattle.history_machine.specs.Step.{AnswersOrLacks}
-use Rattle.history_book.specs.declared.deliveries.Outcome.{Outcome}
-use Rattle.history_book.specs.declared.deliveries.Outcome.TheVariants.{Late, Known, Entered}
+use Rattle.history_book.specs.declared.deliveries.DeliveryOutcome.{DeliveryOutcome}
+use Rattle.history_book.specs.declared.deliveries.DeliveryOutcome.TheVariants.{Late, Known, Entered}
 use Rattle.history_machine.specs.declared.event.Event.TheVariants.{Deliver}
 use Rattle.history_machine.specs.declared.event.Reply.{Reply}
 
@@ -16,7 +16,7 @@ module _ (m : Content) (job : JobRecord) (built : Built) (out : JobsOut) (lost :
   abbrev after : State → Content
   after new = record m { current = new; out = out }
 
-  pub settled : (outcome : Outcome) (reply : Reply) (new : State) → HasOutcome m.current job built outcome → TakesInOutcome m.current outcome reply new →
+  pub settled : (outcome : DeliveryOutcome) (reply : Reply) (new : State) → HasOutcome m.current job built outcome → TakesInOutcome m.current outcome reply new →
       AnswersOrLacks m (Deliver job built) reply (after new)
   settled Late reply new comes s =
       subst (λ (r : Reply). AnswersOrLacks m (Deliver job built) r (after new)) (sym s.0) (comes, refl, (out, lost, ap (λ (x : State). after x) s.1))

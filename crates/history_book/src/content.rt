@@ -9,7 +9,7 @@ ghost use Rattle.history_book.specs.Outcomes.{HasOutcome};
 ghost use Rattle.history_machine.specs.Step.{AnswersOrLacks, committed, done, looked, taken};
 ghost use Rattle.history_machine.specs.declared.event.Event.TheVariants.{Commit, Deliver, GiveBack, Look, Redo, Take, Undo};
 
-use crate::deliveries::{Outcome, outcome_of, outcome_on_current};
+use crate::deliveries::{DeliveryOutcome, outcome_of, outcome_on_current};
 use crate::following::state_after;
 use crate::handed::{Handed, take_in};
 use crate::history::History;
@@ -201,7 +201,12 @@ impl Content {
     }
 
     /// Takes the Job back, and lets the outcome of its delivery into the current state. A Job that is not out comes back.
-    fn enter(&mut self, job: Job, built: Built, outcome: Result<Outcome, AllocError>) -> Handed
+    fn enter(
+        &mut self,
+        job: Job,
+        built: Built,
+        outcome: Result<DeliveryOutcome, AllocError>,
+    ) -> Handed
         requires { IfOk outcome (HasOutcome self.old.current job built) }
         ensures { AnswersOrLacks self.old (Deliver job built) (handed result) self.new }
     {

@@ -14,7 +14,7 @@ use workspace_check::SharedKnown;
 
 /// The outcome of a delivery.
 #[derive(Drop)]
-pub(crate) enum Outcome {
+pub(crate) enum DeliveryOutcome {
     /// The Job, or what was built, is not of the state.
     Late,
     /// The package was finished before.
@@ -29,20 +29,20 @@ fn outcome_at(
     state: &State,
     number: usize,
     built: &Built,
-) -> Result<Outcome, AllocError>
+) -> Result<DeliveryOutcome, AllocError>
     requires number { slice_get (package_paths state.now.files) number ≡ Some built.now.package }
     requires inputs { AreInputs state.now.files built.now.package built.now.inputs }
     ensures { IfOk result (FreshOutcome state.now built.now) }
 {
     if state.finished.get(number).is_some() {
-        return Ok(Outcome::Known);
+        return Ok(DeliveryOutcome::Known);
     }
     built.is_right();
     let made = built.unit();
     let unit = made.clone()?;
     let finished = state.finished.with_unit(alloc, number, unit)?;
     let known = learned(alloc, &state.files, &state.known, built)?;
-    Ok(Outcome::Entered(finished, known))
+    Ok(DeliveryOutcome::Entered(finished, known))
 }
 
 /// The outcome of a delivery to a state. The texts of the package's closure are compared.
@@ -51,11 +51,11 @@ pub(crate) fn outcome_of(
     state: &State,
     job: &Job,
     built: &Built,
-) -> Result<Outcome, AllocError>
+) -> Result<DeliveryOutcome, AllocError>
     ensures { IfOk result (HasOutcome state.now job.now built.now) }
 {
     let Some(number) = fresh_number(alloc, state, job, built)? else {
-        return Ok(Outcome::Late);
+        return Ok(DeliveryOutcome::Late);
     };
     outcome_at(alloc, state, number, built)
 }
@@ -66,12 +66,12 @@ pub(crate) fn outcome_on_current(
     state: &State,
     job: &Job,
     built: &Built,
-) -> Result<Outcome, AllocError>
+) -> Result<DeliveryOutcome, AllocError>
     requires { HasCurrentInputs state.now.files job.now built.now }
     ensures { IfOk result (HasOutcome state.now job.now built.now) }
 {
     let Some(number) = number_of(state, job, built) else {
-        return Ok(Outcome::Late);
+        return Ok(DeliveryOutcome::Late);
     };
     outcome_at(alloc, state, number, built)
 }

@@ -2,7 +2,7 @@
 ghost use Rattle.history_book.specs.Outcomes.{FitsState, TakesInOutcome};
 ghost use Rattle.history_book.specs.Handed.{handed};
 
-use crate::deliveries::Outcome;
+use crate::deliveries::DeliveryOutcome;
 use base_files::Refusal;
 use build_unit::{Built, Job};
 use history_machine::State;
@@ -16,16 +16,16 @@ pub enum Handed {
 }
 
 /// Lets the outcome of a delivery into the current state, and returns the answer.
-pub(crate) fn take_in(current: &mut State, outcome: Outcome) -> Handed
+pub(crate) fn take_in(current: &mut State, outcome: DeliveryOutcome) -> Handed
     requires { FitsState current.old outcome }
     ensures { TakesInOutcome current.old outcome (handed result) current.new }
 {
     match outcome {
-        Outcome::Late => Handed::Refused(Refusal::Stale {
+        DeliveryOutcome::Late => Handed::Refused(Refusal::Stale {
             current: current.number,
         }),
-        Outcome::Known => Handed::Refused(Refusal::Already),
-        Outcome::Entered(finished, known) => {
+        DeliveryOutcome::Known => Handed::Refused(Refusal::Already),
+        DeliveryOutcome::Entered(finished, known) => {
             current.finished = finished;
             current.known = known;
             Handed::Done(current.number)

@@ -6,7 +6,7 @@ use Rattle.base_lemmas.proofs.Elements.{first_in, later_in}
 use Rattle.go_ast.specs.Flatten.{flatten}
 use Rattle.go_scope.specs.declared.model.Block.{Block}
 use Rattle.go_scope.specs.declared.model.Block.TheVariants.{Package, File, Inner}
-use Rattle.go_scope.specs.Site.{Source}
+use Rattle.go_scope.specs.Site.{TokenSpellings}
 use Rattle.go_scope.proofs.Rising.{rises_of}
 use Rattle.law_blocks.specs.Ranges.{Range, BlockRange, file_blocks, import_ranges}
 use Rattle.law_blocks.specs.Lookup.{Spans, Surrounds, IsApartOrAround, NestOrAreApart, IsInnermost, IsBlockAmong, inside, outside, IsOuterBlock, imported}
@@ -18,7 +18,7 @@ use Rattle.law_blocks.proofs.Unique.{block_once}
 
 pub blocks_nest : BlocksNestOrAreApart
 blocks_nest f w =
-    let s : Source = record { rank = 0; spell = f.spell } in
+    let s : TokenSpellings = record { rank = 0; spell = f.spell } in
     let bound = rises_of 0 (flatten f.tree) w.rising in
     file_nests s bound.0 f.tree w.grouped bound.1
 

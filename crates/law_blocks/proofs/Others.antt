@@ -15,7 +15,7 @@ use Rattle.go_scope.specs.declared.model.Block.TheVariants as blocks
 use Rattle.go_scope.specs.declared.model.Role.TheVariants.{Use, Declaring, NotLexical}
 use Rattle.go_scope.specs.declared.model.Purpose.TheVariants as purpose
 use Rattle.go_scope.specs.Named.{is_unnamed_import}
-use Rattle.go_scope.specs.Site.{Site, Source, site}
+use Rattle.go_scope.specs.Site.{Site, TokenSpellings, site}
 use Rattle.go_scope.specs.ExpressionSites.{sites_if, list_sites, type_sites, key_sites, expr_sites, operand_sites, link_sites, argument_sites}
 use Rattle.go_scope.specs.ExpressionSites.{literal_sites, element_sites, exprs_sites}
 use Rattle.go_scope.specs.StatementSites.{ident_sites, left_sites, assigned_sites, simple_sites, value_sites, local_sites, separated_sites, group_sites}
@@ -27,7 +27,7 @@ use Rattle.go_scope.proofs.Regions.{Each, each_append}
 abbrev pub IsOther : Site → Type 0
 IsOther x = is_unnamed_import x.role ≡ false
 
-module _ (s : Source) where
+module _ (s : TokenSpellings) where
   and : (xs ys : List Site) → Each IsOther xs → Each IsOther ys → Each IsOther (xs ++ ys)
   and xs ys a b = each_append IsOther xs ys a b
 

@@ -18,7 +18,7 @@ use Rattle.go_scope.specs.declared.model.Block.TheVariants.{Package, File, Inner
 use Rattle.go_scope.specs.declared.model.Role.TheVariants.{Use, Declaring, NotLexical}
 use Rattle.go_scope.specs.declared.model.Purpose.TheVariants as purpose
 use Rattle.go_scope.specs.Bindings.{may_declare, is_implied, block_of, start_of}
-use Rattle.go_scope.specs.Site.{Site, Source, site}
+use Rattle.go_scope.specs.Site.{Site, TokenSpellings, site}
 use Rattle.go_scope.specs.ExpressionSites.{list_sites, type_sites}
 use Rattle.go_scope.specs.StatementSites.{ident_sites, separated_sites, group_sites, open_of, close_of, block_sites}
 use Rattle.go_scope.specs.FileSites.{global_name, member_name, spec_sites, global_sites, field_sites, body_sites, type_spec_sites, receiver_sites}
@@ -58,10 +58,10 @@ level_group P k q tokens sites one n m (several o xs c) kn mq h =
     let cm : suc c ≤ m = r.1.1.1 in
     each_rising P tokens sites kind.Semicolon k q one (suc o) r.0 xs (omega arith) (omega arith) r.1.0
 
-name_at : (s : Source) (k q n m i : ℕ) → k ≤ n → m ≤ q → Rises n (name_tokens i) m → Each (AtLevel Package k q) (global_name s i)
+name_at : (s : TokenSpellings) (k q n m i : ℕ) → k ≤ n → m ≤ q → Rises n (name_tokens i) m → Each (AtLevel Package k q) (global_name s i)
 name_at s k q n m i kn mq h = ((λ may. (omega (arith, h.0), omega (arith, h.1), refl, refl, refl)), tt)
 
-global_at : (s : Source) (k q n m : ℕ) (g : GlobalTree) → k ≤ n → m ≤ q → Rises n (global_tokens g) m → Each (AtLevel Package k q) (global_sites s g)
+global_at : (s : TokenSpellings) (k q n m : ℕ) (g : GlobalTree) → k ≤ n → m ≤ q → Rises n (global_tokens g) m → Each (AtLevel Package k q) (global_sites s g)
 unfolding global_sites global_tokens
 global_at s k q n m g kn mq h =
     let behind = type_tokens g.type_use ++ tokens_if (value_tokens basic_tokens) g.values in
@@ -72,20 +72,20 @@ global_at s k q n m g kn mq h =
     (omega arith) r.1.0)
     (level_plain Package k q (type_sites s g.type_use) (plain_type s g.type_use))
 
-plain_member : (s : Source) (n : ℕ) → Plain (member_name s n)
+plain_member : (s : TokenSpellings) (n : ℕ) → Plain (member_name s n)
 plain_member s n = (refl, tt)
 
-plain_field : (s : Source) (f : FieldTree) → Plain (field_sites s f)
+plain_field : (s : TokenSpellings) (f : FieldTree) → Plain (field_sites s f)
 unfolding field_sites
 plain_field s f = plain_append (list_sites (member_name s) f.names) (type_sites s f.type_use) (plain_list (member_name s) (plain_member s) f.names)
     (plain_type s f.type_use)
 
-plain_body : (s : Source) (b : BodyTree) → Plain (body_sites s b)
+plain_body : (s : TokenSpellings) (b : BodyTree) → Plain (body_sites s b)
 unfolding body_sites
 plain_body s (Other t) = plain_type s t
 plain_body s (Struct p o fs c) = plain_list (field_sites s) (plain_field s) fs
 
-type_spec_at : (s : Source) (k q n m : ℕ) (t : TypeSpecTree) → k ≤ n → m ≤ q → Rises n (type_spec_tokens t) m →
+type_spec_at : (s : TokenSpellings) (k q n m : ℕ) (t : TypeSpecTree) → k ≤ n → m ≤ q → Rises n (type_spec_tokens t) m →
     Each (AtLevel Package k q) (type_spec_sites s t)
 unfolding type_spec_sites type_spec_tokens
 type_spec_at s k q n m t kn mq h =
@@ -95,13 +95,13 @@ type_spec_at s k q n m t kn mq h =
 
 -- functions
 
-plain_result : (s : Source) (r : ResultTree) → Plain (result_sites s r)
+plain_result : (s : TokenSpellings) (r : ResultTree) → Plain (result_sites s r)
 unfolding result_sites
 plain_result s no_result = tt
 plain_result s (one_result t) = plain_type s t
 plain_result s (results o ts c) = plain_list (type_sites s) (plain_type s) ts
 
-receiver_at : (s : Source) (b : Block) (k q n m : ℕ) (r : ReceiverTree) → k ≤ n → m ≤ q → Rises n (receiver_tokens r) m →
+receiver_at : (s : TokenSpellings) (b : Block) (k q n m : ℕ) (r : ReceiverTree) → k ≤ n → m ≤ q → Rises n (receiver_tokens r) m →
     Each (AtSpec b k q) (receiver_sites s b q r)
 unfolding receiver_sites receiver_tokens
 receiver_at s b k q n m r kn mq h =
@@ -112,7 +112,7 @@ receiver_at s b k q n m r kn mq h =
     each_append (AtSpec b k q) (ident_sites s (Declaring b q) r.name) (site s r.type_name Use ∷ [])
     (ident_at s b k q (suc r.lparen) u.0 r.name (omega arith) (omega arith) u.1.0) ((λ m. no_declaration m), tt)
 
-param_at : (s : Source) (b : Block) (k q n m : ℕ) (p : ParamTree) → k ≤ n → m ≤ q → Rises n (param_tokens p) m → Each (AtSpec b k q) (param_sites s b q p)
+param_at : (s : TokenSpellings) (b : Block) (k q n m : ℕ) (p : ParamTree) → k ≤ n → m ≤ q → Rises n (param_tokens p) m → Each (AtSpec b k q) (param_sites s b q p)
 unfolding param_sites param_tokens
 param_at s b k q n m p kn mq h =
     let u = rises_split n (list_tokens kind.Comma ident_tokens p.names) (type_tokens p.type_use) m h in
@@ -120,7 +120,7 @@ param_at s b k q n m p kn mq h =
     each_append (AtSpec b k q) (list_sites (ident_sites s (Declaring b q)) p.names) (type_sites s p.type_use)
     (idents_at s b k q n u.0 p.names kn (omega arith) u.1.0) (spec_plain b k q (type_sites s p.type_use) (plain_type s p.type_use))
 
-body_laid : (s : Source) (k m : ℕ) (x : BlockTree) → IsBlock x → Rises k (block_tokens x) m →
+body_laid : (s : TokenSpellings) (k m : ℕ) (x : BlockTree) → IsBlock x → Rises k (block_tokens x) m →
     (k ≤ open_of x) × (open_of x < close_of x) × (suc (close_of x) ≤ m) ×
     Laid s.rank (Inner s.rank (open_of x) (close_of x)) (suc (open_of x)) (close_of x) (body_blocks x) (braced_specs x) (block_sites s x)
 unfolding block_tokens block_sites braced_specs IsBlock
@@ -135,7 +135,7 @@ body_laid s k m (block o ss c) w h =
     )
 
 -- the parameters, the results and the body of a function, in its block from the token k on
-module _ (s : Source) (k o c : ℕ) (ps : List (Item ParamTree)) (result : ResultTree) (rs : List BlockRange) (es : List Range) (body : List Site)
+module _ (s : TokenSpellings) (k o c : ℕ) (ps : List (Item ParamTree)) (result : ResultTree) (rs : List BlockRange) (es : List Range) (body : List Site)
     (ko : k ≤ o) (oc : o < c) (laid : Laid s.rank (Inner s.rank o c) (suc o) c rs es body) where
   abbrev own_block : Block
   own_block = Inner s.rank o c
@@ -158,7 +158,7 @@ module _ (s : Source) (k o c : ℕ) (ps : List (Item ParamTree)) (result : Resul
       (each_rising (AtSpec own_block k o) param_tokens (param_sites s own_block o) kind.Comma k o
       (λ i j p ki jo r. param_at s own_block k o i j p ki jo r) n m ps kn mo h) behind_head
 
-named_at : (s : Source) (n q i : ℕ) (b : Bool) → n ≤ i → i < q →
+named_at : (s : TokenSpellings) (n q i : ℕ) (b : Bool) → n ≤ i → i < q →
     AtLevel Package n q (site s i (if b then NotLexical purpose.InitFunction else Declaring Package 0))
 named_at s n q i true ni iq = λ m. no_declaration m
 named_at s n q i false ni iq = λ m. (ni, iq, refl, refl, refl)
@@ -171,7 +171,7 @@ receiver_first n m r h =
     (sign kind.Name r.type_name ∷ (sign_if kind.Comma r.comma ++ (sign kind.RightParen r.rparen ∷ [])))) in
     (h.0, rises_le (suc r.lparen) behind m h.1, (omega arith, h.1))
 
-func_with : (s : Source) (n m : ℕ) (receiver : Option ReceiverTree) (name lparen : ℕ) (params : List (Item ParamTree)) (rparen : ℕ)
+func_with : (s : TokenSpellings) (n m : ℕ) (receiver : Option ReceiverTree) (name lparen : ℕ) (params : List (Item ParamTree)) (rparen : ℕ)
     (result : ResultTree) (body : BlockTree) → IsBlock body → let f : FuncTree = record {
       receiver = receiver;
       name = name;
@@ -247,11 +247,11 @@ func_with s n m (Some r) name lparen params rparen result body w h =
     (laid_inside s.rank Package (record { first = k; from = o; last = c }) rs (range k o ∷ es) (receiver_sites s B o r ++ (named ∷ xs)) (omega arith)
     (blocks_wider (suc o) c (suc k) c rs (omega arith) (omega arith) y.3.blocks) all)
 
-func_laid : (s : Source) (n m : ℕ) (f : FuncTree) → IsFunc f → Rises n (func_tokens f) m →
+func_laid : (s : TokenSpellings) (n m : ℕ) (f : FuncTree) → IsFunc f → Rises n (func_tokens f) m →
     Laid s.rank Package n m (func_range f ∷ body_blocks f.body) (signature_range f ∷ braced_specs f.body) (func_sites s f)
 func_laid s n m f w h = func_with s n m f.receiver f.name f.lparen f.params f.rparen f.result f.body w.body h
 
-decl_laid : (s : Source) (n m : ℕ) (d : DeclTree) → IsDecl d → Rises n (decl_tokens d) m →
+decl_laid : (s : TokenSpellings) (n m : ℕ) (d : DeclTree) → IsDecl d → Rises n (decl_tokens d) m →
     Laid s.rank Package n m (decl_blocks d) (decl_specs d) (decl_sites s d)
 unfolding decl_tokens decl_sites
 decl_laid s n m (VarDecl k g semicolon) w h =
@@ -275,7 +275,7 @@ decl_laid s n m (FuncDecl k f semicolon) w h =
     laid_wider s.rank Package (suc k) r.0 n m (func_range f ∷ body_blocks f.body) (signature_range f ∷ braced_specs f.body) (func_sites s f) (omega arith) rm
     (func_laid s (suc k) r.0 f w r.1.0)
 
-decls_laid : (s : Source) (n m : ℕ) (ds : List DeclTree) → All IsDecl ds → Rises n (all_tokens decl_tokens ds) m →
+decls_laid : (s : TokenSpellings) (n m : ℕ) (ds : List DeclTree) → All IsDecl ds → Rises n (all_tokens decl_tokens ds) m →
     Laid s.rank Package n m (flat_map decl_blocks ds) (flat_map decl_specs ds) (flat_map (decl_sites s) ds)
 unfolding all_tokens
 decls_laid s n m [] w h = laid_plain s.rank Package n m [] tt
@@ -289,15 +289,15 @@ decls_laid s n m (d ∷ ds) w h =
 -- imports
 
 -- an identifier of an import, from the token k on, before q
-abbrev AtImport : Source → ℕ → ℕ → Site → Type 0
+abbrev AtImport : TokenSpellings → ℕ → ℕ → Site → Type 0
 AtImport s k q x = (k ≤ x.place.index) × (x.place.index < q) ×
     (may_declare x.role ≡ true → (block_of x.role ≡ File s.rank) × (start_of x.role ≡ 0) × (is_implied x.role ≡ false))
 
-import_name_at : (s : Source) (k q n m : ℕ) (x : Option ℕ) → k ≤ n → m ≤ q → Rises n (sign_if kind.Name x) m → Each (AtImport s k q) (import_name s x)
+import_name_at : (s : TokenSpellings) (k q n m : ℕ) (x : Option ℕ) → k ≤ n → m ≤ q → Rises n (sign_if kind.Name x) m → Each (AtImport s k q) (import_name s x)
 import_name_at s k q n m None kn mq h = tt
 import_name_at s k q n m (Some i) kn mq h = ((omega (arith, h.0), omega (arith, h.1), λ may. (refl, refl, refl)), tt)
 
-import_at : (s : Source) (k q n m : ℕ) (i : ImportTree) → k ≤ n → m ≤ q → Rises n (import_tokens i) m → Each (AtImport s k q) (import_sites s i)
+import_at : (s : TokenSpellings) (k q n m : ℕ) (i : ImportTree) → k ≤ n → m ≤ q → Rises n (import_tokens i) m → Each (AtImport s k q) (import_sites s i)
 unfolding import_sites import_tokens
 import_at s k q n m i kn mq h =
     let r = rises_split n (sign_if kind.Name i.name) (sign kind.Text i.path ∷ []) m h in
@@ -314,11 +314,11 @@ abbrev ranges_of : List ImportsTree → List Range
 ranges_of is = flat_map (λ i. record { first = i.keyword; last = i.semicolon } ∷ []) is
 
 -- an identifier of one of these imports, before the token q
-abbrev InImports : Source → ℕ → List Range → Site → Type 0
+abbrev InImports : TokenSpellings → ℕ → List Range → Site → Type 0
 InImports s q is x = (r : Range) × (Contains is r × Spans r x.place.index × (x.place.index < q) ×
     (may_declare x.role ≡ true → (block_of x.role ≡ File s.rank) × (start_of x.role ≡ 0) × (is_implied x.role ≡ false)))
 
-imports_in : (s : Source) (n q : ℕ) (i : ImportsTree) (is : List Range) → Rises n (imports_tokens i) q →
+imports_in : (s : TokenSpellings) (n q : ℕ) (i : ImportsTree) (is : List Range) → Rises n (imports_tokens i) q →
     Each (InImports s q (import_range i ∷ is)) (imports_sites s i)
 unfolding imports_sites imports_tokens
 imports_in s n q i is h =
@@ -337,7 +337,7 @@ imports_end n q i h =
     let r = rises_split (suc i.keyword) (group_tokens import_tokens i.imports) (sign kind.Semicolon i.semicolon ∷ []) q h.1 in
     (h.0, omega (arith, r.1.1.1))
 
-all_imports_in : (s : Source) (n q : ℕ) (is : List ImportsTree) → Rises n (all_tokens imports_tokens is) q →
+all_imports_in : (s : TokenSpellings) (n q : ℕ) (is : List ImportsTree) → Rises n (all_tokens imports_tokens is) q →
     RangesLie n q (ranges_of is) × Each (InImports s q (ranges_of is)) (flat_map (imports_sites s) is)
 unfolding all_tokens
 all_imports_in s n q [] h = (tt, tt)
@@ -365,7 +365,7 @@ abbrev pub IsFound : ℕ → FileTree → Site → Type 0
 IsFound rank f x = may_declare x.role ≡ true →
     (is_implied x.role ≡ false) × IsBlockAt rank f x.place.index (block_of x.role) × IsStartAt f x.place.index (start_of x.role)
 
-pub file_found : (s : Source) (m : ℕ) (f : FileTree) → IsFile f → Rises 0 (flatten f) m → Each (IsFound s.rank f) (file_sites s f)
+pub file_found : (s : TokenSpellings) (m : ℕ) (f : FileTree) → IsFile f → Rises 0 (flatten f) m → Each (IsFound s.rank f) (file_sites s f)
 unfolding flatten file_sites
 file_found s m f w h =
     let r = rises_split (suc f.semicolon) (all_tokens imports_tokens f.imports) (all_tokens decl_tokens f.decls) m h.1.1.1 in
@@ -403,7 +403,7 @@ IsLiteralFound rank f x = is_unnamed_import x.role ≡ true → IsBlockAt rank f
 no_literal : {A : Type 0} (x : Site) → IsOther x → is_unnamed_import x.role ≡ true → A
 no_literal x e k = cc
 
-pub literals_found : (s : Source) (m : ℕ) (f : FileTree) → IsFile f → Rises 0 (flatten f) m → Each (IsLiteralFound s.rank f) (file_sites s f)
+pub literals_found : (s : TokenSpellings) (m : ℕ) (f : FileTree) → IsFile f → Rises 0 (flatten f) m → Each (IsLiteralFound s.rank f) (file_sites s f)
 unfolding flatten file_sites
 literals_found s m f w h =
     let r = rises_split (suc f.semicolon) (all_tokens imports_tokens f.imports) (all_tokens decl_tokens f.decls) m h.1.1.1 in
@@ -424,7 +424,7 @@ literals_found s m f w h =
           (other_decls s f.decls)),
     )
 
-pub file_nests : (s : Source) (m : ℕ) (f : FileTree) → IsFile f → Rises 0 (flatten f) m → NestOrAreApart (file_blocks f)
+pub file_nests : (s : TokenSpellings) (m : ℕ) (f : FileTree) → IsFile f → Rises 0 (flatten f) m → NestOrAreApart (file_blocks f)
 unfolding flatten
 file_nests s m f w h =
     let r = rises_split (suc f.semicolon) (all_tokens imports_tokens f.imports) (all_tokens decl_tokens f.decls) m h.1.1.1 in

@@ -12,7 +12,7 @@ use Rattle.go_scope.specs.Bindings.{Layout, MayDeclare, may_declare, is_implied,
 use Rattle.go_scope.specs.FileSites.{SpelledFile, file_sites, files_sites, universe, universe_site, package_sites}
 use Rattle.go_scope.specs.Named.{is_unnamed_import, named_where, named_sites}
 use Rattle.go_scope.specs.Scopes.{scope_for}
-use Rattle.go_scope.specs.Site.{Site, Source, or_blank}
+use Rattle.go_scope.specs.Site.{Site, TokenSpellings, or_blank}
 use Rattle.go_scope.specs.Trees.{IsNumbered, AreNumbered}
 use Rattle.go_scope.proofs.AmongTokens.{StandsFrom, places_rise}
 use Rattle.go_scope.proofs.AmongTrees.{file_among}
@@ -58,7 +58,7 @@ files_found : (all : List SpelledFile) (rank : ℕ) (fs : List SpelledFile) → 
 unfolding files_sites
 files_found all rank [] w at = tt
 files_found all rank (f ∷ fs) w at =
-    let s : Source = record { rank = rank; spell = f.spell } in
+    let s : TokenSpellings = record { rank = rank; spell = f.spell } in
     let one = All-head IsNumbered f fs w in
     let bound = rises_of 0 (flatten f.tree) one.rising in
     let xs = file_sites s f.tree in

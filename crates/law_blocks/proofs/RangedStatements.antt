@@ -13,7 +13,7 @@ use Rattle.go_ast.specs.Tree.{no_statement, statement, IfTree, if_tree, ElseTree
 use Rattle.go_scope.specs.declared.model.Block.{Block}
 use Rattle.go_scope.specs.declared.model.Block.TheVariants as blocks
 use Rattle.go_scope.specs.declared.model.Role.TheVariants.{Declaring}
-use Rattle.go_scope.specs.Site.{Source}
+use Rattle.go_scope.specs.Site.{TokenSpellings}
 use Rattle.go_scope.specs.ExpressionSites.{sites_if, list_sites, type_sites, expr_sites, exprs_sites}
 use Rattle.go_scope.specs.StatementSites.{ident_sites, left_sites, assigned_sites, simple_sites, value_sites, local_sites, separated_sites, group_sites}
 use Rattle.go_scope.specs.StatementSites.{init_sites, for_sites, open_of, statement_sites, block_sites, statements_sites, if_sites, else_sites}
@@ -31,7 +31,7 @@ use Rattle.law_blocks.proofs.Ranged.{Laid, laid_plain, laid_wider, laid_join, la
 declares_not : {A : Type 0} → false ≡ true → A
 declares_not e = cc
 
-left_at : (s : Source) (b : Block) (k q n m : ℕ) (x : ExprTree) → k ≤ n → m ≤ q → Rises n (expr_tokens x) m → Each (AtSpec b k q) (left_sites s b q x)
+left_at : (s : TokenSpellings) (b : Block) (k q n m : ℕ) (x : ExprTree) → k ≤ n → m ≤ q → Rises n (expr_tokens x) m → Each (AtSpec b k q) (left_sites s b q x)
 unfolding expr_tokens
 left_at s b k q n m (Name i) kn mq h = ((λ may. (omega (arith, h.0), omega (arith, h.1), refl, refl, refl)), tt)
 left_at s b k q n m (Blank i) kn mq h = ((λ may. declares_not may), tt)
@@ -44,17 +44,17 @@ left_at s b k q n m (Address p l) kn mq h = spec_plain b k q (expr_sites s (Addr
 left_at s b k q n m (Chain e ls) kn mq h = spec_plain b k q (expr_sites s (Chain e ls)) (plain_expr s (Chain e ls))
 left_at s b k q n m (Binary e os) kn mq h = spec_plain b k q (expr_sites s (Binary e os)) (plain_expr s (Binary e os))
 
-pub ident_at : (s : Source) (b : Block) (k q n m : ℕ) (x : IdentTree) → k ≤ n → m ≤ q → Rises n (ident_tokens x) m →
+pub ident_at : (s : TokenSpellings) (b : Block) (k q n m : ℕ) (x : IdentTree) → k ≤ n → m ≤ q → Rises n (ident_tokens x) m →
     Each (AtSpec b k q) (ident_sites s (Declaring b q) x)
 ident_at s b k q n m (Named i) kn mq h = ((λ may. (omega (arith, h.0), omega (arith, h.1), refl, refl, refl)), tt)
 ident_at s b k q n m (Underscore i) kn mq h = ((λ may. declares_not may), tt)
 
-pub idents_at : (s : Source) (b : Block) (k q n m : ℕ) (xs : List (Item IdentTree)) → k ≤ n → m ≤ q → Rises n (list_tokens kind.Comma ident_tokens xs) m →
+pub idents_at : (s : TokenSpellings) (b : Block) (k q n m : ℕ) (xs : List (Item IdentTree)) → k ≤ n → m ≤ q → Rises n (list_tokens kind.Comma ident_tokens xs) m →
     Each (AtSpec b k q) (list_sites (ident_sites s (Declaring b q)) xs)
 idents_at s b k q n m xs kn mq h =
     each_rising (AtSpec b k q) ident_tokens (ident_sites s (Declaring b q)) kind.Comma k q (λ i j x ki jq r. ident_at s b k q i j x ki jq r) n m xs kn mq h
 
-define_at : (s : Source) (b : Block) (k q : ℕ) (es : List (Item ExprTree)) (p : ℕ) (fs : List (Item ExprTree)) → Rises k (simple_tokens (Define es p fs)) q →
+define_at : (s : TokenSpellings) (b : Block) (k q : ℕ) (es : List (Item ExprTree)) (p : ℕ) (fs : List (Item ExprTree)) → Rises k (simple_tokens (Define es p fs)) q →
     Each (AtSpec b k q) (list_sites (left_sites s b q) es ++ exprs_sites s fs)
 unfolding simple_tokens
 define_at s b k q es p fs h =
@@ -64,7 +64,7 @@ define_at s b k q es p fs h =
     (each_rising (AtSpec b k q) expr_tokens (left_sites s b q) kind.Comma k q (λ i j x ki jq u. left_at s b k q i j x ki jq u) k r.0 es (omega arith) rq r.1.0)
     (spec_plain b k q (exprs_sites s fs) (plain_exprs s fs))
 
-pub simple_laid : (s : Source) (b : Block) (n following : ℕ) (x : SimpleTree) → Rises n (simple_tokens x) following →
+pub simple_laid : (s : TokenSpellings) (b : Block) (n following : ℕ) (x : SimpleTree) → Rises n (simple_tokens x) following →
     Laid s.rank b n following [] (simple_specs following x) (simple_sites s b following x)
 unfolding simple_sites
 simple_laid s b n q (Alone e) h = laid_plain s.rank b n q (expr_sites s e) (plain_expr s e)
@@ -78,10 +78,10 @@ simple_laid s b n q (Define es p fs) h =
     laid_spec s.rank b n q (simple_tokens (Define es p fs)) (list_sites (left_sites s b q) es ++ exprs_sites s fs) h
     (λ k nk r. define_at s b k q es p fs r)
 
-plain_values : (s : Source) (v : ℕ × List (Item ExprTree)) → Plain (value_sites s v)
+plain_values : (s : TokenSpellings) (v : ℕ × List (Item ExprTree)) → Plain (value_sites s v)
 plain_values s v = plain_exprs s v.1
 
-local_at : (s : Source) (b : Block) (k q : ℕ) (x : LocalTree) → Rises k (local_tokens x) q → Each (AtSpec b k q) (local_sites s b q x)
+local_at : (s : TokenSpellings) (b : Block) (k q : ℕ) (x : LocalTree) → Rises k (local_tokens x) q → Each (AtSpec b k q) (local_sites s b q x)
 unfolding local_sites local_tokens
 local_at s b k q x h =
     let behind = tokens_if type_tokens x.type_use ++ tokens_if (value_tokens expr_tokens) x.values in
@@ -93,13 +93,13 @@ local_at s b k q x h =
     (plain_append (sites_if (type_sites s) x.type_use) (sites_if (value_sites s) x.values) (plain_if (type_sites s) (plain_type s) x.type_use)
     (plain_if (value_sites s) (plain_values s) x.values)))
 
-pub local_laid : (s : Source) (b : Block) (n q : ℕ) (x : LocalTree) → Rises n (local_tokens x) q →
+pub local_laid : (s : TokenSpellings) (b : Block) (n q : ℕ) (x : LocalTree) → Rises n (local_tokens x) q →
     Laid s.rank b n q [] (range_to q (local_tokens x)) (local_sites s b q x)
 local_laid s b n q x h = laid_spec s.rank b n q (local_tokens x) (local_sites s b q x) h (λ k nk r. local_at s b k q x r)
 
 -- groups of specs
 
-item_laid : (s : Source) (b : Block) (n c : ℕ) (x : LocalTree) (p : Option ℕ) (xs : List (Item LocalTree)) → (p ≡ None → xs ≡ []) →
+item_laid : (s : TokenSpellings) (b : Block) (n c : ℕ) (x : LocalTree) (p : Option ℕ) (xs : List (Item LocalTree)) → (p ≡ None → xs ≡ []) →
     Rises n (local_tokens x ++ sign_if kind.Semicolon p ++ list_tokens kind.Semicolon local_tokens xs) c →
     ((k : ℕ) → Rises k (list_tokens kind.Semicolon local_tokens xs) c → Laid s.rank b k c [] (item_specs c xs) (separated_sites (local_sites s b) c xs)) →
     Laid s.rank b n c [] (range_to (unwrap_or p c) (local_tokens x) ++ item_specs c xs)
@@ -127,13 +127,13 @@ item_laid s b n c x (Some p) xs last h rest =
     (omega arith) (omega arith) (local_laid s b n p x (rises_up n (local_tokens x) u.0 p up u.1.0))
     (laid_wider s.rank b r.0 c p c [] (item_specs c xs) (separated_sites (local_sites s b) c xs) (omega arith) (omega arith) (rest r.0 r.1.1))
 
-items_laid : (s : Source) (b : Block) (n c : ℕ) (xs : List (Item LocalTree)) → IsSeparated xs → Rises n (list_tokens kind.Semicolon local_tokens xs) c →
+items_laid : (s : TokenSpellings) (b : Block) (n c : ℕ) (xs : List (Item LocalTree)) → IsSeparated xs → Rises n (list_tokens kind.Semicolon local_tokens xs) c →
     Laid s.rank b n c [] (item_specs c xs) (separated_sites (local_sites s b) c xs)
 unfolding all_tokens separated_sites
 items_laid s b n c [] sep h = laid_plain s.rank b n c [] tt
 items_laid s b n c (x ∷ xs) sep h = item_laid s b n c x.value x.separator xs sep.0 h (λ k r. items_laid s b k c xs sep.1 r)
 
-group_laid : (s : Source) (b : Block) (n q : ℕ) (g : Group LocalTree) → IsGroup IsLocal g → Rises n (group_tokens local_tokens g) q →
+group_laid : (s : TokenSpellings) (b : Block) (n q : ℕ) (g : Group LocalTree) → IsGroup IsLocal g → Rises n (group_tokens local_tokens g) q →
     Laid s.rank b n q [] (group_specs q g) (group_sites (local_sites s b) q g)
 unfolding group_tokens group_sites
 group_laid s b n q (single x) w h = local_laid s b n q x h
@@ -147,12 +147,12 @@ group_laid s b n q (several o xs c) w h =
 
 -- headers
 
-optional_laid : (s : Source) (b : Block) (n q : ℕ) (x : Option SimpleTree) → Rises n (tokens_if simple_tokens x) q →
+optional_laid : (s : TokenSpellings) (b : Block) (n q : ℕ) (x : Option SimpleTree) → Rises n (tokens_if simple_tokens x) q →
     Laid s.rank b n q [] (optional_specs q x) (sites_if (simple_sites s b q) x)
 optional_laid s b n q None h = laid_plain s.rank b n q [] tt
 optional_laid s b n q (Some x) h = simple_laid s b n q x h
 
-init_laid : (s : Source) (b : Block) (n q : ℕ) (x : Option InitTree) → Rises n (tokens_if init_tokens x) q →
+init_laid : (s : TokenSpellings) (b : Block) (n q : ℕ) (x : Option InitTree) → Rises n (tokens_if init_tokens x) q →
     Laid s.rank b n q [] (init_specs x) (sites_if (init_sites s b) x)
 unfolding init_tokens init_sites
 init_laid s b n q None h = laid_plain s.rank b n q [] tt
@@ -164,7 +164,7 @@ init_laid s b n q (Some i) h =
     (omega arith) (optional_laid s b n i.semicolon i.simple (rises_up n (tokens_if simple_tokens i.simple) r.0 i.semicolon rs r.1.0))
 
 -- the header of a `for` whose body begins at the token q
-header_laid : (s : Source) (b : Block) (n q : ℕ) (x : ForTree) → Rises n (for_tokens x) q →
+header_laid : (s : TokenSpellings) (b : Block) (n q : ℕ) (x : ForTree) → Rises n (for_tokens x) q →
     Laid s.rank b n q [] (for_specs q x) (for_sites s b q x)
 unfolding for_tokens for_sites
 header_laid s b n q forever h = laid_plain s.rank b n q [] tt
@@ -199,7 +199,7 @@ mutual
       IsStatement IsBlock AreStatements IsIf IsElse statement_blocks braced_blocks statements_blocks if_blocks else_blocks statement_specs braced_specs
       statements_specs if_specs else_specs
 
-  pub statement_laid : (s : Source) (b : Block) (n q : ℕ) (x : StatementTree) → IsStatement x → Rises n (statement_tokens x) q →
+  pub statement_laid : (s : TokenSpellings) (b : Block) (n q : ℕ) (x : StatementTree) → IsStatement x → Rises n (statement_tokens x) q →
       Laid s.rank b n q (statement_blocks q x) (statement_specs q x) (statement_sites s b q x)
   statement_laid s b n q Empty w h = laid_plain s.rank b n q [] tt
   statement_laid s b n q (Var p g) w h =
@@ -229,7 +229,7 @@ mutual
   statement_laid s b n q (Continue p) w h = laid_plain s.rank b n q [] tt
   statement_laid s b n q (Return p es) w h = laid_plain s.rank b n q (exprs_sites s es) (plain_exprs s es)
 
-  pub block_laid : (s : Source) (b : Block) (n m : ℕ) (x : BlockTree) → IsBlock x → Rises n (block_tokens x) m →
+  pub block_laid : (s : TokenSpellings) (b : Block) (n m : ℕ) (x : BlockTree) → IsBlock x → Rises n (block_tokens x) m →
       Laid s.rank b n m (braced_blocks x) (braced_specs x) (block_sites s x)
   block_laid s b n m (block o ss c) w h =
       let no : n ≤ o = h.0 in
@@ -244,7 +244,7 @@ mutual
       (laid_inside s.rank b (brace_block o c) (statements_blocks c ss) (statements_specs c ss) xs (omega arith) y.blocks
       (laid_wider s.rank B (suc o) c o c (statements_blocks c ss) (statements_specs c ss) xs (omega arith) (omega arith) y))
 
-  pub statements_laid : (s : Source) (b : Block) (n c : ℕ) (ss : StatementTrees) → AreStatements ss → Rises n (statements_tokens ss) c →
+  pub statements_laid : (s : TokenSpellings) (b : Block) (n c : ℕ) (ss : StatementTrees) → AreStatements ss → Rises n (statements_tokens ss) c →
       Laid s.rank b n c (statements_blocks c ss) (statements_specs c ss) (statements_sites s b c ss)
   statements_laid s b n c no_statement w h = laid_plain s.rank b n c [] tt
   statements_laid s b n c (statement x None rest) w h =
@@ -265,7 +265,7 @@ mutual
       (laid_wider s.rank b (suc p) c p c (statements_blocks c rest) (statements_specs c rest) (statements_sites s b c rest) (omega arith) (omega arith)
       (statements_laid s b (suc p) c rest w.2 r.1.1.1))
 
-  pub if_laid : (s : Source) (b : Block) (n q : ℕ) (x : IfTree) → IsIf x → Rises n (if_tokens x) q →
+  pub if_laid : (s : TokenSpellings) (b : Block) (n q : ℕ) (x : IfTree) → IsIf x → Rises n (if_tokens x) q →
       Laid s.rank b n q (if_blocks q x) (if_specs q x) (if_sites s q x)
   if_laid s b n q (if_tree p init e x rest) w h =
       let np : n ≤ p = h.0 in
@@ -291,7 +291,7 @@ mutual
       (laid_inside s.rank b (keyword_block p q) rs (init_specs init ++ es) xs (omega arith) y.blocks
       (laid_wider s.rank B (suc p) q p q rs (init_specs init ++ es) xs (omega arith) (omega arith) y))
 
-  pub else_laid : (s : Source) (b : Block) (n q : ℕ) (x : ElseTree) → IsElse x → Rises n (else_tokens x) q →
+  pub else_laid : (s : TokenSpellings) (b : Block) (n q : ℕ) (x : ElseTree) → IsElse x → Rises n (else_tokens x) q →
       Laid s.rank b n q (else_blocks q x) (else_specs q x) (else_sites s q x)
   else_laid s b n q no_else w h = laid_plain s.rank b n q [] tt
   else_laid s b n q (else_if p x) w h =

@@ -10,14 +10,14 @@ use Rattle.workspace_check.specs.FaultLists.{ListsFaults}
 use Rattle.workspace_check.specs.Verdicts.{Verdicts, AreVerdicts}
 use Rattle.refs_binding.specs.declared.declaration.Declaration.{Declaration}
 use Rattle.refs_binding.specs.Identifiers.{IsInFiles, named_by}
-use Rattle.refs_binding.specs.Uses.{IsPackage, IsBoundTo, HasNoDeclaration}
+use Rattle.refs_binding.specs.Uses.{IsCheckedPackage, IsBoundToDeclaration, HasNoDeclaration}
 use Rattle.refs_lookup.proofs.LiteralNames.{name_stands}
 use Rattle.law_faultless.specs.Roles.{is_bound_role, is_ever_bound}
 use Rattle.law_faultless.proofs.Bound.{identifier_bound}
 use Rattle.law_faultless.proofs.MembersBound.{no_member_unbound}
 
-module _ (w : Workspace) (sound : ListsFaults w []) (known : Verdicts) (right : AreVerdicts w known) (p : Package) (is : IsPackage w known p) (u : ℕ)
-    (stands : IsInFiles p u) (unbound : (d : Declaration) → IsBoundTo w known p u d → ⊥) where
+module _ (w : Workspace) (sound : ListsFaults w []) (known : Verdicts) (right : AreVerdicts w known) (p : Package) (is : IsCheckedPackage w known p) (u : ℕ)
+    (stands : IsInFiles p u) (unbound : (d : Declaration) → IsBoundToDeclaration w known p u d → ⊥) where
   bound_no : is_bound_role (p.layout.role u) ≡ true → ⊥
   bound_no e = let d = identifier_bound w sound known right p is u stands e in unbound d.0 d.1
 

@@ -20,7 +20,7 @@ use Rattle.build_object.specs.Lines.{GlobalName, FunctionName, Plain, Method, In
 use Rattle.build_object.specs.Names.{spelled_in, is_named_init, is_initializer, name_of_receiver, function_named, function_behind, initializers_with}
 use Rattle.build_object.specs.Names.{functions_behind, function_names}
 use Rattle.law_faultless.specs.Stack.{Arity}
-use Rattle.refs_binding.specs.Uses.{IsPackage}
+use Rattle.refs_binding.specs.Uses.{IsCheckedPackage}
 use Rattle.law_faultless.proofs.PackageWorlds.{own_package}
 use Rattle.law_faultless.specs.Arities.{written_arity, AreArities}
 use Rattle.law_faultless.proofs.FunctionsSettled.{IsInFile, in_file_of, called_as, behind_at}
@@ -174,7 +174,7 @@ module _ (path : List ℕ) (files : List SourceFile) where
 
 -- in a workspace without faults
 module _ (w : Workspace) (sound : ListsFaults w []) (known : Verdicts) (right : AreVerdicts w known) where
-  module _ (p : Package) (is : IsPackage w known p) (a b : ℕ) (f g : PlacedFunction) (less : a < b) (has : slice_get (package_functions p) a ≡ Some f)
+  module _ (p : Package) (is : IsCheckedPackage w known p) (a b : ℕ) (f g : PlacedFunction) (less : a < b) (has : slice_get (package_functions p) a ≡ Some f)
       (also : slice_get (package_functions p) b ≡ Some g) where
     abbrev here : IsInFile p f
     here = in_file_of p a f has
@@ -256,7 +256,7 @@ module _ (w : Workspace) (sound : ListsFaults w []) (known : Verdicts) (right : 
   arity_of : FunctionName → Arity
   arity_of name = in_package (path_of name) (cases_contains (package_paths w) (path_of name)) name
 
-  in_own : (p : Package) → IsPackage w known p → (q : List ℕ) → q ≡ p.path →
+  in_own : (p : Package) → IsCheckedPackage w known p → (q : List ℕ) → q ≡ p.path →
       (d : Contains (package_paths w) q ⊎ (Contains (package_paths w) q → ⊥)) → (name : FunctionName) →
       in_package q d name ≡ found (function_names p.path p.files) (package_functions p) name
   unfolding in_package

@@ -15,7 +15,7 @@ use Rattle.go_ast.specs.Tree as tree
 use Rattle.go_scope.specs.declared.model.Block.TheVariants.{Inner}
 use Rattle.go_scope.specs.declared.model.Role.TheVariants.{Use, Declaring}
 use Rattle.go_scope.specs.Bindings.{block_of, start_of, may_declare}
-use Rattle.go_scope.specs.Site.{Site, Source, site}
+use Rattle.go_scope.specs.Site.{Site, TokenSpellings, site}
 use Rattle.go_scope.specs.ExpressionSites.{sites_if, list_sites, type_sites, expr_sites, exprs_sites}
 use Rattle.go_scope.specs.StatementSites.{ident_sites, left_sites, assigned_sites, simple_sites, value_sites, local_sites, separated_sites, group_sites}
 use Rattle.go_scope.specs.StatementSites.{init_sites, for_sites, open_of, close_of, statement_sites, block_sites, statements_sites, if_sites, else_sites}
@@ -60,7 +60,7 @@ abroad_begins : (rank : ℕ) (xs : List Site) → AllByRecursion (λ x. may_be_l
 abroad_begins rank [] h = tt
 abroad_begins rank (x ∷ xs) h = ((λ e. absurd (true≢false (sym e ∙ h.0))), abroad_begins rank xs h.1)
 
-module _ (B : ℕ → Type 0) (s : Source) where
+module _ (B : ℕ → Type 0) (s : TokenSpellings) where
   abbrev P : Site → Type 0
   P x = Begins s.rank x
 

@@ -12,14 +12,14 @@ use Rattle.go_ast.specs.Tree as tree
 use Rattle.go_ast.specs.WellFormed.{IsGroup, IsLocal, IsStatement, IsBlock, AreStatements, IsIf, IsElse}
 use Rattle.go_scope.specs.declared.model.Block.{Block}
 use Rattle.go_scope.specs.declared.model.Block.TheVariants as blocks
-use Rattle.go_scope.specs.Site.{Site, Source}
+use Rattle.go_scope.specs.Site.{Site, TokenSpellings}
 use Rattle.go_scope.specs.ExpressionSites.{sites_if, expr_sites, exprs_sites}
 use Rattle.go_scope.specs.StatementSites.{simple_sites, local_sites, separated_sites, group_sites, init_sites, for_sites, open_of, statement_sites}
 use Rattle.go_scope.specs.StatementSites.{block_sites, statements_sites, if_sites, else_sites}
 use Rattle.go_scope.proofs.PlainSites.{plain_expr, plain_exprs}
 use Rattle.types_expr.specs.Types.{PlainType}
 use Rattle.types_expr.specs.World.{World, Locals}
-use Rattle.types_stmt.specs.Checked.{Checked, check_items, check_group}
+use Rattle.types_stmt.specs.Checked.{FoundSoFar, check_items, check_group}
 use Rattle.types_stmt.specs.Sides.{Target}
 use Rattle.types_stmt.specs.Simple.{check_optional_simple, check_condition, check_optional_condition, check_local}
 use Rattle.types_stmt.specs.Statements.{check_return, check_init, check_for_header, check_statement, check_block, check_statements, check_if, check_else}
@@ -42,15 +42,15 @@ use Rattle.law_faultless.proofs.Simples.{expr_known, exprs_known, simple_typed, 
 
 -- what is found before a statement has no fault
 module _ (w : World) (targets : List Target) where
-  before_statements : (x : StatementTrees) (st : Checked) → (check_statements w targets st x).faults ≡ [] → st.faults ≡ []
+  before_statements : (x : StatementTrees) (st : FoundSoFar) → (check_statements w targets st x).faults ≡ [] → st.faults ≡ []
   unfolding check_statement
   before_statements x st h = block_first w targets (tree.block 0 x 0) st h
 
-  before_if : (x : IfTree) (st : Checked) → (check_if w targets st x).faults ≡ [] → st.faults ≡ []
+  before_if : (x : IfTree) (st : FoundSoFar) → (check_if w targets st x).faults ≡ [] → st.faults ≡ []
   unfolding check_statement
   before_if x st h = block_first w targets (tree.block 0 (tree.statement (tree.If x) None tree.no_statement) 0) st h
 
-  before_else : (x : ElseTree) (st : Checked) → (check_else w targets st x).faults ≡ [] → st.faults ≡ []
+  before_else : (x : ElseTree) (st : FoundSoFar) → (check_else w targets st x).faults ≡ [] → st.faults ≡ []
   unfolding check_statement
   before_else tree.no_else st h = h
   before_else (tree.else_if p i) st h = before_if i st h
@@ -63,10 +63,10 @@ Outcome w A xs R after = R after × AllKnown w after (past A xs)
 pub known_join : (w : World) (ls : Locals) (A xs ys : List Site) → AllKnown w ls (past (past A xs) ys) → AllKnown w ls (past A (xs ++ ys))
 known_join w ls A xs ys h = subst (AllKnown w ls) (sym (past_append A xs ys)) h
 
-module _ (w : World) (B : ℕ → Type 0) (s : Source) (u : IsUnbroken w) where
+module _ (w : World) (B : ℕ → Type 0) (s : TokenSpellings) (u : IsUnbroken w) where
   -- headers
 
-  condition_typed : (A : List Site) (n m : ℕ) (st : Checked) (e : ExprTree) → (check_condition w st e).faults ≡ [] → AllKnown w st.locals A →
+  condition_typed : (A : List Site) (n m : ℕ) (st : FoundSoFar) (e : ExprTree) → (check_condition w st e).faults ≡ [] → AllKnown w st.locals A →
       AreResolved w B A (expr_sites s e) → Strung B n (expr_tokens e) m →
       Outcome w A (expr_sites s e) (ConditionIsTyped w st.locals e) (check_condition w st e).locals
   unfolding check_condition
@@ -76,19 +76,19 @@ module _ (w : World) (B : ℕ → Type 0) (s : Source) (u : IsUnbroken w) where
         plain_past w st.locals A (expr_sites s e) known (plain_expr s e),
       )
 
-  optional_typed : (A : List Site) (b : Block) (q n m : ℕ) (st : Checked) (x : Option SimpleTree) → (check_optional_simple w st x).faults ≡ [] →
+  optional_typed : (A : List Site) (b : Block) (q n m : ℕ) (st : FoundSoFar) (x : Option SimpleTree) → (check_optional_simple w st x).faults ≡ [] →
       AllKnown w st.locals A → AreResolved w B A (sites_if (simple_sites s b q) x) → Strung B n (tokens_if simple_tokens x) m → m ≤ q →
       Outcome w A (sites_if (simple_sites s b q) x) (IfPresent SimpleTree (SimpleIsTyped w) st.locals x) (check_optional_simple w st x).locals
   optional_typed A b q n m st None f known r t le = (absent, known)
   optional_typed A b q n m st (Some x) f known r t le = let h = simple_typed w B s u A b q n m st x f known r t le in (present h.0, h.1)
 
-  test_typed : (A : List Site) (n m : ℕ) (st : Checked) (e : Option ExprTree) → (check_optional_condition w st e).faults ≡ [] → AllKnown w st.locals A →
+  test_typed : (A : List Site) (n m : ℕ) (st : FoundSoFar) (e : Option ExprTree) → (check_optional_condition w st e).faults ≡ [] → AllKnown w st.locals A →
       AreResolved w B A (sites_if (expr_sites s) e) → Strung B n (tokens_if expr_tokens e) m →
       Outcome w A (sites_if (expr_sites s) e) (IfPresent ExprTree (ConditionIsTyped w) st.locals e) (check_optional_condition w st e).locals
   test_typed A n m st None f known r t = (absent, known)
   test_typed A n m st (Some e) f known r t = let h = condition_typed A n m st e f known r t in (present h.0, h.1)
 
-  init_typed : (A : List Site) (b : Block) (n m : ℕ) (st : Checked) (x : Option InitTree) → (check_init w st x).faults ≡ [] → AllKnown w st.locals A →
+  init_typed : (A : List Site) (b : Block) (n m : ℕ) (st : FoundSoFar) (x : Option InitTree) → (check_init w st x).faults ≡ [] → AllKnown w st.locals A →
       AreResolved w B A (sites_if (init_sites s b) x) → Strung B n (tokens_if init_tokens x) m →
       Outcome w A (sites_if (init_sites s b) x) (IfPresent InitTree (InitIsTyped w) st.locals x) (check_init w st x).locals
   unfolding init_sites init_tokens
@@ -98,15 +98,15 @@ module _ (w : World) (B : ℕ → Type 0) (s : Source) (u : IsUnbroken w) where
       let at : i.semicolon ≡ x.0 = x.1.1.0 in
       let h = optional_typed A b i.semicolon n x.0 st i.simple f known r x.1.0 (omega arith) in (present (an_init h.0), h.1)
 
-  before_optional : (st : Checked) (x : Option SimpleTree) → (check_optional_simple w st x).faults ≡ [] → st.faults ≡ []
+  before_optional : (st : FoundSoFar) (x : Option SimpleTree) → (check_optional_simple w st x).faults ≡ [] → st.faults ≡ []
   before_optional st None h = h
   before_optional st (Some x) h = (simple_settled w st x h).0
 
-  before_test : (st : Checked) (e : Option ExprTree) → (check_optional_condition w st e).faults ≡ [] → st.faults ≡ []
+  before_test : (st : FoundSoFar) (e : Option ExprTree) → (check_optional_condition w st e).faults ≡ [] → st.faults ≡ []
   before_test st None h = h
   before_test st (Some e) h = (condition_settled w st e h).0
 
-  header_typed : (A : List Site) (b : Block) (o n m : ℕ) (st : Checked) (x : ForTree) → (check_for_header w st x).faults ≡ [] → AllKnown w st.locals A →
+  header_typed : (A : List Site) (b : Block) (o n m : ℕ) (st : FoundSoFar) (x : ForTree) → (check_for_header w st x).faults ≡ [] → AllKnown w st.locals A →
       AreResolved w B A (for_sites s b o x) → Strung B n (for_tokens x) m → m ≤ o →
       Outcome w A (for_sites s b o x) (HeaderIsTyped w st.locals x) (check_for_header w st x).locals
   unfolding check_for_header for_sites for_tokens
@@ -140,12 +140,12 @@ module _ (w : World) (B : ℕ → Type 0) (s : Source) (u : IsUnbroken w) where
   separated None close k e h le = let same : k ≡ e = h in omega arith
   separated (Some p) close k e h le = let at : p ≡ k = h.0 in omega arith
 
-  before_items : (js : List (Item LocalTree)) (a : Checked) → (check_items (check_local w) a js).faults ≡ [] → a.faults ≡ []
+  before_items : (js : List (Item LocalTree)) (a : FoundSoFar) → (check_items (check_local w) a js).faults ≡ [] → a.faults ≡ []
   unfolding check_items
   before_items [] a h = h
   before_items (j ∷ js) a h = (local_settled w a j.value (before_items js (check_local w a j.value) h)).0
 
-  items_typed : (A : List Site) (b : Block) (close n m : ℕ) (is : List (Item LocalTree)) (st : Checked) → All (λ x. IsLocal x.value) is →
+  items_typed : (A : List Site) (b : Block) (close n m : ℕ) (is : List (Item LocalTree)) (st : FoundSoFar) → All (λ x. IsLocal x.value) is →
       (check_items (check_local w) st is).faults ≡ [] → AllKnown w st.locals A → AreResolved w B A (separated_sites (local_sites s b) close is) →
       Strung B n (list_tokens kind.Semicolon local_tokens is) m → m ≤ close →
       (st.faults ≡ []) × Outcome w A (separated_sites (local_sites s b) close is) (InTurn LocalTree (LocalIsTyped w) st.locals is) (check_items
@@ -166,7 +166,7 @@ module _ (w : World) (B : ℕ → Type 0) (s : Source) (u : IsUnbroken w) where
       let k = items_typed (past A own) b close x.0 m is next (All-tail (λ z. IsLocal z.value) i is formed) f h.1 (resolved_right w B A own rest r) x.1.1 le in
       ((local_settled w st i.value g).0, (then_item h.0 k.1.0, known_join w (check_items (check_local w) next is).locals A own rest k.1.1))
 
-  locals_typed : (A : List Site) (b : Block) (q n m : ℕ) (st : Checked) (g : Group LocalTree) → IsGroup IsLocal g →
+  locals_typed : (A : List Site) (b : Block) (q n m : ℕ) (st : FoundSoFar) (g : Group LocalTree) → IsGroup IsLocal g →
       (check_group (check_local w) st g).faults ≡ [] →
       AllKnown w st.locals A → AreResolved w B A (group_sites (local_sites s b) q g) → Strung B n (group_tokens local_tokens g) m → m ≤ q →
       Outcome w A (group_sites (local_sites s b) q g) (InGroup LocalTree (LocalIsTyped w) st.locals g) (check_group (check_local w) st g).locals
@@ -197,7 +197,7 @@ module _ (w : World) (B : ℕ → Type 0) (s : Source) (u : IsUnbroken w) where
 
     pub statement_typed : (results : List PlainType) (targets : List Target) → AreTargets targets results →
         (A : List Site) (b : Block) (q n m : ℕ) (x : StatementTree)
-        (st : Checked) → IsStatement x → (check_statement w targets st x).faults ≡ [] → AllKnown w st.locals A → AreResolved w B A (statement_sites s b q x) →
+        (st : FoundSoFar) → IsStatement x → (check_statement w targets st x).faults ≡ [] → AllKnown w st.locals A → AreResolved w B A (statement_sites s b q x) →
         Strung B n (statement_tokens x) m → m ≤ q →
         Outcome w A (statement_sites s b q x) (StatementIsTyped w results st.locals x) (check_statement w targets st x).locals
     statement_typed results targets e A b q n m tree.Empty st formed f known r t le = (nothing, known)
@@ -230,7 +230,7 @@ module _ (w : World) (B : ℕ → Type 0) (s : Source) (u : IsUnbroken w) where
         )
 
     pub block_typed : (results : List PlainType) (targets : List Target) → AreTargets targets results →
-        (A : List Site) (n m : ℕ) (x : BlockTree) (st : Checked) →
+        (A : List Site) (n m : ℕ) (x : BlockTree) (st : FoundSoFar) →
         IsBlock x → (check_block w targets st x).faults ≡ [] → AllKnown w st.locals A → AreResolved w B A (block_sites s x) → Strung B n (block_tokens x) m →
         Outcome w A (block_sites s x) (BlockIsTyped w results st.locals x) (check_block w targets st x).locals
     block_typed results targets e A n m (tree.block o ss c) st formed f known r t =
@@ -239,7 +239,7 @@ module _ (w : World) (B : ℕ → Type 0) (s : Source) (u : IsUnbroken w) where
         let h = statements_typed results targets e A (blocks.Inner s.rank o c) c (suc n) y.0 ss st formed.1 f known r y.1.0 (omega arith) in (a_block h.0, h.1)
 
     statements_typed : (results : List PlainType) (targets : List Target) → AreTargets targets results → (A : List Site) (b : Block) (close n m : ℕ)
-        (x : StatementTrees) (st : Checked) → AreStatements x → (check_statements w targets st x).faults ≡ [] → AllKnown w st.locals A →
+        (x : StatementTrees) (st : FoundSoFar) → AreStatements x → (check_statements w targets st x).faults ≡ [] → AllKnown w st.locals A →
         AreResolved w B A (statements_sites s b close x) → Strung B n (statements_tokens x) m → m ≤ close →
         Outcome w A (statements_sites s b close x) (StatementsAreTyped w results st.locals x) (check_statements w targets st x).locals
     statements_typed results targets e A b close n m tree.no_statement st formed f known r t le = (no_more, known)
@@ -258,7 +258,7 @@ module _ (w : World) (B : ℕ → Type 0) (s : Source) (u : IsUnbroken w) where
         let k = statements_typed results targets e (past A own) b close z.0 m rest next both.1 f h.1 (resolved_right w B A own others r) z.1.1 le in
         (one_more h.0 k.0, known_join w (check_statements w targets next rest).locals A own others k.1)
 
-    if_typed : (results : List PlainType) (targets : List Target) → AreTargets targets results → (A : List Site) (q n m : ℕ) (x : IfTree) (st : Checked) →
+    if_typed : (results : List PlainType) (targets : List Target) → AreTargets targets results → (A : List Site) (q n m : ℕ) (x : IfTree) (st : FoundSoFar) →
         IsIf x → (check_if w targets st x).faults ≡ [] → AllKnown w st.locals A → AreResolved w B A (if_sites s q x) → Strung B n (if_tokens x) m →
         Outcome w A (if_sites s q x) (IfIsTyped w results st.locals x) (check_if w targets st x).locals
     if_typed results targets e A q n m (tree.if_tree p init c x otherwise) st formed f known r t =
@@ -288,7 +288,7 @@ module _ (w : World) (B : ℕ → Type 0) (s : Source) (u : IsUnbroken w) where
           known_join w after A s1 (s2 ++ (s3 ++ s4)) (known_join w after (past A s1) s2 (s3 ++ s4) (known_join w after (past (past A s1) s2) s3 s4 h4.1)),
         )
 
-    else_typed : (results : List PlainType) (targets : List Target) → AreTargets targets results → (A : List Site) (q n m : ℕ) (x : ElseTree) (st : Checked) →
+    else_typed : (results : List PlainType) (targets : List Target) → AreTargets targets results → (A : List Site) (q n m : ℕ) (x : ElseTree) (st : FoundSoFar) →
         IsElse x → (check_else w targets st x).faults ≡ [] → AllKnown w st.locals A → AreResolved w B A (else_sites s q x) → Strung B n (else_tokens x) m →
         Outcome w A (else_sites s q x) (ElseIsTyped w results st.locals x) (check_else w targets st x).locals
     else_typed results targets e A q n m tree.no_else st formed f known r t = (without_else, known)

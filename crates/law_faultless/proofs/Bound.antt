@@ -18,7 +18,7 @@ use Rattle.types_expr.specs.World.{World}
 use Rattle.types_stmt.specs.Declarations.{check_file}
 use Rattle.law_typing.specs.Declarations.{FileIsTyped}
 use Rattle.types_declared.specs.Package.{Package}
-use Rattle.types_declared.specs.Written.{BindsToken, ImportsPath}
+use Rattle.types_declared.specs.Written.{BindsToken, DeclaresImport}
 use Rattle.types_declared.proofs.Naming.{one_binding}
 use Rattle.types_info.specs.MemberUses.{AreUsesIn}
 use Rattle.types_info.specs.Worlds.{IsWorldOf, is_init}
@@ -30,7 +30,7 @@ use Rattle.refs_binding.specs.declared.declaration.Declaration.TheVariants.{Pred
 use Rattle.types_info.specs.QualifiedIdentifiers.{IsQualifiedByPath}
 use Rattle.refs_binding.specs.Binding.{by_scope, by_member}
 use Rattle.refs_binding.specs.Identifiers.{IsInFiles}
-use Rattle.refs_binding.specs.Uses.{IsPackage, IsBoundTo}
+use Rattle.refs_binding.specs.Uses.{IsCheckedPackage, IsBoundToDeclaration}
 use Rattle.refs_lookup.proofs.OnePlace.{same_files}
 use Rattle.refs_lookup.proofs.ExportedNames.{bound_behind}
 use Rattle.refs_lookup.proofs.BoundUsedMembers.{file_at}
@@ -46,7 +46,7 @@ use Rattle.law_faultless.specs.Roles.{is_bound_role}
 use Rattle.law_faultless.proofs.MeaningfulNames.{names_mean, uses_bound, declared_counts}
 use Rattle.law_faultless.proofs.PackageWorlds.{strings_known, have_worlds, have_all_worlds}
 
-module _ (w : Workspace) (sound : ListsFaults w []) (known : Verdicts) (right : AreVerdicts w known) (p : Package) (is : IsPackage w known p) where
+module _ (w : Workspace) (sound : ListsFaults w []) (known : Verdicts) (right : AreVerdicts w known) (p : Package) (is : IsCheckedPackage w known p) where
   abbrev formed : WellFormed p.layout
   formed = layout_formed w known p.path p is.is_checked
 
@@ -74,7 +74,7 @@ module _ (w : Workspace) (sound : ListsFaults w []) (known : Verdicts) (right : 
       )
 
   -- members
-  pub member_name_bound : (u : ℕ) → IsInFiles p u → IsMemberName p u → (d : Declaration) × IsBoundTo w known p u d
+  pub member_name_bound : (u : ℕ) → IsInFiles p u → IsMemberName p u → (d : Declaration) × IsBoundToDeclaration w known p u d
   member_name_bound u stands name =
       let file = (p.layout.place u).file in
       let s = source_at u stands in
@@ -84,13 +84,13 @@ module _ (w : Workspace) (sound : ListsFaults w []) (known : Verdicts) (right : 
 
   -- names of scopes
 
-  by_number : (u n : ℕ) → scopes.IsBoundTo p.layout p.names u n → (d : Declaration) × IsBoundTo w known p u d
+  by_number : (u n : ℕ) → scopes.IsBoundToDeclaration p.layout p.names u n → (d : Declaration) × IsBoundToDeclaration w known p u d
   by_number u n b = elim (cases_lt n (length universe)) [
     | inl below ↦ (Predeclared n, by_scope (below, b))
     | inr ge ↦ (Declared p.path n, by_scope (refl, (λ below. let less : n < length universe = below in absurd (omega arith)), b))
   ]
 
-  unbound_no : (u : ℕ) → u < p.size → MayDeclare p.layout u ⊎ (is_use (p.layout.role u) ≡ true) → ((n : ℕ) → scopes.IsBoundTo p.layout p.names u n → ⊥) → ⊥
+  unbound_no : (u : ℕ) → u < p.size → MayDeclare p.layout u ⊎ (is_use (p.layout.role u) ≡ true) → ((n : ℕ) → scopes.IsBoundToDeclaration p.layout p.names u n → ⊥) → ⊥
   unbound_no u lt h none = elim h [
     | inr use_of ↦ uses_bound w sound known right p is u lt (inl use_of) none
     | inl may ↦ elim (declares p.layout p.names formed u) [
@@ -102,7 +102,7 @@ module _ (w : Workspace) (sound : ListsFaults w []) (known : Verdicts) (right : 
     ]
   ]
 
-  pub lexical_bound : (u : ℕ) → IsInFiles p u → MayDeclare p.layout u ⊎ (is_use (p.layout.role u) ≡ true) → (d : Declaration) × IsBoundTo w known p u d
+  pub lexical_bound : (u : ℕ) → IsInFiles p u → MayDeclare p.layout u ⊎ (is_use (p.layout.role u) ≡ true) → (d : Declaration) × IsBoundToDeclaration w known p u d
   lexical_bound u stands h = elim (binding p.layout p.names formed u) [
     | inl n ↦ by_number u n.0 n.1
     | inr none ↦ absurd (unbound_no u stands.0 h none)
@@ -124,7 +124,7 @@ module _ (w : Workspace) (sound : ListsFaults w []) (known : Verdicts) (right : 
         record { selected = role; before = before; behind_dot = e; named = record { import = d.0; binds = d.1; imports = q.1 } },
       )
       | inr none ↦ inr (λ q b.
-          none q (subst (λ k. ImportsPath p k q) (one_binding p formed (p.layout.place u).file before b.named.import d.0 (moved b) d.1) b.named.imports))
+          none q (subst (λ k. DeclaresImport p k q) (one_binding p formed (p.layout.place u).file before b.named.import d.0 (moved b) d.1) b.named.imports))
     ]
   ]
     where
@@ -133,13 +133,13 @@ module _ (w : Workspace) (sound : ListsFaults w []) (known : Verdicts) (right : 
           let at : (p.layout.place u).index ≡ suc (suc b.before) = b.behind_dot in
           let same : b.before ≡ before = omega arith in subst (λ k. BindsToken p (p.layout.place u).file k b.named.import) same b.named.binds
 
-  selected_bound : (u : ℕ) → IsInFiles p u → p.layout.role u ≡ NotLexical purpose.Selected → (d : Declaration) × IsBoundTo w known p u d
+  selected_bound : (u : ℕ) → IsInFiles p u → p.layout.role u ≡ NotLexical purpose.Selected → (d : Declaration) × IsBoundToDeclaration w known p u d
   selected_bound u stands role = elim (behind_at u role (p.layout.place u).index refl) [
     | inl q ↦ (let d = bound_behind w sound known right p is u stands q.0 q.1 in (Declared q.0 d.0, d.1))
     | inr none ↦ member_name_bound u stands (a_selected role none)
   ]
 
-  by_role : (u : ℕ) → IsInFiles p u → (r : Role) → p.layout.role u ≡ r → is_bound_role r ≡ true → (d : Declaration) × IsBoundTo w known p u d
+  by_role : (u : ℕ) → IsInFiles p u → (r : Role) → p.layout.role u ≡ r → is_bound_role r ≡ true → (d : Declaration) × IsBoundToDeclaration w known p u d
   by_role u stands Use role e = lexical_bound u stands (inr (ap is_use role))
   by_role u stands (Declaring block start) role e = lexical_bound u stands (inl (ap may_declare role))
   by_role u stands (LeftName block start) role e = lexical_bound u stands (inl (ap may_declare role))
@@ -153,5 +153,5 @@ module _ (w : Workspace) (sound : ListsFaults w []) (known : Verdicts) (right : 
   by_role u stands (NotLexical purpose.InitFunction) role e = absurd (true≢false (sym e))
   by_role u stands (NotLexical purpose.Blank) role e = absurd (true≢false (sym e))
 
-  pub identifier_bound : (u : ℕ) → IsInFiles p u → is_bound_role (p.layout.role u) ≡ true → (d : Declaration) × IsBoundTo w known p u d
+  pub identifier_bound : (u : ℕ) → IsInFiles p u → is_bound_role (p.layout.role u) ≡ true → (d : Declaration) × IsBoundToDeclaration w known p u d
   identifier_bound u stands e = by_role u stands (p.layout.role u) refl e

@@ -9,22 +9,22 @@ use Rattle.workspace_check.specs.Verdicts.{Verdicts, AreVerdicts, IsPackageIn}
 use Rattle.workspace_check.proofs.Alike.{package_as}
 use Rattle.workspace_check.proofs.OneVerdict.{right_alike, right_below}
 use Rattle.build_object.specs.Lines.{FunctionName}
-use Rattle.build_object.specs.Objects.{Function, FunctionOf}
+use Rattle.build_object.specs.Objects.{ObjectFunction, FunctionOf}
 use Rattle.law_faultless.specs.Stack.{Arity, IsBalanced}
-use Rattle.refs_binding.specs.Uses.{IsPackage}
+use Rattle.refs_binding.specs.Uses.{IsCheckedPackage}
 use Rattle.build_unit.specs.Units.{AreFilesBelow, IsCompiled}
 use Rattle.law_faultless.specs.Arities.{AreArities}
 use Rattle.law_faultless.proofs.Objects.{object_good}
 use Rattle.law_faultless.proofs.SettledQuestions.{function_settled}
 
 pub compiled_balanced : (w : Workspace) → ListsFaults w [] → (known : Verdicts) → AreVerdicts w known → (arity : FunctionName → Arity) →
-    AreArities w known arity → (p : List ℕ) → Contains (package_paths w) p → (i : ExportData) (text : List ℕ) (u : IsCompiled w p i text) (f : Function) →
+    AreArities w known arity → (p : List ℕ) → Contains (package_paths w) p → (i : ExportData) (text : List ℕ) (u : IsCompiled w p i text) (f : ObjectFunction) →
     Contains u.is_object.object.declarations (FunctionOf f) → IsBalanced arity 0 f.code 0
 compiled_balanced w sound known right arity arities p has i text u f here =
     let c = u.checked in
     let path : c.path ≡ p = ap (λ (z : Package). z.path) u.is_package.is_package.is_package in
     let there : IsPackageIn w known p c = package_as w p u.known known (right_alike w p u.known known u.right (right_below w known right p)) c u.is_package in
-    let is : IsPackage w known c = record {
+    let is : IsCheckedPackage w known c = record {
       of_workspace = subst (Contains (package_paths w)) (sym path) has;
       is_checked = subst (λ k. IsPackageIn w known k c) (sym path) there;
     } in

@@ -23,7 +23,7 @@ use Rattle.go_scope.specs.declared.model.Purpose.TheVariants as purpose
 use Rattle.go_scope.specs.declared.model.Role.{Role}
 use Rattle.go_scope.specs.declared.model.Role.TheVariants.{Use, Declaring, LeftName, Implied, NotLexical}
 use Rattle.go_scope.specs.Bindings.{may_declare}
-use Rattle.go_scope.specs.Site.{Site, Source, site}
+use Rattle.go_scope.specs.Site.{Site, TokenSpellings, site}
 use Rattle.go_scope.specs.ExpressionSites.{sites_if, list_sites, type_sites, expr_sites, exprs_sites}
 use Rattle.go_scope.specs.StatementSites.{ident_sites, left_sites, assigned_sites, simple_sites, value_sites, local_sites, separated_sites, group_sites}
 use Rattle.go_scope.specs.StatementSites.{init_sites, for_sites, open_of, close_of, statement_sites, block_sites, statements_sites, if_sites, else_sites}
@@ -67,7 +67,7 @@ module _ (K : Kind → ℕ → Type 0) where
   pub back : (xs ys : List Token) → AllOf K (xs ++ ys) → AllOf K ys
   back xs ys h = all_back (λ (t : Token). K t.kind t.place) xs ys h
 
-  module _ (G : ℕ → Type 0) (F : Type 0) (s : Source) where
+  module _ (G : ℕ → Type 0) (F : Type 0) (s : TokenSpellings) where
     abbrev P : Site → Type 0
     P x = Told K G F x.place.index x.role
 

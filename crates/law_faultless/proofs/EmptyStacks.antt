@@ -1,25 +1,25 @@
 -- Lines of statements keep the stack empty, where jumps out of them find it empty too.
 use Rattle.std.proofs.Common.{ℕ, suc, ◌≡◌, ◌+◌, ◌-◌, ◌≤◌, List, [], ◌∷◌, ◌++◌, length, ap, sym, ◌∙◌, arith, Some, None, length-append}
-use Rattle.build_object.specs.Lines.{FunctionName, Line, Jump, JumpUnless, JumpBack, Return}
+use Rattle.build_object.specs.Lines.{FunctionName, CodeLine, Jump, JumpUnless, JumpBack, Return}
 use Rattle.build_object.specs.Statements.{Exits, further, block_exits, branched, body_exits, with_jump_back}
 use Rattle.law_faultless.specs.Stack.{Arity, LinesObey}
 use Rattle.law_faultless.proofs.StackParts.{behind, is_behind, behind_append, Scans, scans_first, scans_second, runs_joined, Turns}
 
 -- The lines keep the stack empty: it is empty behind them where it is before them. Each line keeps to its effect where the stack is empty
 -- at the exits too.
-pub record Keeps (arity : FunctionName → Arity) (x : Exits) (lines : List Line) : Type 0 where
+pub record Keeps (arity : FunctionName → Arity) (x : Exits) (lines : List CodeLine) : Type 0 where
   pub level : (at : ℕ → ℕ) (i : ℕ) → at i ≡ 0 → Scans arity at i lines → at (behind lines i) ≡ 0
   pub runs : (at : ℕ → ℕ) (i : ℕ) → at i ≡ 0 → Scans arity at i lines → at (behind lines i + x.next) ≡ 0 → at (behind lines i + x.out) ≡ 0 →
       LinesObey arity at i lines
 
 -- what has no jump out of it
-pub turns_keep : (arity : FunctionName → Arity) (x : Exits) (lines : List Line) → Turns arity 0 0 lines → Keeps arity x lines
+pub turns_keep : (arity : FunctionName → Arity) (x : Exits) (lines : List CodeLine) → Turns arity 0 0 lines → Keeps arity x lines
 turns_keep arity x lines t = record {
   level = λ at i e s. (t.turns at i 0 e s).ends;
   runs = λ at i e s n o. (t.turns at i 0 e s).runs;
 }
 
-pub keeps_joined : (arity : FunctionName → Arity) (x : Exits) (xs ys : List Line) → Keeps arity (further (length ys) x) xs → Keeps arity x ys →
+pub keeps_joined : (arity : FunctionName → Arity) (x : Exits) (xs ys : List CodeLine) → Keeps arity (further (length ys) x) xs → Keeps arity x ys →
     Keeps arity x (xs ++ ys)
 keeps_joined arity x xs ys f g = record {
   level = λ at i e s. ap at (behind_append xs ys i) ∙ g.level at (behind xs i) (f.level at i e (scans_first arity at i xs ys s))
@@ -50,7 +50,7 @@ jump_next arity x = record {
 }
 
 -- n values are returned
-pub return_keeps : (arity : FunctionName → Arity) (x : Exits) (n : ℕ) (lines : List Line) → Turns arity 0 n lines → Keeps arity x (lines ++ (Return n ∷ []))
+pub return_keeps : (arity : FunctionName → Arity) (x : Exits) (n : ℕ) (lines : List CodeLine) → Turns arity 0 n lines → Keeps arity x (lines ++ (Return n ∷ []))
 return_keeps arity x n lines t = record {
   level = λ at i e s.
       let r = t.turns at i 0 e (scans_first arity at i lines (Return n ∷ []) s) in
@@ -68,7 +68,7 @@ return_keeps arity x n lines t = record {
 }
 
 -- a condition and a block that is passed over where it does not hold
-pub if_keeps : (arity : FunctionName → Arity) (x : Exits) (cond body : List Line) → Turns arity 0 1 cond → Keeps arity x body →
+pub if_keeps : (arity : FunctionName → Arity) (x : Exits) (cond body : List CodeLine) → Turns arity 0 1 cond → Keeps arity x body →
     Keeps arity x (cond ++ branched body None)
 if_keeps arity x cond body t f = record {
   level = λ at i e s.
@@ -97,11 +97,11 @@ if_keeps arity x cond body t f = record {
 }
 
 -- the same with a block for where it does not hold
-pub else_keeps : (arity : FunctionName → Arity) (x : Exits) (cond body other : List Line) → Turns arity 0 1 cond →
+pub else_keeps : (arity : FunctionName → Arity) (x : Exits) (cond body other : List CodeLine) → Turns arity 0 1 cond →
     Keeps arity (block_exits (Some other) x) body → Keeps arity x other → Keeps arity x (cond ++ branched body (Some other))
 else_keeps arity x cond body other t f g =
-    let more : List Line = Jump (length other) ∷ other in
-    let all : List Line = JumpUnless (suc (length body)) ∷ (body ++ more) in record {
+    let more : List CodeLine = Jump (length other) ∷ other in
+    let all : List CodeLine = JumpUnless (suc (length body)) ∷ (body ++ more) in record {
       level = λ at i e s.
           let r = t.turns at i 0 e (scans_first arity at i cond all s) in
           let rest = scans_second arity at i cond all s in
@@ -147,14 +147,14 @@ else_keeps arity x cond body other t f g =
     }
 
 -- A loop: what is tested in it, from which a jump leads behind it, the body, and what is done after each turn.
-pub record Tests (arity : FunctionName → Arity) (skipped : ℕ) (lines : List Line) : Type 0 where
+pub record Tests (arity : FunctionName → Arity) (skipped : ℕ) (lines : List CodeLine) : Type 0 where
   pub level : (at : ℕ → ℕ) (i : ℕ) → at i ≡ 0 → Scans arity at i lines → at (behind lines i) ≡ 0
   pub runs : (at : ℕ → ℕ) (i : ℕ) → at i ≡ 0 → Scans arity at i lines → at (behind lines i + skipped) ≡ 0 → LinesObey arity at i lines
 
 pub no_test : (arity : FunctionName → Arity) (n : ℕ) → Tests arity n []
 no_test arity n = record { level = λ at i e s. e; runs = λ at i e s o. tt }
 
-pub one_test : (arity : FunctionName → Arity) (n : ℕ) (cond : List Line) → Turns arity 0 1 cond → Tests arity n (cond ++ (JumpUnless n ∷ []))
+pub one_test : (arity : FunctionName → Arity) (n : ℕ) (cond : List CodeLine) → Turns arity 0 1 cond → Tests arity n (cond ++ (JumpUnless n ∷ []))
 one_test arity n cond t = record {
   level = λ at i e s.
       let r = t.turns at i 0 e (scans_first arity at i cond (JumpUnless n ∷ []) s) in
@@ -175,12 +175,12 @@ one_test arity n cond t = record {
       runs_joined arity at i cond (JumpUnless n ∷ []) r.runs ((record { enough = omega arith; left = omega arith }, there ∙ sym low), tt);
 }
 
-pub loop_keeps : (arity : FunctionName → Arity) (x : Exits) (cond body post : List Line) → Tests arity (suc (length (body ++ post))) cond →
+pub loop_keeps : (arity : FunctionName → Arity) (x : Exits) (cond body post : List CodeLine) → Tests arity (suc (length (body ++ post))) cond →
     Keeps arity (body_exits post) body → Turns arity 0 0 post →
     Keeps arity x (with_jump_back (cond ++ (body ++ post)))
 loop_keeps arity x cond body post c f p =
-    let ls : List Line = cond ++ (body ++ post) in
-    let last : List Line = JumpBack (suc (length ls)) ∷ [] in record {
+    let ls : List CodeLine = cond ++ (body ++ post) in
+    let last : List CodeLine = JumpBack (suc (length ls)) ∷ [] in record {
       level = λ at i e s.
           let inner = scans_first arity at i ls last s in
           let rest = scans_second arity at i ls last s in

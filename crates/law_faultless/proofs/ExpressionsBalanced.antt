@@ -6,7 +6,7 @@ use Rattle.go_ast.specs.Tree.{TypeTree, ExprTree, LinkTrees, OperandTrees, Argum
 use Rattle.go_ast.specs.Tree as tree
 use Rattle.go_ast.specs.WellFormed.{is_operand, strength, IsExpr, AreOperands, AreLinks, AreArguments, IsLiteral, AreElements}
 use Rattle.types_expr.specs.declared.symbol.Symbol.{Symbol}
-use Rattle.types_expr.specs.Types.{PlainType, SliceOf, Struct, Kind, Meaning, Value, TypeName, Function, BuiltinName, Package, Results, Broken, is_struct}
+use Rattle.types_expr.specs.Types.{PlainType, SliceOf, Struct, ValueKind, Meaning, Value, TypeName, Function, BuiltinName, Package, Results, Broken, is_struct}
 use Rattle.types_expr.specs.World.{World, Locals, AField, underlying}
 use Rattle.types_expr.specs.Judge.{judge_type}
 use Rattle.law_typing.specs.Names.{IsType}
@@ -15,14 +15,14 @@ use Rattle.law_typing.specs.Meanings.{HasMeaning, number, text, name, composite,
 use Rattle.law_typing.specs.Meanings.{call, OperandsMean, no_operand, operand, AreValues, no_argument, argument, IsLiteralOf, struct_literal, slice_literal}
 use Rattle.law_typing.specs.Meanings.{AreFields, no_field, field, AreElements as AreSliceElements, no_element, element}
 use Rattle.law_typing.proofs.Naming.{type_true}
-use Rattle.build_object.specs.Lines.{FunctionName, Line, line_if_known}
+use Rattle.build_object.specs.Lines.{FunctionName, CodeLine, line_if_known}
 use Rattle.build_object.specs.Lines as line
 use Rattle.build_object.specs.Source.{Source}
-use Rattle.build_object.specs.Operands.{Operand, Values, plain, prefixed, operated, selected, indexed, called, settled, grouped, value_count}
+use Rattle.build_object.specs.Operands.{CodeOperand, Values, plain, prefixed, operated, selected, indexed, called, settled, grouped, value_count}
 use Rattle.build_object.specs.Expressions.{argument_count, element_count, field_position, keyed_in, key_position, literal_code, typed_literal, operand_of}
 use Rattle.build_object.specs.Expressions.{operations, linked, argument_lines, literal_lines, keyed_lines, bare_lines, value_lines}
 use Rattle.law_faultless.specs.Stack.{Arity}
-use Rattle.law_faultless.specs.Questions.{Question, OfInteger, OfText, OfName, OfExport, OfMember, Asks, for_integer, for_text, for_name, in_composite, in_paren}
+use Rattle.law_faultless.specs.Questions.{TokenQuestion, OfInteger, OfText, OfName, OfExport, OfMember, Asks, for_integer, for_text, for_name, in_composite, in_paren}
 use Rattle.law_faultless.specs.Questions.{in_prefix, in_address, in_chain, in_links, in_binary, in_operands, LinksAsk, for_member, for_export, behind_selector}
 use Rattle.law_faultless.specs.Questions.{in_index, behind_index, in_arguments, behind_call, OperandsAsk, in_operand, in_later_operand, ArgumentsAsk, in_argument}
 use Rattle.law_faultless.specs.Questions.{in_later_argument, LiteralAsks, in_elements, ElementsAsk, for_key, in_element, in_later_element}
@@ -32,7 +32,7 @@ use Rattle.law_faultless.proofs.OperandStack.{IsOneValue, Stands, Settles, plain
 use Rattle.law_faultless.proofs.LinksBalanced.{selected_stands, index_stands, called_stands}
 
 -- An operand that leaves what its meaning says leaves it as a whole chain too.
-settles : (arity : FunctionName → Arity) (o : Operand) (m : Meaning) → Stands arity o m → Settles arity o m
+settles : (arity : FunctionName → Arity) (o : CodeOperand) (m : Meaning) → Stands arity o m → Settles arity o m
 settles arity o (Value k a) h = h
 settles arity o (TypeName t) h = tt
 settles arity o (Function f) h = tt
@@ -42,7 +42,7 @@ settles arity o (Results ts) h = h
 settles arity o Broken h = tt
 
 -- a chain as an expression
-chain_settles : (arity : FunctionName → Arity) (o : Operand) (m : Meaning) → Stands arity o m → Settles arity (settled o) m
+chain_settles : (arity : FunctionName → Arity) (o : CodeOperand) (m : Meaning) → Stands arity o m → Settles arity (settled o) m
 chain_settles arity o (Value k a) h = record { mode = ap (λ z. Values (value_count z)) h.mode; value = h.value; address = h.address }
 chain_settles arity o (TypeName t) h = tt
 chain_settles arity o (Function f) h = tt
@@ -51,10 +51,10 @@ chain_settles arity o Package h = tt
 chain_settles arity o (Results ts) h = record { is = ap (λ z. Values (value_count z)) h.is; value = h.value }
 chain_settles arity o Broken h = tt
 
-grouped_value : (arity : FunctionName → Arity) (o : Operand) → IsOneValue arity o → IsOneValue arity (grouped o)
+grouped_value : (arity : FunctionName → Arity) (o : CodeOperand) → IsOneValue arity o → IsOneValue arity (grouped o)
 grouped_value arity o v = record { mode = refl; value = v.value; address = v.address }
 
-pub argument_count_of : {w : World} {locals : Locals} {xs : ArgumentTrees} {ks : List Kind} → AreValues w locals xs ks → argument_count xs ≡ length ks
+pub argument_count_of : {w : World} {locals : Locals} {xs : ArgumentTrees} {ks : List ValueKind} → AreValues w locals xs ks → argument_count xs ≡ length ks
 unfolding argument_count
 argument_count_of no_argument = refl
 argument_count_of (argument h more) = ap suc (argument_count_of more)
@@ -76,12 +76,12 @@ key_turns arity s slots key t u f e k =
     let there : keyed_in s key.0 (s.before key.0) ≡ s.position f = ap (λ z. keyed_in s key.0 z) k.0 ∙ ap (λ z. field_position s z) e in
     known_turns arity line.With (key_position s (Some key)) known.0 2 1 (there ∙ known.1) (line_turns arity (line.With known.0) 2 1 refl refl (λ at i m. m))
 
-keyed_more : (arity : FunctionName → Arity) (xs ys zs : List Line) → Turns arity 0 1 xs → Turns arity 2 1 ys → Turns arity 1 1 zs →
+keyed_more : (arity : FunctionName → Arity) (xs ys zs : List CodeLine) → Turns arity 0 1 xs → Turns arity 2 1 ys → Turns arity 1 1 zs →
     Turns arity 1 1 (xs ++ (ys ++ zs))
 keyed_more arity xs ys zs f g h = turns_joined arity 1 2 1 xs (ys ++ zs) (turns_over arity 1 0 1 xs f) (turns_joined arity 2 1 1 ys zs g h)
 
 -- a literal of a type whose underlying type is known
-struct_turns : (arity : FunctionName → Arity) (s : Source) (x : TypeTree) (t : PlainType) (owner : Symbol) (keyed bare : List Line) (n : ℕ) →
+struct_turns : (arity : FunctionName → Arity) (s : Source) (x : TypeTree) (t : PlainType) (owner : Symbol) (keyed bare : List CodeLine) (n : ℕ) →
     IsType s.world x t → underlying s.world t ≡ Struct owner → Turns arity 1 1 keyed →
     Turns arity 0 1 (typed_literal s (judge_type s.world x).type_of keyed bare n)
 unfolding typed_literal
@@ -90,7 +90,7 @@ struct_turns arity s x t owner keyed bare n h e f =
     (subst (λ z. Turns arity 0 1 (literal_code (is_struct z) t keyed bare n)) (sym e)
     (turns_joined arity 0 1 1 (line.Zero t ∷ []) keyed (line_turns arity (line.Zero t) 0 1 refl refl (λ at i m. m)) f))
 
-slice_turns : (arity : FunctionName → Arity) (s : Source) (x : TypeTree) (t u : PlainType) (keyed bare : List Line) (n : ℕ) → IsType s.world x t →
+slice_turns : (arity : FunctionName → Arity) (s : Source) (x : TypeTree) (t u : PlainType) (keyed bare : List CodeLine) (n : ℕ) → IsType s.world x t →
     underlying s.world t ≡ SliceOf u → Turns arity 0 n bare →
     Turns arity 0 1 (typed_literal s (judge_type s.world x).type_of keyed bare n)
 unfolding typed_literal
@@ -104,7 +104,7 @@ unfolding IsExpr
 binary_parts e tree.no_operand f = absurd f
 binary_parts e (tree.operand o p x more) f = (f.1, (strength o, f.2))
 
-prefix_settles : {w : World} {o : PrefixOp} {k : Kind} {m : Meaning} (arity : FunctionName → Arity) (x : Operand) → Prefixes w o k m → IsOneValue arity x →
+prefix_settles : {w : World} {o : PrefixOp} {k : ValueKind} {m : Meaning} (arity : FunctionName → Arity) (x : CodeOperand) → Prefixes w o k m → IsOneValue arity x →
     Settles arity x m
 prefix_settles arity x (plus h) v = v
 prefix_settles arity x (negates h) v = v
@@ -116,8 +116,8 @@ abbrev pub over : World → Source → Source
 over w s = record s { world = w }
 
 -- each question of a part is answered
-abbrev pub Answers : (arity : FunctionName → Arity) → Source → (slots : List ℕ) → (Question → Type 0) → Type 0
-Answers arity s slots asks = (q : Question) → asks q → IsAnswered arity s slots q
+abbrev pub Answers : (arity : FunctionName → Arity) → Source → (slots : List ℕ) → (TokenQuestion → Type 0) → Type 0
+Answers arity s slots asks = (q : TokenQuestion) → asks q → IsAnswered arity s slots q
 
 mutual
   unfolding operand_of IsExpr argument_count element_count
@@ -166,8 +166,8 @@ mutual
 
   -- operators behind a value
   operands_settle : (arity : FunctionName → Arity) (w : World) (s : Source) (slots : List ℕ) (locals : Locals) {m : Meaning} {rest : OperandTrees}
-      {r : Meaning} → OperandsMean w locals m rest r → (n : ℕ) → AreOperands n rest → (lines : List Line) →
-      Turns arity 0 1 lines → ((ls : List Line) → Turns arity 0 1 ls → Settles arity (plain ls) m) →
+      {r : Meaning} → OperandsMean w locals m rest r → (n : ℕ) → AreOperands n rest → (lines : List CodeLine) →
+      Turns arity 0 1 lines → ((ls : List CodeLine) → Turns arity 0 1 ls → Settles arity (plain ls) m) →
       Answers arity (over w s) slots (OperandsAsk w locals rest) → Settles arity (plain (operations (over w s) slots lines rest)) r
   operands_settle arity w s slots locals no_operand n f lines t v k = v lines t
   operands_settle arity w s slots locals (operand {o} {e = e} h q more) n f lines t v k =
@@ -176,7 +176,7 @@ mutual
       (λ ls u. plain_value arity ls u) (λ q a. k q (in_later_operand a))
 
   links_stand : (arity : FunctionName → Arity) (w : World) (s : Source) (slots : List ℕ) (locals : Locals) {m : Meaning} {links : LinkTrees} {r : Meaning} →
-      LinksMean w locals m links r → AreLinks links → (o : Operand) →
+      LinksMean w locals m links r → AreLinks links → (o : CodeOperand) →
       Stands arity o m → Answers arity (over w s) slots (LinksAsk w locals m links) → Stands arity (linked (over w s) slots o links) r
   links_stand arity w s slots locals no_link f o h k = h
   links_stand arity w s slots locals (selector {d} {n} {rest} x more) f o h k =
@@ -193,7 +193,7 @@ mutual
       (called_stands arity w o (argument_count xs) (argument_lines (over w s) slots xs) c (argument_count_of vs) h
       (arguments_turn arity w s slots locals vs f.0 (λ q a. k q (in_arguments a)))) (λ q a. k q (behind_call vs c a))
 
-  arguments_turn : (arity : FunctionName → Arity) (w : World) (s : Source) (slots : List ℕ) (locals : Locals) {xs : ArgumentTrees} {ks : List Kind} →
+  arguments_turn : (arity : FunctionName → Arity) (w : World) (s : Source) (slots : List ℕ) (locals : Locals) {xs : ArgumentTrees} {ks : List ValueKind} →
       AreValues w locals xs ks → AreArguments xs →
       Answers arity (over w s) slots (ArgumentsAsk w locals xs) → Turns arity 0 (argument_count xs) (argument_lines (over w s) slots xs)
   arguments_turn arity w s slots locals no_argument f k = none_turns arity 0

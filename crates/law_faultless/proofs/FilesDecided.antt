@@ -14,7 +14,7 @@ use Rattle.go_scope.specs.declared.model.Purpose.TheVariants as purpose
 use Rattle.go_scope.specs.declared.model.Role.{Role}
 use Rattle.go_scope.specs.declared.model.Role.TheVariants.{Use, Declaring, LeftName, Implied, NotLexical}
 use Rattle.go_scope.specs.Bindings.{block_of}
-use Rattle.go_scope.specs.Site.{Site, Source, site, or_blank}
+use Rattle.go_scope.specs.Site.{Site, TokenSpellings, site, or_blank}
 use Rattle.go_scope.specs.StatementSites.{separated_sites, group_sites}
 use Rattle.go_scope.specs.FileSites.{import_name, import_purpose, import_sites, imports_sites, spec_sites, decl_sites, file_sites, universe_site}
 use Rattle.types_info.proofs.DeclKinds.{Holds}
@@ -61,7 +61,7 @@ unpaired : (T : Position → Type 0) (K : Kind → ℕ → Type 0) (G : ℕ → 
 unpaired T K G [] h = tt
 unpaired T K G (x ∷ xs) h = ((λ f e. absurd (no_file K G x.place.index x.role h.0 f e)), unpaired T K G xs h.1)
 
-module _ (K : Kind → ℕ → Type 0) (G : ℕ → Type 0) (s : Source) where
+module _ (K : Kind → ℕ → Type 0) (G : ℕ → Type 0) (s : TokenSpellings) where
   abbrev P : Site → Type 0
   P x = Told K G (Unit {0}) x.place.index x.role
 
@@ -140,7 +140,7 @@ module _ (K : Kind → ℕ → Type 0) (G : ℕ → Type 0) (s : Source) where
 
 -- a whole file
 
-module _ (K : Kind → ℕ → Type 0) (s : Source) (f : FileTree) (h : AllOf K (flatten f)) where
+module _ (K : Kind → ℕ → Type 0) (s : TokenSpellings) (f : FileTree) (h : AllOf K (flatten f)) where
   abbrev G : ℕ → Type 0
   G = IsGlobal f.decls
 

@@ -7,7 +7,7 @@ use Rattle.std.proofs.lemmas.Option.{none-some, same_Some}
 use Rattle.go_ast.specs.SourceFile.{SourceFile, IsSourceFile}
 use Rattle.go_ast.specs.Tree.{FuncTree, DeclTree}
 use Rattle.go_ast.specs.Tree as tree
-use Rattle.go_scope.specs.Site.{Site, Source}
+use Rattle.go_scope.specs.Site.{Site, TokenSpellings}
 use Rattle.go_scope.specs.FileSites.{imports_sites, decl_sites, file_sites}
 use Rattle.types_expr.specs.Types.{PlainType}
 use Rattle.types_expr.specs.World.{World, Locals, no_locals}
@@ -59,14 +59,14 @@ function_of : (w : World) (is_init : ℕ → Bool) (U : ℕ → Type 0) {before 
 function_of w is_init U {before} d ds g p c f e h =
     g f before (subst (λ z. IsFunctionIn w is_init before (z ∷ ds) f before) (sym e) (this_function h))
 
-decls_links : (w : World) (is_init : ℕ → Bool) (U : ℕ → Type 0) (s : Source) {before after : Locals} {ds : List DeclTree} →
+decls_links : (w : World) (is_init : ℕ → Bool) (U : ℕ → Type 0) (s : TokenSpellings) {before after : Locals} {ds : List DeclTree} →
     AskedIn w is_init U before ds → DeclsAreTyped w is_init before ds after → AreLinked w U (flat_map (decl_sites s) ds)
 decls_links w is_init U s g no_decl = tt
 decls_links w is_init U s g (also_decl {d} {ds} h more) =
     linked_append w U (decl_sites s d) (flat_map (decl_sites s) ds) (decl_links w is_init U s (function_of w is_init U d ds g) h)
     (decls_links w is_init U s (λ f at i. g f at (later_function h i)) more)
 
-file_links : (w : World) (f : SourceFile) (is_init : ℕ → Bool) (U : ℕ → Type 0) (s : Source) → AskedIn w is_init U no_locals f.tree.decls →
+file_links : (w : World) (f : SourceFile) (is_init : ℕ → Bool) (U : ℕ → Type 0) (s : TokenSpellings) → AskedIn w is_init U no_locals f.tree.decls →
     FileIsTyped w is_init f.tree → AreLinked w U (file_sites s f.tree)
 unfolding file_sites
 file_links w f is_init U s g (a_file h) = (
@@ -85,7 +85,7 @@ all_of : (w : World) (U : ℕ → Type 0) (xs : List Site) → AreLinked w U xs 
 all_of w U [] h = tt
 all_of w U (x ∷ xs) h = (h.0, all_of w U xs h.1)
 
-pub all_linked : (w : World) (is_init : ℕ → Bool) (f : SourceFile) → IsSourceFile f → FileIsTyped w is_init f.tree → (s : Source) →
+pub all_linked : (w : World) (is_init : ℕ → Bool) (f : SourceFile) → IsSourceFile f → FileIsTyped w is_init f.tree → (s : TokenSpellings) →
     AllByRecursion (λ x. IsLinked w (IsUsedMember w (check_file w is_init f.tree).uses) x.place.index x.role) (file_sites s f.tree)
 all_linked w is_init f is typed s =
     let U = IsUsedMember w (check_file w is_init f.tree).uses in

@@ -21,7 +21,7 @@ use Rattle.workspace_check.specs.FaultLists.{ListsFaults}
 use Rattle.workspace_check.specs.Verdicts.{Verdicts, AreVerdicts, IsSeenAs, seen, unseen, IsPackageIn}
 use Rattle.workspace_check.proofs.Closed.{to_package}
 use Rattle.workspace_check.proofs.OneList.{checked_package}
-use Rattle.refs_binding.specs.Uses.{IsPackage}
+use Rattle.refs_binding.specs.Uses.{IsCheckedPackage}
 use Rattle.refs_binding.proofs.Alike.{package_for}
 use Rattle.law_faultless.specs.Worlds.{HaveAllWorlds}
 use Rattle.law_faultless.specs.Unbroken.{IsUnbroken}
@@ -45,7 +45,7 @@ predeclared_fine (a_function b) = no_value (λ k q. cc)
 
 module _ (w : Workspace) (sound : ListsFaults w []) (known : Verdicts) (right : AreVerdicts w known)
     (worlds : HaveAllWorlds w known) where
-  meant_fine : (p : Package) → IsPackage w known p → (d : ℕ) (b : Bound) → IsMeaningOf p d b → IsFine b
+  meant_fine : (p : Package) → IsCheckedPackage w known p → (d : ℕ) (b : Bound) → IsMeaningOf p d b → IsFine b
   meant_fine p is d _ (bound.predeclared x means) = predeclared_fine means
   meant_fine p is d _ (bound.import_name x) = no_value (λ k q. cc)
   meant_fine p is d _ (bound.local x) = tt
@@ -60,7 +60,7 @@ module _ (w : Workspace) (sound : ListsFaults w []) (known : Verdicts) (right : 
 
   -- what another package exports
 
-  other_package : (q : List ℕ) (has : Contains (package_paths w) q) → IsPackage w known (checked_package w sound q has).checked
+  other_package : (q : List ℕ) (has : Contains (package_paths w) q) → IsCheckedPackage w known (checked_package w sound q has).checked
   other_package q has =
       let x = checked_package w sound q has in
       let path : x.checked.path ≡ q = ap (λ (c : Package). c.path) x.is_package.is_package.is_package in
@@ -83,7 +83,7 @@ module _ (w : Workspace) (sound : ListsFaults w []) (known : Verdicts) (right : 
   HasWholeMethods : Definition → Type 0
   HasWholeMethods d = (name : List ℕ) (m : Method) → d.method name ≡ Some m → m.signature ≡ None → ⊥
 
-  definition_fine : (p : Package) → IsPackage w known p → (rank : ℕ) (d : Definition) → IsDefinition p rank d → HasWholeMethods d
+  definition_fine : (p : Package) → IsCheckedPackage w known p → (rank : ℕ) (d : Definition) → IsDefinition p rank d → HasWholeMethods d
   unfolding HasWholeMethods
   definition_fine p is rank d h name m found none =
       let x = subst (IsFoundMethod p rank name) found (h.methods name) in
@@ -100,13 +100,13 @@ module _ (w : Workspace) (sound : ListsFaults w []) (known : Verdicts) (right : 
       let x = checked_package w sound q has in by_type x.checked (other_package q has) (sound.known q).export_data x.is_export_data rank (slice_get
       (package_types x.checked) rank) refl
     where
-      by_type : (c : Package) → IsPackage w known c → (i : ExportData) → IsExportData c i → (rank : ℕ) → (o : Option _) → slice_get (package_types c) rank ≡ o →
+      by_type : (c : Package) → IsCheckedPackage w known c → (i : ExportData) → IsExportData c i → (rank : ℕ) → (o : Option _) → slice_get (package_types c) rank ≡ o →
           HasWholeMethods (i.definition rank)
       by_type c is i h rank None e = subst HasWholeMethods (sym (h.beyond rank e)) (nothing_fine _ (λ name. refl))
       by_type c is i h rank (Some d) e = definition_fine c is rank (i.definition rank) (h.definitions rank d e)
   export_data_fine r q _ _ (unseen none) rank = nothing_fine _ (λ name. refl)
 
-  module _ (p : Package) (is : IsPackage w known p) where
+  module _ (p : Package) (is : IsCheckedPackage w known p) where
     pub seen_export_data : (q : List ℕ) → (n : Option (List ℕ)) × IsSeenAs w sound.known p.path q n (p.export_data_of q)
     seen_export_data q =
         let own = package_for w known sound.known right sound.right p is in

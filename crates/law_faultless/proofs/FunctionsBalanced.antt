@@ -2,14 +2,14 @@
 use Rattle.std.proofs.Common.{ℕ, zero, suc, ◌≡◌, ◌+◌, ◌-◌, List, [], ◌∷◌, ◌++◌, length, map, ap, refl, sym, ◌∙◌, subst, arith}
 use Rattle.go_ast.specs.Tree.{Item, TypeTree, ExprTree, StatementTree, FuncTree, ResultTree}
 use Rattle.go_ast.specs.WellFormed.{IsExpr, IsStatement, IsFunc}
-use Rattle.types_expr.specs.Types.{PlainType, Kind, Value, Results}
+use Rattle.types_expr.specs.Types.{PlainType, ValueKind, Value, Results}
 use Rattle.types_expr.specs.World.{World, Locals}
 use Rattle.law_typing.specs.Meanings.{HasMeaning}
 use Rattle.law_typing.specs.Statements.{StatementIsTyped}
 use Rattle.law_typing.specs.Declarations.{AreTypes, no_type_left, also_type, AreResults, none_written, one_written, several_written}
 use Rattle.law_typing.specs.Declarations.{FunctionIsTyped, a_function}
 use Rattle.types_declared.specs.MeaningOf.{result_types}
-use Rattle.build_object.specs.Lines.{FunctionName, Line, End}
+use Rattle.build_object.specs.Lines.{FunctionName, CodeLine, End}
 use Rattle.build_object.specs.Source.{Source}
 use Rattle.build_object.specs.Expressions.{value_lines}
 use Rattle.build_object.specs.Statements.{Exits, no_exits, statement_lines, block_lines, body_lines}
@@ -22,17 +22,17 @@ use Rattle.law_faultless.proofs.EmptyStacks.{Keeps}
 use Rattle.law_faultless.proofs.StatementsBalanced.{statement_keeps, block_keeps}
 
 -- The height before line n, if the lines run one after another. Behind the last line it stays.
-height : (FunctionName → Arity) → ℕ → List Line → ℕ → ℕ
+height : (FunctionName → Arity) → ℕ → List CodeLine → ℕ → ℕ
 height arity h [] n = h
 height arity h (l ∷ ls) zero = h
 height arity h (l ∷ ls) (suc n) = height arity ((h - taken l) + put arity l) ls n
 
-first_height : (arity : FunctionName → Arity) (h : ℕ) (ls : List Line) → height arity h ls 0 ≡ h
+first_height : (arity : FunctionName → Arity) (h : ℕ) (ls : List CodeLine) → height arity h ls 0 ≡ h
 unfolding height
 first_height arity h [] = refl
 first_height arity h (l ∷ ls) = refl
 
-height_scans : (arity : FunctionName → Arity) (ls : List Line) (h i : ℕ) (at : ℕ → ℕ) → ((n : ℕ) → at (n + i) ≡ height arity h ls n) → Scans arity at i ls
+height_scans : (arity : FunctionName → Arity) (ls : List CodeLine) (h i : ℕ) (at : ℕ → ℕ) → ((n : ℕ) → at (n + i) ≡ height arity h ls n) → Scans arity at i ls
 unfolding height
 height_scans arity [] h i at e = tt
 height_scans arity (l ∷ ls) h i at e =
@@ -42,29 +42,29 @@ height_scans arity (l ∷ ls) h i at e =
     let step : at (suc i) ≡ (at i - taken l) + put arity l = then ∙ ap (λ z. (z - taken l) + put arity l) (sym here) in
     (step, height_scans arity ls next (suc i) at (λ n. ap at (let z : n + suc i ≡ suc n + i = omega arith in z) ∙ e (suc n)))
 
-scans_whole : (arity : FunctionName → Arity) (h : ℕ) (ls : List Line) → Scans arity (height arity h ls) 0 ls
+scans_whole : (arity : FunctionName → Arity) (h : ℕ) (ls : List CodeLine) → Scans arity (height arity h ls) 0 ls
 scans_whole arity h ls = height_scans arity ls h 0 (height arity h ls) (λ n. ap (height arity h ls) (let z : n + 0 ≡ n = omega arith in z))
 
 -- behind the end nothing changes
-constant : (arity : FunctionName → Arity) (h : ℕ) (ls : List Line) (n : ℕ) → height arity h ls (length ls + n) ≡ height arity h ls (length ls)
+constant : (arity : FunctionName → Arity) (h : ℕ) (ls : List CodeLine) (n : ℕ) → height arity h ls (length ls + n) ≡ height arity h ls (length ls)
 unfolding height
 constant arity h [] n = refl
 constant arity h (l ∷ ls) n =
     let e : suc (length ls) + n ≡ suc (length ls + n) = omega arith in
     ap (λ z. height arity h (l ∷ ls) z) e ∙ constant arity ((h - taken l) + put arity l) ls n
 
-at_end : (arity : FunctionName → Arity) (h m : ℕ) (ls : List Line) → height arity h ls (behind ls 0) ≡ m → (n : ℕ) → height arity h ls (length ls + n) ≡ m
+at_end : (arity : FunctionName → Arity) (h m : ℕ) (ls : List CodeLine) → height arity h ls (behind ls 0) ≡ m → (n : ℕ) → height arity h ls (length ls + n) ≡ m
 at_end arity h m ls e n =
     let end : length ls ≡ behind ls 0 = let z : length ls ≡ length ls + 0 = omega arith in z ∙ sym (is_behind ls 0) in
     constant arity h ls n ∙ (ap (λ z. height arity h ls z) end ∙ e)
 
-turns_balanced : (arity : FunctionName → Arity) (h m : ℕ) (ls : List Line) → Turns arity 0 m ls → IsBalanced arity h ls (h + m)
+turns_balanced : (arity : FunctionName → Arity) (h m : ℕ) (ls : List CodeLine) → Turns arity 0 m ls → IsBalanced arity h ls (h + m)
 turns_balanced arity h m ls t =
     let begins : height arity h ls 0 ≡ h + 0 = let z : h ≡ h + 0 = omega arith in first_height arity h ls ∙ z in
     let r = t.turns (height arity h ls) 0 h begins (scans_whole arity h ls) in
     record { at = height arity h ls; begins = first_height arity h ls; runs = r.runs; ends = at_end arity h (h + m) ls r.ends }
 
-keeps_balanced : (arity : FunctionName → Arity) (x : Exits) (ls : List Line) → Keeps arity x ls → IsBalanced arity 0 ls 0
+keeps_balanced : (arity : FunctionName → Arity) (x : Exits) (ls : List CodeLine) → Keeps arity x ls → IsBalanced arity 0 ls 0
 keeps_balanced arity x ls k =
     let scan = scans_whole arity 0 ls in
     let end : height arity 0 ls (behind ls 0) ≡ 0 = k.level (height arity 0 ls) 0 (first_height arity 0 ls) scan in
@@ -79,9 +79,9 @@ keeps_balanced arity x ls k =
     }
 
 -- the body of a function and its end
-body_balanced : (arity : FunctionName → Arity) (ls : List Line) → Keeps arity no_exits ls → IsBalanced arity 0 (ls ++ (End ∷ [])) 0
+body_balanced : (arity : FunctionName → Arity) (ls : List CodeLine) → Keeps arity no_exits ls → IsBalanced arity 0 (ls ++ (End ∷ [])) 0
 body_balanced arity ls k =
-    let all : List Line = ls ++ (End ∷ []) in
+    let all : List CodeLine = ls ++ (End ∷ []) in
     let at : ℕ → ℕ = height arity 0 all in
     let scan = scans_whole arity 0 all in
     let inner = scans_first arity at 0 ls (End ∷ []) scan in
@@ -103,7 +103,7 @@ body_balanced arity ls k =
 
 -- the laws
 
-pub value_balanced : (arity : FunctionName → Arity) (s : Source) (slots : List ℕ) (locals : Locals) (e : ExprTree) (k : Kind) (a : _) →
+pub value_balanced : (arity : FunctionName → Arity) (s : Source) (slots : List ℕ) (locals : Locals) (e : ExprTree) (k : ValueKind) (a : _) →
     HasMeaning s.world locals e (Value k a) → IsExpr e → Answers arity s slots (Asks s.world locals e) → (h : ℕ) →
     IsBalanced arity h (value_lines s slots e) (h + 1)
 value_balanced arity s slots locals e k a m f answers h = turns_balanced arity h 1 (value_lines s slots e)

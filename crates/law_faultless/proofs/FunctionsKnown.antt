@@ -9,7 +9,7 @@ use Rattle.go_ast.specs.SourceFile.{SourceFile, IsSourceFile}
 use Rattle.types_expr.specs.Types.{PlainType}
 use Rattle.types_expr.specs.World.{World, Locals, no_locals}
 use Rattle.types_expr.specs.Judge.{MemberUse}
-use Rattle.types_stmt.specs.Checked.{Checked}
+use Rattle.types_stmt.specs.Checked.{FoundSoFar}
 use Rattle.types_stmt.specs.Sides.{Wants}
 use Rattle.types_stmt.specs.Statements.{check_statement}
 use Rattle.types_stmt.specs.Headers.{judge_types, judge_results, is_bad_init, check_signature, check_function}
@@ -24,7 +24,7 @@ use Rattle.law_typing.proofs.Headers.{function_true}
 use Rattle.law_typing.proofs.Declarations.{decl_true}
 use Rattle.refs_lookup.proofs.LinkPlaces.{one_at_token}
 use Rattle.build_object.specs.Sources.{type_before}
-use Rattle.law_faultless.specs.Questions.{Question, OfMember}
+use Rattle.law_faultless.specs.Questions.{TokenQuestion, OfMember}
 use Rattle.law_faultless.specs.StatementAsking.{FunctionAsks, in_body}
 use Rattle.law_faultless.specs.TypedFunctions.{IsFunctionIn, this_function, later_function}
 use Rattle.law_faultless.proofs.Used.{IsUsed, Met}
@@ -75,13 +75,13 @@ init_kept (a_method h) ts e = a_method h
 init_kept {b} {f} (a_plain_one h) ts e = subst (λ z. KeepsInit b (emptied f) z) (sym (no_types ts e)) (a_plain_one h)
 
 -- what is found of a function's header
-signature_at : (w : World) (b : Bool) (s : Checked) (f : FuncTree) {entered : Locals} → IsAt (check_function w b s (emptied f)) entered →
+signature_at : (w : World) (b : Bool) (s : FoundSoFar) (f : FuncTree) {entered : Locals} → IsAt (check_function w b s (emptied f)) entered →
     IsAt (check_signature w b s f) entered
 unfolding check_function check_signature is_bad_init check_statement
 signature_at w b s f a = a
 
-function_met : (w : World) (b : Bool) {before after : Locals} {f : FuncTree} {q : Question} → FunctionIsTyped w b before f after → FunctionAsks w before f q →
-    (s : Checked) → IsAt s before →
+function_met : (w : World) (b : Bool) {before after : Locals} {f : FuncTree} {q : TokenQuestion} → FunctionIsTyped w b before f after → FunctionAsks w before f q →
+    (s : FoundSoFar) → IsAt s before →
     Met q (check_function w b s f).uses
 unfolding check_function
 function_met w b (a_function {before} {f = f} other params written keeps body) (in_body {entered = entered} {ts = ts} r p rs a) s at =
@@ -91,7 +91,7 @@ function_met w b (a_function {before} {f = f} other params written keeps body) (
     block_met w ts (judge_results w f.result).wanted (results_wanted w rs) a (check_signature w b s f) begun
 
 declarations_met : (w : World) (is_init : ℕ → Bool) {before at : Locals} {ds : List DeclTree} {f : FuncTree} → IsFunctionIn w is_init before ds f at →
-    (q : Question) → FunctionAsks w at f q → (s : Checked) → IsAt s before →
+    (q : TokenQuestion) → FunctionAsks w at f q → (s : FoundSoFar) → IsAt s before →
     Met q (check_decls w is_init s ds).uses
 unfolding check_decls check_decl
 declarations_met w is_init (this_function {f = f} {ds} t) q a s at = decls_keep q w is_init ds (check_function w (is_init f.name) s f)
@@ -99,7 +99,7 @@ declarations_met w is_init (this_function {f = f} {ds} t) q a s at = decls_keep 
 declarations_met w is_init (later_function {d = d} r more) q a s at = declarations_met w is_init more q a (check_decl w is_init s d)
     (decl_true w is_init s at r)
 
-file_met : (w : World) (is_init : ℕ → Bool) (t : FileTree) (f : FuncTree) (at : Locals) (q : Question) → IsFunctionIn w is_init no_locals t.decls f at →
+file_met : (w : World) (is_init : ℕ → Bool) (t : FileTree) (f : FuncTree) (at : Locals) (q : TokenQuestion) → IsFunctionIn w is_init no_locals t.decls f at →
     FunctionAsks w at f q → Met q (check_file w is_init t).uses
 unfolding check_file
 file_met w is_init t f at q is a = declarations_met w is_init is q a (record { locals = no_locals; faults = []; uses = [] })

@@ -21,7 +21,7 @@ use Rattle.go_scope.specs.FileSites.{result_sites}
 use Rattle.go_scope.specs.ExpressionSites.{sites_if, list_sites}
 use Rattle.go_scope.specs.StatementSites.{open_of, block_sites}
 use Rattle.go_scope.specs.Named.{is_unnamed_import}
-use Rattle.go_scope.specs.Site.{Site, Source, site}
+use Rattle.go_scope.specs.Site.{Site, TokenSpellings, site}
 use Rattle.go_scope.specs.Table.{LiesAt}
 use Rattle.go_scope.specs.WellFormed.{WellFormed}
 use Rattle.types_declared.specs.Files.{ranked_files}
@@ -33,7 +33,7 @@ use Rattle.types_declared.specs.MeaningOf.{IsMeaningOf, PredeclaredMeans, a_type
 use Rattle.types_declared.specs.MeaningOf as bound
 use Rattle.types_declared.specs.Package.{Package, Export, ExportData, PlacedFunction, decl_functions, functions_in, package_functions, function_place, spelled}
 use Rattle.types_declared.specs.Package.{spelled_at}
-use Rattle.types_declared.specs.Written.{BindsToken, ImportsPath}
+use Rattle.types_declared.specs.Written.{BindsToken, DeclaresImport}
 use Rattle.types_declared.proofs.Naming.{one_binding, one_import_path}
 use Rattle.types_check.specs.Exports.{IsExport, IsExported}
 use Rattle.types_info.specs.Worlds.{IsName, DenotesExport, is_bound, is_unbound, by_scope, by_package}
@@ -46,10 +46,10 @@ use Rattle.workspace_check.proofs.OnePackage.{layout_formed}
 use Rattle.build_object.specs.Lines.{GlobalName, FunctionName, Plain, Initializer}
 use Rattle.build_object.specs.Names.{spelled_in, is_named_init, function_named, function_behind, initializers_with, functions_behind, function_names}
 use Rattle.build_object.specs.Source.{Source as CodeSource}
-use Rattle.build_object.specs.Sources.{IsGlobalAt, own as own_global, imported, HasQualifier, IsGlobal, IsSourceOf}
+use Rattle.build_object.specs.Sources.{IsGlobalAt, own as own_global, imported, HasQualifier, DenotesGlobal, IsSourceOf}
 use Rattle.law_faultless.specs.QuestionAnswers.{plain_arity}
 use Rattle.law_faultless.specs.Stack.{Arity}
-use Rattle.refs_binding.specs.Uses.{IsPackage}
+use Rattle.refs_binding.specs.Uses.{IsCheckedPackage}
 use Rattle.law_faultless.specs.OpenQuestions.{HasArity}
 use Rattle.law_faultless.proofs.Numbers.{IsTold, IsKept, universal, plain, laid}
 use Rattle.law_faultless.proofs.Fine.{seen_export_data}
@@ -143,7 +143,7 @@ no_import_role None name = no_import (bytes_eq name (codes "init"))
 no_import_role (Some r) name = refl
 
 -- the name of a function is one of the identifiers of its file
-pub function_name_kept : (K : Site → Type 0) (s : Source) (f : FuncTree) → AllByRecursion K (func_sites s f) →
+pub function_name_kept : (K : Site → Type 0) (s : TokenSpellings) (f : FuncTree) → AllByRecursion K (func_sites s f) →
     K (site s f.name (func_role f.receiver (s.spell f.name)))
 unfolding func_sites
 function_name_kept K s f h =
@@ -153,7 +153,7 @@ function_name_kept K s f h =
     (list_sites (param_sites s b o) f.params ++ (result_sites s f.result ++ block_sites s f.body))) h).0
 
 -- A property of each identifier of a file is one of each identifier of its functions.
-pub function_kept : (K : Site → Type 0) (s : Source) (tree : _) (k : ℕ) (f : FuncTree) (c : ℕ) → AllByRecursion K (file_sites s tree) →
+pub function_kept : (K : Site → Type 0) (s : TokenSpellings) (tree : _) (k : ℕ) (f : FuncTree) (c : ℕ) → AllByRecursion K (file_sites s tree) →
     Holds tree.decls (FuncDecl k f c) → AllByRecursion K (func_sites s f)
 unfolding file_sites decl_sites
 function_kept K s tree k f c h held =
@@ -221,7 +221,7 @@ module _ (w : Workspace) (known : Verdicts) (path : List ℕ) (p : Package) (h :
 
     is_plain : (f.function.receiver ≡ None) × (bytes_eq (spelling_of there.source f.function.name) (codes "init") ≡ false)
     is_plain =
-        let source : Source = record { rank = f.file; spell = spelling_of there.source } in
+        let source : TokenSpellings = record { rank = f.file; spell = spelling_of there.source } in
         let r = func_role f.function.receiver (spelling_of there.source f.function.name) in
         let all = function_kept (Kept p f.file) source there.source.tree there.keyword f.function there.semicolon
         (all_kept w known path p h f.file there.source there.in_file) there.in_tree in
@@ -249,7 +249,7 @@ module _ (w : Workspace) (known : Verdicts) (path : List ℕ) (p : Package) (h :
 module _ (w : Workspace) (sound : ListsFaults w []) (known : Verdicts) (right : AreVerdicts w known) (arity : FunctionName → Arity)
     (arities : AreArities w known arity) where
   -- what a declared function takes and gives
-  declared_arity : (c : Package) → IsPackage w known c → (d : ℕ) → IsPackageLevel c.layout d → (b : Bound) → IsMeaningOf c d b → (s : Signature) →
+  declared_arity : (c : Package) → IsCheckedPackage w known c → (d : ℕ) → IsPackageLevel c.layout d → (b : Bound) → IsMeaningOf c d b → (s : Signature) →
       b ≡ Means (Function s) → arity (Plain (record { path = c.path; name = c.names d })) ≡ plain_arity s
   declared_arity c is d level _ (bound.function {f} {s = t} x signature) s e =
       let same : t ≡ s = let z : Function t ≡ Function s = stood (Function t) (Function s) e in cc in
@@ -283,14 +283,14 @@ module _ (w : Workspace) (sound : ListsFaults w []) (known : Verdicts) (right : 
   function_level c d _ (bound.definition known r whole) s e = let z : ⊥ = cc in absurd z
   function_level c d _ (bound.broken_definition known r broken) s e = let z : ⊥ = cc in absurd z
 
-  module _ (p : Package) (is : IsPackage w known p) where
+  module _ (p : Package) (is : IsCheckedPackage w known p) where
     abbrev formed : WellFormed p.layout
     formed = layout_formed w known p.path p is.is_checked
 
     -- what another package exports
     record Exported (path name : List ℕ) (e : Export) : Type 0 where
       other : Package
-      is_other : IsPackage w known other
+      is_other : IsCheckedPackage w known other
       of_path : other.path ≡ path
       is_export : IsExport other name e
 
@@ -387,7 +387,7 @@ module _ (w : Workspace) (sound : ListsFaults w []) (known : Verdicts) (right : 
           one_binding p formed file selected.before behind.import import.import (subst (λ k. BindsToken p file k behind.import) before behind.binds)
           import.binds in
           let same_path : path ≡ import.of_import.path =
-          one_import_path p import.import path import.of_import.path (subst (λ k. ImportsPath p k path) one behind.of_path) import.of_import.imports in
+          one_import_path p import.import path import.of_import.path (subst (λ k. DeclaresImport p k path) one behind.of_path) import.of_import.imports in
           let declared = declared_arity o.other o.is_other o.is_export.declaration o.is_export.by_declaration.seen.package_level (Means x.meaning)
           o.is_export.by_declaration.means s (ap Means e) in
           ap (λ z. let g : GlobalName = record { path = z; name = spelled p file n } in arity (Plain g)) (same_path ∙ sym o.of_path) ∙
@@ -399,7 +399,7 @@ module _ (w : Workspace) (sound : ListsFaults w []) (known : Verdicts) (right : 
       named_arity _ (is_bound (by_package {e = x} selected)) s e g h = by_export x selected s (stood x.meaning (Function s) e) g h
       named_arity _ (is_unbound none) s e g h = let z : ⊥ = cc in absurd z
 
-      global_at : (o : Option GlobalName) → IsGlobal p file n o → (g : GlobalName) → o ≡ Some g → IsGlobalAt p file n g
+      global_at : (o : Option GlobalName) → DenotesGlobal p file n o → (g : GlobalName) → o ≡ Some g → IsGlobalAt p file n g
       global_at None h g e = absurd (none-some g e)
       global_at (Some x) h g e = subst (IsGlobalAt p file n) (same_Some x g e) h
 

@@ -10,7 +10,7 @@ use Rattle.types_declared.specs.MeaningOf.{broken_variable, function, broken_fun
 use Rattle.types_info.specs.Worlds.{IsBoundAt, by_scope, by_package, IsName, is_bound, is_unbound}
 use Rattle.build_object.specs.Lines.{GlobalName}
 use Rattle.build_object.specs.Source.{Source}
-use Rattle.build_object.specs.Sources.{IsGlobalAt, own, imported, IsGlobal, IsSourceOf}
+use Rattle.build_object.specs.Sources.{IsGlobalAt, own, imported, DenotesGlobal, IsSourceOf}
 use Rattle.law_faultless.specs.QuestionAnswers.{IsKnown}
 use Rattle.law_faultless.specs.GlobalMeanings.{MeansGlobal}
 
@@ -56,7 +56,7 @@ name_at : (p : Package) (file n : ℕ) {b : Bound} → IsName p file n b → (m 
 name_at p file n (is_bound h) m e c = global_at p file n h m e c
 name_at p file n (is_unbound h) m e c = let same : m ≡ Broken = cc in absurd (subst (λ z. MeansGlobal z) same c)
 
-known_global : (p : Package) (file n : ℕ) (o : Option GlobalName) → IsGlobal p file n o → (g : GlobalName) × IsGlobalAt p file n g → IsKnown o
+known_global : (p : Package) (file n : ℕ) (o : Option GlobalName) → DenotesGlobal p file n o → (g : GlobalName) × IsGlobalAt p file n g → IsKnown o
 known_global p file n None h g = absurd (h g.0 g.1)
 known_global p file n (Some x) h g = (x, refl)
 

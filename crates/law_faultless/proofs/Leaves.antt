@@ -3,18 +3,18 @@ use Rattle.std.proofs.Common.{ℕ, suc, ◌≡◌, ◌<◌, ◌≤◌, inl, inr,
 use Rattle.std.specs.List.{AllByRecursion}
 use Rattle.std.proofs.lemmas.Bool.{true≢false}
 use Rattle.base_lemmas.proofs.EachElement.{all_append, all_front, all_back}
-use Rattle.go_ast.specs.declared.syntax.Kind.TheVariants as kind
+use Rattle.go_ast.specs.declared.syntax.ValueKind.TheVariants as kind
 use Rattle.go_ast.specs.Flatten.{sign_if, all_tokens, item_tokens, expr_tokens, exprs_tokens}
 use Rattle.go_ast.specs.Tree.{Item, ExprTree}
 use Rattle.go_ast.specs.Tree as tree
 use Rattle.go_scope.specs.declared.model.Block.{Block}
-use Rattle.go_scope.specs.Site.{Site, Source}
+use Rattle.go_scope.specs.Site.{Site, TokenSpellings}
 use Rattle.go_scope.specs.ExpressionSites.{list_sites, expr_sites, exprs_sites}
 use Rattle.go_scope.specs.StatementSites.{left_sites, assigned_sites}
 use Rattle.go_scope.proofs.PlainSites.{plain_expr}
 use Rattle.law_tokens.specs.Tokens.{is_ident_token}
 use Rattle.law_tokens.proofs.CoveredExpressions.{expr_named}
-use Rattle.types_expr.specs.Types.{PlainType, Kind, Typed, Value}
+use Rattle.types_expr.specs.Types.{PlainType, ValueKind, Typed, Value}
 use Rattle.types_expr.specs.World.{World, Locals}
 use Rattle.types_expr.specs.Judge.{judge_value, followed}
 use Rattle.types_expr.specs.Places.{place_of}
@@ -27,7 +27,7 @@ use Rattle.law_typing.proofs.ExpressionLaws.{has_one_meaning}
 use Rattle.law_typing.proofs.Soundness.{sound}
 use Rattle.law_typing.proofs.Judgements.{empty_first, empty_second, value_at_agrees}
 use Rattle.types_stmt.specs.Sides.{no_name, defined_one, defined}
-use Rattle.law_typing.specs.Excused.{IsNoVariable, without_type, constant, AnyUsesBroken, this_one, a_later_one, IsBlank, underscored, IsNewName}
+use Rattle.law_typing.specs.Excused.{IsNoVariable, without_type, constant, AnyUsesBroken, this_one, a_later_one, IsBlank, underscored, IsDeclaredName}
 use Rattle.law_typing.specs.Excused.{bound_to_itself, AssignedIsExcused, assigned_uses, assigned_without_type, later_assigned, DefinedIsExcused}
 use Rattle.law_typing.specs.Excused.{defined_uses, defined_no_variable, later_defined}
 use Rattle.law_faultless.proofs.NumberedTokens.{Strung, strung_split, strung_le, stand_below}
@@ -42,7 +42,7 @@ below_more n m le (x ∷ xs) h = ((let lt : x.place.index < n = h.0 in omega ari
 
 -- The identifiers of left sides stand before the tokens behind these.
 
-pub left_stands : (B : ℕ → Type 0) (s : Source) (b : Block) (q n m : ℕ) (e : ExprTree) → Strung B n (expr_tokens e) m →
+pub left_stands : (B : ℕ → Type 0) (s : TokenSpellings) (b : Block) (q n m : ℕ) (e : ExprTree) → Strung B n (expr_tokens e) m →
     AllByRecursion (λ x. x.place.index < m) (left_sites s b q e)
 unfolding expr_tokens
 left_stands B s b q n m (tree.Name p) h = ((let at : p ≡ n = h.0 in let end : suc n ≡ m = h.1.1 in omega arith), tt)
@@ -56,7 +56,7 @@ left_stands B s b q n m (tree.Address p l) h = stand_below B is_ident_token s n 
 left_stands B s b q n m (tree.Chain e ks) h = stand_below B is_ident_token s n m _ _ (expr_named s (tree.Chain e ks)) h
 left_stands B s b q n m (tree.Binary e os) h = stand_below B is_ident_token s n m _ _ (expr_named s (tree.Binary e os)) h
 
-pub assigned_stands : (B : ℕ → Type 0) (s : Source) (n m : ℕ) (e : ExprTree) → Strung B n (expr_tokens e) m →
+pub assigned_stands : (B : ℕ → Type 0) (s : TokenSpellings) (n m : ℕ) (e : ExprTree) → Strung B n (expr_tokens e) m →
     AllByRecursion (λ x. x.place.index < m) (assigned_sites s e)
 unfolding expr_tokens
 assigned_stands B s n m (tree.Blank p) h = ((let at : p ≡ n = h.0 in let end : suc n ≡ m = h.1.1 in omega arith), tt)
@@ -84,7 +84,7 @@ list_stands B f one n m (i ∷ is) h =
     (below_more own.0 m (omega arith) (f i.value) (one n own.0 i.value own.1.0)) (list_stands B f one r.0 m is r.1.1)
 
 -- left sides of `:=` begin their scopes behind the statement
-lefts_later : (w : World) (s : Source) (b : Block) (q : ℕ) (e : ExprTree) → AllByRecursion (BeginsLater w q) (left_sites s b q e)
+lefts_later : (w : World) (s : TokenSpellings) (b : Block) (q : ℕ) (e : ExprTree) → AllByRecursion (BeginsLater w q) (left_sites s b q e)
 lefts_later w s b q (tree.Name p) = ((λ own. let le : q ≤ q = omega arith in le), tt)
 lefts_later w s b q (tree.Blank p) = ((λ own. absurd (true≢false (sym own.1))), tt)
 lefts_later w s b q (tree.Number p) = plain_later w q _ (plain_expr s (tree.Number p))
@@ -96,7 +96,7 @@ lefts_later w s b q (tree.Address p l) = plain_later w q _ (plain_expr s (tree.A
 lefts_later w s b q (tree.Chain e ks) = plain_later w q _ (plain_expr s (tree.Chain e ks))
 lefts_later w s b q (tree.Binary e os) = plain_later w q _ (plain_expr s (tree.Binary e os))
 
-pub all_lefts_later : (w : World) (s : Source) (b : Block) (q : ℕ) (is : List (Item ExprTree)) →
+pub all_lefts_later : (w : World) (s : TokenSpellings) (b : Block) (q : ℕ) (is : List (Item ExprTree)) →
     AllByRecursion (BeginsLater w q) (list_sites (left_sites s b q) is)
 all_lefts_later w s b q [] = tt
 all_lefts_later w s b q (i ∷ is) =
@@ -104,7 +104,7 @@ all_lefts_later w s b q (i ∷ is) =
 
 -- what is no identifier uses what is broken, or is a fault
 
-module _ (w : World) (B : ℕ → Type 0) (ls : Locals) (s : Source) (u : IsUnbroken w) where
+module _ (w : World) (B : ℕ → Type 0) (ls : Locals) (s : TokenSpellings) (u : IsUnbroken w) where
   abbrev Says : Site → Type 0
   Says x = IsNamed w B ls x.place.index x.role
 
@@ -143,15 +143,15 @@ module _ (w : World) (B : ℕ → Type 0) (ls : Locals) (s : Source) (u : IsUnbr
       assigned_fine r.0 m b (all_back Says (assigned_sites s i.value) (list_sites (assigned_sites s) is) h) r.1.1
 
   -- a left name of `:=`
-  left_use : (n m p : ℕ) (b : Block) (q : ℕ) → (IsNewName w (tree.Name p) → ⊥) → UsesBroken w ls (tree.Name p) →
+  left_use : (n m p : ℕ) (b : Block) (q : ℕ) → (IsDeclaredName w (tree.Name p) → ⊥) → UsesBroken w ls (tree.Name p) →
       AreNamed w B ls (left_sites s b q (tree.Name p)) → ⊥
   left_use n m p b q other (uses.a_name f) h = elim h.0 [ inl own ↦ other (bound_to_itself own) | inr t ↦ f (Value (Typed t.0) true) t.1 ]
 
-  typed_variable : (k : Kind) (a : Bool) (t : PlainType) → Value k a ≡ Value (Typed t) true → IsNoVariable k a → ⊥
+  typed_variable : (k : ValueKind) (a : Bool) (t : PlainType) → Value k a ≡ Value (Typed t) true → IsNoVariable k a → ⊥
   typed_variable k a t e (without_type un) = elim (subst IsUntyped (let same : k ≡ Typed t = cc in same) un) [ ]
   typed_variable k _ t e constant = true≢false (let same : true ≡ false = cc in same)
 
-  left_value : (p : ℕ) (b : Block) (q : ℕ) (k : Kind) (a : Bool) → (IsNewName w (tree.Name p) → ⊥) → HasMeaning w ls (tree.Name p) (Value k a) →
+  left_value : (p : ℕ) (b : Block) (q : ℕ) (k : ValueKind) (a : Bool) → (IsDeclaredName w (tree.Name p) → ⊥) → HasMeaning w ls (tree.Name p) (Value k a) →
       IsNoVariable k a →
       AreNamed w B ls (left_sites s b q (tree.Name p)) → ⊥
   left_value p b q k a other v none h = elim h.0 [
@@ -160,7 +160,7 @@ module _ (w : World) (B : ℕ → Type 0) (ls : Locals) (s : Source) (u : IsUnbr
   ]
 
   -- an expression that means something is no left side
-  no_left : (e : ExprTree) (k : Kind) (a : Bool) → HasMeaning w ls e (Value k a) → (followed (judge_value w ls e) (no_name (place_of e))).faults ≡ [] → ⊥
+  no_left : (e : ExprTree) (k : ValueKind) (a : Bool) → HasMeaning w ls e (Value k a) → (followed (judge_value w ls e) (no_name (place_of e))).faults ≡ [] → ⊥
   unfolding no_name
   no_left e k a v h =
       let agrees = value_at_agrees e (sound w ls v) in
@@ -169,7 +169,7 @@ module _ (w : World) (B : ℕ → Type 0) (ls : Locals) (s : Source) (u : IsUnbr
       let wrong : place_of e ∷ [] ≡ [] = subst (λ m. (no_name (place_of e) m).faults ≡ []) agrees.meaning rest in
       let z : ⊥ = cc in z
 
-  defined_use : (n m : ℕ) (b : Block) (q : ℕ) (e : ExprTree) → (IsBlank e → ⊥) → (IsNewName w e → ⊥) → UsesBroken w ls e →
+  defined_use : (n m : ℕ) (b : Block) (q : ℕ) (e : ExprTree) → (IsBlank e → ⊥) → (IsDeclaredName w e → ⊥) → UsesBroken w ls e →
       AreNamed w B ls (left_sites s b q e) → Strung B n (expr_tokens e) m → ⊥
   defined_use n m b q (tree.Blank p) blank other x h t = blank underscored
   defined_use n m b q (tree.Name p) blank other x h t = left_use n m p b q other x h
@@ -182,7 +182,7 @@ module _ (w : World) (B : ℕ → Type 0) (ls : Locals) (s : Source) (u : IsUnbr
   defined_use n m b q (tree.Chain e ks) blank other x h t = no_use w B ls s u n m x h t
   defined_use n m b q (tree.Binary e os) blank other x h t = no_use w B ls s u n m x h t
 
-  defined_value : (b : Block) (q : ℕ) (e : ExprTree) (k : Kind) (a : Bool) → (IsNewName w e → ⊥) → HasMeaning w ls e (Value k a) → IsNoVariable k a →
+  defined_value : (b : Block) (q : ℕ) (e : ExprTree) (k : ValueKind) (a : Bool) → (IsDeclaredName w e → ⊥) → HasMeaning w ls e (Value k a) → IsNoVariable k a →
       AreNamed w B ls (left_sites s b q e) → (defined_one w ls e).faults ≡ [] → ⊥
   unfolding defined_one
   defined_value b q (tree.Blank p) k a other v none h f = elim v [ ]

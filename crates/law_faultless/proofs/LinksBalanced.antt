@@ -3,17 +3,17 @@ use Rattle.std.proofs.Common.{ℕ, suc, ◌≡◌, ◌+◌, Bool, true, false, L
 use Rattle.types_expr.specs.declared.types.Builtin.{Builtin}
 use Rattle.types_expr.specs.declared.types.Builtin.TheVariants as builtin
 use Rattle.types_expr.specs.declared.symbol.Symbol.{Symbol}
-use Rattle.types_expr.specs.Types.{PlainType, Pointer, Kind, Typed, Signature, Meaning, Value, TypeName, Function, BuiltinName, Package, Results, Broken}
+use Rattle.types_expr.specs.Types.{PlainType, Pointer, ValueKind, Typed, Signature, Meaning, Value, TypeName, Function, BuiltinName, Package, Results, Broken}
 use Rattle.types_expr.specs.Types.{is_pointer, points}
 use Rattle.types_expr.specs.World.{World, Locals, Means, Member, AField, AMethod, underlying}
 use Rattle.law_typing.specs.Fits.{FitInTurn, no_values, then_fits}
 use Rattle.law_typing.specs.Names.{NameMeans, a_local, a_bound}
-use Rattle.law_typing.specs.Links.{Selects, field, field_through_pointer, method, method_on_pointer, method_on_variable, of_package, Indexes, element, ResultsMean}
-use Rattle.law_typing.specs.Links.{nothing, one, several, Calls, function, conversion, len, append, panic, print, println}
-use Rattle.build_object.specs.Lines.{FunctionName, Line, line_if_known}
+use Rattle.law_typing.specs.Links.{SelectsMember, field, field_through_pointer, method, method_on_pointer, method_on_variable, of_package, Indexes, element, ResultsMean}
+use Rattle.law_typing.specs.Links.{nothing, one, several, CallGives, function, conversion, len, append, panic, print, println}
+use Rattle.build_object.specs.Lines.{FunctionName, CodeLine, line_if_known}
 use Rattle.build_object.specs.Lines as line
 use Rattle.build_object.specs.Source.{Source}
-use Rattle.build_object.specs.Operands.{Operand, Mode, Values, Called, Converts, Predeclared, Qualifies, function_mode, name_operand, unqualified}
+use Rattle.build_object.specs.Operands.{CodeOperand, Mode, Values, Called, Converts, Predeclared, Qualifies, function_mode, name_operand, unqualified}
 use Rattle.build_object.specs.Operands.{export_operand, field_operand, receiver_lines, method_operand, member_operand, typed_selector, selected_by, selected, indexed}
 use Rattle.build_object.specs.Operands.{counted, calling, left_by_call, called, builtin_results}
 use Rattle.law_faultless.specs.Stack.{Arity, ChangesHeight}
@@ -25,11 +25,11 @@ use Rattle.law_faultless.proofs.OperandStack.{IsOneValue, IsHead, IsCallee, Stan
 -- Selectors
 
 -- a line behind a value for what is known of it
-known_behind : {X : Type 0} (arity : FunctionName → Arity) (xs : List Line) (make : X → Line) (o : Option X) (k : IsKnown o) → Turns arity 0 1 xs →
+known_behind : {X : Type 0} (arity : FunctionName → Arity) (xs : List CodeLine) (make : X → CodeLine) (o : Option X) (k : IsKnown o) → Turns arity 0 1 xs →
     ((x : X) → Turns arity 1 1 (make x ∷ [])) → Turns arity 0 1 (xs ++ line_if_known make o)
 known_behind arity xs make o k t f = turns_joined arity 0 1 1 xs (line_if_known make o) t (known_turns arity make o k.0 1 1 k.1 (f k.0))
 
-field_value : (arity : FunctionName → Arity) (o : Operand) (through : Bool) (i : Option ℕ) → IsKnown i → IsOneValue arity o →
+field_value : (arity : FunctionName → Arity) (o : CodeOperand) (through : Bool) (i : Option ℕ) → IsKnown i → IsOneValue arity o →
     IsOneValue arity (field_operand o through i)
 field_value arity o true i k v = record {
   mode = refl;
@@ -42,14 +42,14 @@ field_value arity o false i k v = record {
   address = known_behind arity o.address line.FieldAddress i k v.address (λ n. line_turns arity (line.FieldAddress n) 1 1 refl refl (λ at i m. m));
 }
 
-receiver_turns : (arity : FunctionName → Arity) (o : Operand) (is_pointer on_pointer : Bool) → IsOneValue arity o →
+receiver_turns : (arity : FunctionName → Arity) (o : CodeOperand) (is_pointer on_pointer : Bool) → IsOneValue arity o →
     Turns arity 0 1 (receiver_lines o is_pointer on_pointer)
 receiver_turns arity o true true v = v.value
 receiver_turns arity o true false v = with_line arity o.value line.Load v.value (line_turns arity line.Load 1 1 refl refl (λ at i m. m))
 receiver_turns arity o false true v = v.address
 receiver_turns arity o false false v = v.value
 
-method_callee : (arity : FunctionName → Arity) (lines : List Line) (name : Option FunctionName) (f : Signature) → Turns arity 0 1 lines →
+method_callee : (arity : FunctionName → Arity) (lines : List CodeLine) (name : Option FunctionName) (f : Signature) → Turns arity 0 1 lines →
     IsNamedWith arity name (method_arity f) → IsCallee arity (method_operand lines name (length f.results)) f
 method_callee arity lines name f t c = record {
   name = c.0;
@@ -60,33 +60,33 @@ method_callee arity lines name f t c = record {
 }
 
 -- a selector behind a value is that of the member by the type before it
-selected_member : (s : Source) (slots : List ℕ) (n : ℕ) (o : Operand) (t : PlainType) (m : Option Member) → o.mode ≡ Values 1 → s.before n ≡ Some t →
+selected_member : (s : Source) (slots : List ℕ) (n : ℕ) (o : CodeOperand) (t : PlainType) (m : Option Member) → o.mode ≡ Values 1 → s.before n ≡ Some t →
     s.world.member n t ≡ m →
     selected s slots n o ≡ member_operand s o t m
 unfolding selected_by typed_selector
 selected_member s slots n o t m e b i =
     ap (λ z. selected_by s slots n o z) e ∙ (ap (λ z. typed_selector s n o z) b ∙ ap (λ z. member_operand s o t z) i)
 
-member_field : (arity : FunctionName → Arity) (s : Source) (o : Operand) (t u : PlainType) (f : Symbol) → MemberIsKnown arity s (Some (AField f u)) →
+member_field : (arity : FunctionName → Arity) (s : Source) (o : CodeOperand) (t u : PlainType) (f : Symbol) → MemberIsKnown arity s (Some (AField f u)) →
     IsOneValue arity o → IsOneValue arity (member_operand s o t (Some (AField f u)))
 unfolding member_operand
 member_field arity s o t u f k v = field_value arity o (points (underlying s.world t)) (s.position f) k v
 
-member_method : (arity : FunctionName → Arity) (s : Source) (o : Operand) (t : PlainType) (m : Symbol) (on_pointer : Bool) (f : Signature) →
+member_method : (arity : FunctionName → Arity) (s : Source) (o : CodeOperand) (t : PlainType) (m : Symbol) (on_pointer : Bool) (f : Signature) →
     MemberIsKnown arity s (Some (AMethod m on_pointer f)) → IsOneValue arity o →
     IsCallee arity (member_operand s o t (Some (AMethod m on_pointer f))) f
 unfolding member_operand
 member_method arity s o t m on_pointer f k v = method_callee arity (receiver_lines o (is_pointer t) on_pointer) (s.function m) f
     (receiver_turns arity o (is_pointer t) on_pointer v) k
 
-field_selected : (arity : FunctionName → Arity) (s : Source) (slots : List ℕ) (n : ℕ) (o : Operand) (t u : PlainType) (f : Symbol) →
+field_selected : (arity : FunctionName → Arity) (s : Source) (slots : List ℕ) (n : ℕ) (o : CodeOperand) (t u : PlainType) (f : Symbol) →
     s.world.member n t ≡ Some (AField f u) → IsOneValue arity o →
     IsAnswered arity s slots (OfMember n t) → IsOneValue arity (selected s slots n o)
 field_selected arity s slots n o t u f e v k =
     subst (λ z. IsOneValue arity z) (sym (selected_member s slots n o t (Some (AField f u)) v.mode k.0 e))
     (member_field arity s o t u f (subst (λ z. MemberIsKnown arity s z) e k.1) v)
 
-method_selected : (arity : FunctionName → Arity) (s : Source) (slots : List ℕ) (n : ℕ) (o : Operand) (t : PlainType) (m : Symbol) (on_pointer : Bool)
+method_selected : (arity : FunctionName → Arity) (s : Source) (slots : List ℕ) (n : ℕ) (o : CodeOperand) (t : PlainType) (m : Symbol) (on_pointer : Bool)
     (f : Signature) → s.world.member n t ≡ Some (AMethod m on_pointer f) →
     IsOneValue arity o → IsAnswered arity s slots (OfMember n t) → IsCallee arity (selected s slots n o) f
 method_selected arity s slots n o t m on_pointer f e v k =
@@ -94,11 +94,11 @@ method_selected arity s slots n o t m on_pointer f e v k =
     (member_method arity s o t m on_pointer f (subst (λ z. MemberIsKnown arity s z) e k.1) v)
 
 -- a name behind the name of a package
-behind_head : (arity : FunctionName → Arity) (xs : List Line) (o : Operand) (mode : Mode) (n : ℕ) → unqualified mode ≡ mode →
+behind_head : (arity : FunctionName → Arity) (xs : List CodeLine) (o : CodeOperand) (mode : Mode) (n : ℕ) → unqualified mode ≡ mode →
     Turns arity 0 0 xs → IsHead arity o mode n → IsHead arity (export_operand xs o) mode n
 behind_head arity xs o mode n e t h = record { is = ap unqualified h.is ∙ e; value = turns_joined arity 0 0 n xs o.value t h.value }
 
-behind_stands : (arity : FunctionName → Arity) (xs : List Line) (o : Operand) (m : Meaning) → (m ≡ Package → ⊥) → Turns arity 0 0 xs → Stands arity o m →
+behind_stands : (arity : FunctionName → Arity) (xs : List CodeLine) (o : CodeOperand) (m : Meaning) → (m ≡ Package → ⊥) → Turns arity 0 0 xs → Stands arity o m →
     Stands arity (export_operand xs o) m
 behind_stands arity xs o (Value k a) other t v = record {
   mode = ap unqualified v.mode;
@@ -119,7 +119,7 @@ behind_stands arity xs o Package other t h = absurd (other refl)
 behind_stands arity xs o (Results ts) other t h = behind_head arity xs o (Values (length ts)) (length ts) refl t h
 behind_stands arity xs o Broken other t h = tt
 
-export_selected : (arity : FunctionName → Arity) (s : Source) (slots : List ℕ) (n : ℕ) (o : Operand) (m : Meaning) → (m ≡ Package → ⊥) →
+export_selected : (arity : FunctionName → Arity) (s : Source) (slots : List ℕ) (n : ℕ) (o : CodeOperand) (m : Meaning) → (m ≡ Package → ⊥) →
     IsHead arity o Qualifies 0 → Stands arity (name_operand s slots n) m →
     Stands arity (selected s slots n o) m
 unfolding selected_by
@@ -132,8 +132,8 @@ named_package w locals n m (a_local e h) p = cc
 named_package w locals n m (a_bound e h) p = cc
 
 -- the member of a value, or what a package has by the name; a question is answered where it is asked
-pub selected_stands : (arity : FunctionName → Arity) (s : Source) (slots : List ℕ) (locals : Locals) (n : ℕ) (o : Operand) {m r : Meaning} →
-    Selects s.world locals m n r → Stands arity o m →
+pub selected_stands : (arity : FunctionName → Arity) (s : Source) (slots : List ℕ) (locals : Locals) (n : ℕ) (o : CodeOperand) {m r : Meaning} →
+    SelectsMember s.world locals m n r → Stands arity o m →
     ((t : PlainType) (a : Bool) → m ≡ Value (Typed t) a → IsAnswered arity s slots (OfMember n t)) → (m ≡ Package → IsAnswered arity s slots (OfExport n)) →
     Stands arity (selected s slots n o) r
 selected_stands arity s slots locals n o (field {t} {u} {a} {s = f} e other) v k p = field_selected arity s slots n o t u f e v (k t a refl)
@@ -148,25 +148,25 @@ selected_stands arity s slots locals n o (of_package {m = m} h) v k p =
 
 -- Indexes
 
-pub indexed_value : (arity : FunctionName → Arity) (o : Operand) (i : List Line) → IsOneValue arity o → Turns arity 0 1 i → IsOneValue arity (indexed o i)
+pub indexed_value : (arity : FunctionName → Arity) (o : CodeOperand) (i : List CodeLine) → IsOneValue arity o → Turns arity 0 1 i → IsOneValue arity (indexed o i)
 indexed_value arity o i v t = record {
   mode = refl;
   value = two_lines arity o.value i line.Index v.value t (line_turns arity line.Index 2 1 refl refl (λ at i m. m));
   address = two_lines arity o.value i line.IndexAddress v.value t (line_turns arity line.IndexAddress 2 1 refl refl (λ at i m. m));
 }
 
-pub index_stands : (arity : FunctionName → Arity) (w : World) (o : Operand) (i : List Line) {m r : Meaning} {k : Kind} → Indexes w m k r → Stands arity o m →
+pub index_stands : (arity : FunctionName → Arity) (w : World) (o : CodeOperand) (i : List CodeLine) {m r : Meaning} {k : ValueKind} → Indexes w m k r → Stands arity o m →
     Turns arity 0 1 i → Stands arity (indexed o i) r
 index_stands arity w o i (element e h) v t = indexed_value arity o i v t
 
 -- Calls
 
-as_many : {w : World} {ks : List Kind} {ts : List PlainType} → FitInTurn w ks ts → length ks ≡ length ts
+as_many : {w : World} {ks : List ValueKind} {ts : List PlainType} → FitInTurn w ks ts → length ks ≡ length ts
 as_many no_values = refl
 as_many (then_fits f more) = ap suc (as_many more)
 
 -- A call: the operand before it, n arguments, and the line of the call.
-call_lines : (arity : FunctionName → Arity) (o : Operand) (n before left : ℕ) (arguments : List Line) (mode : Mode) → IsHead arity o mode before →
+call_lines : (arity : FunctionName → Arity) (o : CodeOperand) (n before left : ℕ) (arguments : List CodeLine) (mode : Mode) → IsHead arity o mode before →
     Turns arity 0 n arguments →
     Turns arity (before + n) left (calling n mode) → Turns arity 0 left (o.value ++ (arguments ++ calling n o.mode))
 call_lines arity o n before left arguments mode h t c =
@@ -176,11 +176,11 @@ call_lines arity o n before left arguments mode h t c =
     (turns_over arity before 0 n arguments t)) c))
 
 -- what a call that leaves so many values is
-call_left : (o : Operand) (n : ℕ) (arguments : List Line) (mode : Mode) (left : ℕ) → o.mode ≡ mode → left_by_call mode ≡ left →
+call_left : (o : CodeOperand) (n : ℕ) (arguments : List CodeLine) (mode : Mode) (left : ℕ) → o.mode ≡ mode → left_by_call mode ≡ left →
     (called o n arguments).mode ≡ Values left
 call_left o n arguments mode left e f = ap (λ z. Values (left_by_call z)) e ∙ ap Values f
 
-call_value : (arity : FunctionName → Arity) (o : Operand) (n before : ℕ) (arguments : List Line) (mode : Mode) → IsHead arity o mode before →
+call_value : (arity : FunctionName → Arity) (o : CodeOperand) (n before : ℕ) (arguments : List CodeLine) (mode : Mode) → IsHead arity o mode before →
     Turns arity 0 n arguments →
     Turns arity (before + n) 1 (calling n mode) → left_by_call mode ≡ 1 → IsOneValue arity (called o n arguments)
 call_value arity o n before arguments mode h t c e = record {
@@ -189,7 +189,7 @@ call_value arity o n before arguments mode h t c e = record {
   address = call_lines arity o n before 1 arguments mode h t c;
 }
 
-call_results : (arity : FunctionName → Arity) (o : Operand) (n before left : ℕ) (arguments : List Line) (mode : Mode) →
+call_results : (arity : FunctionName → Arity) (o : CodeOperand) (n before left : ℕ) (arguments : List CodeLine) (mode : Mode) →
     IsHead arity o mode before → Turns arity 0 n arguments →
     Turns arity (before + n) left (calling n mode) → left_by_call mode ≡ left → IsHead arity (called o n arguments) (Values left) left
 call_results arity o n before left arguments mode h t c e = record {
@@ -210,12 +210,12 @@ function_line arity name false n results takes gives =
     turns_as arity (line.Call name n ∷ []) (let e : n ≡ 0 + n = omega arith in e) refl (line_turns arity (line.Call name n) n results refl gives
     (λ at i m. (sym takes, subst (λ z. ChangesHeight at i n z) (sym gives) m)))
 
-function_call : (arity : FunctionName → Arity) (o : Operand) (n : ℕ) (arguments : List Line) (f : Signature) (c : IsCallee arity o f) →
+function_call : (arity : FunctionName → Arity) (o : CodeOperand) (n : ℕ) (arguments : List CodeLine) (f : Signature) (c : IsCallee arity o f) →
     n ≡ length f.parameters →
     Turns arity (counted c.received 0 + n) (length f.results) (calling n (Called c.received c.name (length f.results)))
 function_call arity o n arguments f c e = function_line arity c.name c.received n (length f.results) (c.takes ∙ ap (λ z. counted c.received z) (sym e)) c.gives
 
-gives_stands : (arity : FunctionName → Arity) (o : Operand) (n : ℕ) (arguments : List Line) (f : Signature) (c : IsCallee arity o f) (ts : List PlainType)
+gives_stands : (arity : FunctionName → Arity) (o : CodeOperand) (n : ℕ) (arguments : List CodeLine) (f : Signature) (c : IsCallee arity o f) (ts : List PlainType)
     {r : Meaning} → f.results ≡ ts → ResultsMean ts r → n ≡ length f.parameters → Turns arity 0 n arguments →
     Stands arity (called o n arguments) r
 unfolding left_by_call
@@ -234,25 +234,25 @@ unfolding calling
 builtin_line arity b n left e = turns_as arity (line.CallBuiltin b n ∷ []) (let z : n ≡ 0 + n = omega arith in z) refl
     (line_turns arity (line.CallBuiltin b n) n left refl e (λ at i m. subst (λ z. ChangesHeight at i n z) (sym e) m))
 
-builtin_value : (arity : FunctionName → Arity) (o : Operand) (b : Builtin) (n : ℕ) (arguments : List Line) → builtin_results b ≡ 1 →
+builtin_value : (arity : FunctionName → Arity) (o : CodeOperand) (b : Builtin) (n : ℕ) (arguments : List CodeLine) → builtin_results b ≡ 1 →
     IsHead arity o (Predeclared b) 0 → Turns arity 0 n arguments → IsOneValue arity (called o n arguments)
 unfolding left_by_call
 builtin_value arity o b n arguments e h t = call_value arity o n 0 arguments (Predeclared b) h t (builtin_line arity b n 1 e) e
 
-builtin_none : (arity : FunctionName → Arity) (o : Operand) (b : Builtin) (n : ℕ) (arguments : List Line) → builtin_results b ≡ 0 →
+builtin_none : (arity : FunctionName → Arity) (o : CodeOperand) (b : Builtin) (n : ℕ) (arguments : List CodeLine) → builtin_results b ≡ 0 →
     IsHead arity o (Predeclared b) 0 → Turns arity 0 n arguments →
     IsHead arity (called o n arguments) (Values 0) 0
 unfolding left_by_call
 builtin_none arity o b n arguments e h t = call_results arity o n 0 0 arguments (Predeclared b) h t (builtin_line arity b n 0 e) e
 
-converted : (arity : FunctionName → Arity) (o : Operand) (arguments : List Line) (n : ℕ) → n ≡ 1 → IsHead arity o Converts 0 → Turns arity 0 n arguments →
+converted : (arity : FunctionName → Arity) (o : CodeOperand) (arguments : List CodeLine) (n : ℕ) → n ≡ 1 → IsHead arity o Converts 0 → Turns arity 0 n arguments →
     IsOneValue arity (called o n arguments)
 unfolding calling left_by_call
 converted arity o arguments n e h t = call_value arity o n 0 arguments Converts h t (turns_as arity [] (let z : 1 ≡ 0 + n = omega arith in z) refl
     (none_turns arity 1)) refl
 
-pub called_stands : (arity : FunctionName → Arity) (w : World) (o : Operand) (n : ℕ) (arguments : List Line) {m r : Meaning} {ks : List Kind} →
-    Calls w m ks r → n ≡ length ks → Stands arity o m → Turns arity 0 n arguments →
+pub called_stands : (arity : FunctionName → Arity) (w : World) (o : CodeOperand) (n : ℕ) (arguments : List CodeLine) {m r : Meaning} {ks : List ValueKind} →
+    CallGives w m ks r → n ≡ length ks → Stands arity o m → Turns arity 0 n arguments →
     Stands arity (called o n arguments) r
 called_stands arity w o n arguments (function {s = f} fit g) e c t = gives_stands arity o n arguments f c f.results refl g (e ∙ as_many fit) t
 called_stands arity w o n arguments (conversion h) e c t = converted arity o arguments n e c t

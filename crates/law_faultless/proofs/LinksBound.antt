@@ -14,7 +14,7 @@ use Rattle.go_scope.specs.FileSites.{SpelledFile, file_sites, files_sites, unive
 use Rattle.go_scope.specs.Named.{is_unnamed_import}
 use Rattle.go_scope.specs.SpelledFiles.{spelled_file}
 use Rattle.go_scope.specs.Packages.{scoped, layout_in}
-use Rattle.go_scope.specs.Site.{Site, Source, or_blank}
+use Rattle.go_scope.specs.Site.{Site, TokenSpellings, or_blank}
 use Rattle.go_scope.specs.Table.{LiesAt, IsFoundAt}
 use Rattle.law_tokens.proofs.HeldBytes.{source_file_at}
 use Rattle.law_tokens.proofs.Lexical.{never_bound}
@@ -45,7 +45,7 @@ module _ (w : Workspace) (known : Verdicts) (path : List ℕ) (p : Package) (h :
   -- A property of each identifier of a file, by its token and role, is one of u.
   pub at_number : (P : ℕ → Role → Type 0) (q : Purpose) → is_unnamed_import (NotLexical q) ≡ false → (NotLexical purpose.Blank ≡ NotLexical q → ⊥) →
       (u : ℕ) → IsInFiles p u → p.layout.role u ≡ NotLexical q → (s : SourceFile) → slice_get p.files (p.layout.place u).file ≡ Some s →
-      ((source : Source) → AllByRecursion (λ x. P x.place.index x.role) (file_sites source s.tree)) → P (p.layout.place u).index (NotLexical q)
+      ((source : TokenSpellings) → AllByRecursion (λ x. P x.place.index x.role) (file_sites source s.tree)) → P (p.layout.place u).index (NotLexical q)
   unfolding package_sites
   at_number P q named other u stands role s is all =
       let names = names_of w known path p h in

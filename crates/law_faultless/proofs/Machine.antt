@@ -1,12 +1,12 @@
 -- In balanced code each line is reached with one height.
 use Rattle.std.proofs.Common.{ℕ, zero, suc, ◌≡◌, ◌+◌, ◌≤◌, List, [], ◌∷◌, sym, ◌∙◌, subst, arith, Some}
 use Rattle.std.specs.Prelude.{slice_get}
-use Rattle.build_object.specs.Lines.{FunctionName, Line}
+use Rattle.build_object.specs.Lines.{FunctionName, CodeLine}
 use Rattle.law_faultless.specs.Stack.{Arity, Effect, Works, Calls, Tests, Leads, LeadsBack, Returns, Ends, effect, Obeys, LineObeys, LinesObey, IsBalanced}
-use Rattle.law_faultless.specs.Machine.{Steps, works, calls, goes_on, leads_away, leads, leads_back, Reaches, begins, further, IsReady}
+use Rattle.law_faultless.specs.Machine.{Steps, works, calls, goes_on, leads_away, leads, leads_back, ReachesLine, begins, further, IsReady}
 
 -- the line of a number does what it says
-runs_there : (arity : FunctionName → Arity) (at : ℕ → ℕ) (i : ℕ) (ls : List Line) (n : ℕ) (l : Line) → LinesObey arity at i ls → slice_get ls n ≡ Some l →
+runs_there : (arity : FunctionName → Arity) (at : ℕ → ℕ) (i : ℕ) (ls : List CodeLine) (n : ℕ) (l : CodeLine) → LinesObey arity at i ls → slice_get ls n ≡ Some l →
     LineObeys arity at (n + i) l
 runs_there arity at i [] n l r e = cc
 runs_there arity at i (x ∷ xs) zero l r e =
@@ -26,8 +26,8 @@ step_level at (leads_away {n} {i} {h}) m e =
 step_level at (leads {n} {i} {h}) m e = e ∙ sym m
 step_level at (leads_back {n} {i} {h}) m e = e ∙ sym m.1
 
-pub one_height : (arity : FunctionName → Arity) (lines : List Line) (before after : ℕ) (b : IsBalanced arity before lines after) {i h : ℕ} →
-    Reaches arity lines before i h → h ≡ b.at i
+pub one_height : (arity : FunctionName → Arity) (lines : List CodeLine) (before after : ℕ) (b : IsBalanced arity before lines after) {i h : ℕ} →
+    ReachesLine arity lines before i h → h ≡ b.at i
 one_height arity lines before after b begins = sym b.begins
 one_height arity lines before after b (further {i} {h} {l = l} r e s) =
     step_level b.at s (subst (λ z. LineObeys arity b.at z l) (let z : i + 0 ≡ i = omega arith in z) (runs_there arity b.at 0 lines i l b.runs e))
@@ -42,8 +42,8 @@ ready at (LeadsBack n) i h m e = tt
 ready at (Returns n) i h m e = e ∙ m
 ready at Ends i h m e = e ∙ m
 
-pub always_ready : (arity : FunctionName → Arity) (lines : List Line) (before after : ℕ) → IsBalanced arity before lines after → (i h : ℕ) (l : Line) →
-    Reaches arity lines before i h → slice_get lines i ≡ Some l → IsReady (effect arity l) h
+pub always_ready : (arity : FunctionName → Arity) (lines : List CodeLine) (before after : ℕ) → IsBalanced arity before lines after → (i h : ℕ) (l : CodeLine) →
+    ReachesLine arity lines before i h → slice_get lines i ≡ Some l → IsReady (effect arity l) h
 always_ready arity lines before after b i h l r e =
     ready b.at (effect arity l) i h (subst (λ z. LineObeys arity b.at z l) (let z : i + 0 ≡ i = omega arith in z) (runs_there arity b.at 0 lines i l b.runs e))
     (one_height arity lines before after b r)

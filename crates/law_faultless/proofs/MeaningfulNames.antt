@@ -28,7 +28,7 @@ use Rattle.types_expr.specs.World.{World, Bound, Local, Means, BrokenVariable, B
 use Rattle.types_declared.specs.MeaningOf.{PredeclaredMeans, a_type, a_truth, an_untruth, a_nil, a_function, IsMeaningOf}
 use Rattle.types_declared.specs.MeaningOf as bound
 use Rattle.types_declared.specs.Package.{Package, ExportData, Export, laid_of, spelled_at}
-use Rattle.types_declared.specs.Written.{BindsToken, ImportsPath, IsExportAt}
+use Rattle.types_declared.specs.Written.{BindsToken, DeclaresImport, IsExportAt}
 use Rattle.types_info.specs.Worlds.{IsWorldOf, DenotesExport, IsBoundAt, IsName, is_bound, is_unbound, by_scope, by_package}
 use Rattle.types_info.proofs.OneMeaning.{one_name}
 use Rattle.types_check.specs.Check.{exports_in}
@@ -39,7 +39,7 @@ use Rattle.workspace_check.proofs.Closed.{to_package}
 use Rattle.workspace_check.proofs.OneList.{checked_package}
 use Rattle.workspace_check.proofs.OnePackage.{layout_formed, files_in_order}
 use Rattle.types_info.specs.QualifiedIdentifiers.{IsQualifiedByPath}
-use Rattle.refs_binding.specs.Uses.{IsPackage}
+use Rattle.refs_binding.specs.Uses.{IsCheckedPackage}
 use Rattle.refs_lookup.proofs.ExportedNames.{is_found}
 use Rattle.refs_lookup.proofs.Faultless.{no_fault_later}
 use Rattle.law_faultless.proofs.Lexical.{declares}
@@ -84,7 +84,7 @@ predeclared_no_package an_untruth e = cc
 predeclared_no_package a_nil e = cc
 predeclared_no_package (a_function b) e = cc
 
-import_of : (p : Package) (d : ℕ) (b : Bound) → IsMeaningOf p d b → b ≡ Means PackageName → (q : List ℕ) × ImportsPath p d q
+import_of : (p : Package) (d : ℕ) (b : Bound) → IsMeaningOf p d b → b ≡ Means PackageName → (q : List ℕ) × DeclaresImport p d q
 import_of p d _ (bound.predeclared {m} is means) e = predeclared_no_package means (stood m PackageName e)
 import_of p d _ (bound.import_name {path} is) e = (path, is)
 import_of p d _ (bound.local is) e = let z : ⊥ = cc in absurd z
@@ -105,7 +105,7 @@ some_of : (o : Option Export) → is_some o ≡ true → (e : Export) × (o ≡ 
 some_of None e = absurd (true≢false (sym e))
 some_of (Some x) e = (x, refl)
 
-module _ (w : Workspace) (sound : ListsFaults w []) (known : Verdicts) (right : AreVerdicts w known) (p : Package) (is : IsPackage w known p) where
+module _ (w : Workspace) (sound : ListsFaults w []) (known : Verdicts) (right : AreVerdicts w known) (p : Package) (is : IsCheckedPackage w known p) where
   abbrev formed : WellFormed p.layout
   formed = layout_formed w known p.path p is.is_checked
 
@@ -188,7 +188,7 @@ module _ (w : Workspace) (sound : ListsFaults w []) (known : Verdicts) (right : 
 
     -- a name behind the name of a package
 
-    package_at : (b : ℕ) (c : Bound) → IsName p file b c → c ≡ Means PackageName → (q : List ℕ) × ((d : ℕ) × (BindsToken p file b d × ImportsPath p d q))
+    package_at : (b : ℕ) (c : Bound) → IsName p file b c → c ≡ Means PackageName → (q : List ℕ) × ((d : ℕ) × (BindsToken p file b d × DeclaresImport p d q))
     package_at b c (is_bound (by_scope {declaration} binds m)) e = let q = import_of p declaration c m e in (q.0, (declaration, (binds, q.1)))
     package_at b _ (is_bound (by_package {e = x} selected)) e = absurd ((selected_known file b x selected).1 (stood x.meaning PackageName e))
     package_at b _ (is_unbound none) e = let z : ⊥ = cc in absurd z

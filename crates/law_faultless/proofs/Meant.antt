@@ -30,7 +30,7 @@ use Rattle.law_tokens.proofs.Roles.{role_keeps}
 use Rattle.types_expr.specs.World.{Bound}
 use Rattle.types_declared.specs.MeaningOf.{IsMeaningOf, import_name, local}
 use Rattle.types_declared.specs.Package.{Package}
-use Rattle.types_declared.specs.Written.{ImportsPath, IsBroken}
+use Rattle.types_declared.specs.Written.{DeclaresImport, IsBroken}
 use Rattle.types_info.proofs.DeclKinds.{Holds}
 use Rattle.workspace_check.specs.Verdicts.{Verdicts, IsPackageIn}
 use Rattle.refs_lookup.proofs.OnePlace.{same_size, same_files}
@@ -108,7 +108,7 @@ module _ (w : Workspace) (known : Verdicts) (path : List ℕ) (p : Package) (h :
         ),
       )
 
-  named_path : (d f : ℕ) → IsTold 0 h.files (new d) → old d ≡ new d → block_of (p.layout.role d) ≡ File f → (q : List ℕ) × ImportsPath p d q
+  named_path : (d f : ℕ) → IsTold 0 h.files (new d) → old d ≡ new d → block_of (p.layout.role d) ≡ File f → (q : List ℕ) × DeclaresImport p d q
   named_path d f t e block =
       let l = literal_here d f e block in
       let next : suc d ≡ d + 1 = omega arith in
@@ -138,7 +138,7 @@ module _ (w : Workspace) (known : Verdicts) (path : List ℕ) (p : Package) (h :
 
   -- the path of an import without a name, where it declares
 
-  to_laid : (d f : ℕ) → block_of (p.layout.role d) ≡ File f → (q : List ℕ) → IsPathOf (map source_of h.files) (laid_in (scoped h.files)) d q → ImportsPath p d q
+  to_laid : (d f : ℕ) → block_of (p.layout.role d) ≡ File f → (q : List ℕ) → IsPathOf (map source_of h.files) (laid_in (scoped h.files)) d q → DeclaresImport p d q
   to_laid d f block q i =
       let place : (n : ℕ) → p.layout.place n ≡ (old n).place = λ n. place_is w known path p h n ∙ place_stays names xs n in
       let number : literal_of p.layout d ≡ literal_of (laid_in (scoped h.files)).layout d =
@@ -157,7 +157,7 @@ module _ (w : Workspace) (known : Verdicts) (path : List ℕ) (p : Package) (h :
       }
 
   laid_path : (d f : ℕ) → d < p.size → block_of (p.layout.role d) ≡ File f → is_unnamed_import (old d).role ≡ true → (name : List ℕ) → names d ≡ Some name →
-      ((q : List ℕ) → ImportsPath p d q → ⊥) → ⊥
+      ((q : List ℕ) → DeclaresImport p d q → ⊥) → ⊥
   laid_path d f lt block u name g none =
       let within : d < length xs = subst (λ n. d < n) (same_length names xs) (subst (λ n. d < n) (same_size w known path p h) lt) in
       let own = h.is_package.is_laid.are_names d within u in

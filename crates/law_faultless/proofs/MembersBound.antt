@@ -15,7 +15,7 @@ use Rattle.workspace_check.specs.FaultLists.{ListsFaults}
 use Rattle.workspace_check.specs.Verdicts.{Verdicts, AreVerdicts}
 use Rattle.refs_binding.specs.declared.declaration.Declaration.{Declaration}
 use Rattle.refs_binding.specs.Identifiers.{IsInFiles}
-use Rattle.refs_binding.specs.Uses.{IsPackage, IsBoundTo}
+use Rattle.refs_binding.specs.Uses.{IsCheckedPackage, IsBoundToDeclaration}
 use Rattle.refs_lookup.proofs.DeclaredMembers.{field_bound, method_bound}
 use Rattle.law_faultless.proofs.GlobalsDecided.{held_ranked, held_number}
 use Rattle.law_faultless.proofs.LinksBound.{at_number}
@@ -67,8 +67,8 @@ ranked_here p file s at =
     let k = held_ranked 0 p.files file s at in
     let same : k.0 ≡ file = let z : k.0 ≡ 0 + file = k.1.0 in omega arith in subst (λ n. Holds (ranked_files p.files) (n, s)) same k.1.1
 
-module _ (w : Workspace) (sound : ListsFaults w []) (known : Verdicts) (right : AreVerdicts w known) (p : Package) (is : IsPackage w known p) (u : ℕ)
-    (stands : IsInFiles p u) (unbound : (d : Declaration) → IsBoundTo w known p u d → ⊥) where
+module _ (w : Workspace) (sound : ListsFaults w []) (known : Verdicts) (right : AreVerdicts w known) (p : Package) (is : IsCheckedPackage w known p) (u : ℕ)
+    (stands : IsInFiles p u) (unbound : (d : Declaration) → IsBoundToDeclaration w known p u d → ⊥) where
   abbrev file : ℕ
   file = (p.layout.place u).file
 

@@ -14,7 +14,7 @@ use Rattle.go_scope.specs.declared.model.Block.TheVariants.{Package as PackageBl
 use Rattle.go_scope.specs.declared.model.Purpose.TheVariants as purpose
 use Rattle.go_scope.specs.declared.model.Role.{Role}
 use Rattle.go_scope.specs.declared.model.Role.TheVariants.{Use, Declaring, NotLexical}
-use Rattle.go_scope.specs.Site.{Site, Source, site}
+use Rattle.go_scope.specs.Site.{Site, TokenSpellings, site}
 use Rattle.go_scope.specs.ExpressionSites.{sites_if, list_sites, type_sites, key_sites, expr_sites, operand_sites, link_sites, argument_sites}
 use Rattle.go_scope.specs.ExpressionSites.{literal_sites, element_sites, exprs_sites}
 use Rattle.go_scope.specs.StatementSites.{ident_sites, left_sites, assigned_sites, simple_sites, value_sites, local_sites, separated_sites, group_sites}
@@ -55,7 +55,7 @@ unfolding group_sites
 grouped f h n (single x) = h n x
 grouped f h n (several o xs c) = separated f h c xs
 
-module _ (s : Source) where
+module _ (s : TokenSpellings) where
   of_type : (t : TypeTree) → NoMember (type_sites s t)
   unfolding type_sites
   of_type (tree.Local n) = (refl, tt)
@@ -214,7 +214,7 @@ IsMemberIn (VarDecl k g s) i = ⊥
 IsMemberIn (TypeDecl k g s) i = (x : TypeSpecTree) × (Holds (group_items g) x × IsFieldIn x.body i)
 IsMemberIn (FuncDecl k f s) i = (r : ReceiverTree) × ((f.receiver ≡ Some r) × (f.name ≡ i))
 
-module _ (M : ℕ → Type 0) (s : Source) where
+module _ (M : ℕ → Type 0) (s : TokenSpellings) where
   abbrev Q : Site → Type 0
   Q x = x.role ≡ NotLexical purpose.Member → M x.place.index
 

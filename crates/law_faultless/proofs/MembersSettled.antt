@@ -38,7 +38,7 @@ use Rattle.build_object.specs.Sources.{IsSourceOf}
 use Rattle.build_object.proofs.NameParts.{positions_length}
 use Rattle.law_faultless.specs.QuestionAnswers.{IsKnown, IsNamedWith, method_arity, MemberIsKnown}
 use Rattle.law_faultless.specs.Stack.{Arity}
-use Rattle.refs_binding.specs.Uses.{IsPackage}
+use Rattle.refs_binding.specs.Uses.{IsCheckedPackage}
 use Rattle.refs_lookup.proofs.OnePlace.{same_files}
 use Rattle.refs_binding.proofs.Alike.{package_for}
 use Rattle.law_faultless.proofs.Fine.{seen_export_data}
@@ -141,7 +141,7 @@ module _ (files_of : List ℕ → List SourceFile) (arity : FunctionName → Ari
   nothing_called : (d : Definition) → ((name : List ℕ) → d.field name ≡ None) → ((name : List ℕ) → d.method name ≡ None) → AreCalled d
   nothing_called d f m = ((λ name x e. absurd (none-some x (sym (f name) ∙ e))), λ name x e. absurd (none-some x (sym (m name) ∙ e)))
 
-  module _ (w : Workspace) (known : Verdicts) (arities : AreArities w known arity) (c : Package) (is : IsPackage w known c)
+  module _ (w : Workspace) (known : Verdicts) (arities : AreArities w known arity) (c : Package) (is : IsCheckedPackage w known c)
       (same : files_of c.path ≡ c.files) where
     field_called : (definition : ℕ) (name : List ℕ) (f : Field) → IsFoundField c definition name (Some f) → IsKnown (position_of_field files_of f.symbol)
     field_called definition name f x =
@@ -224,7 +224,7 @@ module _ (files_of : List ℕ → List SourceFile) (arity : FunctionName → Ari
 
 -- in a workspace without faults
 module _ (w : Workspace) (sound : ListsFaults w []) (known : Verdicts) (right : AreVerdicts w known) where
-  pub other_package : (q : List ℕ) (has : Contains (package_paths w) q) → IsPackage w known (checked_package w sound q has).checked
+  pub other_package : (q : List ℕ) (has : Contains (package_paths w) q) → IsCheckedPackage w known (checked_package w sound q has).checked
   other_package q has =
       let x = checked_package w sound q has in
       let path : x.checked.path ≡ q = ap (λ (c : Package). c.path) x.is_package.is_package.is_package in
@@ -234,7 +234,7 @@ module _ (w : Workspace) (sound : ListsFaults w []) (known : Verdicts) (right : 
         is_checked = subst (λ k. IsPackageIn w sound.known k x.checked) (sym path) x.is_package;
       })
 
-  module _ (arity : FunctionName → Arity) (arities : AreArities w known arity) (p : Package) (is : IsPackage w known p)
+  module _ (arity : FunctionName → Arity) (arities : AreArities w known arity) (p : Package) (is : IsCheckedPackage w known p)
       (files_of : List ℕ → List SourceFile) (below : AreFilesBelow w p.path files_of) where
     seen_called : (q : List ℕ) (n : Option (List ℕ)) (i : ExportData) → IsSeenAs w sound.known p.path q n i → (rank : ℕ) →
         AreCalled files_of arity (i.definition rank)

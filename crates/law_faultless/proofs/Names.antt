@@ -21,7 +21,7 @@ use Rattle.go_scope.specs.FileSites.{imports_sites, decl_sites, file_sites, spec
 use Rattle.go_scope.specs.FileSites.{receiver_sites, param_sites, result_sites}
 use Rattle.go_scope.specs.ExpressionSites.{sites_if, list_sites}
 use Rattle.go_scope.specs.StatementSites.{ident_sites, separated_sites, group_sites, open_of, block_sites}
-use Rattle.go_scope.specs.Site.{Site, Source, site}
+use Rattle.go_scope.specs.Site.{Site, TokenSpellings, site}
 use Rattle.go_scope.specs.Table.{LiesAt}
 use Rattle.types_declared.specs.Files.{ranked_files, group_items}
 use Rattle.law_tokens.proofs.Ordered.{one_stands}
@@ -34,7 +34,7 @@ use Rattle.types_info.proofs.DeclKinds.{Holds, holds_got, holds_flat, holds_map,
 use Rattle.workspace_check.specs.FaultLists.{ListsFaults}
 use Rattle.workspace_check.specs.Verdicts.{Verdicts, AreVerdicts}
 use Rattle.workspace_check.proofs.OnePackage.{files_in_order}
-use Rattle.refs_binding.specs.Uses.{IsPackage}
+use Rattle.refs_binding.specs.Uses.{IsCheckedPackage}
 use Rattle.refs_lookup.proofs.Faultless.{no_fault_later}
 use Rattle.refs_lookup.proofs.MembersApart.{one_function}
 use Rattle.law_faultless.proofs.Lists.{all_flat}
@@ -48,11 +48,11 @@ use Rattle.law_faultless.proofs.FunctionsSettled.{IsInFile, in_file_of, function
 
 -- the name of a type definition is one of the identifiers of its file
 
-spec_kept : (K : Site → Type 0) (s : Source) (x : TypeSpecTree) → AllByRecursion K (type_spec_sites s x) → K (site s x.name (Declaring PackageBlock 0))
+spec_kept : (K : Site → Type 0) (s : TokenSpellings) (x : TypeSpecTree) → AllByRecursion K (type_spec_sites s x) → K (site s x.name (Declaring PackageBlock 0))
 unfolding type_spec_sites
 spec_kept K s x h = h.0
 
-specs_kept : (K : Site → Type 0) (s : Source) (xs : List (Item TypeSpecTree)) (x : TypeSpecTree) →
+specs_kept : (K : Site → Type 0) (s : TokenSpellings) (xs : List (Item TypeSpecTree)) (x : TypeSpecTree) →
     AllByRecursion K (flat_map (λ (y : Item TypeSpecTree). type_spec_sites s y.value) xs) → Holds (map (λ (y : Item TypeSpecTree). y.value) xs) x →
     K (site s x.name (Declaring PackageBlock 0))
 specs_kept K s [] x h i = absurd i
@@ -64,7 +64,7 @@ specs_kept K s (y ∷ ys) x h i =
       | inr r ↦ specs_kept K s ys x (all_back K (type_spec_sites s y.value) rest h) r
     ]
 
-group_kept : (K : Site → Type 0) (s : Source) (g : Group TypeSpecTree) (x : TypeSpecTree) → AllByRecursion K (spec_sites (type_spec_sites s) g) →
+group_kept : (K : Site → Type 0) (s : TokenSpellings) (g : Group TypeSpecTree) (x : TypeSpecTree) → AllByRecursion K (spec_sites (type_spec_sites s) g) →
     Holds (group_items g) x → K (site s x.name (Declaring PackageBlock 0))
 unfolding group_sites separated_sites
 group_kept K s (single y) x h i = elim i [
@@ -73,7 +73,7 @@ group_kept K s (single y) x h i = elim i [
 ]
 group_kept K s (several o xs c) x h i = specs_kept K s xs x h i
 
-type_kept : (K : Site → Type 0) (s : Source) (tree : FileTree) (k : ℕ) (g : Group TypeSpecTree) (c : ℕ) → AllByRecursion K (file_sites s tree) →
+type_kept : (K : Site → Type 0) (s : TokenSpellings) (tree : FileTree) (k : ℕ) (g : Group TypeSpecTree) (c : ℕ) → AllByRecursion K (file_sites s tree) →
     Holds tree.decls (TypeDecl k g c) → (x : TypeSpecTree) → Holds (group_items g) x → K (site s x.name (Declaring PackageBlock 0))
 unfolding file_sites decl_sites
 type_kept K s tree k g c h held x i =
@@ -83,7 +83,7 @@ type_kept K s tree k g c h held x i =
     i
 
 -- so is the name of a receiver's type
-receiver_kept : (K : Site → Type 0) (s : Source) (f : FuncTree) (r : ReceiverTree) → f.receiver ≡ Some r → AllByRecursion K (func_sites s f) →
+receiver_kept : (K : Site → Type 0) (s : TokenSpellings) (f : FuncTree) (r : ReceiverTree) → f.receiver ≡ Some r → AllByRecursion K (func_sites s f) →
     K (site s r.type_name Use)
 unfolding func_sites receiver_sites
 receiver_kept K s f r e h =
@@ -130,7 +130,7 @@ type_in_file p rank t e =
     type_in_decl p r.0.0 r.0.1 (subst (λ n. slice_get p.files n ≡ Some r.0.1) at i.1.1) d.0 d.1.0 t d.1.1
 
 -- in a workspace without faults
-module _ (w : Workspace) (sound : ListsFaults w []) (known : Verdicts) (right : AreVerdicts w known) (p : Package) (is : IsPackage w known p) where
+module _ (w : Workspace) (sound : ListsFaults w []) (known : Verdicts) (right : AreVerdicts w known) (p : Package) (is : IsCheckedPackage w known p) where
   -- what counts in the package's block is one by its name
   once : (d e : ℕ) → Counts p.layout p.names d → Counts p.layout p.names e → IsPackageLevel p.layout d → IsPackageLevel p.layout e → p.names d ≡ p.names e →
       d ≡ e
@@ -147,7 +147,7 @@ module _ (w : Workspace) (sound : ListsFaults w []) (known : Verdicts) (right : 
   type_level d rank c declares =
       let t = declares.item in
       let there = type_in_file p rank t declares.has_rank in
-      let source : Source = record { rank = t.file; spell = spelling_of there.source } in
+      let source : TokenSpellings = record { rank = t.file; spell = spelling_of there.source } in
       let kept = type_kept (Kept p t.file) source there.source.tree there.keyword there.group there.semicolon
       (all_kept w known p.path p is.is_checked t.file there.source there.in_file) there.in_tree t.spec there.in_group in
       let u = kept refl in
@@ -159,7 +159,7 @@ module _ (w : Workspace) (sound : ListsFaults w []) (known : Verdicts) (right : 
     abbrev there : IsInFile p f
     there = in_file_of p rank f has
 
-    abbrev code : Source
+    abbrev code : TokenSpellings
     code = record { rank = f.file; spell = spelling_of there.source }
 
     all_here : AllByRecursion (Kept p f.file) (func_sites code f.function)

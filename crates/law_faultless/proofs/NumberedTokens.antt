@@ -4,7 +4,7 @@ use Rattle.std.specs.List.{AllByRecursion}
 use Rattle.go_ast.specs.declared.syntax.Kind.{Kind}
 use Rattle.go_ast.specs.declared.syntax.Kind.TheVariants as kind
 use Rattle.go_ast.specs.declared.syntax.Token.{Token}
-use Rattle.go_scope.specs.Site.{Site, Source}
+use Rattle.go_scope.specs.Site.{Site, TokenSpellings}
 use Rattle.law_tokens.proofs.Covers.{Covers, ends, skips, takes, selects, keys}
 
 -- B: that the token of that number is `_`
@@ -21,7 +21,7 @@ strung_le B n [] m h = let same : n ≡ m = h in omega arith
 strung_le B n (t ∷ ts) m h = let le : suc n ≤ m = strung_le B (suc n) ts m h.1.1 in omega arith
 
 -- identifiers stand before the end of their tokens
-pub stand_below : (B : ℕ → Type 0) (P : Kind → Bool) (s : Source) (n m : ℕ) (xs : List Site) (ts : List Token) → Covers P s xs ts → Strung B n ts m →
+pub stand_below : (B : ℕ → Type 0) (P : Kind → Bool) (s : TokenSpellings) (n m : ℕ) (xs : List Site) (ts : List Token) → Covers P s xs ts → Strung B n ts m →
     AllByRecursion (λ x. x.place.index < m) xs
 stand_below B P s n m _ _ ends h = tt
 stand_below B P s n m xs _ (skips {ts = ts} k a) h = stand_below B P s (suc n) m xs ts a h.1.1

@@ -19,7 +19,7 @@ use Rattle.go_scope.specs.declared.model.Role.TheVariants.{Declaring, Implied}
 use Rattle.go_scope.specs.FileSites.{file_sites, files_sites, universe_site}
 use Rattle.go_scope.specs.Named.{is_unnamed_import, named_where, named_sites}
 use Rattle.go_scope.specs.SpelledFiles.{spelled_file}
-use Rattle.go_scope.specs.Site.{Site, Source, or_blank}
+use Rattle.go_scope.specs.Site.{Site, TokenSpellings, or_blank}
 use Rattle.types_info.proofs.DeclKinds.{Holds}
 use Rattle.law_tokens.specs.Covered.{AreSourceFiles}
 use Rattle.law_tokens.specs.Roles.{IsOfKind}
@@ -88,7 +88,7 @@ pub files_told : (rank : ℕ) (ts : List FileParts) → AreSourceFiles ts → Al
 unfolding files_sites
 files_told rank [] w = tt
 files_told rank (t ∷ ts) w =
-    let s : Source = record { rank = rank; spell = spelling_of (source_of t) } in
+    let s : TokenSpellings = record { rank = rank; spell = spelling_of (source_of t) } in
     let tree = file_view t.file in
     let is : IsSourceFile (source_of t) = All-head (λ (g : FileParts). IsSourceFile (source_of g)) t ts w in
     all_append (IsTold rank (t ∷ ts)) (file_sites s tree) (files_sites (suc rank) (map spelled_file ts))
@@ -117,7 +117,7 @@ pub files_paired : (rank : ℕ) (ts : List FileParts) → AreSourceFiles ts → 
 unfolding files_sites
 files_paired rank [] w = tt
 files_paired rank (t ∷ ts) w =
-    let s : Source = record { rank = rank; spell = spelling_of (source_of t) } in
+    let s : TokenSpellings = record { rank = rank; spell = spelling_of (source_of t) } in
     let tree = file_view t.file in
     let is : IsSourceFile (source_of t) = All-head (λ (g : FileParts). IsSourceFile (source_of g)) t ts w in
     paired_append (IsTextAt rank (t ∷ ts)) (file_sites s tree) (files_sites (suc rank) (map spelled_file ts))

@@ -10,22 +10,22 @@ use Rattle.types_expr.specs.Types.{PlainType}
 use Rattle.types_declared.specs.Package.{Package}
 use Rattle.types_info.proofs.DeclKinds.{Holds}
 use Rattle.law_tokens.proofs.Elements.{all_made}
-use Rattle.build_object.specs.Lines.{GlobalName, FunctionName, Line}
+use Rattle.build_object.specs.Lines.{GlobalName, FunctionName, CodeLine}
 use Rattle.build_object.specs.Names.{function_names}
-use Rattle.build_object.specs.Objects.{Definition, Initial, Declaration, TypeOf, Variable, FunctionOf, Object, type_declarations, declared_type, known_variable, first_initial}
+use Rattle.build_object.specs.Objects.{ObjectDefinition, Initial, ObjectDeclaration, TypeOf, Variable, FunctionOf, Object, type_declarations, declared_type, known_variable, first_initial}
 use Rattle.build_object.specs.Objects.{other_initials, variable_declarations, global_variables, function_of, declared_function, names_behind, declared_by, declared_in}
 use Rattle.build_object.specs.Objects.{names_behind_all, declared_from, definition_of}
 use Rattle.build_object.specs.Source.{Source}
 use Rattle.build_object.specs.Sources.{IsSourceOf, IsObjectOf}
 use Rattle.law_faultless.proofs.Lists.{all_held, contained}
 
-module _ (P : List Line → Type 0) where
-  abbrev Good : Declaration → Type 0
+module _ (P : List CodeLine → Type 0) where
+  abbrev Good : ObjectDeclaration → Type 0
   Good (TypeOf name definition) = Unit {0}
   Good (Variable name own value) = Unit {0}
   Good (FunctionOf f) = P f.code
 
-  abbrev All : List Declaration → Type 0
+  abbrev All : List ObjectDeclaration → Type 0
   All ds = AllByRecursion Good ds
 
   variable_good : (own : Option PlainType) (name : Option GlobalName) (value : Option Initial) → All (known_variable own name value)
@@ -40,7 +40,7 @@ module _ (P : List Line → Type 0) where
       all_append Good (known_variable own (s.global n.value) (first_initial values)) (variable_declarations s own ns (other_initials values))
       (variable_good own (s.global n.value) (first_initial values)) (variables_good s own ns (other_initials values))
 
-  defined_good : (name : Option GlobalName) (definition : Option Definition) → All (type_declarations name definition)
+  defined_good : (name : Option GlobalName) (definition : Option ObjectDefinition) → All (type_declarations name definition)
   defined_good None definition = tt
   defined_good (Some name) None = tt
   defined_good (Some name) (Some definition) = (tt, tt)
@@ -84,7 +84,7 @@ module _ (P : List Line → Type 0) where
   pub object_good : (p : Package) (files_of : List ℕ → List SourceFile) (o : Object) → IsObjectOf p files_of o →
       ((file : ℕ) (f : SourceFile) → slice_get p.files file ≡ Some f → (s : Source) → IsSourceOf p files_of file f s → (k : ℕ) (g : FuncTree) (c : ℕ) →
       Holds f.tree.decls (FuncDecl k g c) → (name : FunctionName) → P (function_of s g name).code) →
-      (d : Declaration) → Contains o.declarations d → Good d
+      (d : ObjectDeclaration) → Contains o.declarations d → Good d
   unfolding HasGood
   object_good p files_of o is h d here =
       let all = files_good is.sources (function_names p.path p.files) p.files

@@ -5,14 +5,14 @@ use Rattle.go_ast.specs.declared.syntax.BinaryOp.{BinaryOp}
 use Rattle.go_ast.specs.declared.syntax.BinaryOp.TheVariants as op
 use Rattle.go_ast.specs.declared.syntax.PrefixOp.{PrefixOp}
 use Rattle.go_ast.specs.declared.syntax.PrefixOp.TheVariants as prefix
-use Rattle.types_expr.specs.Types.{Kind, Typed, Untyped, Nil, Signature, Meaning, Value, TypeName, Function, BuiltinName, Package, Results, Broken}
+use Rattle.types_expr.specs.Types.{ValueKind, Typed, Untyped, Nil, Signature, Meaning, Value, TypeName, Function, BuiltinName, Package, Results, Broken}
 use Rattle.types_expr.specs.World.{Locals}
-use Rattle.law_typing.specs.Names.{IsWhole, NameMeans, a_local, a_bound}
-use Rattle.build_object.specs.Lines.{FunctionName, Line}
+use Rattle.law_typing.specs.Names.{IsNotBroken, NameMeans, a_local, a_bound}
+use Rattle.build_object.specs.Lines.{FunctionName, CodeLine}
 use Rattle.build_object.specs.Lines as line
 use Rattle.build_object.specs.Source.{Source}
 use Rattle.build_object.specs.Numbering.{slot_of}
-use Rattle.build_object.specs.Operands.{Operand, Mode, Values, Called, Converts, Predeclared, Qualifies, plain, mode_alone, local_operand}
+use Rattle.build_object.specs.Operands.{CodeOperand, Mode, Values, Called, Converts, Predeclared, Qualifies, plain, mode_alone, local_operand}
 use Rattle.build_object.specs.Operands.{function_mode, plain_function, value_name, named_meaning, bound_name, name_operand, prefixed, operated, counted}
 use Rattle.law_faultless.specs.Stack.{Arity, ChangesHeight, LineObeys}
 use Rattle.law_faultless.specs.QuestionAnswers.{IsKnown, IsNamedWith, plain_arity, MeaningIsKnown, NameIsKnown}
@@ -20,18 +20,18 @@ use Rattle.law_faultless.proofs.StackParts.{is_behind, Turns, none_turns, turns_
 use Rattle.law_faultless.proofs.StackParts as turning
 
 -- one value, whose address is one value too
-pub record IsOneValue (arity : FunctionName → Arity) (o : Operand) : Type 0 where
+pub record IsOneValue (arity : FunctionName → Arity) (o : CodeOperand) : Type 0 where
   pub mode : o.mode ≡ Values 1
   pub value : Turns arity 0 1 o.value
   pub address : Turns arity 0 1 o.address
 
 -- what is no value of its own, with n values that it begins with
-pub record IsHead (arity : FunctionName → Arity) (o : Operand) (mode : Mode) (n : ℕ) : Type 0 where
+pub record IsHead (arity : FunctionName → Arity) (o : CodeOperand) (mode : Mode) (n : ℕ) : Type 0 where
   pub is : o.mode ≡ mode
   pub value : Turns arity 0 n o.value
 
 -- a function, with its receiver where it is a method
-pub record IsCallee (arity : FunctionName → Arity) (o : Operand) (f : Signature) : Type 0 where
+pub record IsCallee (arity : FunctionName → Arity) (o : CodeOperand) (f : Signature) : Type 0 where
   pub name : FunctionName
   pub received : Bool
   pub head : IsHead arity o (Called received name (length f.results)) (counted received 0)
@@ -39,7 +39,7 @@ pub record IsCallee (arity : FunctionName → Arity) (o : Operand) (f : Signatur
   pub gives : (arity name).results ≡ length f.results
 
 -- what means m
-abbrev pub Stands : (FunctionName → Arity) → Operand → Meaning → Type 0
+abbrev pub Stands : (FunctionName → Arity) → CodeOperand → Meaning → Type 0
 Stands arity o (Value k a) = IsOneValue arity o
 Stands arity o (TypeName t) = IsHead arity o Converts 0
 Stands arity o (Function f) = IsCallee arity o f
@@ -49,13 +49,13 @@ Stands arity o (Results ts) = IsHead arity o (Values (length ts)) (length ts)
 Stands arity o Broken = ⊤
 
 -- A whole chain leaves what its meaning says: one value, or the results of a call. For other meanings nothing is required.
-abbrev pub Settles : (FunctionName → Arity) → Operand → Meaning → Type 0
+abbrev pub Settles : (FunctionName → Arity) → CodeOperand → Meaning → Type 0
 Settles arity o (Value k a) = IsOneValue arity o
 Settles arity o (Results ts) = IsHead arity o (Values (length ts)) (length ts)
 Settles arity o m = ⊤
 
 -- A value whose lines are those of its address too
-pub plain_value : (arity : FunctionName → Arity) (lines : List Line) → Turns arity 0 1 lines → IsOneValue arity (plain lines)
+pub plain_value : (arity : FunctionName → Arity) (lines : List CodeLine) → Turns arity 0 1 lines → IsOneValue arity (plain lines)
 plain_value arity lines t = record { mode = refl; value = t; address = t }
 
 -- Names
@@ -67,7 +67,7 @@ local_value arity slot k = record {
   address = known_turns arity line.LocalAddress slot k.0 0 1 k.1 (line_turns arity (line.LocalAddress k.0) 0 1 refl refl (λ at i m. m));
 }
 
-kind_value : (arity : FunctionName → Arity) (s : Source) (n : ℕ) (k : Kind) (a : Bool) → MeaningIsKnown arity s n (Value k a) →
+kind_value : (arity : FunctionName → Arity) (s : Source) (n : ℕ) (k : ValueKind) (a : Bool) → MeaningIsKnown arity s n (Value k a) →
     IsOneValue arity (value_name s n k)
 kind_value arity s n (Typed t) a k = record {
   mode = refl;
@@ -90,7 +90,7 @@ plain_callee arity name f c = record {
   gives = ap (λ (z : Arity). z.results) c.1.1;
 }
 
-meaning_stands : (arity : FunctionName → Arity) (s : Source) (n : ℕ) (m : Meaning) → IsWhole m → MeaningIsKnown arity s n m →
+meaning_stands : (arity : FunctionName → Arity) (s : Source) (n : ℕ) (m : Meaning) → IsNotBroken m → MeaningIsKnown arity s n m →
     Stands arity (named_meaning s n m) m
 unfolding named_meaning
 meaning_stands arity s n (Value k a) w h = kind_value arity s n k a h
@@ -112,10 +112,10 @@ name_stands arity s slots locals n (a_bound {m} e h) k =
 
 -- Operators
 
-pub with_line : (arity : FunctionName → Arity) (xs : List Line) (l : Line) → Turns arity 0 1 xs → Turns arity 1 1 (l ∷ []) → Turns arity 0 1 (xs ++ (l ∷ []))
+pub with_line : (arity : FunctionName → Arity) (xs : List CodeLine) (l : CodeLine) → Turns arity 0 1 xs → Turns arity 1 1 (l ∷ []) → Turns arity 0 1 (xs ++ (l ∷ []))
 with_line arity xs l f g = turns_joined arity 0 1 1 xs (l ∷ []) f g
 
-pub prefixed_value : (arity : FunctionName → Arity) (o : PrefixOp) (x : List Line) → Turns arity 0 1 x → IsOneValue arity (prefixed o x)
+pub prefixed_value : (arity : FunctionName → Arity) (o : PrefixOp) (x : List CodeLine) → Turns arity 0 1 x → IsOneValue arity (prefixed o x)
 prefixed_value arity prefix.Plus x t = plain_value arity x t
 prefixed_value arity prefix.Minus x t = plain_value arity (x ++ (line.Negate ∷ [])) (with_line arity x line.Negate t
     (line_turns arity line.Negate 1 1 refl refl (λ at i m. m)))
@@ -129,18 +129,18 @@ prefixed_value arity prefix.Deref x t = record {
 }
 
 -- two values and a line that makes one of them
-pub two_lines : (arity : FunctionName → Arity) (xs ys : List Line) (l : Line) → Turns arity 0 1 xs → Turns arity 0 1 ys → Turns arity 2 1 (l ∷ []) →
+pub two_lines : (arity : FunctionName → Arity) (xs ys : List CodeLine) (l : CodeLine) → Turns arity 0 1 xs → Turns arity 0 1 ys → Turns arity 2 1 (l ∷ []) →
     Turns arity 0 1 (xs ++ (ys ++ (l ∷ [])))
 two_lines arity xs ys l f g h = turns_joined arity 0 1 1 xs (ys ++ (l ∷ [])) f (turns_joined arity 1 2 1 ys (l ∷ []) (turns_over arity 1 0 1 ys g) h)
 
-plain_operation : (arity : FunctionName → Arity) (o : BinaryOp) (xs ys : List Line) → Turns arity 0 1 xs → Turns arity 0 1 ys →
+plain_operation : (arity : FunctionName → Arity) (o : BinaryOp) (xs ys : List CodeLine) → Turns arity 0 1 xs → Turns arity 0 1 ys →
     Turns arity 0 1 (xs ++ (ys ++ (line.Operate o ∷ [])))
 plain_operation arity o xs ys f g = two_lines arity xs ys (line.Operate o) f g (line_turns arity (line.Operate o) 2 1 refl refl (λ at i m. m))
 
 -- `&&` and `||`: the second is looked at in place of the first
-tested : (arity : FunctionName → Arity) (jump : ℕ → Line) → ((n : ℕ) → turning.taken (jump n) ≡ 1) → ((n : ℕ) → turning.put arity (jump n) ≡ 0) →
+tested : (arity : FunctionName → Arity) (jump : ℕ → CodeLine) → ((n : ℕ) → turning.taken (jump n) ≡ 1) → ((n : ℕ) → turning.put arity (jump n) ≡ 0) →
     ((at : ℕ → ℕ) (i n : ℕ) → ChangesHeight at i 1 0 → at (suc i + n) ≡ at (suc i) → LineObeys arity at i (jump n)) →
-    (ys : List Line) → Turns arity 0 1 ys → Turns arity 1 1 (line.Duplicate ∷ jump (suc (length ys)) ∷ line.Pop ∷ ys)
+    (ys : List CodeLine) → Turns arity 0 1 ys → Turns arity 1 1 (line.Duplicate ∷ jump (suc (length ys)) ∷ line.Pop ∷ ys)
 tested arity jump t p runs ys g = record {
   turns = λ at i h begins s.
       let n : ℕ = suc (length ys) in
@@ -167,7 +167,7 @@ tested arity jump t p runs ys g = record {
       };
 }
 
-pub operated_turns : (arity : FunctionName → Arity) (o : BinaryOp) (xs ys : List Line) → Turns arity 0 1 xs → Turns arity 0 1 ys →
+pub operated_turns : (arity : FunctionName → Arity) (o : BinaryOp) (xs ys : List CodeLine) → Turns arity 0 1 xs → Turns arity 0 1 ys →
     Turns arity 0 1 (operated o xs ys)
 operated_turns arity op.And xs ys f g =
     turns_joined arity 0 1 1 xs (line.Duplicate ∷ line.JumpUnless (suc (length ys)) ∷ line.Pop ∷ ys) f

@@ -14,7 +14,7 @@ use Rattle.go_scope.specs.Bindings.{MayDeclare, Counts, IsBoundTo, use_bound, ow
 use Rattle.go_scope.specs.FileSites.{SpelledFile, file_sites, files_sites, universe, package_sites, func_sites}
 use Rattle.go_scope.specs.SpelledFiles.{spelled_file}
 use Rattle.go_scope.specs.Scopes.{Holds as HoldsPlace, scope_for}
-use Rattle.go_scope.specs.Site.{Site, Source}
+use Rattle.go_scope.specs.Site.{Site, TokenSpellings}
 use Rattle.go_scope.specs.Table.{LiesAt}
 use Rattle.go_scope.proofs.FileRegions.{file_fits}
 use Rattle.go_scope.proofs.Regions.{Each, Fits, inner_file}
@@ -141,7 +141,7 @@ module _ (w : Workspace) (known : Verdicts) (path : List ℕ) (p : Package) (h :
     in_own_file =
         let F = (p.layout.place d).file in
         let s = source_by (kept w known path p h d (may_within w known path p h d may)) in
-        let source : Source = record { rank = F; spell = spelling_of s.0 } in
+        let source : TokenSpellings = record { rank = F; spell = spelling_of s.0 } in
         let m = rises_of 0 (flatten s.0.tree) (files_in_order w known path p h F s.0 s.1) in
         let fits = file_fits source m.0 s.0.tree (source_is w known path p h F s.0 s.1).is_tree.well_formed m.1 in
         inner_at F s.0 s.1 (λ i r. IsFramed F r) (all_framed F 0 m.0 0 m.0 (file_sites source s.0.tree) fits.0) d f a c may block refl may f a c block
@@ -193,7 +193,7 @@ module _ (w : Workspace) (known : Verdicts) (path : List ℕ) (p : Package) (h :
       reached : (d f a e : ℕ) → block_of (p.layout.role d) ≡ Inner f a e → Counts p.layout p.names d → (p.layout.place d).file ≡ file →
           Reaches n (p.layout.place d).index (p.layout.role d) → HasPlace (p.layout.place d).index
       reached d f a e block counts there reach =
-          let source : Source = record { rank = file; spell = spelling_of s } in
+          let source : TokenSpellings = record { rank = file; spell = spelling_of s } in
           let P : ℕ → Role → Type 0 = λ i r. v.bound i ≡ Local i → HasPlace i in
           let m = rises_of 0 (flatten s.tree) (files_in_order w known path p h file s at) in
           let only = file_only source k g c n inside P (function_slotted v source g) m.0 s.tree (source_is w known path p h file s at).is_tree.well_formed held

@@ -17,7 +17,7 @@ use Rattle.workspace_check.specs.Verdicts.{Verdicts, AreVerdicts}
 use Rattle.workspace_check.proofs.OneList.{checked_package}
 use Rattle.workspace_check.proofs.OnePackage.{layout_formed, one_checked}
 use Rattle.refs_binding.proofs.Alike.{package_for}
-use Rattle.refs_binding.specs.Uses.{IsPackage}
+use Rattle.refs_binding.specs.Uses.{IsCheckedPackage}
 use Rattle.law_faultless.specs.Strings.{AreStringsKnown}
 use Rattle.law_faultless.proofs.Deciding.{Decided, all_decided}
 use Rattle.law_faultless.proofs.Spellings.{string_known}
@@ -59,8 +59,8 @@ broken_within : (p : Package) (rank : ℕ) → IsBroken p rank → rank < length
 broken_within p rank (by_itself h none) = slice_get_within (package_types p) rank h.definition h.has_rank
 broken_within p rank (through h m b) = slice_get_within (package_types p) rank h.definition h.has_rank
 
-module _ (w : Workspace) (sound : ListsFaults w []) (known : Verdicts) (right : AreVerdicts w known) (p : Package) (is : IsPackage w known p) where
-  pub own_package : IsPackage w sound.known p
+module _ (w : Workspace) (sound : ListsFaults w []) (known : Verdicts) (right : AreVerdicts w known) (p : Package) (is : IsCheckedPackage w known p) where
+  pub own_package : IsCheckedPackage w sound.known p
   own_package = package_for w known sound.known right sound.right p is
 
   own_export_data : IsExportData p (sound.known p.path).export_data

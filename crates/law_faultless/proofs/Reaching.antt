@@ -16,7 +16,7 @@ use Rattle.go_scope.specs.declared.model.Block.TheVariants.{Inner}
 use Rattle.go_scope.specs.declared.model.Role.{Role}
 use Rattle.go_scope.specs.declared.model.Role.TheVariants.{Use, Declaring}
 use Rattle.go_scope.specs.Bindings.{block_of, start_of}
-use Rattle.go_scope.specs.Site.{Site, Source, site}
+use Rattle.go_scope.specs.Site.{Site, TokenSpellings, site}
 use Rattle.go_scope.specs.ExpressionSites.{sites_if, list_sites, type_sites}
 use Rattle.go_scope.specs.StatementSites.{ident_sites, open_of, close_of, block_sites, statements_sites}
 use Rattle.go_scope.specs.FileSites.{spec_sites, global_sites, type_spec_sites, receiver_sites, param_sites, result_sites, func_role, func_sites}
@@ -40,7 +40,7 @@ Lies n m x = (n ≤ x.place.index) × (x.place.index < m)
 lies_later : (n k m : ℕ) (xs : List Site) → n ≤ k → AllByRecursion (Lies k m) xs → AllByRecursion (Lies n m) xs
 lies_later n k m xs le h = all_as (Lies k m) (Lies n m) (λ x l. (let at : k ≤ x.place.index = l.0 in omega arith, l.1)) xs h
 
-covers_lie : {P : Kind → _} {s : Source} {xs : List Site} {ts : List Token} → Covers P s xs ts → (n m : ℕ) → Rises n ts m → AllByRecursion (Lies n m) xs
+covers_lie : {P : Kind → _} {s : TokenSpellings} {xs : List Site} {ts : List Token} → Covers P s xs ts → (n m : ℕ) → Rises n ts m → AllByRecursion (Lies n m) xs
 covers_lie ends n m r = tt
 covers_lie (skips {xs = xs} {t = t} k a) n m r =
     let le : n ≤ t.place = r.0 in lies_later n (suc t.place) m xs (omega arith) (covers_lie a (suc t.place) m r.1)
@@ -66,7 +66,7 @@ rises_end : (n : ℕ) (ts : List Token) (m : ℕ) → Rises n ts m → Rises n (
 rises_end n [] m h = h
 rises_end n (t ∷ ts) m h = (h.0, rises_end (suc t.place) ts m h.1)
 
-decl_lies : (s : Source) (n m : ℕ) (d : DeclTree) → Rises n (decl_tokens d) m → AllByRecursion (Lies n m) (decl_sites s d)
+decl_lies : (s : TokenSpellings) (n m : ℕ) (d : DeclTree) → Rises n (decl_tokens d) m → AllByRecursion (Lies n m) (decl_sites s d)
 unfolding all_tokens
 decl_lies s n m d h = all_front (Lies n m) (decl_sites s d) [] (covers_lie (decls_named s (d ∷ [])) n m (rises_end n (decl_tokens d) m h))
 
@@ -94,19 +94,19 @@ all_fit : (f o c u q n m : ℕ) (xs : List Site) → n ≤ o → c < m → Each 
 all_fit f o c u q n m [] begun cm h = tt
 all_fit f o c u q n m (x ∷ xs) begun cm h = (fits_within f o c u q n m begun cm x h.0, all_fit f o c u q n m xs begun cm h.1)
 
-ident_within : (s : Source) (o c n m : ℕ) → n ≤ o → c < m → (x : IdentTree) →
+ident_within : (s : TokenSpellings) (o c n m : ℕ) → n ≤ o → c < m → (x : IdentTree) →
     AllByRecursion (IsWithin n m) (ident_sites s (Declaring (Inner s.rank o c) o) x)
 ident_within s o c n m begun cm (Named i) = ((λ may f a b e. (begun, let end : c ≡ b = inner_to s.rank o c f a b e in omega arith)), tt)
 ident_within s o c n m begun cm (Underscore i) = ((λ may f a b e. absurd (true≢false (sym may))), tt)
 
-idents_within : (s : Source) (o c n m : ℕ) → n ≤ o → c < m → (xs : List (Item IdentTree)) →
+idents_within : (s : TokenSpellings) (o c n m : ℕ) → n ≤ o → c < m → (xs : List (Item IdentTree)) →
     AllByRecursion (IsWithin n m) (list_sites (ident_sites s (Declaring (Inner s.rank o c) o)) xs)
 idents_within s o c n m begun cm [] = tt
 idents_within s o c n m begun cm (x ∷ xs) =
     let names = ident_sites s (Declaring (Inner s.rank o c) o) in
     all_append (IsWithin n m) (names x.value) (list_sites names xs) (ident_within s o c n m begun cm x.value) (idents_within s o c n m begun cm xs)
 
-receiver_within : (s : Source) (o c n m : ℕ) → n ≤ o → c < m → (r : Option ReceiverTree) →
+receiver_within : (s : TokenSpellings) (o c n m : ℕ) → n ≤ o → c < m → (r : Option ReceiverTree) →
     AllByRecursion (IsWithin n m) (sites_if (receiver_sites s (Inner s.rank o c) o) r)
 unfolding receiver_sites
 receiver_within s o c n m begun cm None = tt
@@ -114,7 +114,7 @@ receiver_within s o c n m begun cm (Some r) =
     all_append (IsWithin n m) (ident_sites s (Declaring (Inner s.rank o c) o) r.name) (site s r.type_name Use ∷ []) (ident_within s o c n m begun cm r.name)
     ((λ may f a b e. absurd (true≢false (sym may))), tt)
 
-params_within : (s : Source) (o c n m : ℕ) → n ≤ o → c < m → (ps : List (Item ParamTree)) →
+params_within : (s : TokenSpellings) (o c n m : ℕ) → n ≤ o → c < m → (ps : List (Item ParamTree)) →
     AllByRecursion (IsWithin n m) (list_sites (param_sites s (Inner s.rank o c) o) ps)
 unfolding param_sites
 params_within s o c n m begun cm [] = tt
@@ -125,7 +125,7 @@ params_within s o c n m begun cm (p ∷ ps) =
     (all_append (IsWithin n m) names typing (idents_within s o c n m begun cm p.value.names) (abroad_within n m typing (type_abroad s p.value.type_use)))
     (params_within s o c n m begun cm ps)
 
-body_within : (s : Source) (n k m : ℕ) (x : BlockTree) → n ≤ k → IsBlock x → Rises k (block_tokens x) m →
+body_within : (s : TokenSpellings) (n k m : ℕ) (x : BlockTree) → n ≤ k → IsBlock x → Rises k (block_tokens x) m →
     (n ≤ open_of x) × (close_of x < m) × AllByRecursion (IsWithin n m) (block_sites s x)
 unfolding block_tokens block_sites IsBlock
 body_within s n k m (block o ss c) nk w h =
@@ -139,7 +139,7 @@ body_within s n k m (block o ss c) nk w h =
 
 -- The tokens of a function are taken apart here as in the proof that its block lies behind its name. That proof shows another fact of these
 -- parts.
-func_within : (s : Source) (n m : ℕ) (f : FuncTree) → IsFunc f → Rises n (func_tokens f) m → AllByRecursion (IsWithin n m) (func_sites s f)
+func_within : (s : TokenSpellings) (n m : ℕ) (f : FuncTree) → IsFunc f → Rises n (func_tokens f) m → AllByRecursion (IsWithin n m) (func_sites s f)
 unfolding func_tokens func_sites
 func_within s n m f w h =
     let o = open_of f.body in
@@ -175,7 +175,7 @@ wider_within n k u m xs nk um h =
     let high : b < u = j.1 in
     (omega arith, omega arith)) xs h
 
-decl_within : (s : Source) (n m : ℕ) (d : DeclTree) → IsDecl d → Rises n (decl_tokens d) m → AllByRecursion (IsWithin n m) (decl_sites s d)
+decl_within : (s : TokenSpellings) (n m : ℕ) (d : DeclTree) → IsDecl d → Rises n (decl_tokens d) m → AllByRecursion (IsWithin n m) (decl_sites s d)
 unfolding decl_tokens decl_sites
 decl_within s n m (VarDecl k g semicolon) w h = abroad_within n m (spec_sites (global_sites s) g) (group_abroad (global_sites s) (global_abroad s) g)
 decl_within s n m (TypeDecl k g semicolon) w h = abroad_within n m (spec_sites (type_spec_sites s) g) (group_abroad (type_spec_sites s) (spec_abroad s) g)
@@ -207,7 +207,7 @@ bounded a b (x ∷ xs) h k = (
   bounded a b xs h.1 k.1,
 )
 
-decl_bounded : (s : Source) (a b : ℕ) (d : DeclTree) → IsDecl d → Rises a (decl_tokens d) b → AllByRecursion (Bounded a b) (decl_sites s d)
+decl_bounded : (s : TokenSpellings) (a b : ℕ) (d : DeclTree) → IsDecl d → Rises a (decl_tokens d) b → AllByRecursion (Bounded a b) (decl_sites s d)
 decl_bounded s a b d w h = bounded a b (decl_sites s d) (decl_lies s a b d h) (decl_within s a b d w h)
 
 wider_bounded : (a k u b : ℕ) (xs : List Site) → a ≤ k → u ≤ b → AllByRecursion (Bounded k u) xs → AllByRecursion (Bounded a b) xs
@@ -218,7 +218,7 @@ wider_bounded a k u b xs ak ub h =
     let high : n < u = j.1 in
     (omega arith, omega arith)) xs h
 
-decls_bounded : (s : Source) (a b : ℕ) (ds : List DeclTree) → All IsDecl ds → Rises a (all_tokens decl_tokens ds) b →
+decls_bounded : (s : TokenSpellings) (a b : ℕ) (ds : List DeclTree) → All IsDecl ds → Rises a (all_tokens decl_tokens ds) b →
     AllByRecursion (Bounded a b) (flat_map (decl_sites s) ds)
 unfolding all_tokens
 decls_bounded s a b [] w h = tt
@@ -231,7 +231,7 @@ decls_bounded s a b (d ∷ ds) w h =
     (wider_bounded a r.0 b b (flat_map (decl_sites s) ds) ar (omega arith) (decls_bounded s r.0 b ds (All-tail IsDecl d ds w) r.1.1))
 
 -- the name at the token n stands in the function g
-module _ (s : Source) (k : ℕ) (g : FuncTree) (c n : ℕ) (inside : (a b : ℕ) → AllByRecursion (Lies a b) (func_sites s g) → (a ≤ n) × (n < b))
+module _ (s : TokenSpellings) (k : ℕ) (g : FuncTree) (c n : ℕ) (inside : (a b : ℕ) → AllByRecursion (Lies a b) (func_sites s g) → (a ≤ n) × (n < b))
     (P : ℕ → Role → Type 0) (own : AllByRecursion (λ x. may_be_local x.role ≡ true → P x.place.index x.role) (func_sites s g)) where
   in_own : (a b : ℕ) (d : DeclTree) → d ≡ FuncDecl k g c → Rises a (decl_tokens d) b → (a ≤ n) × (n < b)
   unfolding decl_sites

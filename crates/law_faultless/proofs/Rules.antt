@@ -8,7 +8,7 @@ use Rattle.go_ast.specs.Flatten.{flatten}
 use Rattle.go_ast.specs.Kinds.{kinds_of}
 use Rattle.go_ast.specs.SourceFile.{SourceFile, IsSourceFile}
 use Rattle.go_scope.specs.FileSites.{file_sites}
-use Rattle.go_scope.specs.Site.{Source}
+use Rattle.go_scope.specs.Site.{TokenSpellings}
 use Rattle.law_tokens.proofs.Links.{AreConsecutive, HasKind}
 use Rattle.law_tokens.proofs.Roles.{consecutive, of_kind}
 use Rattle.types_expr.specs.Judge.{MemberUse}
@@ -18,7 +18,7 @@ use Rattle.types_info.specs.MemberUses.{AreUsesIn}
 use Rattle.types_info.specs.Worlds.{is_init}
 use Rattle.workspace_check.specs.FaultLists.{ListsFaults}
 use Rattle.workspace_check.specs.Verdicts.{Verdicts, AreVerdicts}
-use Rattle.refs_binding.specs.Uses.{IsPackage}
+use Rattle.refs_binding.specs.Uses.{IsCheckedPackage}
 use Rattle.law_faultless.specs.ResolvedNames.{AreResolved, IsBlankAt}
 use Rattle.law_faultless.specs.Worlds.{HaveAllWorlds}
 use Rattle.law_faultless.proofs.Fine.{world_unbroken}
@@ -37,8 +37,8 @@ source_strung s is =
     (r.0, subst (λ ts. Strung (IsBlankAt s) 0 ts r.0) (sym is.is_tree.written) r.1)
 
 module _ (w : Workspace) (sound : ListsFaults w []) (known : Verdicts) (right : AreVerdicts w known) (worlds : HaveAllWorlds w known) (p : Package)
-    (is : IsPackage w known p) where
-  pub keeps_rules : (file : ℕ) (uses : List MemberUse) (a : AreUsesIn p file uses) (s : Source) →
+    (is : IsCheckedPackage w known p) where
+  pub keeps_rules : (file : ℕ) (uses : List MemberUse) (a : AreUsesIn p file uses) (s : TokenSpellings) →
       AreResolved a.world (IsBlankAt a.source) [] (file_sites s a.source.tree) → FileIsTyped a.world (is_init a.source) a.source.tree
   keeps_rules file uses a s resolved =
       let source = source_is w known p.path p is.is_checked file a.source a.in_file in

@@ -22,7 +22,7 @@ use Rattle.go_scope.specs.Named.{is_unnamed_import, named_where, named_sites}
 use Rattle.go_scope.specs.SpelledFiles.{spelled_file}
 use Rattle.go_scope.specs.Packages.{scoped, layout_in}
 use Rattle.go_scope.specs.Scopes.{Holds as HoldsPlace, scope_for}
-use Rattle.go_scope.specs.Site.{Site, Source, or_blank}
+use Rattle.go_scope.specs.Site.{Site, TokenSpellings, or_blank}
 use Rattle.go_scope.specs.Table.{LiesAt, IsFoundAt}
 use Rattle.go_scope.specs.Trees.{AreRising}
 use Rattle.law_tokens.specs.Order.{StandInOrder}
@@ -63,7 +63,7 @@ abbrev Sorted : ℕ → List Site → Type 0
 Sorted n [] = Unit {0}
 Sorted n (x ∷ xs) = (n ≤ x.place.index) × Sorted (suc x.place.index) xs
 
-sorted : (s : Source) (n : ℕ) (xs : List Site) (ts : List Token) → Pairs s xs ts → AreRising n ts → Sorted n xs
+sorted : (s : TokenSpellings) (n : ℕ) (xs : List Site) (ts : List Token) → Pairs s xs ts → AreRising n ts → Sorted n xs
 sorted s n [] ts p h = tt
 sorted s n (x ∷ xs) [] p h = absurd p
 sorted s n (x ∷ xs) (t ∷ ts) p h =
@@ -120,7 +120,7 @@ local_role (Implied block start) f a c m i b = absurd (true≢false i)
 local_role Use f a c m i b = absurd (true≢false (sym m))
 local_role (NotLexical p) f a c m i b = absurd (true≢false (sym m))
 
-identified : (s : Source) (xs : List Site) (ts : List Token) → Pairs s xs ts → AllByRecursion (λ x. is_implied x.role ≡ false) xs
+identified : (s : TokenSpellings) (xs : List Site) (ts : List Token) → Pairs s xs ts → AllByRecursion (λ x. is_implied x.role ≡ false) xs
 identified s [] ts p = tt
 identified s (x ∷ xs) [] p = absurd p
 identified s (x ∷ xs) (t ∷ ts) p = (p.0, identified s xs ts p.2)
@@ -129,7 +129,7 @@ files_identified : (rank : ℕ) (fs : List SpelledFile) → AllByRecursion (λ x
 unfolding files_sites
 files_identified rank [] = tt
 files_identified rank (f ∷ fs) =
-    let s : Source = record { rank = rank; spell = f.spell } in
+    let s : TokenSpellings = record { rank = rank; spell = f.spell } in
     all_append (λ (x : Site). is_implied x.role ≡ false) (file_sites s f.tree) (files_sites (suc rank) fs)
     (identified s (file_sites s f.tree) (identifiers_among (flatten f.tree)) (file_pairs s f.tree)) (files_identified (suc rank) fs)
 
@@ -384,7 +384,7 @@ module _ (w : Workspace) (known : Verdicts) (path : List ℕ) (p : Package) (h :
     pub file_resolved : AreResolved v B [] (file_sites (record { rank = file; spell = spelling_of j.source }) j.source.tree)
     unfolding HasSite
     file_resolved =
-        let source : Source = record { rank = file; spell = spelling_of j.source } in
+        let source : TokenSpellings = record { rank = file; spell = spelling_of j.source } in
         let xs = file_sites source j.source.tree in
         let own_sites = all_as (Holds xs) (λ x. HasSite xs x.place.index x.role) (λ x i. (x, (i, (refl, refl)))) xs (all_themselves xs) in
         let rising : AreRising 0 (flatten j.source.tree) = files_in_order w known path p h file j.source j.in_file in

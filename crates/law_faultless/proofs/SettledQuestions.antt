@@ -13,7 +13,7 @@ use Rattle.go_scope.specs.declared.model.Purpose.TheVariants as purpose
 use Rattle.go_scope.specs.Bindings.{is_left_name}
 use Rattle.go_scope.specs.FileSites.{func_sites}
 use Rattle.go_scope.specs.Named.{is_unnamed_import}
-use Rattle.go_scope.specs.Site.{Site, Source}
+use Rattle.go_scope.specs.Site.{Site, TokenSpellings}
 use Rattle.types_expr.specs.World.{World, Locals, Bound, Local, Means, BrokenVariable, BrokenFunction, BrokenType, no_locals}
 use Rattle.types_expr.specs.Types.{Typed, Untyped, Nil, Meaning, Value, TypeName, Function, BuiltinName, Results, Broken}
 use Rattle.types_expr.specs.Types.{Package as PackageName}
@@ -30,11 +30,11 @@ use Rattle.build_object.specs.Slots.{slots_of}
 use Rattle.build_object.specs.Source.{Source as CodeSource}
 use Rattle.build_object.specs.Sources.{IsSourceOf}
 use Rattle.law_faultless.specs.QuestionAnswers.{IsKnown, MeaningIsKnown, NameIsKnown, IsAnswered}
-use Rattle.law_faultless.specs.Questions.{Question, OfInteger, OfText, OfName, OfExport, OfMember, OfDeclared, OfLeft}
+use Rattle.law_faultless.specs.Questions.{TokenQuestion, OfInteger, OfText, OfName, OfExport, OfMember, OfDeclared, OfLeft}
 use Rattle.build_object.specs.Statements.{body_lines}
 use Rattle.law_faultless.specs.Stack.{Arity, IsBalanced}
 use Rattle.law_faultless.specs.StatementAsking.{FunctionAsks}
-use Rattle.refs_binding.specs.Uses.{IsPackage}
+use Rattle.refs_binding.specs.Uses.{IsCheckedPackage}
 use Rattle.law_faultless.specs.TypedFunctions.{IsFunctionIn, this_function, later_function}
 use Rattle.law_faultless.specs.OpenQuestions.{NameIsSettled, OpenIsKnown}
 use Rattle.law_faultless.proofs.FunctionsKnown.{member_found}
@@ -98,10 +98,10 @@ left_means v s n Use e h = absurd (true≢false (sym e))
 left_means v s n (NotLexical p) e h = absurd (true≢false (sym e))
 
 module _ (w : Workspace) (sound : ListsFaults w []) (known : Verdicts) (right : AreVerdicts w known) (arity : FunctionName → Arity)
-    (arities : AreArities w known arity) (p : Package) (is : IsPackage w known p) (files_of : List ℕ → List SourceFile)
+    (arities : AreArities w known arity) (p : Package) (is : IsCheckedPackage w known p) (files_of : List ℕ → List SourceFile)
     (below : AreFilesBelow w p.path files_of) (file : ℕ) (f : SourceFile) (at : slice_get p.files file ≡ Some f) (s : CodeSource)
     (source : IsSourceOf p files_of file f s) (k : ℕ) (g : FuncTree) (c : ℕ) (held : Holds f.tree.decls (tree.FuncDecl k g c)) where
-  abbrev code : Source
+  abbrev code : TokenSpellings
   code = record { rank = file; spell = spelling_of f }
 
   abbrev sites : List Site
@@ -140,7 +140,7 @@ module _ (w : Workspace) (sound : ListsFaults w []) (known : Verdicts) (right : 
       let l = left_means s.world f x.place.index (p.layout.role u.0) (ap is_left_name u.1.1.1 ∙ e.1) mean in
       subst (λ i. (place : ℕ) × (s.world.bound i ≡ Local place)) e.0 l) sites there kept_here
 
-  pub question_settled : (before : Locals) (q : Question) → FunctionAsks s.world before g q → OpenIsKnown arity s slots q
+  pub question_settled : (before : Locals) (q : TokenQuestion) → FunctionAsks s.world before g q → OpenIsKnown arity s slots q
   question_settled before (OfInteger n) a = tt
   question_settled before (OfText n) a = tt
   question_settled before (OfName n) a = name_settled n (function_sited s.world code a) (s.world.bound n) refl
@@ -196,7 +196,7 @@ module _ (w : Workspace) (sound : ListsFaults w []) (known : Verdicts) (right : 
   abbrev is_source : IsSourceFile f
   is_source = source_is w known p.path p is.is_checked file f at
 
-  pub question_known : (before : Locals) → IsFunctionIn s.world (is_init f) no_locals f.tree.decls g before → (q : Question) →
+  pub question_known : (before : Locals) → IsFunctionIn s.world (is_init f) no_locals f.tree.decls g before → (q : TokenQuestion) →
       FunctionAsks s.world before g q → IsAnswered arity s slots q
   question_known before here (OfInteger n) a =
       subst (λ z. IsKnown z) (sym (source.number n)) (integer_asked s.world (is_init f) f g no_locals before n is_source here a)

@@ -6,7 +6,7 @@ use Rattle.std.proofs.lemmas.List.Elements.{All-head, All-tail}
 use Rattle.go_ast.specs.Tree.{Item, IdentTree, Named, Underscore, TypeTree, ExprTree}
 use Rattle.go_ast.specs.Tree as tree
 use Rattle.go_ast.specs.WellFormed.{IsExpr}
-use Rattle.types_expr.specs.Types.{PlainType, Kind, Typed, Meaning}
+use Rattle.types_expr.specs.Types.{PlainType, ValueKind, Typed, Meaning}
 use Rattle.types_expr.specs.World.{World, Locals}
 use Rattle.types_expr.specs.Judge.{judge_type}
 use Rattle.law_typing.specs.Names.{IsType}
@@ -14,7 +14,7 @@ use Rattle.law_typing.specs.Meanings.{HasMeaning, number, text, name, composite,
 use Rattle.law_typing.proofs.Naming.{type_true}
 use Rattle.law_typing.specs.Assignments.{Taker, TakenInTurn, none_given, also_given, AreEachValues, no_expression, also_value, GiveKinds, values, results}
 use Rattle.law_typing.specs.Simple.{AreAssigned, no_left, a_blank, an_operand, AreDefined, no_definition, an_underscore, a_new_name, an_old_name}
-use Rattle.build_object.specs.Lines.{FunctionName, Line, line_if_known, pops}
+use Rattle.build_object.specs.Lines.{FunctionName, CodeLine, line_if_known, pops}
 use Rattle.build_object.specs.Lines as line
 use Rattle.build_object.specs.Source.{Source}
 use Rattle.build_object.specs.Numbering.{slot_of}
@@ -37,17 +37,17 @@ first_expr i is f = All-head (λ (x : Item ExprTree). IsExpr x.value) i is f
 other_exprs : (i : Item ExprTree) (is : List (Item ExprTree)) → AreExprs (i ∷ is) → AreExprs is
 other_exprs i is f = All-tail (λ (x : Item ExprTree). IsExpr x.value) i is f
 
-pub taken_length : {w : World} {ks : List Kind} {ts : List Taker} → TakenInTurn w ks ts → length ks ≡ length ts
+pub taken_length : {w : World} {ks : List ValueKind} {ts : List Taker} → TakenInTurn w ks ts → length ks ≡ length ts
 taken_length none_given = refl
 taken_length (also_given t more) = ap suc (taken_length more)
 
 -- one more in front
-pub one_before : (arity : FunctionName → Arity) (n : ℕ) (xs ys : List Line) → Turns arity 0 1 xs → Turns arity 0 n ys → Turns arity 0 (suc n) (xs ++ ys)
+pub one_before : (arity : FunctionName → Arity) (n : ℕ) (xs ys : List CodeLine) → Turns arity 0 1 xs → Turns arity 0 n ys → Turns arity 0 (suc n) (xs ++ ys)
 one_before arity n xs ys f g = turns_as arity (xs ++ ys) refl (let e : 1 + n ≡ suc n = omega arith in e) (turns_then arity 1 n xs ys f g)
 
 -- values
 
-each_turns : (arity : FunctionName → Arity) (w : World) (s : Source) (slots : List ℕ) (locals : Locals) {is : List (Item ExprTree)} {ks : List Kind} →
+each_turns : (arity : FunctionName → Arity) (w : World) (s : Source) (slots : List ℕ) (locals : Locals) {is : List (Item ExprTree)} {ks : List ValueKind} →
     AreEachValues w locals is ks → AreExprs is →
     Answers arity (over w s) slots (AnyAsks w locals is) → Turns arity 0 (length ks) (lines_of_values (over w s) slots is)
 each_turns arity w s slots locals no_expression f k = none_turns arity 0
@@ -56,7 +56,7 @@ each_turns arity w s slots locals (also_value {i} {is} {ks = ks} h more) f k =
     (expression_settles arity w s slots locals h (first_expr i is f) (λ q a. k q (this_one a))).value
     (each_turns arity w s slots locals more (other_exprs i is f) (λ q a. k q (a_later_one a)))
 
-pub give_turns : (arity : FunctionName → Arity) (w : World) (s : Source) (slots : List ℕ) (locals : Locals) {is : List (Item ExprTree)} {ks : List Kind} →
+pub give_turns : (arity : FunctionName → Arity) (w : World) (s : Source) (slots : List ℕ) (locals : Locals) {is : List (Item ExprTree)} {ks : List ValueKind} →
     GiveKinds w locals is ks → AreExprs is →
     Answers arity (over w s) slots (AnyAsks w locals is) → Turns arity 0 (length ks) (lines_of_values (over w s) slots is)
 give_turns arity w s slots locals (values h) f k = each_turns arity w s slots locals h f k
@@ -105,7 +105,7 @@ assigned_length (an_operand h more) = ap suc (assigned_length more)
 
 -- names, the last one first
 
-last_first : (arity : FunctionName → Arity) (n : ℕ) (xs ys : List Line) → Turns arity n 0 xs → Turns arity 1 0 ys → Turns arity (suc n) 0 (xs ++ ys)
+last_first : (arity : FunctionName → Arity) (n : ℕ) (xs ys : List CodeLine) → Turns arity n 0 xs → Turns arity 1 0 ys → Turns arity (suc n) 0 (xs ++ ys)
 last_first arity n xs ys f g = turns_joined arity (suc n) 1 0 xs ys (turns_as arity xs (let e : 1 + n ≡ suc n = omega arith in e) refl
     (turns_over arity 1 n 0 xs f)) g
 

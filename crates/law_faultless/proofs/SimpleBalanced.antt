@@ -8,25 +8,25 @@ use Rattle.go_ast.specs.Tree.{Item, Group, IdentTree, ExprTree, LinkTrees, Simpl
 use Rattle.go_ast.specs.Tree as tree
 use Rattle.go_ast.specs.WellFormed.{IsExpr, IsExprIn, IsList, IsSimple, IsLocal, IsNoneOr, IsGroup}
 use Rattle.types_declared.specs.Files.{group_items}
-use Rattle.types_expr.specs.Types.{PlainType, Kind, Meaning, Value, TypeName, Function, BuiltinName, Package, Results, Broken}
+use Rattle.types_expr.specs.Types.{PlainType, ValueKind, Meaning, Value, TypeName, Function, BuiltinName, Package, Results, Broken}
 use Rattle.types_expr.specs.World.{World, Locals}
-use Rattle.law_typing.specs.Links.{ResultsMean, nothing, one, several as many_given, Calls, function, conversion, len, append, panic, print, println}
+use Rattle.law_typing.specs.Links.{ResultsMean, nothing, one, several as many_given, CallGives, function, conversion, len, append, panic, print, println}
 use Rattle.law_typing.specs.Meanings.{HasMeaning, chain, LinksMean, no_link, selector, index, call}
 use Rattle.types_stmt.specs.Simple.{binary_of}
-use Rattle.law_typing.specs.Sequences.{Rule, InTurn, no_item, then_item, InGroup, alone, together, IfPresent, absent, present}
+use Rattle.law_typing.specs.Sequences.{PartRule, InTurn, no_item, then_item, InGroup, alone, together, IfPresent, absent, present}
 use Rattle.law_typing.specs.Assignments.{Fresh, OfType, GiveKinds}
 use Rattle.law_typing.specs.Simple.{ConditionIsTyped, a_condition, EndsInCall, the_call, behind_selector as ends_behind_selector}
 use Rattle.law_typing.specs.Simple.{behind_index as ends_behind_index, behind_call as ends_behind_call, SimpleIsTyped, a_call, a_step, an_update}
 use Rattle.law_typing.specs.Simple.{an_assignment, a_definition, LocalIsTyped, of_type, of_type_with_values, of_values}
-use Rattle.build_object.specs.Lines.{FunctionName, Line, pops}
+use Rattle.build_object.specs.Lines.{FunctionName, CodeLine, pops}
 use Rattle.build_object.specs.Lines as line
 use Rattle.build_object.specs.Source.{Source}
-use Rattle.build_object.specs.Operands.{Operand, Values, value_count}
+use Rattle.build_object.specs.Operands.{CodeOperand, Values, value_count}
 use Rattle.build_object.specs.Expressions.{operand_of, value_lines, address_lines}
 use Rattle.build_object.specs.Statements.{lines_of_values, from_last, set_name, set_left, targets_of, update_lines, step_op, simple_lines, optional_lines, zeros}
 use Rattle.build_object.specs.Statements.{first_values, local_lines}
 use Rattle.law_faultless.specs.Stack.{Arity}
-use Rattle.law_faultless.specs.Questions.{Question, OfDeclared, OfLeft, Asks}
+use Rattle.law_faultless.specs.Questions.{TokenQuestion, OfDeclared, OfLeft, Asks}
 use Rattle.law_faultless.specs.QuestionAnswers.{IsAnswered}
 use Rattle.law_faultless.specs.StatementAsking.{Asking, AskInTurn, this_item, later_item, AskInGroup, asks_alone, asks_together, AskIfPresent, asks_present}
 use Rattle.law_faultless.specs.StatementAsking.{SimpleAsks, in_call, in_step, in_updated, in_update, in_assigned, in_assignment, for_left, in_definition}
@@ -54,7 +54,7 @@ given nothing = tt
 given one = tt
 given many_given = tt
 
-call_given : {w : World} {m r : Meaning} {ks : List Kind} → Calls w m ks r → IsGiven r
+call_given : {w : World} {m r : Meaning} {ks : List ValueKind} → CallGives w m ks r → IsGiven r
 unfolding IsGiven
 call_given (function f g) = given g
 call_given (conversion h) = tt
@@ -75,11 +75,11 @@ chain_given : {w : World} {locals : Locals} {e : ExprTree} {links front : LinkTr
 chain_given ends (chain h more) = end_given ends more
 
 -- the values that a call leaves are dropped
-dropped : (arity : FunctionName → Arity) (o : Operand) (n : ℕ) → o.mode ≡ Values n → Turns arity 0 n o.value →
+dropped : (arity : FunctionName → Arity) (o : CodeOperand) (n : ℕ) → o.mode ≡ Values n → Turns arity 0 n o.value →
     Turns arity 0 0 (o.value ++ pops (value_count o.mode))
 dropped arity o n e t = subst (λ z. Turns arity 0 0 (o.value ++ pops (value_count z))) (sym e) (turns_joined arity 0 n 0 o.value (pops n) t (pops_turn arity n))
 
-alone_turns : (arity : FunctionName → Arity) (o : Operand) (m : Meaning) → IsGiven m → Settles arity o m →
+alone_turns : (arity : FunctionName → Arity) (o : CodeOperand) (m : Meaning) → IsGiven m → Settles arity o m →
     Turns arity 0 0 (o.value ++ pops (value_count o.mode))
 unfolding IsGiven
 alone_turns arity o (Value k a) g h = dropped arity o 1 h.mode h.value
@@ -91,7 +91,7 @@ alone_turns arity o (Results ts) g h = dropped arity o (length ts) h.is h.value
 alone_turns arity o Broken g h = absurd g
 
 -- `x op= y`
-update_turns : (arity : FunctionName → Arity) (x y : List Line) (o : BinaryOp) → Turns arity 0 1 x → Turns arity 0 1 y → Turns arity 0 0 (update_lines x y o)
+update_turns : (arity : FunctionName → Arity) (x y : List CodeLine) (o : BinaryOp) → Turns arity 0 1 x → Turns arity 0 1 y → Turns arity 0 0 (update_lines x y o)
 update_turns arity x y o f g =
     turns_joined arity 0 1 0 x (line.Duplicate ∷ line.Load ∷ (y ++ (line.Operate o ∷ line.Assign 1 ∷ []))) f
     (turns_joined arity 1 2 0 (line.Duplicate ∷ []) (line.Load ∷ (y ++ (line.Operate o ∷ line.Assign 1 ∷ [])))
@@ -104,7 +104,7 @@ update_turns arity x y o f g =
     (line_turns arity (line.Assign 1) 2 0 refl refl (λ at i m. m))))))
 
 -- as many values as addresses
-assign_turns : (arity : FunctionName → Arity) (n m k : ℕ) (xs ys : List Line) → m ≡ n → k ≡ n → Turns arity 0 m xs → Turns arity 0 k ys →
+assign_turns : (arity : FunctionName → Arity) (n m k : ℕ) (xs ys : List CodeLine) → m ≡ n → k ≡ n → Turns arity 0 m xs → Turns arity 0 k ys →
     Turns arity 0 0 (xs ++ (ys ++ (line.Assign m ∷ [])))
 assign_turns arity n m k xs ys e f g h =
     turns_joined arity 0 m 0 xs (ys ++ (line.Assign m ∷ [])) g
@@ -112,7 +112,7 @@ assign_turns arity n m k xs ys e f g h =
     (let z : m + k ≡ m + m = omega arith in z) (turns_over arity m 0 k ys h))
     (line_turns arity (line.Assign m) (m + m) 0 refl refl (λ at i m. m)))
 
-define_turns : (arity : FunctionName → Arity) (n m k : ℕ) (xs ys : List Line) → m ≡ n → k ≡ n → Turns arity 0 k ys → Turns arity m 0 xs →
+define_turns : (arity : FunctionName → Arity) (n m k : ℕ) (xs ys : List CodeLine) → m ≡ n → k ≡ n → Turns arity 0 k ys → Turns arity m 0 xs →
     Turns arity 0 0 (ys ++ xs)
 define_turns arity n m k xs ys e f g h = turns_joined arity 0 k 0 ys xs g (turns_as arity xs (e ∙ sym f) refl h)
 
@@ -150,7 +150,7 @@ condition_turns arity w s slots (a_condition {locals} v b) f k = (expression_set
 -- declarations of locals
 
 named_values : (arity : FunctionName → Arity) (w : World) (s : Source) (slots : List ℕ) (before : Locals) (l : LocalTree) (v : ℕ × List (Item ExprTree))
-    (ks : List Kind) → l.values ≡ Some v → IsLocal l → GiveKinds w before v.1 ks → length ks ≡ length l.names →
+    (ks : List ValueKind) → l.values ≡ Some v → IsLocal l → GiveKinds w before v.1 ks → length ks ≡ length l.names →
     Answers arity (over w s) slots (LocalAsks w before l) → Turns arity 0 0 (local_lines (over w s) slots l)
 unfolding local_lines first_values
 named_values arity w s slots before l v ks e f g t k =
@@ -178,10 +178,10 @@ local_turns arity w s slots (of_values {before} {l = l} {v} {ks} e u g taken d) 
 
 -- parts that stand one behind another
 
-items_turn : {X : Type 0} (arity : FunctionName → Arity) (R : Rule X) (A : Asking X) (P : X → Type 0) (Q : Question → Type 0) (lines : X → List Line) →
-    ((before after : Locals) (x : X) → R before x after → P x → ((q : Question) → A before x q → Q q) → Turns arity 0 0 (lines x)) →
+items_turn : {X : Type 0} (arity : FunctionName → Arity) (R : PartRule X) (A : Asking X) (P : X → Type 0) (Q : TokenQuestion → Type 0) (lines : X → List CodeLine) →
+    ((before after : Locals) (x : X) → R before x after → P x → ((q : TokenQuestion) → A before x q → Q q) → Turns arity 0 0 (lines x)) →
     {before after : Locals} {is : List (Item X)} → InTurn X R before is after → All (λ (i : Item X). P i.value) is →
-    ((q : Question) → AskInTurn X R A before is q → Q q) →
+    ((q : TokenQuestion) → AskInTurn X R A before is q → Q q) →
     Turns arity 0 0 (flat_map lines (map (λ (i : Item X). i.value) is))
 items_turn arity R A P Q lines part no_item f k = none_turns arity 0
 items_turn {X} arity R A P Q lines part (then_item {before} {inside} {after} {i} {is} r more) f k =
@@ -189,9 +189,9 @@ items_turn {X} arity R A P Q lines part (then_item {before} {inside} {after} {i}
     (part before inside i.value r (All-head (λ (x : Item X). P x.value) i is f) (λ q a. k q (this_item a)))
     (items_turn arity R A P Q lines part more (All-tail (λ (x : Item X). P x.value) i is f) (λ q a. k q (later_item r a)))
 
-group_turns : {X : Type 0} (arity : FunctionName → Arity) (R : Rule X) (A : Asking X) (P : X → Type 0) (Q : Question → Type 0) (lines : X → List Line) →
-    ((before after : Locals) (x : X) → R before x after → P x → ((q : Question) → A before x q → Q q) → Turns arity 0 0 (lines x)) →
-    {before after : Locals} {g : Group X} → InGroup X R before g after → IsGroup P g → ((q : Question) → AskInGroup X R A before g q → Q q) →
+group_turns : {X : Type 0} (arity : FunctionName → Arity) (R : PartRule X) (A : Asking X) (P : X → Type 0) (Q : TokenQuestion → Type 0) (lines : X → List CodeLine) →
+    ((before after : Locals) (x : X) → R before x after → P x → ((q : TokenQuestion) → A before x q → Q q) → Turns arity 0 0 (lines x)) →
+    {before after : Locals} {g : Group X} → InGroup X R before g after → IsGroup P g → ((q : TokenQuestion) → AskInGroup X R A before g q → Q q) →
     Turns arity 0 0 (flat_map lines (group_items g))
 group_turns arity R A P Q lines part (alone {before} {after} {x} r) f k =
     turns_joined arity 0 0 0 (lines x) [] (part before after x r f (λ q a. k q (asks_alone a))) (none_turns arity 0)

@@ -4,10 +4,10 @@ use Rattle.std.specs.Option.{unwrap_or}
 use Rattle.go_ast.specs.Tree.{Item, Group, IdentTree, Named, Underscore, TypeTree, ExprTree, SimpleTree, LocalTree}
 use Rattle.go_scope.specs.declared.model.Block.{Block}
 use Rattle.go_scope.specs.declared.model.Role.TheVariants.{Declaring}
-use Rattle.go_scope.specs.Site.{Site, Source}
+use Rattle.go_scope.specs.Site.{Site, TokenSpellings}
 use Rattle.go_scope.specs.ExpressionSites.{sites_if, list_sites, type_sites, expr_sites, exprs_sites}
 use Rattle.go_scope.specs.StatementSites.{ident_sites, left_sites, assigned_sites, simple_sites, value_sites, local_sites, separated_sites, group_sites}
-use Rattle.types_expr.specs.Types.{PlainType, Kind, Meaning}
+use Rattle.types_expr.specs.Types.{PlainType, ValueKind, Meaning}
 use Rattle.types_expr.specs.World.{World, Locals}
 use Rattle.law_typing.specs.Names.{IsType}
 use Rattle.law_typing.specs.Meanings.{HasMeaning}
@@ -25,19 +25,19 @@ use Rattle.law_faultless.proofs.ExpressionsUsed.{AreLinked, linked_append, Tells
 
 -- lists of expressions
 
-each_links : (w : World) (ls : Locals) (U : ℕ → Type 0) (s : Source) {is : List (Item ExprTree)} {ks : List Kind} → Tells w U (AnyAsks w ls is) →
+each_links : (w : World) (ls : Locals) (U : ℕ → Type 0) (s : TokenSpellings) {is : List (Item ExprTree)} {ks : List ValueKind} → Tells w U (AnyAsks w ls is) →
     AreEachValues w ls is ks → AreLinked w U (exprs_sites s is)
 each_links w ls U s f no_expression = tt
 each_links w ls U s f (also_value {i} {is} h more) =
     linked_append w U (expr_sites s i.value) (exprs_sites s is) (expr_links w ls U s (λ n t m a. f n t m (this_one a)) h)
     (each_links w ls U s (λ n t m a. f n t m (a_later_one a)) more)
 
-pub give_links : (w : World) (ls : Locals) (U : ℕ → Type 0) (s : Source) {is : List (Item ExprTree)} {ks : List Kind} → Tells w U (AnyAsks w ls is) →
+pub give_links : (w : World) (ls : Locals) (U : ℕ → Type 0) (s : TokenSpellings) {is : List (Item ExprTree)} {ks : List ValueKind} → Tells w U (AnyAsks w ls is) →
     GiveKinds w ls is ks → AreLinked w U (exprs_sites s is)
 give_links w ls U s f (values h) = each_links w ls U s f h
 give_links w ls U s f (results {i} h) = linked_append w U (expr_sites s i.value) [] (expr_links w ls U s (λ n t m a. f n t m (this_one a)) h) tt
 
-assigned_one : (w : World) (ls : Locals) (U : ℕ → Type 0) (s : Source) {e : ExprTree} {m : Meaning} → Tells w U (Asks w ls e) → HasMeaning w ls e m →
+assigned_one : (w : World) (ls : Locals) (U : ℕ → Type 0) (s : TokenSpellings) {e : ExprTree} {m : Meaning} → Tells w U (Asks w ls e) → HasMeaning w ls e m →
     AreLinked w U (assigned_sites s e)
 assigned_one w ls U s f means.number = expr_links w ls U s f means.number
 assigned_one w ls U s f means.text = expr_links w ls U s f means.text
@@ -49,7 +49,7 @@ assigned_one w ls U s f (means.address h) = expr_links w ls U s f (means.address
 assigned_one w ls U s f (means.chain h more) = expr_links w ls U s f (means.chain h more)
 assigned_one w ls U s f (means.binary h more) = expr_links w ls U s f (means.binary h more)
 
-assigned_links : (w : World) (ls : Locals) (U : ℕ → Type 0) (s : Source) {is : List (Item ExprTree)} {ts : List Taker} → Tells w U (AnyAsks w ls is) →
+assigned_links : (w : World) (ls : Locals) (U : ℕ → Type 0) (s : TokenSpellings) {is : List (Item ExprTree)} {ts : List Taker} → Tells w U (AnyAsks w ls is) →
     AreAssigned w ls is ts → AreLinked w U (list_sites (assigned_sites s) is)
 assigned_links w ls U s f no_left = tt
 assigned_links w ls U s f (a_blank {i} {is} e more) =
@@ -59,7 +59,7 @@ assigned_links w ls U s f (an_operand {i} {is} h more) =
     linked_append w U (assigned_sites s i.value) (list_sites (assigned_sites s) is) (assigned_one w ls U s (λ n t m a. f n t m (this_one a)) h)
     (assigned_links w ls U s (λ n t m a. f n t m (a_later_one a)) more)
 
-defined_links : (w : World) (ls : Locals) (U : ℕ → Type 0) (s : Source) (b : Block) (q : ℕ) {is : List (Item ExprTree)} {ts : List Taker}
+defined_links : (w : World) (ls : Locals) (U : ℕ → Type 0) (s : TokenSpellings) (b : Block) (q : ℕ) {is : List (Item ExprTree)} {ts : List Taker}
     {ns : List (Option ℕ)} → AreDefined w ls is ts ns → AreLinked w U (list_sites (left_sites s b q) is)
 defined_links w ls U s b q no_definition = tt
 defined_links w ls U s b q (an_underscore {i} {is} e more) =
@@ -74,7 +74,7 @@ defined_links w ls U s b q (an_old_name {i} {is} e other h more) =
 
 -- simple statements
 
-pub simple_links : (w : World) (U : ℕ → Type 0) (s : Source) (b : Block) (q : ℕ) {before after : Locals} {x : SimpleTree} →
+pub simple_links : (w : World) (U : ℕ → Type 0) (s : TokenSpellings) (b : Block) (q : ℕ) {before after : Locals} {x : SimpleTree} →
     Tells w U (SimpleAsks w before x) → SimpleIsTyped w before x after → AreLinked w U (simple_sites s b q x)
 unfolding simple_sites
 simple_links w U s b q {before} f (a_call h ends front stand) = expr_links w before U s (λ n t m a. f n t m (in_call a)) h
@@ -91,11 +91,11 @@ simple_links w U s b q {before} f (a_definition {xs} {ys} h g taken declares) =
 
 -- declarations of locals
 
-pub ident_links : (w : World) (U : ℕ → Type 0) (s : Source) (b : Block) (q : ℕ) (x : IdentTree) → AreLinked w U (ident_sites s (Declaring b q) x)
+pub ident_links : (w : World) (U : ℕ → Type 0) (s : TokenSpellings) (b : Block) (q : ℕ) (x : IdentTree) → AreLinked w U (ident_sites s (Declaring b q) x)
 ident_links w U s b q (Named n) = (tt, tt)
 ident_links w U s b q (Underscore n) = (tt, tt)
 
-pub idents_links : (w : World) (U : ℕ → Type 0) (s : Source) (b : Block) (q : ℕ) (xs : List (Item IdentTree)) →
+pub idents_links : (w : World) (U : ℕ → Type 0) (s : TokenSpellings) (b : Block) (q : ℕ) (xs : List (Item IdentTree)) →
     AreLinked w U (list_sites (ident_sites s (Declaring b q)) xs)
 idents_links w U s b q [] = tt
 idents_links w U s b q (x ∷ xs) =
@@ -103,16 +103,16 @@ idents_links w U s b q (x ∷ xs) =
     (idents_links w U s b q xs)
 
 -- a type and values, where they are written
-abbrev Rest : Source → Option TypeTree → Option (ℕ × List (Item ExprTree)) → List Site
+abbrev Rest : TokenSpellings → Option TypeTree → Option (ℕ × List (Item ExprTree)) → List Site
 Rest s t v = sites_if (type_sites s) t ++ sites_if (value_sites s) v
 
-typed_rest : (w : World) (U : ℕ → Type 0) (s : Source) {x : TypeTree} {t : PlainType} → IsType w x t → (o : Option TypeTree)
+typed_rest : (w : World) (U : ℕ → Type 0) (s : TokenSpellings) {x : TypeTree} {t : PlainType} → IsType w x t → (o : Option TypeTree)
     (v : Option (ℕ × List (Item ExprTree))) → o ≡ Some x → AreLinked w U (sites_if (value_sites s) v) → AreLinked w U (Rest s o v)
 typed_rest w U s {x} i o v e h =
     linked_append w U (sites_if (type_sites s) o) (sites_if (value_sites s) v)
     (subst (λ z. AreLinked w U (sites_if (type_sites s) z)) (sym e) (type_links w U s i)) h
 
-pub local_links : (w : World) (U : ℕ → Type 0) (s : Source) (b : Block) (q : ℕ) {before after : Locals} {l : LocalTree} →
+pub local_links : (w : World) (U : ℕ → Type 0) (s : TokenSpellings) (b : Block) (q : ℕ) {before after : Locals} {l : LocalTree} →
     Tells w U (LocalAsks w before l) → LocalIsTyped w before l after → AreLinked w U (local_sites s b q l)
 unfolding local_sites
 local_links w U s b q {before} f (of_type {l} e n i declares) =
@@ -130,7 +130,7 @@ local_links w U s b q {before} f (of_values {l} e v g taken declares) =
 
 -- parts in turn
 
-locals_links : (w : World) (U : ℕ → Type 0) (s : Source) (b : Block) (close : ℕ) {before after : Locals} {is : List (Item LocalTree)} →
+locals_links : (w : World) (U : ℕ → Type 0) (s : TokenSpellings) (b : Block) (close : ℕ) {before after : Locals} {is : List (Item LocalTree)} →
     Tells w U (AskInTurn LocalTree (LocalIsTyped w) (LocalAsks w) before is) → InTurn LocalTree (LocalIsTyped w) before is after →
     AreLinked w U (separated_sites (local_sites s b) close is)
 unfolding separated_sites
@@ -140,7 +140,7 @@ locals_links w U s b close f (then_item {i} {is} h more) =
     (local_links w U s b (unwrap_or i.separator close) (λ n t m a. f n t m (this_item a)) h)
     (locals_links w U s b close (λ n t m a. f n t m (later_item h a)) more)
 
-pub group_links : (w : World) (U : ℕ → Type 0) (s : Source) (b : Block) (q : ℕ) {before after : Locals} {g : Group LocalTree} →
+pub group_links : (w : World) (U : ℕ → Type 0) (s : TokenSpellings) (b : Block) (q : ℕ) {before after : Locals} {g : Group LocalTree} →
     Tells w U (AskInGroup LocalTree (LocalIsTyped w) (LocalAsks w) before g) → InGroup LocalTree (LocalIsTyped w) before g after →
     AreLinked w U (group_sites (local_sites s b) q g)
 unfolding group_sites

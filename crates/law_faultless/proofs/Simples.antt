@@ -4,7 +4,7 @@ use Rattle.std.specs.List.{AllByRecursion}
 use Rattle.std.proofs.lemmas.Bool.{true≢false}
 use Rattle.std.proofs.lemmas.Option.{none-some, same_Some}
 use Rattle.base_lemmas.proofs.EachElement.{all_append, all_front, all_back}
-use Rattle.go_ast.specs.declared.syntax.Kind.TheVariants as kind
+use Rattle.go_ast.specs.declared.syntax.ValueKind.TheVariants as kind
 use Rattle.go_ast.specs.Flatten.{sign, sign_if, step_kind, update_kind, tokens_if, all_tokens, item_tokens, list_tokens, ident_tokens, type_tokens}
 use Rattle.go_ast.specs.Flatten.{expr_tokens, exprs_tokens, simple_tokens, value_tokens, local_tokens}
 use Rattle.go_ast.specs.Tree.{Item, IdentTree, Named, Underscore, TypeTree, ExprTree, SimpleTree, LocalTree}
@@ -12,16 +12,16 @@ use Rattle.go_ast.specs.Tree as tree
 use Rattle.go_ast.specs.WellFormed.{IsLocal}
 use Rattle.go_scope.specs.declared.model.Block.{Block}
 use Rattle.go_scope.specs.declared.model.Role.TheVariants.{Declaring}
-use Rattle.go_scope.specs.Site.{Site, Source}
+use Rattle.go_scope.specs.Site.{Site, TokenSpellings}
 use Rattle.go_scope.specs.ExpressionSites.{sites_if, list_sites, type_sites, expr_sites, exprs_sites}
 use Rattle.go_scope.specs.StatementSites.{ident_sites, left_sites, assigned_sites, simple_sites, value_sites, local_sites}
 use Rattle.go_scope.proofs.PlainSites.{plain_append, plain_list, plain_if, plain_type, plain_expr, plain_exprs, plain_assigned}
 use Rattle.law_tokens.specs.Tokens.{is_ident_token}
 use Rattle.law_tokens.proofs.CoveredExpressions.{type_named, expr_named, exprs_named}
-use Rattle.types_expr.specs.Types.{PlainType, Kind}
+use Rattle.types_expr.specs.Types.{PlainType, ValueKind}
 use Rattle.types_expr.specs.World.{World, Locals}
 use Rattle.law_typing.proofs.Judgements.{empty_first, empty_second}
-use Rattle.types_stmt.specs.Checked.{Checked}
+use Rattle.types_stmt.specs.Checked.{FoundSoFar}
 use Rattle.types_stmt.specs.Sides.{rhs, given_faults, defined, named, all_named as names_of, first_of_exprs}
 use Rattle.types_stmt.specs.Simple.{check_define, check_simple, check_local}
 use Rattle.law_typing.specs.Assignments.{Taker, Declare, no_name, no_local, new_local, DeclareAs, no_name_left, not_named, named as a_named}
@@ -47,27 +47,27 @@ Before m xs = AllByRecursion (λ x. x.place.index < m) xs
 before_append : (m : ℕ) (xs ys : List Site) → Before m xs → Before m ys → Before m (xs ++ ys)
 before_append m xs ys a b = all_append (λ (x : Site). x.place.index < m) xs ys a b
 
-pub expr_stands : (B : ℕ → Type 0) (s : Source) (n m : ℕ) (e : ExprTree) → Strung B n (expr_tokens e) m → Before m (expr_sites s e)
+pub expr_stands : (B : ℕ → Type 0) (s : TokenSpellings) (n m : ℕ) (e : ExprTree) → Strung B n (expr_tokens e) m → Before m (expr_sites s e)
 expr_stands B s n m e h = stand_below B is_ident_token s n m (expr_sites s e) (expr_tokens e) (expr_named s e) h
 
-pub exprs_stand : (B : ℕ → Type 0) (s : Source) (n m : ℕ) (es : List (Item ExprTree)) → Strung B n (exprs_tokens es) m → Before m (exprs_sites s es)
+pub exprs_stand : (B : ℕ → Type 0) (s : TokenSpellings) (n m : ℕ) (es : List (Item ExprTree)) → Strung B n (exprs_tokens es) m → Before m (exprs_sites s es)
 exprs_stand B s n m es h = stand_below B is_ident_token s n m (exprs_sites s es) (exprs_tokens es) (exprs_named s es) h
 
 -- an expression alone, and several
 
-pub expr_known : (w : World) (B : ℕ → Type 0) (ls : Locals) (s : Source) (A : List Site) (n m : ℕ) (e : ExprTree) → AllKnown w ls A →
+pub expr_known : (w : World) (B : ℕ → Type 0) (ls : Locals) (s : TokenSpellings) (A : List Site) (n m : ℕ) (e : ExprTree) → AllKnown w ls A →
     AreResolved w B A (expr_sites s e) → Strung B n (expr_tokens e) m → AreNamed w B ls (expr_sites s e)
 expr_known w B ls s A n m e known r t =
     all_named w B ls m A (expr_sites s e) known (expr_stands B s n m e t) (plain_later w m (expr_sites s e) (plain_expr s e)) r
 
-pub exprs_known : (w : World) (B : ℕ → Type 0) (ls : Locals) (s : Source) (A : List Site) (n m : ℕ) (es : List (Item ExprTree)) → AllKnown w ls A →
+pub exprs_known : (w : World) (B : ℕ → Type 0) (ls : Locals) (s : TokenSpellings) (A : List Site) (n m : ℕ) (es : List (Item ExprTree)) → AllKnown w ls A →
     AreResolved w B A (exprs_sites s es) → Strung B n (exprs_tokens es) m → AreNamed w B ls (exprs_sites s es)
 exprs_known w B ls s A n m es known r t =
     all_named w B ls m A (exprs_sites s es) known (exprs_stand B s n m es t) (plain_later w m (exprs_sites s es) (plain_exprs s es)) r
 
 -- simple statements
 
-simple_stands : (B : ℕ → Type 0) (s : Source) (b : Block) (q n m : ℕ) (x : SimpleTree) → Strung B n (simple_tokens x) m → Before m (simple_sites s b q x)
+simple_stands : (B : ℕ → Type 0) (s : TokenSpellings) (b : Block) (q n m : ℕ) (x : SimpleTree) → Strung B n (simple_tokens x) m → Before m (simple_sites s b q x)
 unfolding simple_sites simple_tokens
 simple_stands B s b q n m (tree.Alone e) h = expr_stands B s n m e h
 simple_stands B s b q n m (tree.Step e o p) h =
@@ -92,7 +92,7 @@ simple_stands B s b q n m (tree.Define xs p ys) h =
     (below_more r.0 m le (list_sites (left_sites s b q) xs) (list_stands B (left_sites s b q) (left_stands B s b q) n r.0 xs r.1.0))
     (exprs_stand B s (suc r.0) m ys r.1.1.1.1)
 
-simple_later : (w : World) (s : Source) (b : Block) (q : ℕ) (x : SimpleTree) → AllByRecursion (BeginsLater w q) (simple_sites s b q x)
+simple_later : (w : World) (s : TokenSpellings) (b : Block) (q : ℕ) (x : SimpleTree) → AllByRecursion (BeginsLater w q) (simple_sites s b q x)
 unfolding simple_sites
 simple_later w s b q (tree.Alone e) = plain_later w q (expr_sites s e) (plain_expr s e)
 simple_later w s b q (tree.Step e o p) = plain_later w q (expr_sites s e) (plain_expr s e)
@@ -105,8 +105,8 @@ simple_later w s b q (tree.Define xs p ys) =
     all_append (BeginsLater w q) (list_sites (left_sites s b q) xs) (exprs_sites s ys) (all_lefts_later w s b q xs)
     (plain_later w q (exprs_sites s ys) (plain_exprs s ys))
 
-module _ (w : World) (B : ℕ → Type 0) (s : Source) (u : IsUnbroken w) where
-  simple_fine : (b : Block) (q n m : ℕ) (st : Checked) {x : SimpleTree} → SimpleIsExcused w st.locals x → (check_simple w st x).faults ≡ [] →
+module _ (w : World) (B : ℕ → Type 0) (s : TokenSpellings) (u : IsUnbroken w) where
+  simple_fine : (b : Block) (q n m : ℕ) (st : FoundSoFar) {x : SimpleTree} → SimpleIsExcused w st.locals x → (check_simple w st x).faults ≡ [] →
       AreNamed w B st.locals (simple_sites s b q x) → Strung B n (simple_tokens x) m → ⊥
   unfolding simple_sites simple_tokens check_simple check_define
   simple_fine b q n m st (in_call x) f h t = no_use w B st.locals s u n m x h t
@@ -142,12 +142,12 @@ module _ (w : World) (B : ℕ → Type 0) (s : Source) (u : IsUnbroken w) where
 
 -- new locals are known behind what declares them
 
-declare_kept : {before after : Locals} {ns : List (Option ℕ)} {ks : List Kind} → Declare before ns ks after → Kept before after
+declare_kept : {before after : Locals} {ns : List (Option ℕ)} {ks : List ValueKind} → Declare before ns ks after → Kept before after
 declare_kept no_name n k = k
 declare_kept (no_local more) n k = declare_kept more n k
 declare_kept (new_local {before} {p = p} {t = t} g more) n k = declare_kept more n (declared_kept before p t n k)
 
-declare_known : {before after : Locals} {ns : List (Option ℕ)} {ks : List Kind} → Declare before ns ks after → (p : ℕ) → Holds ns (Some p) → IsKnown (after p)
+declare_known : {before after : Locals} {ns : List (Option ℕ)} {ks : List ValueKind} → Declare before ns ks after → (p : ℕ) → Holds ns (Some p) → IsKnown (after p)
 declare_known no_name p h = absurd h
 declare_known (no_local more) p h = elim h [ inl e ↦ absurd (none-some p e) | inr r ↦ declare_known more p r ]
 declare_known (new_local {before} {after} {p = q} {t = t} g more) p h = elim h [
@@ -175,7 +175,7 @@ Declares w ns x = IsOwnLocal w x → Holds ns (Some x.place.index)
 more_names : (w : World) (o : Option ℕ) (ns : List (Option ℕ)) (xs : List Site) → AllByRecursion (Declares w ns) xs → AllByRecursion (Declares w (o ∷ ns)) xs
 more_names w o ns xs h = all_as (Declares w ns) (Declares w (o ∷ ns)) (λ x f own. inr (f own)) xs h
 
-defined_declares : (w : World) (ls : Locals) (s : Source) (b : Block) (q : ℕ) {xs : List (Item ExprTree)} {ts : List Taker} {ns : List (Option ℕ)} →
+defined_declares : (w : World) (ls : Locals) (s : TokenSpellings) (b : Block) (q : ℕ) {xs : List (Item ExprTree)} {ts : List Taker} {ns : List (Option ℕ)} →
     AreDefined w ls xs ts ns → AllByRecursion (Declares w ns) (list_sites (left_sites s b q) xs)
 defined_declares w ls s b q no_definition = tt
 defined_declares w ls s b q (an_underscore {i} {is} {ns = ns} e more) =
@@ -191,13 +191,13 @@ defined_declares w ls s b q (an_old_name {i} {is} {ns = ns} e other v more) =
     (subst (λ z. AllByRecursion (Declares w (None ∷ ns)) (left_sites s b q z)) (sym e) ((λ own. absurd (other own.0)), tt))
     (more_names w None ns (list_sites (left_sites s b q) is) (defined_declares w ls s b q more))
 
-pub ident_declares : (w : World) (s : Source) (b : Block) (q : ℕ) (x : IdentTree) (ns : List (Option ℕ)) →
+pub ident_declares : (w : World) (s : TokenSpellings) (b : Block) (q : ℕ) (x : IdentTree) (ns : List (Option ℕ)) →
     AllByRecursion (Declares w (named x ∷ ns)) (ident_sites s (Declaring b q) x)
 unfolding named
 ident_declares w s b q (Named n) ns = ((λ own. inl refl), tt)
 ident_declares w s b q (Underscore n) ns = ((λ own. absurd (true≢false (sym own.1))), tt)
 
-pub idents_declare : (w : World) (s : Source) (b : Block) (q : ℕ) (xs : List (Item IdentTree)) →
+pub idents_declare : (w : World) (s : TokenSpellings) (b : Block) (q : ℕ) (xs : List (Item IdentTree)) →
     AllByRecursion (Declares w (names_of xs)) (list_sites (ident_sites s (Declaring b q)) xs)
 idents_declare w s b q [] = tt
 idents_declare w s b q (x ∷ xs) =
@@ -209,7 +209,7 @@ pub as_all_known : (w : World) {t : PlainType} {before after : Locals} {ns : Lis
     AllByRecursion (Declares w ns) xs → AllByRecursion (Known w after) xs
 as_all_known w {after = after} {ns} d xs h = all_as (Declares w ns) (Known w after) (λ x f own. as_known d x.place.index (f own)) xs h
 
-declare_all_known : (w : World) {before after : Locals} {ns : List (Option ℕ)} {ks : List Kind} → Declare before ns ks after → (xs : List Site) →
+declare_all_known : (w : World) {before after : Locals} {ns : List (Option ℕ)} {ks : List ValueKind} → Declare before ns ks after → (xs : List Site) →
     AllByRecursion (Declares w ns) xs → AllByRecursion (Known w after) xs
 declare_all_known w {after = after} {ns} d xs h = all_as (Declares w ns) (Known w after) (λ x f own. declare_known d x.place.index (f own)) xs h
 
@@ -218,7 +218,7 @@ as_locals_kept d = as_kept d
 
 -- behind a simple statement
 
-simple_behind : (w : World) (s : Source) (b : Block) (q : ℕ) {before after : Locals} {x : SimpleTree} → SimpleIsTyped w before x after →
+simple_behind : (w : World) (s : TokenSpellings) (b : Block) (q : ℕ) {before after : Locals} {x : SimpleTree} → SimpleIsTyped w before x after →
     Kept before after × AllByRecursion (Known w after) (simple_sites s b q x)
 unfolding simple_sites
 simple_behind w s b q {before} (a_call {e} {links = ks} h i f g) = ((λ n k. k), plain_known w before _ (plain_expr s (tree.Chain e ks)))
@@ -237,7 +237,7 @@ simple_behind w s b q (a_definition {before} {after} {xs} {ys} h g t d) = (
       (plain_known w after (exprs_sites s ys) (plain_exprs s ys)),
 )
 
-pub simple_typed : (w : World) (B : ℕ → Type 0) (s : Source) (u : IsUnbroken w) (A : List Site) (b : Block) (q n m : ℕ) (st : Checked) (x : SimpleTree) →
+pub simple_typed : (w : World) (B : ℕ → Type 0) (s : TokenSpellings) (u : IsUnbroken w) (A : List Site) (b : Block) (q n m : ℕ) (st : FoundSoFar) (x : SimpleTree) →
     (check_simple w st x).faults ≡ [] → AllKnown w st.locals A → AreResolved w B A (simple_sites s b q x) → Strung B n (simple_tokens x) m → m ≤ q →
     SimpleIsTyped w st.locals x (check_simple w st x).locals × AllKnown w (check_simple w st x).locals (past A (simple_sites s b q x))
 simple_typed w B s u A b q n m st x f known r t le =
@@ -254,7 +254,7 @@ simple_typed w B s u A b q n m st x f known r t le =
 
 -- declarations of locals
 
-pub idents_stand : (B : ℕ → Type 0) (s : Source) (b : Block) (q n m : ℕ) (xs : List (Item IdentTree)) → Strung B n (list_tokens kind.Comma ident_tokens xs) m →
+pub idents_stand : (B : ℕ → Type 0) (s : TokenSpellings) (b : Block) (q n m : ℕ) (xs : List (Item IdentTree)) → Strung B n (list_tokens kind.Comma ident_tokens xs) m →
     Before m (list_sites (ident_sites s (Declaring b q)) xs)
 unfolding all_tokens
 idents_stand B s b q n m [] h = tt
@@ -270,7 +270,7 @@ idents_stand B s b q n m (x ∷ xs) h =
     one (Named p) k t = ((let at : p ≡ n = t.0 in let end : suc n ≡ k = t.1.1 in omega arith), tt)
     one (Underscore p) k t = ((let at : p ≡ n = t.0 in let end : suc n ≡ k = t.1.1 in omega arith), tt)
 
-idents_later : (w : World) (s : Source) (b : Block) (q : ℕ) (xs : List (Item IdentTree)) →
+idents_later : (w : World) (s : TokenSpellings) (b : Block) (q : ℕ) (xs : List (Item IdentTree)) →
     AllByRecursion (BeginsLater w q) (list_sites (ident_sites s (Declaring b q)) xs)
 idents_later w s b q [] = tt
 idents_later w s b q (x ∷ xs) =
@@ -283,22 +283,22 @@ idents_later w s b q (x ∷ xs) =
 abbrev Values : Type 0
 Values = Option (ℕ × List (Item ExprTree))
 
-types_stand : (B : ℕ → Type 0) (s : Source) (n m : ℕ) (o : Option TypeTree) → Strung B n (tokens_if type_tokens o) m → Before m (sites_if (type_sites s) o)
+types_stand : (B : ℕ → Type 0) (s : TokenSpellings) (n m : ℕ) (o : Option TypeTree) → Strung B n (tokens_if type_tokens o) m → Before m (sites_if (type_sites s) o)
 types_stand B s n m None h = tt
 types_stand B s n m (Some x) h = stand_below B is_ident_token s n m (type_sites s x) (type_tokens x) (type_named s x) h
 
-values_stand : (B : ℕ → Type 0) (s : Source) (n m : ℕ) (v : Values) → Strung B n (tokens_if (value_tokens expr_tokens) v) m →
+values_stand : (B : ℕ → Type 0) (s : TokenSpellings) (n m : ℕ) (v : Values) → Strung B n (tokens_if (value_tokens expr_tokens) v) m →
     Before m (sites_if (value_sites s) v)
 values_stand B s n m None h = tt
 values_stand B s n m (Some v) h = exprs_stand B s (suc n) m v.1 h.1.1
 
-module _ (w : World) (B : ℕ → Type 0) (s : Source) (u : IsUnbroken w) where
+module _ (w : World) (B : ℕ → Type 0) (s : TokenSpellings) (u : IsUnbroken w) where
   values_fine : (ls : Locals) (n m : ℕ) (o : Values) (v : ℕ × List (Item ExprTree)) → o ≡ Some v → AnyUsesBroken w ls v.1 →
       AreNamed w B ls (sites_if (value_sites s) o) → Strung B n (tokens_if (value_tokens expr_tokens) o) m → ⊥
   values_fine ls n m None v e x h t = none-some v e
   values_fine ls n m (Some y) v e x h t = each_fine w B ls s u (suc n) m (subst (λ z. AnyUsesBroken w ls z.1) (sym (same_Some y v e)) x) h t.1.1
 
-  pub local_typed : (A : List Site) (b : Block) (q n m : ℕ) (st : Checked) (l : LocalTree) → IsLocal l → (check_local w st l).faults ≡ [] →
+  pub local_typed : (A : List Site) (b : Block) (q n m : ℕ) (st : FoundSoFar) (l : LocalTree) → IsLocal l → (check_local w st l).faults ≡ [] →
       AllKnown w st.locals A → AreResolved w B A (local_sites s b q l) → Strung B n (local_tokens l) m → m ≤ q →
       LocalIsTyped w st.locals l (check_local w st l).locals × AllKnown w (check_local w st l).locals (past A (local_sites s b q l))
   unfolding local_sites local_tokens

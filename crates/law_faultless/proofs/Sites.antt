@@ -13,14 +13,14 @@ use Rattle.go_scope.specs.declared.model.Purpose.TheVariants as purpose
 use Rattle.go_scope.specs.Bindings.{is_implied}
 use Rattle.go_scope.specs.FileSites.{SpelledFile, file_sites, files_sites, universe, universe_site}
 use Rattle.go_scope.specs.Named.{is_unnamed_import, named_where, named_sites}
-use Rattle.go_scope.specs.Site.{Site, Source, or_blank}
+use Rattle.go_scope.specs.Site.{Site, TokenSpellings, or_blank}
 use Rattle.law_tokens.specs.Tokens.{identifiers_among}
 use Rattle.law_tokens.proofs.Covering.{Pairs, file_pairs}
 use Rattle.refs_lookup.proofs.Apart.{all_as}
 
 -- each stands in the file
 
-in_file : (s : Source) (F : ℕ) (xs : List Site) (ts : List Token) → Pairs s xs ts → AllByRecursion (λ x. x.place.file ≡ F → s.rank ≡ F) xs
+in_file : (s : TokenSpellings) (F : ℕ) (xs : List Site) (ts : List Token) → Pairs s xs ts → AllByRecursion (λ x. x.place.file ≡ F → s.rank ≡ F) xs
 in_file s F [] ts p = tt
 in_file s F (x ∷ xs) [] p = absurd p
 in_file s F (x ∷ xs) (t ∷ ts) p = ((λ e. sym (ap (λ (y : Site). y.place.file) p.1) ∙ e), in_file s F xs ts p.2)
@@ -41,7 +41,7 @@ pub files_among : (F : ℕ) (P : ℕ → Role → Type 0) (rank : ℕ) (fs : Lis
 unfolding files_sites
 files_among F P rank [] k = tt
 files_among F P rank (f ∷ fs) k =
-    let s : Source = record { rank = rank; spell = f.spell } in
+    let s : TokenSpellings = record { rank = rank; spell = f.spell } in
     all_append (λ (x : Site). x.place.file ≡ F → P x.place.index x.role) (file_sites s f.tree) (files_sites (suc rank) fs)
     (spread F P (rank ≡ F) (file_sites s f.tree) (in_file s F (file_sites s f.tree) (identifiers_among (flatten f.tree)) (file_pairs s f.tree))
     (λ e. subst (λ r. AllByRecursion (λ x. P x.place.index x.role) (file_sites (record { rank = r; spell = f.spell }) f.tree)) (sym e)
@@ -98,7 +98,7 @@ file_numbers rank (g ∷ fs) (suc i) r f e q =
     (file_sites (record { rank = r; spell = f.spell }) f.tree)
     (file_numbers (suc rank) fs i r f e (let same : suc rank + i ≡ r = omega (arith, q) in same))
 
-stand_in : (s : Source) (xs : List Site) (ts : List Token) → Pairs s xs ts → AllByRecursion (λ x. (x.place.file ≡ s.rank) × (is_implied x.role ≡ false)) xs
+stand_in : (s : TokenSpellings) (xs : List Site) (ts : List Token) → Pairs s xs ts → AllByRecursion (λ x. (x.place.file ≡ s.rank) × (is_implied x.role ≡ false)) xs
 stand_in s [] ts p = tt
 stand_in s (x ∷ xs) [] p = absurd p
 stand_in s (x ∷ xs) (t ∷ ts) p = ((ap (λ (y : Site). y.place.file) p.1, p.0), stand_in s xs ts p.2)
@@ -117,7 +117,7 @@ pub record IsNumbered (files : List SpelledFile) (file : ℕ) (x : Site) : Type 
 pub all_numbered : (fs : List SpelledFile) (i : ℕ) (f : SpelledFile) → slice_get fs i ≡ Some f →
     AllByRecursion (IsNumbered fs i) (file_sites (record { rank = i; spell = f.spell }) f.tree)
 all_numbered fs i f e =
-    let s : Source = record { rank = i; spell = f.spell } in
+    let s : TokenSpellings = record { rank = i; spell = f.spell } in
     let xs = file_sites s f.tree in
     let names = map universe_site universe in
     all_as (λ x. HasNumber (files_sites 0 fs) x × ((x.place.file ≡ i) × (is_implied x.role ≡ false))) (IsNumbered fs i)

@@ -12,7 +12,7 @@ use Rattle.go_ast.specs.Tree as tree
 use Rattle.go_scope.specs.declared.model.Block.{Block}
 use Rattle.go_scope.specs.declared.model.Block.TheVariants as blocks
 use Rattle.go_scope.specs.declared.model.Role.TheVariants.{Use, Declaring}
-use Rattle.go_scope.specs.Site.{Site, Source, site}
+use Rattle.go_scope.specs.Site.{Site, TokenSpellings, site}
 use Rattle.go_scope.specs.ExpressionSites.{sites_if, list_sites, type_sites, expr_sites, exprs_sites}
 use Rattle.go_scope.specs.StatementSites.{ident_sites, left_sites, assigned_sites, simple_sites, value_sites, local_sites, separated_sites, group_sites}
 use Rattle.go_scope.specs.StatementSites.{init_sites, for_sites, open_of, statement_sites, block_sites, statements_sites, if_sites, else_sites}
@@ -77,7 +77,7 @@ module _ (w : World) where
   after_plain : (ps : List ℕ) (xs ys : List Site) → Plain xs → All ps ys → All ps (xs ++ ys)
   after_plain ps xs ys h k = all_append (Slotted ps) xs ys (plain ps xs h) k
 
-  module _ (s : Source) where
+  module _ (s : TokenSpellings) where
     ident_slotted : (b : Block) (q : ℕ) (x : IdentTree) → All (ident_place x ∷ []) (ident_sites s (Declaring b q) x)
     unfolding ident_place
     ident_slotted b q (Named n) = ((λ may e. inl refl), tt)

@@ -9,7 +9,7 @@ use Rattle.go_ast.specs.Tree as tree
 use Rattle.types_declared.specs.Files.{group_items}
 use Rattle.types_expr.specs.World.{World, no_locals}
 use Rattle.types_expr.specs.Judge.{judge_type}
-use Rattle.types_stmt.specs.Checked.{Checked, fault_if, check_items, check_group}
+use Rattle.types_stmt.specs.Checked.{FoundSoFar, fault_if, check_items, check_group}
 use Rattle.types_stmt.specs.Headers.{judge_receiver, check_receiver, check_optional_receiver, check_param, judge_types, judge_results, is_bad_init}
 use Rattle.types_stmt.specs.Headers.{check_signature, check_function}
 use Rattle.types_stmt.specs.Declarations.{global_faults, value_faults, field_faults, body_faults, check_global, check_type, check_decl, check_decls, check_file}
@@ -30,8 +30,8 @@ abbrev pub IsSound : World → TypeTree → Type 0
 IsSound w x = (judge_type w x).faults ≡ []
 
 -- parts in turn, each of which adds its faults
-module _ {X : Type 0} (check : Checked → X → Checked) (F : X → List ℕ) (one : (s : Checked) (x : X) → (check s x).faults ≡ s.faults ++ F x) where
-  items_first : (is : List (Item X)) (s : Checked) → (check_items check s is).faults ≡ [] →
+module _ {X : Type 0} (check : FoundSoFar → X → FoundSoFar) (F : X → List ℕ) (one : (s : FoundSoFar) (x : X) → (check s x).faults ≡ s.faults ++ F x) where
+  items_first : (is : List (Item X)) (s : FoundSoFar) → (check_items check s is).faults ≡ [] →
       (s.faults ≡ []) × AllByRecursion (λ x. F x ≡ []) (map (λ i. i.value) is)
   unfolding check_items
   items_first [] s h = (h, tt)
@@ -40,7 +40,7 @@ module _ {X : Type 0} (check : Checked → X → Checked) (F : X → List ℕ) (
       let both : s.faults ++ F i.value ≡ [] = sym (one s i.value) ∙ q.0 in
       (empty_first s.faults (F i.value) both, (empty_second s.faults (F i.value) both, q.1))
 
-  group_first : (g : Group X) (s : Checked) → (check_group check s g).faults ≡ [] → AllByRecursion (λ x. F x ≡ []) (group_items g)
+  group_first : (g : Group X) (s : FoundSoFar) → (check_group check s g).faults ≡ [] → AllByRecursion (λ x. F x ≡ []) (group_items g)
   unfolding check_group
   group_first (single x) s h = (empty_second s.faults (F x) (sym (one s x) ∙ h), tt)
   group_first (several o is c) s h = (items_first is s h).1
@@ -73,7 +73,7 @@ definitions_sound w (t ∷ ts) h =
 
 -- functions
 
-params_first : (w : World) (is : List (Item ParamTree)) (s : Checked) → (check_items (check_param w) s is).faults ≡ [] →
+params_first : (w : World) (is : List (Item ParamTree)) (s : FoundSoFar) → (check_items (check_param w) s is).faults ≡ [] →
     (s.faults ≡ []) × AllByRecursion (IsSound w) (map (λ i. i.value.type_use) is)
 unfolding check_items check_param
 params_first w [] s h = (h, tt)
@@ -81,7 +81,7 @@ params_first w (i ∷ is) s h =
     let q = params_first w is (check_param w s i.value) h in
     let x = (judge_type w i.value.type_use).faults in (empty_first s.faults x q.0, (empty_second s.faults x q.0, q.1))
 
-receiver_first : (w : World) (o : Option ReceiverTree) (s : Checked) → (check_optional_receiver w s o).faults ≡ [] → (r : ReceiverTree) → o ≡ Some r →
+receiver_first : (w : World) (o : Option ReceiverTree) (s : FoundSoFar) → (check_optional_receiver w s o).faults ≡ [] → (r : ReceiverTree) → o ≡ Some r →
     (judge_receiver w r).faults ≡ []
 unfolding check_receiver
 receiver_first w None s h r e = absurd (none-some r e)
@@ -105,7 +105,7 @@ record Header (w : World) (f : FuncTree) : Type 0 where
   received : (r : ReceiverTree) → f.receiver ≡ Some r → (judge_receiver w r).faults ≡ []
   typed : AllByRecursion (IsSound w) (map (λ i. i.value.type_use) f.params ++ result_types f.result)
 
-header : (w : World) (b : Bool) (s : Checked) (f : FuncTree) → (check_function w b s f).faults ≡ [] → Header w f
+header : (w : World) (b : Bool) (s : FoundSoFar) (f : FuncTree) → (check_function w b s f).faults ≡ [] → Header w f
 unfolding check_function check_signature
 header w b s f h =
     let before = check_items (check_param w) (check_optional_receiver w s f.receiver) f.params in
@@ -121,20 +121,20 @@ header w b s f h =
 
 -- declarations
 
-decl_sound : (w : World) (is_init : ℕ → Bool) (s : Checked) (d : DeclTree) → (check_decl w is_init s d).faults ≡ [] → AllByRecursion (IsSound w) (types_of d)
+decl_sound : (w : World) (is_init : ℕ → Bool) (s : FoundSoFar) (d : DeclTree) → (check_decl w is_init s d).faults ≡ [] → AllByRecursion (IsSound w) (types_of d)
 unfolding check_decl
 decl_sound w is_init s (tree.VarDecl k g c) h = variables_sound w (group_items g) (group_first (check_global w) (global_faults w) (λ x y. refl) g s h)
 decl_sound w is_init s (tree.TypeDecl k g c) h =
     definitions_sound w (group_items g) (group_first (check_type w) (λ t. body_faults w t.body) (λ x y. refl) g s h)
 decl_sound w is_init s (tree.FuncDecl k f c) h = (header w (is_init f.name) s f h).typed
 
-pub decls_first : (w : World) (is_init : ℕ → Bool) (ds : List DeclTree) (s : Checked) → (check_decls w is_init s ds).faults ≡ [] → s.faults ≡ []
+pub decls_first : (w : World) (is_init : ℕ → Bool) (ds : List DeclTree) (s : FoundSoFar) → (check_decls w is_init s ds).faults ≡ [] → s.faults ≡ []
 unfolding check_decls
 decls_first w is_init [] s h = h
 decls_first w is_init (d ∷ ds) s h = (decl_settled w is_init s d (decls_first w is_init ds (check_decl w is_init s d) h)).0
 
-one_decl : (w : World) (is_init : ℕ → Bool) (ds : List DeclTree) (s : Checked) (d : DeclTree) → (check_decls w is_init s ds).faults ≡ [] → Holds ds d →
-    (a : Checked) × ((check_decl w is_init a d).faults ≡ [])
+one_decl : (w : World) (is_init : ℕ → Bool) (ds : List DeclTree) (s : FoundSoFar) (d : DeclTree) → (check_decls w is_init s ds).faults ≡ [] → Holds ds d →
+    (a : FoundSoFar) × ((check_decl w is_init a d).faults ≡ [])
 unfolding check_decls
 one_decl w is_init [] s d h i = absurd i
 one_decl w is_init (x ∷ xs) s d h i = elim i [

@@ -16,7 +16,7 @@ use Rattle.law_typing.specs.Statements.{InitIsTyped, an_init, HeaderIsTyped, end
 use Rattle.law_typing.specs.Statements.{a_declaration, a_simple, an_inner_block, a_choice, a_loop, a_break, a_continue, a_return, BlockIsTyped}
 use Rattle.law_typing.specs.Statements.{a_block, StatementsAreTyped, no_more, one_more, IfIsTyped, an_if, ElseIsTyped, without_else, an_else_if}
 use Rattle.law_typing.specs.Statements.{an_else}
-use Rattle.build_object.specs.Lines.{FunctionName, Line}
+use Rattle.build_object.specs.Lines.{FunctionName, CodeLine}
 use Rattle.build_object.specs.Source.{Source}
 use Rattle.build_object.specs.Expressions.{value_lines}
 use Rattle.build_object.specs.Statements.{lines_of_values, init_lines, local_lines, simple_lines, Exits, further, block_exits, branched, for_init, for_condition}
@@ -110,8 +110,8 @@ mutual
   statement_keeps arity w results s slots x (a_choice r) f k = if_statement_keeps arity w results s slots x r f (λ q a. k q (in_choice a))
   statement_keeps arity w results s slots x (a_loop {h = h} {b} header r) f k =
       let parts = header_parts arity w s slots header f.0 (λ q a. k q (in_header a)) in
-      let post : List Line = for_post (over w s) slots h in
-      let body : List Line = block_lines (over w s) slots (length results) (body_exits post) b in
+      let post : List CodeLine = for_post (over w s) slots h in
+      let body : List CodeLine = block_lines (over w s) slots (length results) (body_exits post) b in
       keeps_joined arity x (for_init (over w s) slots h) (loop_lines (over w s) slots (for_condition h) body post)
       (turns_keep arity (further (length (loop_lines (over w s) slots (for_condition h) body post)) x) (for_init (over w s) slots h) parts.first)
       (loop_keeps arity x (loop_condition (over w s) slots (for_condition h) (suc (length (body ++ post)))) body post (parts.test (suc (length (body ++ post))))
@@ -145,7 +145,7 @@ mutual
       {i : IfTree} → IfIsTyped w results before i after → IsIf i →
       Answers arity (over w s) slots (IfAsks w results before i) → Keeps arity x (if_lines (over w s) slots (length results) x i)
   if_statement_keeps arity w results s slots x (an_if {init = init} {e} {b} {otherwise} i c r o) f k =
-      let lines : List Line = value_lines (over w s) slots e ++ branched (block_lines (over w s) slots (length results)
+      let lines : List CodeLine = value_lines (over w s) slots e ++ branched (block_lines (over w s) slots (length results)
       (block_exits (else_lines (over w s) slots (length results) x otherwise) x) b) (else_lines (over w s) slots (length results) x otherwise) in
       keeps_joined arity x (init_lines (over w s) slots init) lines
       (turns_keep arity (further (length lines) x) (init_lines (over w s) slots init) (init_turns arity w s slots i f.0 (λ q a. k q (before_condition a))))
@@ -154,17 +154,17 @@ mutual
       (λ y. block_keeps arity w results s slots y r f.2 (λ q a. k q (in_then i c a))) (λ q a. k q (in_otherwise i c r a)))
 
   -- A condition, a block, and the code behind `else`
-  else_keep : (arity : FunctionName → Arity) (w : World) (results : List PlainType) (s : Source) (slots : List ℕ) (x : Exits) (cond : List Line)
-      (body : Exits → List Line) {before after : Locals} {o : ElseTree} → ElseIsTyped w results before o after →
+  else_keep : (arity : FunctionName → Arity) (w : World) (results : List PlainType) (s : Source) (slots : List ℕ) (x : Exits) (cond : List CodeLine)
+      (body : Exits → List CodeLine) {before after : Locals} {o : ElseTree} → ElseIsTyped w results before o after →
       IsElse o → Turns arity 0 1 cond → ((y : Exits) → Keeps arity y (body y)) → Answers arity (over w s) slots (ElseAsks w results before o) →
       Keeps arity x (cond ++ branched (body (block_exits (else_lines (over w s) slots (length results) x o) x))
       (else_lines (over w s) slots (length results) x o))
   else_keep arity w results s slots x cond body without_else f c b k = if_keeps arity x cond (body x) c (b x)
   else_keep arity w results s slots x cond body (an_else_if {i = i} r) f c b k =
-      let other : List Line = if_lines (over w s) slots (length results) x i in
+      let other : List CodeLine = if_lines (over w s) slots (length results) x i in
       else_keeps arity x cond (body (block_exits (Some other) x)) other c (b (block_exits (Some other) x))
       (if_statement_keeps arity w results s slots x r f (λ q a. k q (in_else_if a)))
   else_keep arity w results s slots x cond body (an_else {b = last} r) f c b k =
-      let other : List Line = block_lines (over w s) slots (length results) x last in
+      let other : List CodeLine = block_lines (over w s) slots (length results) x last in
       else_keeps arity x cond (body (block_exits (Some other) x)) other c (b (block_exits (Some other) x))
       (block_keeps arity w results s slots x r f (λ q a. k q (in_else a)))

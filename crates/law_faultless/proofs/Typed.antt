@@ -15,7 +15,7 @@ use Rattle.go_scope.specs.declared.model.Block.{Block}
 use Rattle.go_scope.specs.declared.model.Block.TheVariants as blocks
 use Rattle.go_scope.specs.declared.model.Role.TheVariants.{Use, Declaring, NotLexical}
 use Rattle.go_scope.specs.declared.model.Purpose.TheVariants as purpose
-use Rattle.go_scope.specs.Site.{Site, Source, site}
+use Rattle.go_scope.specs.Site.{Site, TokenSpellings, site}
 use Rattle.go_scope.specs.ExpressionSites.{sites_if, list_sites, type_sites}
 use Rattle.go_scope.specs.StatementSites.{ident_sites, group_sites, separated_sites, open_of, block_sites}
 use Rattle.go_scope.specs.FileSites.{global_name, member_name, spec_sites, global_sites, field_sites, body_sites, type_spec_sites, receiver_sites}
@@ -23,12 +23,12 @@ use Rattle.go_scope.specs.FileSites.{param_sites, result_sites, func_block, func
 use Rattle.go_scope.specs.FileSites.{decl_sites, file_sites}
 use Rattle.types_expr.specs.Types.{PlainType}
 use Rattle.types_expr.specs.World.{World, Locals, no_locals}
-use Rattle.types_stmt.specs.Checked.{Checked, check_items, check_group}
+use Rattle.types_stmt.specs.Checked.{FoundSoFar, check_items, check_group}
 use Rattle.types_stmt.specs.Sides.{Wants}
 use Rattle.types_stmt.specs.Headers.{check_optional_receiver, check_param, judge_types, judge_results, check_signature, check_function}
 use Rattle.types_stmt.specs.Declarations.{check_global, check_type, check_decl, check_decls, check_file}
 use Rattle.law_typing.proofs.Naming.{type_true}
-use Rattle.law_typing.specs.Sequences.{Rule, Excuse, InTurn, no_item, then_item, IfPresent, absent, present, ExcusedInTurn, this_item, later_item}
+use Rattle.law_typing.specs.Sequences.{PartRule, Excuse, InTurn, no_item, then_item, IfPresent, absent, present, ExcusedInTurn, this_item, later_item}
 use Rattle.law_typing.specs.Sequences.{ExcusedInGroup, excused_alone, excused_together, ExcusedIfPresent, excused_present}
 use Rattle.law_typing.specs.Statements.{BlockIsTyped}
 use Rattle.law_typing.specs.Declarations.{ReceiverIsTyped, a_receiver, ParamIsTyped, a_param, AreTypes, no_type_left, also_type, AreResults}
@@ -68,12 +68,12 @@ results_wanted w (several_written h) = types_wanted w h
 
 -- parts that are not excused
 
-no_turn : {X : Type 0} (R : Rule X) (E : Excuse X) → ((ls : Locals) (x : X) → E ls x → ⊥) → {before : Locals} {is : List (Item X)} →
+no_turn : {X : Type 0} (R : PartRule X) (E : Excuse X) → ((ls : Locals) (x : X) → E ls x → ⊥) → {before : Locals} {is : List (Item X)} →
     ExcusedInTurn X R E before is → ⊥
 no_turn R E none (this_item {before} {i} x) = none before i.value x
 no_turn R E none (later_item h more) = no_turn R E none more
 
-no_group : {X : Type 0} (R : Rule X) (E : Excuse X) → ((ls : Locals) (x : X) → E ls x → ⊥) → {before : Locals} {g : Group X} →
+no_group : {X : Type 0} (R : PartRule X) (E : Excuse X) → ((ls : Locals) (x : X) → E ls x → ⊥) → {before : Locals} {g : Group X} →
     ExcusedInGroup X R E before g → ⊥
 no_group R E none (excused_alone {before} {x} e) = none before x e
 no_group R E none (excused_together e) = no_turn R E none e
@@ -115,7 +115,7 @@ Abroad xs = AllByRecursion (λ x. may_be_local x.role ≡ false) xs
 abroad_append : (xs ys : List Site) → Abroad xs → Abroad ys → Abroad (xs ++ ys)
 abroad_append xs ys a b = all_append (λ (x : Site). may_be_local x.role ≡ false) xs ys a b
 
-pub type_abroad : (s : Source) (x : TypeTree) → Abroad (type_sites s x)
+pub type_abroad : (s : TokenSpellings) (x : TypeTree) → Abroad (type_sites s x)
 unfolding type_sites
 type_abroad s (tree.Local n) = (refl, tt)
 type_abroad s (tree.Imported p d n) = (refl, (refl, tt))
@@ -131,26 +131,26 @@ unfolding group_sites separated_sites
 group_abroad f one (single x) = one x
 group_abroad f one (several o is c) = list_abroad f one is
 
-pub global_abroad : (s : Source) (x : GlobalTree) → Abroad (global_sites s x)
+pub global_abroad : (s : TokenSpellings) (x : GlobalTree) → Abroad (global_sites s x)
 unfolding global_sites
 global_abroad s x = abroad_append (list_sites (global_name s) x.names) (type_sites s x.type_use) (list_abroad (global_name s) (λ n. (refl, tt)) x.names)
     (type_abroad s x.type_use)
 
-field_abroad : (s : Source) (x : FieldTree) → Abroad (field_sites s x)
+field_abroad : (s : TokenSpellings) (x : FieldTree) → Abroad (field_sites s x)
 unfolding field_sites
 field_abroad s x = abroad_append (list_sites (member_name s) x.names) (type_sites s x.type_use) (list_abroad (member_name s) (λ n. (refl, tt)) x.names)
     (type_abroad s x.type_use)
 
-body_abroad : (s : Source) (b : BodyTree) → Abroad (body_sites s b)
+body_abroad : (s : TokenSpellings) (b : BodyTree) → Abroad (body_sites s b)
 unfolding body_sites
 body_abroad s (tree.Other x) = type_abroad s x
 body_abroad s (tree.Struct p o fs c) = list_abroad (field_sites s) (field_abroad s) fs
 
-pub spec_abroad : (s : Source) (x : TypeSpecTree) → Abroad (type_spec_sites s x)
+pub spec_abroad : (s : TokenSpellings) (x : TypeSpecTree) → Abroad (type_spec_sites s x)
 unfolding type_spec_sites
 spec_abroad s x = (refl, body_abroad s x.body)
 
-pub result_abroad : (s : Source) (r : ResultTree) → Abroad (result_sites s r)
+pub result_abroad : (s : TokenSpellings) (r : ResultTree) → Abroad (result_sites s r)
 unfolding result_sites
 result_abroad s tree.no_result = tt
 result_abroad s (tree.one_result x) = type_abroad s x
@@ -164,15 +164,15 @@ pub func_abroad : (r : Option ReceiverTree) (name : List ℕ) → may_be_local (
 func_abroad None name = name_abroad (bytes_eq name (codes "init"))
 func_abroad (Some r) name = refl
 
-import_abroad : (s : Source) (x : ImportTree) (o : Option ℕ) → Abroad (import_name s o ++ (site s x.path (NotLexical (import_purpose o)) ∷ []))
+import_abroad : (s : TokenSpellings) (x : ImportTree) (o : Option ℕ) → Abroad (import_name s o ++ (site s x.path (NotLexical (import_purpose o)) ∷ []))
 import_abroad s x None = (refl, tt)
 import_abroad s x (Some n) = (refl, (refl, tt))
 
-one_import : (s : Source) (x : ImportTree) → Abroad (import_sites s x)
+one_import : (s : TokenSpellings) (x : ImportTree) → Abroad (import_sites s x)
 unfolding import_sites
 one_import s x = import_abroad s x x.name
 
-pub imports_abroad : (s : Source) (xs : List ImportsTree) → Abroad (flat_map (imports_sites s) xs)
+pub imports_abroad : (s : TokenSpellings) (xs : List ImportsTree) → Abroad (flat_map (imports_sites s) xs)
 unfolding imports_sites
 imports_abroad s [] = tt
 imports_abroad s (x ∷ xs) =
@@ -181,19 +181,19 @@ imports_abroad s (x ∷ xs) =
 -- functions
 
 -- what declares no local
-items_stay : {X : Type 0} (check : Checked → X → Checked) → ((a : Checked) (x : X) → (check a x).locals ≡ a.locals) → (is : List (Item X)) (st : Checked) →
+items_stay : {X : Type 0} (check : FoundSoFar → X → FoundSoFar) → ((a : FoundSoFar) (x : X) → (check a x).locals ≡ a.locals) → (is : List (Item X)) (st : FoundSoFar) →
     (check_items check st is).locals ≡ st.locals
 unfolding check_items
 items_stay check same [] st = refl
 items_stay check same (i ∷ is) st = items_stay check same is (check st i.value) ∙ same st i.value
 
-group_stays : {X : Type 0} (check : Checked → X → Checked) → ((a : Checked) (x : X) → (check a x).locals ≡ a.locals) → (g : Group X) (st : Checked) →
+group_stays : {X : Type 0} (check : FoundSoFar → X → FoundSoFar) → ((a : FoundSoFar) (x : X) → (check a x).locals ≡ a.locals) → (g : Group X) (st : FoundSoFar) →
     (check_group check st g).locals ≡ st.locals
 unfolding check_group
 group_stays check same (single x) st = same st x
 group_stays check same (several o is c) st = items_stay check same is st
 
-receiver_known : (w : World) (s : Source) (b : Block) (q : ℕ) (A : List Site) {before after : Locals} {o : Option ReceiverTree} →
+receiver_known : (w : World) (s : TokenSpellings) (b : Block) (q : ℕ) (A : List Site) {before after : Locals} {o : Option ReceiverTree} →
     IfPresent ReceiverTree (ReceiverIsTyped w) before o after → AllKnown w before A → AllKnown w after (past A (sites_if (receiver_sites s b q) o))
 unfolding receiver_sites
 receiver_known w s b q A absent known = known
@@ -203,7 +203,7 @@ receiver_known w s b q A {before} {after} (present {x = r} (a_receiver e n behin
     (abroad_past w after (past A name) (site s r.type_name Use ∷ [])
     (known_past w before after A name (as_locals_kept d) known (as_all_known w d name (ident_declares w s b q r.name []))) (refl, tt))
 
-params_known : (w : World) (s : Source) (b : Block) (q : ℕ) (A : List Site) {before after : Locals} {is : List (Item ParamTree)} →
+params_known : (w : World) (s : TokenSpellings) (b : Block) (q : ℕ) (A : List Site) {before after : Locals} {is : List (Item ParamTree)} →
     InTurn ParamTree (ParamIsTyped w) before is after → AllKnown w before A → AllKnown w after (past A (list_sites (param_sites s b q) is))
 unfolding param_sites
 params_known w s b q A no_item known = known
@@ -216,13 +216,13 @@ params_known w s b q A (then_item {before} {inside} {after} {i} {is} (a_param t 
     (type_abroad s i.value.type_use)) in
     known_join w after A (names ++ typing) (list_sites (param_sites s b q) is) (params_known w s b q (past A (names ++ typing)) more own)
 
-receiver_at : (w : World) (st : Checked) {before after : Locals} {o : Option ReceiverTree} → IfPresent ReceiverTree (ReceiverIsTyped w) before o after →
+receiver_at : (w : World) (st : FoundSoFar) {before after : Locals} {o : Option ReceiverTree} → IfPresent ReceiverTree (ReceiverIsTyped w) before o after →
     st.faults ≡ [] → before ≡ st.locals → IsAt (check_optional_receiver w st o) after
 receiver_at w st absent h e = record { locals_are = sym e; faultless = h }
 receiver_at w st {before} {after} (present {x = r} t) h e = receiver_true w st r after h (subst (λ z. ReceiverIsTyped w z r after) e t)
 
-module _ (w : World) (B : ℕ → Type 0) (s : Source) (u : IsUnbroken w) where
-  function_fine : (b : Bool) (A : List Site) (n m : ℕ) (st : Checked) (f : FuncTree) → IsFunc f → (check_function w b st f).faults ≡ [] → st.faults ≡ [] →
+module _ (w : World) (B : ℕ → Type 0) (s : TokenSpellings) (u : IsUnbroken w) where
+  function_fine : (b : Bool) (A : List Site) (n m : ℕ) (st : FoundSoFar) (f : FuncTree) → IsFunc f → (check_function w b st f).faults ≡ [] → st.faults ≡ [] →
       AllKnown w st.locals A → AreResolved w B A (func_sites s f) → Strung B n (func_tokens f) m → {received entered : Locals} {ts : List PlainType} →
       IfPresent ReceiverTree (ReceiverIsTyped w) st.locals f.receiver received → InTurn ParamTree (ParamIsTyped w) received f.params entered →
       AreResults w f.result ts →
@@ -266,7 +266,7 @@ module _ (w : World) (B : ℕ → Type 0) (s : Source) (u : IsUnbroken w) where
         ),
       )
 
-  by_case : (b : Bool) (A : List Site) (n m : ℕ) (st : Checked) (f : FuncTree) → IsFunc f → (check_function w b st f).faults ≡ [] → st.faults ≡ [] →
+  by_case : (b : Bool) (A : List Site) (n m : ℕ) (st : FoundSoFar) (f : FuncTree) → IsFunc f → (check_function w b st f).faults ≡ [] → st.faults ≡ [] →
       AllKnown w st.locals A → AreResolved w B A (func_sites s f) → Strung B n (func_tokens f) m →
       (after : Locals) → after ≡ (check_function w b st f).locals → FunctionIsTyped w b st.locals f after ⊎ FunctionIsExcused w st.locals f →
       Outcome w A (func_sites s f) (FunctionIsTyped w b st.locals f) after
@@ -279,7 +279,7 @@ module _ (w : World) (B : ℕ → Type 0) (s : Source) (u : IsUnbroken w) where
   by_case b A n m st f formed h none known r t after same (inr (in_body {ts = ts} rec ps rs e)) =
       let x = function_fine b A n m st f formed h none known r t rec ps rs in absurd (block_not w ts x.1.0 e)
 
-  function_typed : (b : Bool) (A : List Site) (n m : ℕ) (st : Checked) (f : FuncTree) → IsFunc f → (check_function w b st f).faults ≡ [] →
+  function_typed : (b : Bool) (A : List Site) (n m : ℕ) (st : FoundSoFar) (f : FuncTree) → IsFunc f → (check_function w b st f).faults ≡ [] →
       AllKnown w st.locals A → AreResolved w B A (func_sites s f) → Strung B n (func_tokens f) m →
       Outcome w A (func_sites s f) (FunctionIsTyped w b st.locals f) (check_function w b st f).locals
   function_typed b A n m st f formed h known r t =
@@ -293,7 +293,7 @@ module _ (w : World) (B : ℕ → Type 0) (s : Source) (u : IsUnbroken w) where
 
   -- declarations
 
-  decl_typed : (is_init : ℕ → Bool) (A : List Site) (n m : ℕ) (st : Checked) (d : DeclTree) → IsDecl d → (check_decl w is_init st d).faults ≡ [] →
+  decl_typed : (is_init : ℕ → Bool) (A : List Site) (n m : ℕ) (st : FoundSoFar) (d : DeclTree) → IsDecl d → (check_decl w is_init st d).faults ≡ [] →
       AllKnown w st.locals A → AreResolved w B A (decl_sites s d) → Strung B n (decl_tokens d) m →
       Outcome w A (decl_sites s d) (DeclIsTyped w is_init st.locals d) (check_decl w is_init st d).locals
   unfolding check_decl decl_sites decl_tokens
@@ -315,7 +315,7 @@ module _ (w : World) (B : ℕ → Type 0) (s : Source) (u : IsUnbroken w) where
       let x = strung_split B (suc n) (func_tokens f) (sign kind.Semicolon c ∷ []) m t.1.1 in
       let o = function_typed (is_init f.name) A (suc n) x.0 st f formed h known r x.1.0 in (one_function o.0, o.1)
 
-  decls_typed : (is_init : ℕ → Bool) (A : List Site) (n m : ℕ) (ds : List DeclTree) (st : Checked) → All IsDecl ds → (check_decls w is_init st ds).faults ≡ [] →
+  decls_typed : (is_init : ℕ → Bool) (A : List Site) (n m : ℕ) (ds : List DeclTree) (st : FoundSoFar) → All IsDecl ds → (check_decls w is_init st ds).faults ≡ [] →
       AllKnown w st.locals A → AreResolved w B A (flat_map (decl_sites s) ds) → Strung B n (all_tokens decl_tokens ds) m →
       DeclsAreTyped w is_init st.locals ds (check_decls w is_init st ds).locals
   unfolding check_decls all_tokens

@@ -17,7 +17,7 @@ use Rattle.go_scope.specs.Named.{is_unnamed_import}
 use Rattle.go_scope.specs.SpelledFiles.{spelled_file}
 use Rattle.go_scope.specs.Packages.{scoped, layout_in}
 use Rattle.go_scope.specs.ExpressionSites.{type_sites}
-use Rattle.go_scope.specs.Site.{Site, Source, or_blank, site}
+use Rattle.go_scope.specs.Site.{Site, TokenSpellings, or_blank, site}
 use Rattle.go_scope.specs.Table.{LiesAt}
 use Rattle.law_tokens.proofs.Lexical.{never_bound}
 use Rattle.law_tokens.proofs.Ordered.{same_length}
@@ -180,7 +180,7 @@ module _ (w : Workspace) (known : Verdicts) (path : List ℕ) (p : Package) (h :
       let t = part_at h.files file s (subst (λ xs. slice_get xs file ≡ Some s) (same_files w known path p h) is) in
       let fs = map spelled_file h.files in
       let got : slice_get fs file ≡ Some (spelled_file t.0) = slice_get-map spelled_file h.files file ∙ ap (option_map spelled_file) t.1.0 in
-      let source : Source = record { rank = file; spell = (spelled_file t.0).spell } in
+      let source : TokenSpellings = record { rank = file; spell = (spelled_file t.0).spell } in
       subst (λ (z : SourceFile). AllByRecursion (Kept p file) (file_sites (record { rank = file; spell = spelling_of z }) z.tree)) t.1.1
       (all_as (IsNumbered fs file) (Kept p file) (kept file) (file_sites source (spelled_file t.0).tree) (all_numbered fs file (spelled_file t.0) got))
 
@@ -226,7 +226,7 @@ module _ (w : Workspace) (known : Verdicts) (path : List ℕ) (p : Package) (h :
   imported_named file q d n tight u _ (is_unbound x) (inl k) = let e = k.1 in let z : ⊥ = cc in absurd z
   imported_named file q d n tight u _ (is_unbound x) (inr e) = let z : ⊥ = cc in absurd z
 
-  module _ (file : ℕ) (v : World) (names : (token : ℕ) → IsName p file token (v.bound token)) (source : Source) where
+  module _ (file : ℕ) (v : World) (names : (token : ℕ) → IsName p file token (v.bound token)) (source : TokenSpellings) where
     pub type_named : (x : TypeTree) → IsSound v x → IsTight x → OfType source (Kept p file) x → (t : PlainType) × DenotesType p file x t
     unfolding judge_type type_sites
     type_named (tree.Local n) f tight k = let t = local_named file n (k.0 refl) (v.bound n) (names n) (named_bound (v.bound n) n f) in (t.0, t.1.0)

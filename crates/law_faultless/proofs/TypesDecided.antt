@@ -22,7 +22,7 @@ use Rattle.types_expr.specs.Types.{Package as PackageName}
 use Rattle.types_expr.specs.Types.{Pointer as PointerType, Slice as SliceType}
 use Rattle.types_declared.specs.MeaningOf.{AreTypesOf}
 use Rattle.types_declared.specs.Package.{Package, Export, IsRanked, package_types, type_place, symbol_in, spelled}
-use Rattle.types_declared.specs.Written.{BindsToken, IsPredeclared, DeclaresType, ImportsPath, IsExportAt, basic_name, DenotesType}
+use Rattle.types_declared.specs.Written.{BindsToken, IsPredeclared, DeclaresType, DeclaresImport, IsExportAt, basic_name, DenotesType}
 use Rattle.types_declared.specs.Written.{Mentions, by_name, by_pointer, by_slice, IsBroken, IsTypeOf}
 use Rattle.types_declared.specs.Written as written
 use Rattle.types_declared.proofs.Binding.{one_first}
@@ -119,7 +119,7 @@ module _ (p : Package) (w : WellFormed p.layout) where
   module _ (strings : AreStringsKnown p) where
     -- the path of an import, or none
     path_in : (d : ℕ) → IsImport p.layout d → (o : Option SourceFile) → slice_get p.files (p.layout.place d).file ≡ o →
-        ((q : List ℕ) × ImportsPath p d q) ⊎ ((q : List ℕ) → ImportsPath p d q → ⊥)
+        ((q : List ℕ) × DeclaresImport p d q) ⊎ ((q : List ℕ) → DeclaresImport p d q → ⊥)
     path_in d is None e = inr (λ q h. none-some h.of_path.source (sym e ∙ h.of_path.is_file))
     path_in d is (Some s) e =
         let token = (p.layout.place (literal_of p.layout d)).index in
@@ -137,20 +137,20 @@ module _ (p : Package) (w : WellFormed p.layout) where
               n (subst (λ (x : SourceFile). IsStringClass (token_at x.cut token).class) same h.of_path.has_literal.is_string))
         ]
 
-    pub path : (d : ℕ) → ((q : List ℕ) × ImportsPath p d q) ⊎ ((q : List ℕ) → ImportsPath p d q → ⊥)
+    pub path : (d : ℕ) → ((q : List ℕ) × DeclaresImport p d q) ⊎ ((q : List ℕ) → DeclaresImport p d q → ⊥)
     path d = elim (file_block (block_of (p.layout.role d))) [
       | inl is ↦ path_in d is (slice_get p.files (p.layout.place d).file) refl
       | inr n ↦ inr (λ q h. n h.is_import)
     ]
 
     -- what a package exports as a name behind its own, or nothing
-    export_in : (file before name d : ℕ) → BindsToken p file before d → (q : List ℕ) → ImportsPath p d q → (o : Option Export) →
+    export_in : (file before name d : ℕ) → BindsToken p file before d → (q : List ℕ) → DeclaresImport p d q → (o : Option Export) →
         (p.export_data_of q).exported (spelled p file name) ≡ o → ((e : Export) × IsExportAt p file before name e) ⊎
         ((e : Export) → IsExportAt p file before name e → ⊥)
     export_in file before name d b q i (Some e) is = inl (e, record { import = d; binds = b; of_import = record { path = q; imports = i; exported = is } })
     export_in file before name d b q i None is = inr (λ e h.
         let same : h.import ≡ d = one_binding p w file before h.import d h.binds b in
-        let of_d : ImportsPath p d h.of_import.path = subst (λ k. ImportsPath p k h.of_import.path) same h.of_import.imports in
+        let of_d : DeclaresImport p d h.of_import.path = subst (λ k. DeclaresImport p k h.of_import.path) same h.of_import.imports in
         let one : h.of_import.path ≡ q = one_import_path p d h.of_import.path q of_d i in
         none-some e (sym is ∙ subst (λ r. (p.export_data_of r).exported (spelled p file name) ≡ Some e) one h.of_import.exported))
 
@@ -160,7 +160,7 @@ module _ (p : Package) (w : WellFormed p.layout) where
       | inl d ↦ elim (path d.0) [
         | inl q ↦ export_in file before name d.0 d.1 q.0 q.1 ((p.export_data_of q.0).exported (spelled p file name)) refl
         | inr none ↦ inr (λ e h.
-            none h.of_import.path (subst (λ k. ImportsPath p k h.of_import.path) (one_binding p w file before h.import d.0 h.binds d.1) h.of_import.imports))
+            none h.of_import.path (subst (λ k. DeclaresImport p k h.of_import.path) (one_binding p w file before h.import d.0 h.binds d.1) h.of_import.imports))
       ]
     ]
 

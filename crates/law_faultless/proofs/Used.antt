@@ -13,7 +13,7 @@ use Rattle.law_typing.proofs.Judgements.{followed_agrees, value_at_agrees}
 use Rattle.law_typing.proofs.Naming.{type_true}
 use Rattle.law_typing.proofs.Selecting.{selects_true}
 use Rattle.law_typing.proofs.Soundness.{index_agrees, call_agrees, sound, sound_arguments}
-use Rattle.law_faultless.specs.Questions.{Question, OfInteger, OfText, OfName, OfExport, OfMember, OfDeclared, OfLeft, Asks, for_integer, for_text, for_name}
+use Rattle.law_faultless.specs.Questions.{TokenQuestion, OfInteger, OfText, OfName, OfExport, OfMember, OfDeclared, OfLeft, Asks, for_integer, for_text, for_name}
 use Rattle.law_faultless.specs.Questions.{in_composite, in_paren, in_prefix, in_address, in_chain, in_links, in_binary, in_operands, LinksAsk, for_member}
 use Rattle.law_faultless.specs.Questions.{for_export, behind_selector, in_index, behind_index, in_arguments, behind_call, OperandsAsk, in_operand}
 use Rattle.law_faultless.specs.Questions.{in_later_operand, ArgumentsAsk, in_argument, in_later_argument, LiteralAsks, in_elements, ElementsAsk, for_key}
@@ -33,7 +33,7 @@ used_right n t [] vs h = h
 used_right n t (u ∷ us) vs h = inr (used_right n t us vs h)
 
 -- where a member is asked for, there is its use
-abbrev pub Met : Question → List MemberUse → Type 0
+abbrev pub Met : TokenQuestion → List MemberUse → Type 0
 Met (OfInteger n) us = Unit {0}
 Met (OfText n) us = Unit {0}
 Met (OfName n) us = Unit {0}
@@ -42,7 +42,7 @@ Met (OfMember n t) us = IsUsed n t us
 Met (OfDeclared n) us = Unit {0}
 Met (OfLeft n) us = Unit {0}
 
-pub met_left : (q : Question) (us vs : List MemberUse) → Met q us → Met q (us ++ vs)
+pub met_left : (q : TokenQuestion) (us vs : List MemberUse) → Met q us → Met q (us ++ vs)
 met_left (OfInteger n) us vs h = tt
 met_left (OfText n) us vs h = tt
 met_left (OfName n) us vs h = tt
@@ -51,7 +51,7 @@ met_left (OfMember n t) us vs h = used_left n t us vs h
 met_left (OfDeclared n) us vs h = tt
 met_left (OfLeft n) us vs h = tt
 
-pub met_right : (q : Question) (us vs : List MemberUse) → Met q vs → Met q (us ++ vs)
+pub met_right : (q : TokenQuestion) (us vs : List MemberUse) → Met q vs → Met q (us ++ vs)
 met_right (OfInteger n) us vs h = tt
 met_right (OfText n) us vs h = tt
 met_right (OfName n) us vs h = tt
@@ -61,12 +61,12 @@ met_right (OfDeclared n) us vs h = tt
 met_right (OfLeft n) us vs h = tt
 
 -- in the middle of three
-met_inner : (q : Question) (us vs ws : List MemberUse) → Met q vs → Met q (us ++ (vs ++ ws))
+met_inner : (q : TokenQuestion) (us vs ws : List MemberUse) → Met q vs → Met q (us ++ (vs ++ ws))
 met_inner q us vs ws h = met_right q us (vs ++ ws) (met_left q vs ws h)
 
 -- what is found stays, whatever stands behind it
 
-pub links_keep : (q : Question) (w : World) (locals : Locals) (links : LinkTrees) (start place : ℕ) (j : Judged) → Met q j.uses →
+pub links_keep : (q : TokenQuestion) (w : World) (locals : Locals) (links : LinkTrees) (start place : ℕ) (j : Judged) → Met q j.uses →
     Met q (judge_links w locals start place j links).uses
 unfolding judge
 links_keep q w locals tree.no_link start place j h = h
@@ -79,7 +79,7 @@ links_keep q w locals (tree.call o xs c rest) start place j h =
     let rule = call_rule w start place (judge_arguments w locals xs) in
     links_keep q w locals rest start start (followed j rule) (met_left q j.uses (rule j.meaning).uses h)
 
-pub operands_keep : (q : Question) (w : World) (locals : Locals) (rest : OperandTrees) (start : ℕ) (j : Judged) → Met q j.uses →
+pub operands_keep : (q : TokenQuestion) (w : World) (locals : Locals) (rest : OperandTrees) (start : ℕ) (j : Judged) → Met q j.uses →
     Met q (judge_operands w locals start j rest).uses
 unfolding judge
 operands_keep q w locals tree.no_operand start j h = h
@@ -92,7 +92,7 @@ selected_used : (w : World) (locals : Locals) (place n : ℕ) (t : PlainType) (a
 unfolding select select_member
 selected_used w locals place n t a = inl (refl, refl)
 
-element_met : (w : World) (locals : Locals) (t : PlainType) (key : Option (ℕ × ℕ)) (e : ExprTree) (c : Option ℕ) (rest : ElementTrees) (q : Question)
+element_met : (w : World) (locals : Locals) (t : PlainType) (key : Option (ℕ × ℕ)) (e : ExprTree) (c : Option ℕ) (rest : ElementTrees) (q : TokenQuestion)
     (seen : Seen) → Met q (judge w locals e).uses →
     Met q (judge_elements w locals (Some t) seen (tree.element key e c rest)).uses
 unfolding judge
@@ -101,7 +101,7 @@ element_met w locals t key e c rest q seen h =
     (judge_elements w locals (Some t) (seen_after w (Some t) seen key) rest).uses
     (met_left q (judge w locals e).uses (as_value (place_of e) (judge w locals e).meaning).uses h)
 
-later_met : (w : World) (locals : Locals) (t : PlainType) (key : Option (ℕ × ℕ)) (e : ExprTree) (c : Option ℕ) (rest : ElementTrees) (q : Question)
+later_met : (w : World) (locals : Locals) (t : PlainType) (key : Option (ℕ × ℕ)) (e : ExprTree) (c : Option ℕ) (rest : ElementTrees) (q : TokenQuestion)
     (seen : Seen) →
     Met q (judge_elements w locals (Some t) (seen_after w (Some t) seen key) rest).uses → Met q
     (judge_elements w locals (Some t) seen (tree.element key e c rest)).uses
@@ -114,7 +114,7 @@ later_met w locals t key e c rest q seen h =
 mutual
   unfolding judge
 
-  pub expression_met : (w : World) (locals : Locals) {e : ExprTree} {q : Question} → Asks w locals e q → Met q (judge w locals e).uses
+  pub expression_met : (w : World) (locals : Locals) {e : ExprTree} {q : TokenQuestion} → Asks w locals e q → Met q (judge w locals e).uses
   expression_met w locals for_integer = tt
   expression_met w locals for_text = tt
   expression_met w locals for_name = tt
@@ -133,7 +133,7 @@ mutual
       (as_value (place_of e) (judge w locals e).meaning).uses (expression_met w locals a))
   expression_met w locals (in_operands {e} a) = operands_met w locals a (first_token e) (value_at e (judge w locals e))
 
-  links_met : (w : World) (locals : Locals) {m : Meaning} {links : LinkTrees} {q : Question} → LinksAsk w locals m links q → (start place : ℕ) (j : Judged) →
+  links_met : (w : World) (locals : Locals) {m : Meaning} {links : LinkTrees} {q : TokenQuestion} → LinksAsk w locals m links q → (start place : ℕ) (j : Judged) →
       IsJudgedAs j m →
       Met q (judge_links w locals start place j links).uses
   links_met w locals (for_member {n = n} {rest} {t} {a}) start place j h =
@@ -162,7 +162,7 @@ mutual
       let rule = call_rule w start place (judge_arguments w locals xs) in
       links_met w locals a start start (followed j rule) (followed_agrees rule h (call_agrees w start place (sound_arguments w locals vs) c))
 
-  operands_met : (w : World) (locals : Locals) {rest : OperandTrees} {q : Question} → OperandsAsk w locals rest q → (start : ℕ) (j : Judged) →
+  operands_met : (w : World) (locals : Locals) {rest : OperandTrees} {q : TokenQuestion} → OperandsAsk w locals rest q → (start : ℕ) (j : Judged) →
       Met q (judge_operands w locals start j rest).uses
   operands_met w locals (in_operand {o} {e = e} {rest} {q} a) start j =
       let i = value_at e (judge w locals e) in
@@ -173,21 +173,21 @@ mutual
   operands_met w locals (in_later_operand {o} {e = e} a) start j =
       operands_met w locals a start (followed j (λ m. followed (value_at e (judge w locals e)) (operation w o start m)))
 
-  arguments_met : (w : World) (locals : Locals) {xs : ArgumentTrees} {q : Question} → ArgumentsAsk w locals xs q → Met q (judge_arguments w locals xs).uses
+  arguments_met : (w : World) (locals : Locals) {xs : ArgumentTrees} {q : TokenQuestion} → ArgumentsAsk w locals xs q → Met q (judge_arguments w locals xs).uses
   arguments_met w locals (in_argument {e} {rest = rest} {q} a) =
       met_left q (value_at e (judge w locals e)).uses (judge_arguments w locals rest).uses
       (met_left q (judge w locals e).uses (as_value (place_of e) (judge w locals e).meaning).uses (expression_met w locals a))
   arguments_met w locals (in_later_argument {e} {rest = rest} {q} a) = met_right q (value_at e (judge w locals e)).uses (judge_arguments w locals rest).uses
       (arguments_met w locals a)
 
-  literal_met : (w : World) (locals : Locals) {l : LiteralTree} {q : Question} → LiteralAsks w locals l q → Met q (judge_literal w locals l).uses
+  literal_met : (w : World) (locals : Locals) {l : LiteralTree} {q : TokenQuestion} → LiteralAsks w locals l q → Met q (judge_literal w locals l).uses
   literal_met w locals (in_elements {x} {es = es} {t} {q} h a) =
       let own = (judge_type w x).type_of in
       let found = judge_elements w locals own none_seen es in
       met_left q found.uses (literal_meaning w (first_of_type x) own found.whole found.unkeyed).uses
       (subst (λ z. Met q (judge_elements w locals z none_seen es).uses) (sym (ap (λ z. z.type_of) (type_true w h))) (elements_met w locals a none_seen))
 
-  elements_met : (w : World) (locals : Locals) {t : PlainType} {es : ElementTrees} {q : Question} → ElementsAsk w locals t es q → (seen : Seen) →
+  elements_met : (w : World) (locals : Locals) {t : PlainType} {es : ElementTrees} {q : TokenQuestion} → ElementsAsk w locals t es q → (seen : Seen) →
       Met q (judge_elements w locals (Some t) seen es).uses
   elements_met w locals for_key seen = inl (refl, refl)
   elements_met w locals (in_element {t} {key} {e} {c} {rest} {q} a) seen = element_met w locals t key e c rest q seen (expression_met w locals a)

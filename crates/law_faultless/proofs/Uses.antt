@@ -9,7 +9,7 @@ use Rattle.go_ast.specs.Tree as tree
 use Rattle.types_declared.specs.Files.{group_items}
 use Rattle.go_scope.specs.declared.model.Block.{Block}
 use Rattle.go_scope.specs.declared.model.Role.TheVariants.{Use, Declaring}
-use Rattle.go_scope.specs.Site.{Site, Source, site}
+use Rattle.go_scope.specs.Site.{Site, TokenSpellings, site}
 use Rattle.go_scope.specs.ExpressionSites.{sites_if, list_sites, type_sites}
 use Rattle.go_scope.specs.StatementSites.{ident_sites, group_sites, separated_sites, open_of, block_sites}
 use Rattle.go_scope.specs.FileSites.{global_name, member_name, spec_sites, global_sites, field_sites, body_sites, type_spec_sites, receiver_sites}
@@ -21,10 +21,10 @@ use Rattle.law_faultless.proofs.Lists.{all_flat}
 use Rattle.law_faultless.proofs.Sound.{types_of}
 
 -- each identifier of a Type
-abbrev pub OfType : Source → (Site → Type 0) → TypeTree → Type 0
+abbrev pub OfType : TokenSpellings → (Site → Type 0) → TypeTree → Type 0
 OfType s P x = AllByRecursion P (type_sites s x)
 
-module _ (s : Source) (P : Site → Type 0) where
+module _ (s : TokenSpellings) (P : Site → Type 0) where
   -- parts in turn
   items_of : {X : Type 0} (f : X → List Site) (is : List (Item X)) → AllByRecursion P (list_sites f is) →
       AllByRecursion (λ x. AllByRecursion P (f x)) (map (λ i. i.value) is)

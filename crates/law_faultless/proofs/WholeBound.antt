@@ -8,7 +8,7 @@ use Rattle.go_ast.specs.SourceFile.{SourceFile, spelling_of}
 use Rattle.go_ast.specs.Tree.{Item, TypeTree, TypeSpecTree, GlobalTree, ReceiverTree, ParamTree, FuncTree, DeclTree}
 use Rattle.go_ast.specs.Tree as tree
 use Rattle.types_declared.specs.Files.{RankedSource, ranked_files, group_items}
-use Rattle.go_scope.specs.Site.{Source}
+use Rattle.go_scope.specs.Site.{TokenSpellings}
 use Rattle.types_expr.specs.declared.symbol.Symbol.{Symbol}
 use Rattle.types_expr.specs.Types.{PlainType, Defined, Signature}
 use Rattle.types_expr.specs.World.{World}
@@ -23,7 +23,7 @@ use Rattle.types_info.proofs.DeclKinds.{Holds, holds_got, holds_flat, held_flat,
 use Rattle.types_info.specs.Worlds.{IsWorldOf, is_init}
 use Rattle.workspace_check.specs.FaultLists.{ListsFaults}
 use Rattle.workspace_check.specs.Verdicts.{Verdicts, AreVerdicts}
-use Rattle.refs_binding.specs.Uses.{IsPackage}
+use Rattle.refs_binding.specs.Uses.{IsCheckedPackage}
 use Rattle.law_faultless.specs.Worlds.{HaveWorlds}
 use Rattle.law_faultless.proofs.NoFaults.{no_fault_in}
 use Rattle.law_faultless.proofs.LinksBound.{source_is}
@@ -127,9 +127,9 @@ each_parameter P [] h = tt
 each_parameter P (i ∷ is) h =
     all_append P (map (λ n. i.value.type_use) i.value.names) (parameter_types is) (each_name P i.value.type_use i.value.names h.0) (each_parameter P is h.1)
 
-module _ (w : Workspace) (sound : ListsFaults w []) (known : Verdicts) (right : AreVerdicts w known) (p : Package) (is : IsPackage w known p)
+module _ (w : Workspace) (sound : ListsFaults w []) (known : Verdicts) (right : AreVerdicts w known) (p : Package) (is : IsCheckedPackage w known p)
     (worlds : HaveWorlds p) where
-  all_named : (file : ℕ) (v : World) (s : SourceFile) (judged : IsWorldOf p file s v) (source : Source) (xs : List TypeTree) →
+  all_named : (file : ℕ) (v : World) (s : SourceFile) (judged : IsWorldOf p file s v) (source : TokenSpellings) (xs : List TypeTree) →
       AllByRecursion (IsSound v) xs → AllByRecursion IsTight xs → AllByRecursion (OfType source (Kept p file)) xs → AllByRecursion (HasType p file) xs
   all_named file v s judged source [] a b c = tt
   all_named file v s judged source (x ∷ xs) a b c =
@@ -142,7 +142,7 @@ module _ (w : Workspace) (sound : ListsFaults w []) (known : Verdicts) (right : 
       let v = worlds file s at in
       let uses = (check_file v.0 (is_init s) s.tree).uses in
       let none = no_fault_in w sound known right p is file uses (record { source = s; in_file = at; world = v.0; judged_by = v.1; found = refl }) in
-      let source : Source = record { rank = file; spell = spelling_of s } in
+      let source : TokenSpellings = record { rank = file; spell = spelling_of s } in
       let k = all_kept w known p.path p is.is_checked file s at in
       all_named file v.0 s v.1 source (types_of d) (types_sound v.0 (is_init s) s.tree none d i)
       (types_tight s (source_is w known p.path p is.is_checked file s at) d i) (types_kept source (Kept p file) s.tree k d i)
@@ -199,7 +199,7 @@ module _ (w : Workspace) (sound : ListsFaults w []) (known : Verdicts) (right : 
       let none = no_fault_in w sound known right p is f.file uses
       (record { source = d.source; in_file = d.in_file; world = v.0; judged_by = v.1; found = refl }) in
       let held = subst (λ z. Holds d.source.tree.decls z) d.is.1.1 d.in_tree in
-      let source : Source = record { rank = f.file; spell = spelling_of d.source } in
+      let source : TokenSpellings = record { rank = f.file; spell = spelling_of d.source } in
       let k = all_kept w known p.path p is.is_checked f.file d.source d.in_file in
       let fine = receiver_sound v.0 (is_init d.source) d.source.tree none d.is.0 d.is.1.0 f.function held r e in
       let n = receiver_named w known p.path p is.is_checked f.file v.0 v.1.names source r fine

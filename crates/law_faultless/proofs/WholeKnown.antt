@@ -19,7 +19,7 @@ use Rattle.build_object.specs.Slots.{slots_of}
 use Rattle.build_object.specs.Sources.{IsSourceOf}
 use Rattle.build_object.specs.Statements.{body_lines}
 use Rattle.law_faultless.specs.Stack.{Arity, IsBalanced}
-use Rattle.law_faultless.specs.Questions.{Question, OfInteger, OfText, OfName, OfExport, OfMember, OfDeclared, OfLeft}
+use Rattle.law_faultless.specs.Questions.{TokenQuestion, OfInteger, OfText, OfName, OfExport, OfMember, OfDeclared, OfLeft}
 use Rattle.law_faultless.specs.QuestionAnswers.{IsKnown, IsNamedWith, plain_arity, MeaningIsKnown, NameIsKnown, IsAnswered}
 use Rattle.law_faultless.specs.StatementAsking.{FunctionAsks}
 use Rattle.law_faultless.proofs.FunctionsBalanced.{function_balanced}
@@ -73,7 +73,7 @@ name_answered arity s slots n BrokenType k h = tt
 
 question_answered : (arity : FunctionName → Arity) (p : Package) (files_of : List ℕ → List SourceFile) (file : ℕ) (f : SourceFile) (s : Source) →
     IsSourceOf p files_of file f s → IsSourceFile f → (g : FuncTree) (at : Locals) →
-    IsFunctionIn s.world (is_init f) no_locals f.tree.decls g at → (q : Question) → FunctionAsks s.world at g q → OpenIsKnown arity s (slots_of s.world g) q →
+    IsFunctionIn s.world (is_init f) no_locals f.tree.decls g at → (q : TokenQuestion) → FunctionAsks s.world at g q → OpenIsKnown arity s (slots_of s.world g) q →
     IsAnswered arity s (slots_of s.world g) q
 question_answered arity p files_of file f s is source g at there (OfInteger n) a h = subst (λ z. IsKnown z) (sym (is.number n))
     (integer_asked s.world (is_init f) f g no_locals at n source there a)
@@ -90,7 +90,7 @@ question_answered arity p files_of file f s is source g at there (OfLeft n) a h 
 
 pub whole_balanced : (arity : FunctionName → Arity) (p : Package) (files_of : List ℕ → List SourceFile) (file : ℕ) (f : SourceFile) (s : Source) →
     IsSourceOf p files_of file f s → IsSourceFile f → (g : FuncTree) (at : Locals) →
-    IsFunctionIn s.world (is_init f) no_locals f.tree.decls g at → ((q : Question) → FunctionAsks s.world at g q → OpenIsKnown arity s (slots_of s.world g) q) →
+    IsFunctionIn s.world (is_init f) no_locals f.tree.decls g at → ((q : TokenQuestion) → FunctionAsks s.world at g q → OpenIsKnown arity s (slots_of s.world g) q) →
     IsBalanced arity 0 (body_lines s (slots_of s.world g) (length (result_types g.result)) g.body) 0
 whole_balanced arity p files_of file f s is source g at there settled =
     let typed = function_typed s.world (is_init f) there in

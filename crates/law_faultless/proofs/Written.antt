@@ -14,7 +14,7 @@ use Rattle.go_ast.specs.Tree as tree
 use Rattle.types_expr.specs.Types.{PlainType, Meaning}
 use Rattle.types_expr.specs.World.{World, Locals}
 use Rattle.law_typing.specs.Simple.{LocalIsTyped}
-use Rattle.law_faultless.specs.Questions.{Question, OfInteger, OfText, OfName, OfExport, OfMember, OfDeclared, OfLeft, Asks, for_integer, for_text, for_name}
+use Rattle.law_faultless.specs.Questions.{TokenQuestion, OfInteger, OfText, OfName, OfExport, OfMember, OfDeclared, OfLeft, Asks, for_integer, for_text, for_name}
 use Rattle.law_faultless.specs.Questions.{in_composite, in_paren, in_prefix, in_address, in_chain, in_links, in_binary, in_operands, LinksAsk, for_member}
 use Rattle.law_faultless.specs.Questions.{for_export, behind_selector, in_index, behind_index, in_arguments, behind_call, OperandsAsk, in_operand}
 use Rattle.law_faultless.specs.Questions.{in_later_operand, ArgumentsAsk, in_argument, in_later_argument, LiteralAsks, in_elements, ElementsAsk, for_key}
@@ -41,7 +41,7 @@ holds_right k p [] us h = h
 holds_right k p (t ∷ ts) us h = inr (holds_right k p ts us h)
 
 -- where a literal is asked for, there is its token
-abbrev pub Written : Question → List Token → Type 0
+abbrev pub Written : TokenQuestion → List Token → Type 0
 Written (OfInteger p) ts = Holds kind.Number p ts
 Written (OfText p) ts = Holds kind.Text p ts
 Written (OfName n) ts = Unit {0}
@@ -50,7 +50,7 @@ Written (OfMember n t) ts = Unit {0}
 Written (OfDeclared n) ts = Unit {0}
 Written (OfLeft n) ts = Unit {0}
 
-left : (q : Question) (ts us : List Token) → Written q ts → Written q (ts ++ us)
+left : (q : TokenQuestion) (ts us : List Token) → Written q ts → Written q (ts ++ us)
 left (OfInteger p) ts us h = holds_left kind.Number p ts us h
 left (OfText p) ts us h = holds_left kind.Text p ts us h
 left (OfName n) ts us h = tt
@@ -59,7 +59,7 @@ left (OfMember n t) ts us h = tt
 left (OfDeclared n) ts us h = tt
 left (OfLeft n) ts us h = tt
 
-right : (q : Question) (ts us : List Token) → Written q us → Written q (ts ++ us)
+right : (q : TokenQuestion) (ts us : List Token) → Written q us → Written q (ts ++ us)
 right (OfInteger p) ts us h = holds_right kind.Number p ts us h
 right (OfText p) ts us h = holds_right kind.Text p ts us h
 right (OfName n) ts us h = tt
@@ -68,16 +68,16 @@ right (OfMember n t) ts us h = tt
 right (OfDeclared n) ts us h = tt
 right (OfLeft n) ts us h = tt
 
-later : (q : Question) (t : Token) (ts : List Token) → Written q ts → Written q (t ∷ ts)
+later : (q : TokenQuestion) (t : Token) (ts : List Token) → Written q ts → Written q (t ∷ ts)
 later q t ts h = right q (t ∷ []) ts h
 
-inner : (q : Question) (ts us vs : List Token) → Written q us → Written q (ts ++ (us ++ vs))
+inner : (q : TokenQuestion) (ts us vs : List Token) → Written q us → Written q (ts ++ (us ++ vs))
 inner q ts us vs h = right q ts (us ++ vs) (left q us vs h)
 
 mutual
   unfolding expr_tokens
 
-  expression_written : (w : World) (ls : Locals) {e : ExprTree} {q : Question} → Asks w ls e q → Written q (expr_tokens e)
+  expression_written : (w : World) (ls : Locals) {e : ExprTree} {q : TokenQuestion} → Asks w ls e q → Written q (expr_tokens e)
   expression_written w ls for_integer = inl (refl, refl)
   expression_written w ls for_text = inl (refl, refl)
   expression_written w ls for_name = tt
@@ -92,7 +92,7 @@ mutual
   expression_written w ls (in_binary {e} {rest} {q} a) = left q (expr_tokens e) (operand_tokens rest) (expression_written w ls a)
   expression_written w ls (in_operands {e} {rest} {q} a) = right q (expr_tokens e) (operand_tokens rest) (operands_written w ls a)
 
-  links_written : (w : World) (ls : Locals) {m : Meaning} {links : LinkTrees} {q : Question} → LinksAsk w ls m links q → Written q (link_tokens links)
+  links_written : (w : World) (ls : Locals) {m : Meaning} {links : LinkTrees} {q : TokenQuestion} → LinksAsk w ls m links q → Written q (link_tokens links)
   links_written w ls for_member = tt
   links_written w ls for_export = tt
   links_written w ls (behind_selector {d} {n} {rest} {q = q} s a) =
@@ -110,24 +110,24 @@ mutual
       later q (sign kind.LeftParen o) (argument_tokens xs ++ (sign kind.RightParen c ∷ link_tokens rest))
       (right q (argument_tokens xs) (sign kind.RightParen c ∷ link_tokens rest) (later q (sign kind.RightParen c) (link_tokens rest) (links_written w ls a)))
 
-  operands_written : (w : World) (ls : Locals) {rest : OperandTrees} {q : Question} → OperandsAsk w ls rest q → Written q (operand_tokens rest)
+  operands_written : (w : World) (ls : Locals) {rest : OperandTrees} {q : TokenQuestion} → OperandsAsk w ls rest q → Written q (operand_tokens rest)
   operands_written w ls (in_operand {o} {p} {e} {rest} {q} a) = later q (sign (binary_kind o) p) (expr_tokens e ++ operand_tokens rest)
       (left q (expr_tokens e) (operand_tokens rest) (expression_written w ls a))
   operands_written w ls (in_later_operand {o} {p} {e} {rest} {q} a) = later q (sign (binary_kind o) p) (expr_tokens e ++ operand_tokens rest)
       (right q (expr_tokens e) (operand_tokens rest) (operands_written w ls a))
 
-  arguments_written : (w : World) (ls : Locals) {xs : ArgumentTrees} {q : Question} → ArgumentsAsk w ls xs q → Written q (argument_tokens xs)
+  arguments_written : (w : World) (ls : Locals) {xs : ArgumentTrees} {q : TokenQuestion} → ArgumentsAsk w ls xs q → Written q (argument_tokens xs)
   arguments_written w ls (in_argument {e} {c} {rest} {q} a) = left q (expr_tokens e) (sign_if kind.Comma c ++ argument_tokens rest) (expression_written w ls a)
   arguments_written w ls (in_later_argument {e} {c} {rest} {q} a) =
       right q (expr_tokens e) (sign_if kind.Comma c ++ argument_tokens rest) (right q (sign_if kind.Comma c) (argument_tokens rest) (arguments_written w ls a))
 
-  literal_written : (w : World) (ls : Locals) {l : LiteralTree} {q : Question} → LiteralAsks w ls l q → Written q (literal_tokens l)
+  literal_written : (w : World) (ls : Locals) {l : LiteralTree} {q : TokenQuestion} → LiteralAsks w ls l q → Written q (literal_tokens l)
   literal_written w ls (in_elements {x} {o} {c} {es} {q = q} h a) =
       right q (type_tokens x) (sign kind.LeftBrace o ∷ (element_tokens es ++ (sign kind.RightBrace c ∷ [])))
       (later q (sign kind.LeftBrace o) (element_tokens es ++ (sign kind.RightBrace c ∷ []))
       (left q (element_tokens es) (sign kind.RightBrace c ∷ []) (elements_written w ls a)))
 
-  elements_written : (w : World) (ls : Locals) {t : PlainType} {es : ElementTrees} {q : Question} → ElementsAsk w ls t es q → Written q (element_tokens es)
+  elements_written : (w : World) (ls : Locals) {t : PlainType} {es : ElementTrees} {q : TokenQuestion} → ElementsAsk w ls t es q → Written q (element_tokens es)
   elements_written w ls for_key = tt
   elements_written w ls (in_element {key = key} {e} {c} {rest} {q} a) = inner q (key_tokens key) (expr_tokens e) (sign_if kind.Comma c ++ element_tokens rest)
       (expression_written w ls a)
@@ -137,13 +137,13 @@ mutual
 
 -- statements
 
-any_written : (w : World) (ls : Locals) {is : List (Item ExprTree)} {q : Question} → AnyAsks w ls is q → Written q (exprs_tokens is)
+any_written : (w : World) (ls : Locals) {is : List (Item ExprTree)} {q : TokenQuestion} → AnyAsks w ls is q → Written q (exprs_tokens is)
 unfolding all_tokens
 any_written w ls (this_one {i} {is} {q} a) =
     left q (item_tokens kind.Comma expr_tokens i) (exprs_tokens is) (left q (expr_tokens i.value) (sign_if kind.Comma i.separator) (expression_written w ls a))
 any_written w ls (a_later_one {i} {is} {q} a) = right q (item_tokens kind.Comma expr_tokens i) (exprs_tokens is) (any_written w ls a)
 
-simple_written : (w : World) {before : Locals} {x : SimpleTree} {q : Question} → SimpleAsks w before x q → Written q (simple_tokens x)
+simple_written : (w : World) {before : Locals} {x : SimpleTree} {q : TokenQuestion} → SimpleAsks w before x q → Written q (simple_tokens x)
 unfolding simple_tokens
 simple_written w (in_call {locals} a) = expression_written w locals a
 simple_written w (in_step {locals} {e} {o} {p} {q} a) = left q (expr_tokens e) (sign (step_kind o) p ∷ []) (expression_written w locals a)
@@ -157,20 +157,20 @@ simple_written w (for_left l) = tt
 simple_written w (in_definition {locals} {xs} {ys} {p} {q} a) =
     right q (exprs_tokens xs) (sign kind.Define p ∷ exprs_tokens ys) (later q (sign kind.Define p) (exprs_tokens ys) (any_written w locals a))
 
-optional_written : (w : World) {before : Locals} {x : Option SimpleTree} {q : Question} → AskIfPresent SimpleTree (SimpleAsks w) before x q →
+optional_written : (w : World) {before : Locals} {x : Option SimpleTree} {q : TokenQuestion} → AskIfPresent SimpleTree (SimpleAsks w) before x q →
     Written q (tokens_if simple_tokens x)
 optional_written w (asks_present a) = simple_written w a
 
-condition_written : (w : World) {before : Locals} {x : Option ExprTree} {q : Question} → AskIfPresent ExprTree (Asks w) before x q →
+condition_written : (w : World) {before : Locals} {x : Option ExprTree} {q : TokenQuestion} → AskIfPresent ExprTree (Asks w) before x q →
     Written q (tokens_if expr_tokens x)
 condition_written w (asks_present {before} a) = expression_written w before a
 
-init_written : (w : World) {before : Locals} {x : Option InitTree} {q : Question} → AskIfPresent InitTree (InitAsks w) before x q →
+init_written : (w : World) {before : Locals} {x : Option InitTree} {q : TokenQuestion} → AskIfPresent InitTree (InitAsks w) before x q →
     Written q (tokens_if init_tokens x)
 unfolding init_tokens
 init_written w (asks_present (in_init {i = i} {q} a)) = left q (tokens_if simple_tokens i.simple) (sign kind.Semicolon i.semicolon ∷ []) (optional_written w a)
 
-header_written : (w : World) {before : Locals} {h : ForTree} {q : Question} → HeaderAsks w before h q → Written q (for_tokens h)
+header_written : (w : World) {before : Locals} {h : ForTree} {q : TokenQuestion} → HeaderAsks w before h q → Written q (for_tokens h)
 unfolding for_tokens
 header_written w (in_while {locals} a) = expression_written w locals a
 header_written w (in_first {init = init} {post} {condition} {p} {r} {q} a) =
@@ -186,19 +186,19 @@ header_written w (in_post {init = init} {post} {condition} {p} {r} {q} i c a) =
     (later q (sign kind.Semicolon p) (tokens_if expr_tokens condition ++ rest)
     (right q (tokens_if expr_tokens condition) rest (later q (sign kind.Semicolon r) (tokens_if simple_tokens post) (optional_written w a))))
 
-values_written : (w : World) (ls : Locals) (o : Option (ℕ × List (Item ExprTree))) (v : ℕ × List (Item ExprTree)) (q : Question) → o ≡ Some v →
+values_written : (w : World) (ls : Locals) (o : Option (ℕ × List (Item ExprTree))) (v : ℕ × List (Item ExprTree)) (q : TokenQuestion) → o ≡ Some v →
     AnyAsks w ls v.1 q → Written q (tokens_if (value_tokens expr_tokens) o)
 values_written w ls o v q e a = subst (λ z. Written q (tokens_if (value_tokens expr_tokens) z)) (sym e)
     (later q (sign kind.Assign v.0) (exprs_tokens v.1) (any_written w ls a))
 
-local_written : (w : World) {before : Locals} {l : LocalTree} {q : Question} → LocalAsks w before l q → Written q (local_tokens l)
+local_written : (w : World) {before : Locals} {l : LocalTree} {q : TokenQuestion} → LocalAsks w before l q → Written q (local_tokens l)
 unfolding local_tokens
 local_written w (for_declared d) = tt
 local_written w (in_values {locals} {l} {v} {q} e a) =
     right q (list_tokens kind.Comma ident_tokens l.names) (tokens_if type_tokens l.type_use ++ tokens_if (value_tokens expr_tokens) l.values)
     (right q (tokens_if type_tokens l.type_use) (tokens_if (value_tokens expr_tokens) l.values) (values_written w locals l.values v q e a))
 
-locals_written : (w : World) {before : Locals} {is : List (Item LocalTree)} {q : Question} → AskInTurn LocalTree (LocalIsTyped w) (LocalAsks w) before is q →
+locals_written : (w : World) {before : Locals} {is : List (Item LocalTree)} {q : TokenQuestion} → AskInTurn LocalTree (LocalIsTyped w) (LocalAsks w) before is q →
     Written q (list_tokens kind.Semicolon local_tokens is)
 unfolding all_tokens
 locals_written w (this_item {i = i} {is} {q} a) =
@@ -207,7 +207,7 @@ locals_written w (this_item {i = i} {is} {q} a) =
 locals_written w (later_item {i = i} {is} {q} r a) = right q (item_tokens kind.Semicolon local_tokens i) (list_tokens kind.Semicolon local_tokens is)
     (locals_written w a)
 
-group_written : (w : World) {before : Locals} {g : Group LocalTree} {q : Question} → AskInGroup LocalTree (LocalIsTyped w) (LocalAsks w) before g q →
+group_written : (w : World) {before : Locals} {g : Group LocalTree} {q : TokenQuestion} → AskInGroup LocalTree (LocalIsTyped w) (LocalAsks w) before g q →
     Written q (group_tokens local_tokens g)
 unfolding group_tokens
 group_written w (asks_alone a) = local_written w a
@@ -218,7 +218,7 @@ group_written w (asks_together {o = o} {c} {is} {q} a) =
 mutual
   unfolding statement_tokens
 
-  statement_written : (w : World) (results : List PlainType) {before : Locals} {x : StatementTree} {q : Question} → StatementAsks w results before x q →
+  statement_written : (w : World) (results : List PlainType) {before : Locals} {x : StatementTree} {q : TokenQuestion} → StatementAsks w results before x q →
       Written q (statement_tokens x)
   statement_written w results (in_declaration {p = p} {g} {q} a) = later q (sign kind.Var p) (group_tokens local_tokens g) (group_written w a)
   statement_written w results (in_simple a) = simple_written w a
@@ -230,13 +230,13 @@ mutual
       (right q (for_tokens h) (block_tokens b) (block_written w results a))
   statement_written w results (in_return {before} {p} {es} {q} a) = later q (sign kind.Return p) (exprs_tokens es) (any_written w before a)
 
-  block_written : (w : World) (results : List PlainType) {before : Locals} {x : BlockTree} {q : Question} → BlockAsks w results before x q →
+  block_written : (w : World) (results : List PlainType) {before : Locals} {x : BlockTree} {q : TokenQuestion} → BlockAsks w results before x q →
       Written q (block_tokens x)
   block_written w results (in_block {o = o} {c} {ss} {q} a) =
       later q (sign kind.LeftBrace o) (statements_tokens ss ++ (sign kind.RightBrace c ∷ []))
       (left q (statements_tokens ss) (sign kind.RightBrace c ∷ []) (statements_written w results a))
 
-  statements_written : (w : World) (results : List PlainType) {before : Locals} {x : StatementTrees} {q : Question} → StatementsAsk w results before x q →
+  statements_written : (w : World) (results : List PlainType) {before : Locals} {x : StatementTrees} {q : TokenQuestion} → StatementsAsk w results before x q →
       Written q (statements_tokens x)
   statements_written w results (this_statement {s = s} {p} {rest} {q} a) = left q (statement_tokens s) (sign_if kind.Semicolon p ++ statements_tokens rest)
       (statement_written w results a)
@@ -244,7 +244,7 @@ mutual
       right q (statement_tokens s) (sign_if kind.Semicolon p ++ statements_tokens rest) (right q (sign_if kind.Semicolon p) (statements_tokens rest)
       (statements_written w results a))
 
-  if_written : (w : World) (results : List PlainType) {before : Locals} {x : IfTree} {q : Question} → IfAsks w results before x q → Written q (if_tokens x)
+  if_written : (w : World) (results : List PlainType) {before : Locals} {x : IfTree} {q : TokenQuestion} → IfAsks w results before x q → Written q (if_tokens x)
   if_written w results (before_condition {p = p} {init} {e} {b} {otherwise} {q} a) =
       let rest = expr_tokens e ++ (block_tokens b ++ else_tokens otherwise) in
       later q (sign kind.If p) (tokens_if init_tokens init ++ rest) (left q (tokens_if init_tokens init) rest (init_written w a))
@@ -263,12 +263,12 @@ mutual
       (right q (tokens_if init_tokens init) (expr_tokens e ++ rest) (right q (expr_tokens e) rest
       (right q (block_tokens b) (else_tokens otherwise) (else_written w results a))))
 
-  else_written : (w : World) (results : List PlainType) {before : Locals} {x : ElseTree} {q : Question} → ElseAsks w results before x q →
+  else_written : (w : World) (results : List PlainType) {before : Locals} {x : ElseTree} {q : TokenQuestion} → ElseAsks w results before x q →
       Written q (else_tokens x)
   else_written w results (in_else_if {p = p} {i} {q} a) = later q (sign kind.Else p) (if_tokens i) (if_written w results a)
   else_written w results (in_else {p = p} {b} {q} a) = later q (sign kind.Else p) (block_tokens b) (block_written w results a)
 
-function_written : (w : World) {before : Locals} {f : FuncTree} {q : Question} → FunctionAsks w before f q → Written q (func_tokens f)
+function_written : (w : World) {before : Locals} {f : FuncTree} {q : TokenQuestion} → FunctionAsks w before f q → Written q (func_tokens f)
 unfolding func_tokens
 function_written w (in_body {f = f} {ts} {q} r p rs a) =
     let last = result_tokens f.result ++ block_tokens f.body in
@@ -280,7 +280,7 @@ function_written w (in_body {f = f} {ts} {q} r p rs a) =
     (right q (result_tokens f.result) (block_tokens f.body) (block_written w ts a))))))
 
 declarations_written : (w : World) (is_init : ℕ → Bool) {before at : Locals} {ds : List DeclTree} {f : FuncTree} → IsFunctionIn w is_init before ds f at →
-    (q : Question) → FunctionAsks w at f q → Written q (all_tokens decl_tokens ds)
+    (q : TokenQuestion) → FunctionAsks w at f q → Written q (all_tokens decl_tokens ds)
 unfolding all_tokens decl_tokens
 declarations_written w is_init (this_function {p = p} {c} {f} {ds} t) q a =
     left q (decl_tokens (tree.FuncDecl p f c)) (all_tokens decl_tokens ds)
@@ -288,7 +288,7 @@ declarations_written w is_init (this_function {p = p} {c} {f} {ds} t) q a =
 declarations_written w is_init (later_function {d = d} {ds} r more) q a = right q (decl_tokens d) (all_tokens decl_tokens ds)
     (declarations_written w is_init more q a)
 
-pub file_written : (w : World) (is_init : ℕ → Bool) (t : FileTree) (f : FuncTree) (before at : Locals) (q : Question) →
+pub file_written : (w : World) (is_init : ℕ → Bool) (t : FileTree) (f : FuncTree) (before at : Locals) (q : TokenQuestion) →
     IsFunctionIn w is_init before t.decls f at → FunctionAsks w at f q → Written q (flatten t)
 unfolding flatten
 file_written w is_init t f before at q is a =

@@ -8,7 +8,7 @@ use Rattle.workspace_check.specs.Verdicts.{Verdicts}
 use Rattle.build_object.specs.Lines.{FunctionName}
 use Rattle.build_object.specs.Names.{function_names}
 use Rattle.law_faultless.specs.Stack.{Arity}
-use Rattle.refs_binding.specs.Uses.{IsPackage}
+use Rattle.refs_binding.specs.Uses.{IsCheckedPackage}
 
 -- The number of parameters, where a receiver counts as one more.
 abbrev pub with_receiver : Option ReceiverTree → ℕ → ℕ
@@ -21,5 +21,5 @@ written_arity f = record { parameters = with_receiver f.receiver (length (parame
 
 -- `arity` gives the name of each function of each package of w the arity with which the function is written.
 abbrev pub AreArities : Workspace → Verdicts → (FunctionName → Arity) → Type 0
-AreArities w known arity = (p : Package) → IsPackage w known p → (rank : ℕ) (name : FunctionName) (f : PlacedFunction) →
+AreArities w known arity = (p : Package) → IsCheckedPackage w known p → (rank : ℕ) (name : FunctionName) (f : PlacedFunction) →
     slice_get (function_names p.path p.files) rank ≡ Some name → slice_get (package_functions p) rank ≡ Some f → arity name ≡ written_arity f.function

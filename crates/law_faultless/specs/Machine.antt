@@ -1,6 +1,6 @@
 -- A machine that runs lines, as far as the height of its stack is concerned.
 use Rattle.std.specs.Prelude.{ℕ, suc, ◌≡◌, ◌≤◌, ◌+◌, ◌-◌, List, Some, slice_get}
-use Rattle.build_object.specs.Lines.{FunctionName, Line}
+use Rattle.build_object.specs.Lines.{FunctionName, CodeLine}
 use Rattle.law_faultless.specs.Stack.{Arity, Effect, Works, Calls, Tests, Leads, LeadsBack, Returns, Ends, effect}
 
 -- A line with this effect leads from line i with h values on the stack to line j with k values. A return and an end lead nowhere.
@@ -13,10 +13,10 @@ pub data Steps : Effect → (i h j k : ℕ) → Type 0 where
   leads_back : {n i h : ℕ} → Steps (LeadsBack n) i h (suc i - n) h
 
 -- A run from the first line, with `before` values on the stack, reaches line i with h values.
-pub data Reaches (arity : FunctionName → Arity) (lines : List Line) (before : ℕ) : (i h : ℕ) → Type 0 where
-  begins : Reaches arity lines before 0 before
-  further : {i h j k : ℕ} {l : Line} → Reaches arity lines before i h → slice_get lines i ≡ Some l → Steps (effect arity l) i h j k →
-      Reaches arity lines before j k
+pub data ReachesLine (arity : FunctionName → Arity) (lines : List CodeLine) (before : ℕ) : (i h : ℕ) → Type 0 where
+  begins : ReachesLine arity lines before 0 before
+  further : {i h j k : ℕ} {l : CodeLine} → ReachesLine arity lines before i h → slice_get lines i ≡ Some l → Steps (effect arity l) i h j k →
+      ReachesLine arity lines before j k
 
 -- A stack of h values suits the effect. A line that takes values finds enough of them. A call gives as many as the function has parameters.
 -- A return finds just the results, and the end of a function none.

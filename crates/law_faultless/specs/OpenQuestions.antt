@@ -6,7 +6,7 @@ use Rattle.build_object.specs.Lines.{GlobalName, FunctionName, Plain}
 use Rattle.build_object.specs.Source.{Source}
 use Rattle.build_object.specs.Numbering.{slot_of}
 use Rattle.law_faultless.specs.Stack.{Arity}
-use Rattle.law_faultless.specs.Questions.{Question, OfInteger, OfText, OfName, OfExport, OfMember, OfDeclared, OfLeft}
+use Rattle.law_faultless.specs.Questions.{TokenQuestion, OfInteger, OfText, OfName, OfExport, OfMember, OfDeclared, OfLeft}
 use Rattle.law_faultless.specs.QuestionAnswers.{IsKnown, plain_arity, MemberIsKnown}
 
 -- If the name at token n means a function, its name in objects has the arity of the function. A name never means the results of a call.
@@ -29,7 +29,7 @@ NameIsSettled arity s slots n BrokenFunction = ⊤
 NameIsSettled arity s slots n BrokenType = ⊤
 
 -- The part of the question that the file leaves open has an answer. The file alone answers questions of literals and of declared locals.
-abbrev pub OpenIsKnown : (arity : FunctionName → Arity) → Source → (slots : List ℕ) → Question → Type 0
+abbrev pub OpenIsKnown : (arity : FunctionName → Arity) → Source → (slots : List ℕ) → TokenQuestion → Type 0
 OpenIsKnown arity s slots (OfInteger n) = ⊤
 OpenIsKnown arity s slots (OfText n) = ⊤
 OpenIsKnown arity s slots (OfName n) = NameIsSettled arity s slots n (s.world.bound n)

@@ -7,7 +7,7 @@ use Rattle.build_object.specs.Source.{Source}
 use Rattle.build_object.specs.Numbering.{slot_of}
 use Rattle.build_object.specs.Operands.{plain_function}
 use Rattle.law_faultless.specs.Stack.{Arity}
-use Rattle.law_faultless.specs.Questions.{Question, OfInteger, OfText, OfName, OfExport, OfMember, OfDeclared, OfLeft}
+use Rattle.law_faultless.specs.Questions.{TokenQuestion, OfInteger, OfText, OfName, OfExport, OfMember, OfDeclared, OfLeft}
 
 -- The optional value is there.
 abbrev pub IsKnown : {X : Type 0} → Option X → Type 0
@@ -54,7 +54,7 @@ MemberIsKnown arity s (Some (AMethod m on_pointer signature)) = IsNamedWith arit
 MemberIsKnown arity s (Some (ABrokenMethod m)) = ⊤
 
 -- The question has an answer. `slots` are the tokens at which the parameters and locals of the function are declared.
-abbrev pub IsAnswered : (arity : FunctionName → Arity) → Source → (slots : List ℕ) → Question → Type 0
+abbrev pub IsAnswered : (arity : FunctionName → Arity) → Source → (slots : List ℕ) → TokenQuestion → Type 0
 IsAnswered arity s slots (OfInteger n) = IsKnown (s.number n)
 IsAnswered arity s slots (OfText n) = IsKnown (s.text n)
 IsAnswered arity s slots (OfName n) = NameIsKnown arity s slots n (s.world.bound n)

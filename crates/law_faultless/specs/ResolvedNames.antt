@@ -12,7 +12,7 @@ use Rattle.law_tokens.specs.Roles.{IsOfKind}
 use Rattle.types_expr.specs.Types.{Meaning}
 use Rattle.types_expr.specs.Types.{Package as PackageName}
 use Rattle.types_expr.specs.World.{World, Local, Means}
-use Rattle.law_typing.specs.Names.{IsWhole}
+use Rattle.law_typing.specs.Names.{IsNotBroken}
 
 -- Whether an identifier with this role may declare a local, in the block of a function or inside it.
 abbrev pub may_be_local : Role → Bool
@@ -37,9 +37,9 @@ pub record IsEarlierLocal (w : World) (A : List Site) (n : ℕ) : Type 0 where
 -- A lexical use means something, or is a local that was declared before, and it is no `_`. The selector of a qualified identifier means
 -- something. A left name of `:=` declares a local, or is one that was declared before.
 abbrev pub IsResolved : World → (B : ℕ → Type 0) → List Site → ℕ → Role → Type 0
-IsResolved w B A n Use = (((m : Meaning) × ((w.bound n ≡ Means m) × IsWhole m)) ⊎ IsEarlierLocal w A n) × (B n → ⊥)
+IsResolved w B A n Use = (((m : Meaning) × ((w.bound n ≡ Means m) × IsNotBroken m)) ⊎ IsEarlierLocal w A n) × (B n → ⊥)
 IsResolved w B A n (NotLexical purpose.Selected) = (b : ℕ) → suc (suc b) ≡ n → w.bound b ≡ Means PackageName →
-    (m : Meaning) × ((w.bound n ≡ Means m) × IsWhole m)
+    (m : Meaning) × ((w.bound n ≡ Means m) × IsNotBroken m)
 IsResolved w B A n (LeftName block start) = (w.bound n ≡ Local n) ⊎ IsEarlierLocal w A n
 IsResolved w B A n r = ⊤
 

@@ -1,6 +1,6 @@
 -- The discipline of the stack on which lines of code work: its height at each line.
 use Rattle.std.specs.Prelude.{ℕ, suc, ◌≡◌, ◌≤◌, ◌+◌, ◌-◌, ⊤, List, [], ◌∷◌, length}
-use Rattle.build_object.specs.Lines.{FunctionName, Line, Integer, Text, Truth, Nil, Local, Global, Field, FieldThrough, Index, Load, Negate, Not, Operate}
+use Rattle.build_object.specs.Lines.{FunctionName, CodeLine, Integer, Text, Truth, Nil, Local, Global, Field, FieldThrough, Index, Load, Negate, Not, Operate}
 use Rattle.build_object.specs.Lines.{Duplicate, Pop, JumpUnless, JumpIf, Jump, JumpBack, Call, CallBuiltin, Zero, With, MakeSlice, New, LocalAddress}
 use Rattle.build_object.specs.Lines.{GlobalAddress, FieldAddress, IndexAddress, BlankAddress, Set, Assign, Return, End}
 use Rattle.build_object.specs.Operands.{builtin_results}
@@ -25,7 +25,7 @@ pub data Effect : Type 0 where
   Ends : Effect
 
 -- The effect of each kind of line, where functions have these arities.
-abbrev pub effect : (arity : FunctionName → Arity) → Line → Effect
+abbrev pub effect : (arity : FunctionName → Arity) → CodeLine → Effect
 effect arity (Integer n) = Works 0 1
 effect arity (Text bytes) = Works 0 1
 effect arity (Truth b) = Works 0 1
@@ -78,17 +78,17 @@ Obeys at i (Returns n) = at i ≡ n
 Obeys at i Ends = at i ≡ 0
 
 -- Line i is `l`, and keeps to its effect.
-abbrev pub LineObeys : (arity : FunctionName → Arity) → (at : ℕ → ℕ) → (i : ℕ) → Line → Type 0
+abbrev pub LineObeys : (arity : FunctionName → Arity) → (at : ℕ → ℕ) → (i : ℕ) → CodeLine → Type 0
 LineObeys arity at i l = Obeys at i (effect arity l)
 
 -- Each of these lines keeps to its effect. The first of them is line i.
-abbrev pub LinesObey : (arity : FunctionName → Arity) → (at : ℕ → ℕ) → (i : ℕ) → List Line → Type 0
+abbrev pub LinesObey : (arity : FunctionName → Arity) → (at : ℕ → ℕ) → (i : ℕ) → List CodeLine → Type 0
 LinesObey arity at i [] = ⊤
 LinesObey arity at i (l ∷ ls) = LineObeys arity at i l × LinesObey arity at (suc i) ls
 
 -- The lines are balanced: each line has one height of the stack, by whatever way it is reached. It is `before` at the first line. It is
 -- `after` behind the last line, and wherever a jump leads behind it.
-pub record IsBalanced (arity : FunctionName → Arity) (before : ℕ) (lines : List Line) (after : ℕ) : Type 0 where
+pub record IsBalanced (arity : FunctionName → Arity) (before : ℕ) (lines : List CodeLine) (after : ℕ) : Type 0 where
   pub at : ℕ → ℕ
   pub begins : at 0 ≡ before
   pub runs : LinesObey arity at 0 lines

@@ -1,7 +1,7 @@
 -- Worlds in which nothing is broken.
 use Rattle.std.specs.Prelude.{ℕ, ◌≡◌, true, Some}
 use Rattle.types_expr.specs.declared.symbol.Symbol.{Symbol}
-use Rattle.types_expr.specs.Types.{PlainType, Kind, Value}
+use Rattle.types_expr.specs.Types.{PlainType, ValueKind, Value}
 use Rattle.types_expr.specs.World.{World, Means, BrokenVariable, BrokenFunction, BrokenType, ABrokenMethod}
 use Rattle.law_typing.specs.Operators.{IsUntyped}
 
@@ -12,4 +12,4 @@ pub record IsUnbroken (w : World) : Type 0 where
   pub variables : (n : ℕ) → w.bound n ≡ BrokenVariable → ⊥
   pub functions : (n : ℕ) → w.bound n ≡ BrokenFunction → ⊥
   pub methods : (n : ℕ) (t : PlainType) (s : Symbol) → w.member n t ≡ Some (ABrokenMethod s) → ⊥
-  pub typed : (n : ℕ) (k : Kind) → w.bound n ≡ Means (Value k true) → IsUntyped k → ⊥
+  pub typed : (n : ℕ) (k : ValueKind) → w.bound n ≡ Means (Value k true) → IsUntyped k → ⊥

@@ -6,7 +6,7 @@ use Rattle.types_declared.specs.Package.{Package}
 use Rattle.types_info.specs.Worlds.{IsWorldOf}
 use Rattle.base_files.specs.Workspace.{Workspace}
 use Rattle.workspace_check.specs.Verdicts.{Verdicts}
-use Rattle.refs_binding.specs.Uses.{IsPackage}
+use Rattle.refs_binding.specs.Uses.{IsCheckedPackage}
 
 -- Each file of the package has a world.
 abbrev pub HaveWorlds : Package → Type 0
@@ -14,4 +14,4 @@ HaveWorlds p = (file : ℕ) (s : SourceFile) → slice_get p.files file ≡ Some
 
 -- Each file of each package of the workspace has a world.
 abbrev pub HaveAllWorlds : Workspace → Verdicts → Type 0
-HaveAllWorlds w known = (p : Package) → IsPackage w known p → HaveWorlds p
+HaveAllWorlds w known = (p : Package) → IsCheckedPackage w known p → HaveWorlds p

@@ -15,7 +15,7 @@ ghost use Rattle.build_object.specs.Sources.{IsSourceOf};
 ghost use Rattle.build_object.specs.Statements.{body_lines};
 ghost use Rattle.law_faultless.specs.Stack.{Arity, IsBalanced};
 ghost use Rattle.law_faultless.specs.QuestionAnswers.{IsKnown};
-ghost use Rattle.law_faultless.specs.Questions.{Question, OfInteger, OfText, OfDeclared, OfMember};
+ghost use Rattle.law_faultless.specs.Questions.{TokenQuestion, OfInteger, OfText, OfDeclared, OfMember};
 ghost use Rattle.law_faultless.specs.StatementAsking.{FunctionAsks};
 ghost use Rattle.law_faultless.specs.GlobalMeanings.{MeansGlobal};
 ghost use Rattle.law_faultless.specs.TypedFunctions.{IsFunctionIn};
@@ -60,6 +60,6 @@ pub fn functions_of_files_are_balanced()
     ensures { (arity : FunctionName → Arity) → (p : Package) → (files_of : List ℕ → List SourceFile) → (file : ℕ) → (f : SourceFile) →
         (s : Source) → IsSourceOf p files_of file f s → IsSourceFile f →
         (g : FuncTree) → (at : Locals) → IsFunctionIn s.world (is_init f) no_locals f.tree.decls g at →
-        ((q : Question) → FunctionAsks s.world at g q → OpenIsKnown arity s (slots_of s.world g) q) →
+        ((q : TokenQuestion) → FunctionAsks s.world at g q → OpenIsKnown arity s (slots_of s.world g) q) →
         IsBalanced arity 0 (body_lines s (slots_of s.world g) (length (result_types g.result)) g.body) 0 }
 {}

@@ -11,18 +11,18 @@ ghost use Rattle.types_info.specs.Worlds.{is_init};
 ghost use Rattle.workspace_check.specs.FaultLists.{ListsFaults};
 ghost use Rattle.workspace_check.specs.Verdicts.{Verdicts, AreVerdicts};
 ghost use Rattle.build_object.specs.Lines.{FunctionName};
-ghost use Rattle.build_object.specs.Objects.{Object, Function, FunctionOf};
+ghost use Rattle.build_object.specs.Objects.{Object, ObjectFunction, FunctionOf};
 ghost use Rattle.build_object.specs.Slots.{slots_of};
 ghost use Rattle.build_object.specs.Source.{Source};
 ghost use Rattle.build_object.specs.Sources.{IsSourceOf, IsObjectOf};
 ghost use Rattle.build_object.specs.Statements.{body_lines};
 ghost use Rattle.law_faultless.specs.QuestionAnswers.{IsAnswered};
-ghost use Rattle.law_faultless.specs.Questions.{Question};
+ghost use Rattle.law_faultless.specs.Questions.{TokenQuestion};
 ghost use Rattle.law_faultless.specs.Stack.{Arity, IsBalanced};
 ghost use Rattle.law_faultless.specs.StatementAsking.{FunctionAsks};
 ghost use Rattle.law_faultless.specs.TypedFunctions.{IsFunctionIn};
 ghost use Rattle.law_faultless.specs.OpenQuestions.{OpenIsKnown};
-ghost use Rattle.refs_binding.specs.Uses.{IsPackage};
+ghost use Rattle.refs_binding.specs.Uses.{IsCheckedPackage};
 ghost use Rattle.build_unit.specs.Units.{AreFilesBelow, IsCompiled};
 ghost use Rattle.law_faultless.specs.Arities.{AreArities};
 ghost use Rattle.law_faultless.specs.FileFunctions.{IsFunctionOf};
@@ -39,27 +39,27 @@ pub fn functions_have_arities()
 /// and no name the results of a call.
 pub fn questions_are_settled()
     ensures { (w : Workspace) → ListsFaults w [] → (known : Verdicts) → AreVerdicts w known →
-        (arity : FunctionName → Arity) → AreArities w known arity → (p : Package) → IsPackage w known p →
+        (arity : FunctionName → Arity) → AreArities w known arity → (p : Package) → IsCheckedPackage w known p →
         (files_of : List ℕ → List SourceFile) → AreFilesBelow w p.path files_of →
         (file : ℕ) → (f : SourceFile) → slice_get p.files file ≡ Some f → (s : Source) → IsSourceOf p files_of file f s →
-        (g : FuncTree) → IsFunctionOf f g → (before : Locals) → (q : Question) → FunctionAsks s.world before g q →
+        (g : FuncTree) → IsFunctionOf f g → (before : Locals) → (q : TokenQuestion) → FunctionAsks s.world before g q →
         OpenIsKnown arity s (slots_of s.world g) q }
 {}
 
 /// In a workspace without faults each question of the code of a function is answered. So no line of its code is left out.
 pub fn questions_are_answered()
     ensures { (w : Workspace) → ListsFaults w [] → (known : Verdicts) → AreVerdicts w known →
-        (arity : FunctionName → Arity) → AreArities w known arity → (p : Package) → IsPackage w known p →
+        (arity : FunctionName → Arity) → AreArities w known arity → (p : Package) → IsCheckedPackage w known p →
         (files_of : List ℕ → List SourceFile) → AreFilesBelow w p.path files_of →
         (file : ℕ) → (f : SourceFile) → slice_get p.files file ≡ Some f → (s : Source) → IsSourceOf p files_of file f s →
         (g : FuncTree) → (before : Locals) → IsFunctionIn s.world (is_init f) no_locals f.tree.decls g before →
-        (q : Question) → FunctionAsks s.world before g q → IsAnswered arity s (slots_of s.world g) q }
+        (q : TokenQuestion) → FunctionAsks s.world before g q → IsAnswered arity s (slots_of s.world g) q }
 {}
 
 /// In a workspace without faults the code of each function of each file is balanced.
 pub fn functions_are_balanced()
     ensures { (w : Workspace) → ListsFaults w [] → (known : Verdicts) → AreVerdicts w known →
-        (arity : FunctionName → Arity) → AreArities w known arity → (p : Package) → IsPackage w known p →
+        (arity : FunctionName → Arity) → AreArities w known arity → (p : Package) → IsCheckedPackage w known p →
         (files_of : List ℕ → List SourceFile) → AreFilesBelow w p.path files_of →
         (file : ℕ) → (f : SourceFile) → slice_get p.files file ≡ Some f → (s : Source) → IsSourceOf p files_of file f s →
         (g : FuncTree) → IsFunctionOf f g →
@@ -69,9 +69,9 @@ pub fn functions_are_balanced()
 /// In a workspace without faults the code of each function of an object is balanced.
 pub fn objects_are_balanced()
     ensures { (w : Workspace) → ListsFaults w [] → (known : Verdicts) → AreVerdicts w known →
-        (arity : FunctionName → Arity) → AreArities w known arity → (p : Package) → IsPackage w known p →
+        (arity : FunctionName → Arity) → AreArities w known arity → (p : Package) → IsCheckedPackage w known p →
         (files_of : List ℕ → List SourceFile) → AreFilesBelow w p.path files_of → (o : Object) → IsObjectOf p files_of o →
-        (f : Function) → Contains o.declarations (FunctionOf f) → IsBalanced arity 0 f.code 0 }
+        (f : ObjectFunction) → Contains o.declarations (FunctionOf f) → IsBalanced arity 0 f.code 0 }
 {}
 
 /// In a workspace without faults the code of each function is balanced in the object that a package compiles to. The unit of the package
@@ -79,6 +79,6 @@ pub fn objects_are_balanced()
 pub fn units_are_balanced()
     ensures { (w : Workspace) → ListsFaults w [] → (known : Verdicts) → AreVerdicts w known →
         (arity : FunctionName → Arity) → AreArities w known arity → (p : List ℕ) → Contains (package_paths w) p →
-        (i : ExportData) → (text : List ℕ) → (u : IsCompiled w p i text) → (f : Function) →
+        (i : ExportData) → (text : List ℕ) → (u : IsCompiled w p i text) → (f : ObjectFunction) →
         Contains u.is_object.object.declarations (FunctionOf f) → IsBalanced arity 0 f.code 0 }
 {}

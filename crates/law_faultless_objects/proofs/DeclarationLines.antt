@@ -11,7 +11,7 @@ use Rattle.go_scope.specs.ExpressionSites.{list_sites}
 use Rattle.go_scope.specs.FileSites.{global_name, global_sites, type_spec_sites, spec_sites, decl_sites}
 use Rattle.go_scope.specs.ExpressionSites.{type_sites}
 use Rattle.go_scope.specs.Site.{Site}
-use Rattle.go_scope.specs.Site.{Source as Spelled}
+use Rattle.go_scope.specs.Site.{TokenSpellings as Spelled}
 use Rattle.go_scope.specs.StatementSites.{group_sites, separated_sites}
 use Rattle.types_expr.specs.Types.{PlainType}
 use Rattle.types_expr.specs.World.{World, Locals}
@@ -19,15 +19,15 @@ use Rattle.law_typing.specs.Declarations.{GlobalIsTyped, without_values, with_li
 use Rattle.law_typing.specs.Declarations.{TypeIsTyped, a_definition_of, DeclIsTyped, variables, types}
 use Rattle.law_typing.specs.Declarations.{one_function, DeclsAreTyped, no_decl, also_decl}
 use Rattle.law_typing.specs.Names.{IsType}
-use Rattle.law_typing.specs.Sequences.{Rule, InTurn, no_item, then_item, InGroup, alone, together}
+use Rattle.law_typing.specs.Sequences.{PartRule, InTurn, no_item, then_item, InGroup, alone, together}
 use Rattle.types_declared.specs.Files.{group_items}
 use Rattle.types_declared.specs.Package.{Package, PlacedVariable, placed_type, variables_of, decl_functions}
 use Rattle.types_info.specs.Worlds.{is_init}
 use Rattle.workspace_check.specs.FaultLists.{ListsFaults}
 use Rattle.workspace_check.specs.Verdicts.{Verdicts, AreVerdicts}
-use Rattle.refs_binding.specs.Uses.{IsPackage}
+use Rattle.refs_binding.specs.Uses.{IsCheckedPackage}
 use Rattle.build_object.specs.Lines.{FunctionName}
-use Rattle.build_object.specs.Objects.{Declaration, Initial, type_declarations, definition_of, declared_type, known_variable, first_initial, other_initials}
+use Rattle.build_object.specs.Objects.{ObjectDeclaration, Initial, type_declarations, definition_of, declared_type, known_variable, first_initial, other_initials}
 use Rattle.build_object.specs.Objects.{variable_declarations, literals_of, initials_of, global_variables}
 use Rattle.build_object.specs.Objects.{declared_by, names_behind, declared_in, names_behind_all, others_of}
 use Rattle.build_object.specs.Source.{Source}
@@ -40,12 +40,12 @@ use Rattle.law_faultless_objects.proofs.PrintedTypes.{HasType, found_type, print
 
 -- the parts of a group, in turn
 
-turn_parts : {X : Type 0} (R : Rule X) (P : X → Type 0) → ((before after : Locals) (x : X) → R before x after → P x) → {before after : Locals}
+turn_parts : {X : Type 0} (R : PartRule X) (P : X → Type 0) → ((before after : Locals) (x : X) → R before x after → P x) → {before after : Locals}
     {is : List (Item X)} → InTurn X R before is after → AllByRecursion P (map (λ i. i.value) is)
 turn_parts R P f no_item = tt
 turn_parts R P f (then_item {before} {inside} {i = i} h more) = (f before inside i.value h, turn_parts R P f more)
 
-group_parts : {X : Type 0} (R : Rule X) (P : X → Type 0) → ((before after : Locals) (x : X) → R before x after → P x) → {before after : Locals}
+group_parts : {X : Type 0} (R : PartRule X) (P : X → Type 0) → ((before after : Locals) (x : X) → R before x after → P x) → {before after : Locals}
     {g : Group X} → InGroup X R before g after → AllByRecursion P (group_items g)
 group_parts R P f (alone {before} {after} {x} h) = (f before after x h, tt)
 group_parts R P f (together h) = turn_parts R P f h
@@ -87,7 +87,7 @@ enough file [] (FuncDecl p f c) k h = let e : 0 ≡ 1 + k = h in absurd (omega a
 enough file (name ∷ others) (FuncDecl p f c) k h =
     record { has_name = (name, (others, refl)); left = (let e : suc (length others) ≡ 1 + k = h in omega arith) }
 
-module _ (w : Workspace) (sound : ListsFaults w []) (known : Verdicts) (right : AreVerdicts w known) (p : Package) (is : IsPackage w known p)
+module _ (w : Workspace) (sound : ListsFaults w []) (known : Verdicts) (right : AreVerdicts w known) (p : Package) (is : IsCheckedPackage w known p)
     (files_of : List ℕ → List SourceFile) (below : AreFilesBelow w p.path files_of) (file : ℕ) (f : SourceFile) (at : slice_get p.files file ≡ Some f)
     (s : Source) (source : IsSourceOf p files_of file f s) where
   abbrev v : World
@@ -96,12 +96,12 @@ module _ (w : Workspace) (sound : ListsFaults w []) (known : Verdicts) (right : 
   abbrev code : Spelled
   code = record { rank = file; spell = spelling_of f }
 
-  abbrev Lines : List FunctionName → List Placed → List Declaration → Type 0
+  abbrev Lines : List FunctionName → List Placed → List ObjectDeclaration → Type 0
   Lines names xs lines = HaveLines p files_of names xs lines
 
   -- variables
   names_lined : (x : TypeTree) (t : PlainType) → IsType v x t → (ns : List (Item ℕ)) → AllByRecursion (Kept p file) (list_sites (global_name code) ns) →
-      (values : List (Option Initial)) (names : List FunctionName) (rest : List Placed) (tail : List Declaration) → Lines names rest tail →
+      (values : List (Option Initial)) (names : List FunctionName) (rest : List Placed) (tail : List ObjectDeclaration) → Lines names rest tail →
       Lines names (map OfVariable (map (λ i. record { file = file; name = i.value; type_use = x }) ns) ++ rest)
       (variable_declarations s (Some t) ns values ++ tail)
   unfolding variable_declarations
@@ -116,7 +116,7 @@ module _ (w : Workspace) (sound : ListsFaults w []) (known : Verdicts) (right : 
       (names_lined x t i ns kept.1 (other_initials values) names rest tail h))
 
   global_lined : (g : GlobalTree) → HasType v g.type_use → AllByRecursion (Kept p file) (global_sites code g) → (names : List FunctionName)
-      (rest : List Placed) (tail : List Declaration) → Lines names rest tail →
+      (rest : List Placed) (tail : List ObjectDeclaration) → Lines names rest tail →
       Lines names (map OfVariable (variables_of file g) ++ rest) (global_variables s g ++ tail)
   unfolding global_sites
   global_lined g has kept names rest tail h =
@@ -126,7 +126,7 @@ module _ (w : Workspace) (sound : ListsFaults w []) (known : Verdicts) (right : 
       (names_lined g.type_use has.0 has.1 g.names (all_front (Kept p file) (list_sites (global_name code) g.names) (type_sites code g.type_use) kept)
       values names rest tail h)
 
-  together_lined : (names : List FunctionName) (xs ys rest : List Placed) (ls ms tail : List Declaration) →
+  together_lined : (names : List FunctionName) (xs ys rest : List Placed) (ls ms tail : List ObjectDeclaration) →
       Lines names (xs ++ (ys ++ rest)) (ls ++ (ms ++ tail)) → Lines names ((xs ++ ys) ++ rest) ((ls ++ ms) ++ tail)
   together_lined names xs ys rest ls ms tail h =
       subst (λ z. Lines names z ((ls ++ ms) ++ tail)) (sym (append_assoc xs ys rest))
@@ -134,7 +134,7 @@ module _ (w : Workspace) (sound : ListsFaults w []) (known : Verdicts) (right : 
 
   globals_lined : (gs : List GlobalTree) → AllByRecursion (λ g. HasType v g.type_use) gs →
       AllByRecursion (λ g. AllByRecursion (Kept p file) (global_sites code g)) gs → (names : List FunctionName)
-      (rest : List Placed) (tail : List Declaration) → Lines names rest tail →
+      (rest : List Placed) (tail : List ObjectDeclaration) → Lines names rest tail →
       Lines names (flat_map (λ x. map OfVariable (variables_of file x)) gs ++ rest) (flat_map (global_variables s) gs ++ tail)
   globals_lined [] has kept names rest tail h = h
   globals_lined (g ∷ gs) has kept names rest tail h =
@@ -146,7 +146,7 @@ module _ (w : Workspace) (sound : ListsFaults w []) (known : Verdicts) (right : 
   -- type definitions
   types_lined : (ts : List TypeSpecTree) → AllByRecursion (λ t. BodyIsTyped v t.body) ts →
       AllByRecursion (λ t. AllByRecursion (Kept p file) (type_spec_sites code t)) ts → (names : List FunctionName)
-      (rest : List Placed) (tail : List Declaration) → Lines names rest tail →
+      (rest : List Placed) (tail : List ObjectDeclaration) → Lines names rest tail →
       Lines names (map (λ t. OfType (placed_type file t)) ts ++ rest) (flat_map (declared_type s) ts ++ tail)
   unfolding type_spec_sites
   types_lined [] typed kept names rest tail h = h
@@ -161,7 +161,7 @@ module _ (w : Workspace) (sound : ListsFaults w []) (known : Verdicts) (right : 
 
   -- a declaration
   decl_lined : (d : DeclTree) {before after : Locals} → DeclIsTyped v (is_init f) before d after → AllByRecursion (Kept p file) (decl_sites code d) →
-      (names : List FunctionName) → HasName names d → (rest : List Placed) (tail : List Declaration) → Lines (names_behind names d) rest tail →
+      (names : List FunctionName) → HasName names d → (rest : List Placed) (tail : List ObjectDeclaration) → Lines (names_behind names d) rest tail →
       Lines names (placed_by file d ++ rest) (declared_by s names d ++ tail)
   unfolding decl_sites declared_by
   decl_lined _ (variables {g = g} typed) kept names has rest tail h =
@@ -181,7 +181,7 @@ module _ (w : Workspace) (sound : ListsFaults w []) (known : Verdicts) (right : 
   -- the declarations of a file
   pub decls_lined : (ds : List DeclTree) {before after : Locals} → DeclsAreTyped v (is_init f) before ds after →
       AllByRecursion (Kept p file) (flat_map (decl_sites code) ds) → (names : List FunctionName) (k : ℕ) →
-      length names ≡ length (flat_map (decl_functions file) ds) + k → (rest : List Placed) (tail : List Declaration) →
+      length names ≡ length (flat_map (decl_functions file) ds) + k → (rest : List Placed) (tail : List ObjectDeclaration) →
       Lines (names_behind_all names ds) rest tail → Lines names (flat_map (placed_by file) ds ++ rest) (declared_in s names ds ++ tail)
   unfolding declared_in names_behind_all
   decls_lined _ no_decl kept names k long rest tail h = h

@@ -13,17 +13,17 @@ use Rattle.types_declared.proofs.Binding.{one_first}
 use Rattle.types_declared.specs.Package.{Package}
 use Rattle.workspace_check.specs.FaultLists.{ListsFaults}
 use Rattle.workspace_check.specs.Verdicts.{Verdicts, AreVerdicts}
-use Rattle.refs_binding.specs.Uses.{IsPackage}
+use Rattle.refs_binding.specs.Uses.{IsCheckedPackage}
 use Rattle.build_object.specs.Lines.{GlobalName}
 use Rattle.build_object.specs.Source.{Source}
-use Rattle.build_object.specs.Sources.{IsGlobalAt, IsGlobal, IsSourceOf}
+use Rattle.build_object.specs.Sources.{IsGlobalAt, DenotesGlobal, IsSourceOf}
 use Rattle.build_object.specs.Sources as code
 use Rattle.law_faultless.proofs.MeaningfulNames.{declared_counts}
 use Rattle.law_faultless.proofs.Scoped.{found_first}
 use Rattle.law_faultless.proofs.TypesBound.{Stands}
 use Rattle.law_faultless_objects.specs.Lines.{name_in}
 
-module _ (w : Workspace) (sound : ListsFaults w []) (known : Verdicts) (right : AreVerdicts w known) (p : Package) (is : IsPackage w known p) where
+module _ (w : Workspace) (sound : ListsFaults w []) (known : Verdicts) (right : AreVerdicts w known) (p : Package) (is : IsCheckedPackage w known p) where
   abbrev IsOfPackage : (file n : ℕ) → Type 0
   IsOfPackage file n = Stands p file n (Declaring PackageBlock 0)
 
@@ -56,7 +56,7 @@ module _ (w : Workspace) (sound : ListsFaults w []) (known : Verdicts) (right : 
       })
       (ap block_of role)))
 
-  named_so : (file n : ℕ) → IsOfPackage file n → (o : Option GlobalName) → IsGlobal p file n o → o ≡ Some (name_in p file n)
+  named_so : (file n : ℕ) → IsOfPackage file n → (o : Option GlobalName) → DenotesGlobal p file n o → o ≡ Some (name_in p file n)
   named_so file n there None h = absurd (bound_there file n there h)
   named_so file n there (Some g) h = ap (λ (z : GlobalName). Some z) (only_own file n there g h)
 

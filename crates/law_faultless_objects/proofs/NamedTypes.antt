@@ -22,7 +22,7 @@ use Rattle.workspace_check.specs.Verdicts.{Verdicts, AreVerdicts, IsSeenAs, seen
 use Rattle.workspace_check.proofs.Closed.{to_package}
 use Rattle.workspace_check.proofs.OneList.{checked_package}
 use Rattle.workspace_check.proofs.OnePackage.{one_sources, all_read}
-use Rattle.refs_binding.specs.Uses.{IsPackage}
+use Rattle.refs_binding.specs.Uses.{IsCheckedPackage}
 use Rattle.refs_lookup.proofs.OnePlace.{same_files}
 use Rattle.build_object.specs.Names.{name_of_type, type_name, type_names}
 use Rattle.build_unit.specs.Units.{AreFilesSeen, within, beyond, AreFilesBelow}
@@ -69,7 +69,7 @@ module _ (files_of : List ℕ → List SourceFile) (c : Package) (same : files_o
       let is : Defined (symbol_in c rank) ≡ t = cc in subst (IsTypeNamed files_of) is (definition_named d rank r)
   meaning_named d _ (bound.broken_definition level r broken) t e = let z : ⊥ = cc in absurd z
 
-module _ (w : Workspace) (sound : ListsFaults w []) (known : Verdicts) (right : AreVerdicts w known) (p : Package) (is : IsPackage w known p)
+module _ (w : Workspace) (sound : ListsFaults w []) (known : Verdicts) (right : AreVerdicts w known) (p : Package) (is : IsCheckedPackage w known p)
     (files_of : List ℕ → List SourceFile) (below : AreFilesBelow w p.path files_of) where
   own_files : files_of p.path ≡ p.files
   own_files = files_seen w known p.path p.path (files_of p.path) (below p.path) (itself is.of_workspace) p is.is_checked

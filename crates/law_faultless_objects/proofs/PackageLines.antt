@@ -7,16 +7,16 @@ use Rattle.base_files.specs.Workspace.{Workspace}
 use Rattle.base_lemmas.proofs.EachElement.{all_back}
 use Rattle.go_ast.specs.SourceFile.{SourceFile, spelling_of}
 use Rattle.go_scope.specs.FileSites.{imports_sites, decl_sites, file_sites}
-use Rattle.go_scope.specs.Site.{Source as Spelled}
+use Rattle.go_scope.specs.Site.{TokenSpellings as Spelled}
 use Rattle.law_typing.specs.Declarations.{FileIsTyped, a_file}
 use Rattle.types_declared.specs.Package.{Package, PlacedFunction, functions_in, decl_functions, declared_functions}
 use Rattle.types_info.specs.Worlds.{is_init}
 use Rattle.workspace_check.specs.FaultLists.{ListsFaults}
 use Rattle.workspace_check.specs.Verdicts.{Verdicts, AreVerdicts}
-use Rattle.refs_binding.specs.Uses.{IsPackage}
+use Rattle.refs_binding.specs.Uses.{IsCheckedPackage}
 use Rattle.build_object.specs.Lines.{FunctionName}
 use Rattle.build_object.specs.Names.{functions_behind, function_names, initializers_with}
-use Rattle.build_object.specs.Objects.{Declaration, Object, declared_in, names_behind_all, declared_from}
+use Rattle.build_object.specs.Objects.{ObjectDeclaration, Object, declared_in, names_behind_all, declared_from}
 use Rattle.build_object.specs.Source.{Source}
 use Rattle.build_object.specs.Sources.{IsSourceOf, IsObjectOf}
 use Rattle.build_unit.specs.Units.{AreFilesBelow}
@@ -30,14 +30,14 @@ functions_long : (path : List ℕ) (files : List SourceFile) (k : ℕ) (fs : Lis
 functions_long path files k [] = refl
 functions_long path files k (f ∷ fs) = ap suc (functions_long path files (initializers_with files k f) fs)
 
-module _ (w : Workspace) (sound : ListsFaults w []) (known : Verdicts) (right : AreVerdicts w known) (p : Package) (is : IsPackage w known p)
+module _ (w : Workspace) (sound : ListsFaults w []) (known : Verdicts) (right : AreVerdicts w known) (p : Package) (is : IsCheckedPackage w known p)
     (files_of : List ℕ → List SourceFile) (below : AreFilesBelow w p.path files_of) where
   -- a file of the package with the source of its code
   IsFileAt : ℕ → SourceFile → Source → Type 0
   IsFileAt file f s = (slice_get p.files file ≡ Some f) × IsSourceOf p files_of file f s
 
   file_lined : (file : ℕ) (f : SourceFile) (s : Source) → IsFileAt file f s → FileIsTyped s.world (is_init f) f.tree → (names : List FunctionName) (k : ℕ) →
-      length names ≡ length (flat_map (decl_functions file) f.tree.decls) + k → (rest : List Placed) (tail : List Declaration) →
+      length names ≡ length (flat_map (decl_functions file) f.tree.decls) + k → (rest : List Placed) (tail : List ObjectDeclaration) →
       HaveLines p files_of (names_behind_all names f.tree.decls) rest tail →
       HaveLines p files_of names (flat_map (placed_by file) f.tree.decls ++ rest) (declared_in s names f.tree.decls ++ tail)
   unfolding IsFileAt file_sites

@@ -23,12 +23,12 @@ use Rattle.types_declared.specs.Package.{Package}
 use Rattle.types_info.specs.Worlds.{IsWorldOf}
 use Rattle.workspace_check.specs.FaultLists.{ListsFaults}
 use Rattle.workspace_check.specs.Verdicts.{Verdicts, AreVerdicts}
-use Rattle.refs_binding.specs.Uses.{IsPackage}
+use Rattle.refs_binding.specs.Uses.{IsCheckedPackage}
 use Rattle.build_object.specs.Lines.{FunctionName}
-use Rattle.build_object.specs.Objects.{Definition, SameAs, Fields, definition_of, field_types, written, all_written, receiver_type, received_type, function_of}
+use Rattle.build_object.specs.Objects.{ObjectDefinition, SameAs, Fields, definition_of, field_types, written, all_written, receiver_type, received_type, function_of}
 use Rattle.build_object.specs.Source.{Source}
 use Rattle.build_unit.specs.Units.{AreFilesBelow}
-use Rattle.law_faultless_objects.specs.Lines.{IsTypeNamed, JudgesFile, IsPrinted, ArePrinted, written_fields}
+use Rattle.law_faultless_objects.specs.Lines.{IsTypeNamed, JudgesFile, IsPrinted, AreTypesPrinted, written_fields}
 use Rattle.law_faultless_objects.specs.Lines.{IsDefinedAs, IsReceived, BeginWithReceiver, without, with_one}
 use Rattle.law_faultless_objects.specs.Lines.{HasTypes}
 use Rattle.law_faultless_objects.proofs.NamedTypes.{named_type as name_named, written_named}
@@ -86,7 +86,7 @@ fields_written v (f ∷ fs) =
     ap (λ z. z ++ field_types v fs) (one_each v f.value.type_use f.value.names) ∙ ap (λ z. all_written v xs ++ z) (fields_written v fs) ∙
     sym (written_append v xs (written_fields fs))
 
-module _ (w : Workspace) (sound : ListsFaults w []) (known : Verdicts) (right : AreVerdicts w known) (p : Package) (is : IsPackage w known p)
+module _ (w : Workspace) (sound : ListsFaults w []) (known : Verdicts) (right : AreVerdicts w known) (p : Package) (is : IsCheckedPackage w known p)
     (files_of : List ℕ → List SourceFile) (below : AreFilesBelow w p.path files_of) (file : ℕ) (f : SourceFile) (at : slice_get p.files file ≡ Some f)
     (v : World) (judged : IsWorldOf p file f v) where
   judges : JudgesFile p file v
@@ -100,15 +100,15 @@ module _ (w : Workspace) (sound : ListsFaults w []) (known : Verdicts) (right : 
     named = written_named w sound known right p is files_of below file v judged.names i;
   }
 
-  all_printed : (xs : List TypeTree) → AllByRecursion (HasType v) xs → ArePrinted p files_of file xs (all_written v xs)
+  all_printed : (xs : List TypeTree) → AllByRecursion (HasType v) xs → AreTypesPrinted p files_of file xs (all_written v xs)
   all_printed [] h = tt
   all_printed (x ∷ xs) h =
-      subst (λ z. ArePrinted p files_of file (x ∷ xs) (z ++ all_written v xs)) (sym (written_one v x h.0.0 h.0.1))
+      subst (λ z. AreTypesPrinted p files_of file (x ∷ xs) (z ++ all_written v xs)) (sym (written_one v x h.0.0 h.0.1))
       (printed x h.0.0 h.0.1, all_printed xs h.1)
 
   -- what a type is defined as
   pub record IsKnownAs (b : BodyTree) : Type 0 where
-    pub definition : Definition
+    pub definition : ObjectDefinition
     pub is_known : definition_of v b ≡ Some definition
     pub defines : IsDefinedAs p files_of file b definition
 
@@ -119,7 +119,7 @@ module _ (w : Workspace) (sound : ListsFaults w []) (known : Verdicts) (right : 
   body_known _ (a_struct {is = fs} h) = record {
     definition = Fields (field_types v fs);
     is_known = refl;
-    defines = subst (λ ts. ArePrinted p files_of file (written_fields fs) ts) (sym (fields_written v fs)) (all_printed (written_fields fs) (fields_typed v h));
+    defines = subst (λ ts. AreTypesPrinted p files_of file (written_fields fs) ts) (sym (fields_written v fs)) (all_printed (written_fields fs) (fields_typed v h));
   }
 
   -- the types of a function
@@ -162,6 +162,6 @@ module _ (w : Workspace) (sound : ListsFaults w []) (known : Verdicts) (right : 
         receiver = subst (λ z. BeginWithReceiver p files_of file g.receiver (receiver_type z g.receiver ++ all_written z xs) ts) (sym same)
             (received ts g.receiver other);
         are_parameters = all_printed xs (params_typed v params);
-        are_results = subst (λ z. ArePrinted p files_of file (result_types g.result) (all_written z (result_types g.result))) (sym same)
+        are_results = subst (λ z. AreTypesPrinted p files_of file (result_types g.result) (all_written z (result_types g.result))) (sym same)
             (all_printed (result_types g.result) (results_typed v results));
       }

@@ -15,11 +15,11 @@ use Rattle.types_declared.specs.Package.{Package, PlacedType, PlacedVariable, Pl
 use Rattle.types_info.specs.Worlds.{IsWorldOf}
 use Rattle.workspace_check.specs.FaultLists.{ListsFaults}
 use Rattle.workspace_check.specs.Verdicts.{Verdicts, AreVerdicts}
-use Rattle.refs_binding.specs.Uses.{IsPackage}
+use Rattle.refs_binding.specs.Uses.{IsCheckedPackage}
 use Rattle.build_object.specs.Lines.{GlobalName, FunctionName}
 use Rattle.build_object.specs.Names.{type_name, function_names}
 use Rattle.build_object.specs.ObjectText.{object_text}
-use Rattle.build_object.specs.Objects.{Definition, SameAs, Fields, Declaration, TypeOf, Variable, FunctionOf, Function, Initial, Object}
+use Rattle.build_object.specs.Objects.{ObjectDefinition, SameAs, Fields, ObjectDeclaration, TypeOf, Variable, FunctionOf, ObjectFunction, Initial, Object}
 use Rattle.build_object.specs.Sources.{IsObjectOf, IsObjectText}
 use Rattle.build_unit.specs.Units.{AreFilesBelow}
 use Rattle.law_faultless.specs.QuestionAnswers.{IsKnown}
@@ -69,22 +69,22 @@ pub record IsPrinted (p : Package) (files_of : List ℕ → List SourceFile) (fi
   pub named : IsTypeNamed files_of t
 
 -- The types are those that are written, one for one.
-abbrev pub ArePrinted : Package → (files_of : List ℕ → List SourceFile) → (file : ℕ) → List TypeTree → List PlainType → Type 0
-ArePrinted p files_of file [] [] = ⊤
-ArePrinted p files_of file [] (t ∷ ts) = ⊥
-ArePrinted p files_of file (x ∷ xs) [] = ⊥
-ArePrinted p files_of file (x ∷ xs) (t ∷ ts) = IsPrinted p files_of file x t × ArePrinted p files_of file xs ts
+abbrev pub AreTypesPrinted : Package → (files_of : List ℕ → List SourceFile) → (file : ℕ) → List TypeTree → List PlainType → Type 0
+AreTypesPrinted p files_of file [] [] = ⊤
+AreTypesPrinted p files_of file [] (t ∷ ts) = ⊥
+AreTypesPrinted p files_of file (x ∷ xs) [] = ⊥
+AreTypesPrinted p files_of file (x ∷ xs) (t ∷ ts) = IsPrinted p files_of file x t × AreTypesPrinted p files_of file xs ts
 
 -- The types that fields write, once for each name.
 abbrev pub written_fields : List (Item FieldTree) → List TypeTree
 written_fields fs = flat_map (λ i. map (λ n. i.value.type_use) i.value.names) fs
 
 -- A type with this body is defined as the written type, or as a struct with the written types of its fields.
-abbrev pub IsDefinedAs : Package → (files_of : List ℕ → List SourceFile) → (file : ℕ) → BodyTree → Definition → Type 0
+abbrev pub IsDefinedAs : Package → (files_of : List ℕ → List SourceFile) → (file : ℕ) → BodyTree → ObjectDefinition → Type 0
 IsDefinedAs p files_of file (Other x) (SameAs t) = IsPrinted p files_of file x t
 IsDefinedAs p files_of file (Other x) (Fields ts) = ⊥
 IsDefinedAs p files_of file (Struct k o fs c) (SameAs t) = ⊥
-IsDefinedAs p files_of file (Struct k o fs c) (Fields ts) = ArePrinted p files_of file (written_fields fs) ts
+IsDefinedAs p files_of file (Struct k o fs c) (Fields ts) = AreTypesPrinted p files_of file (written_fields fs) ts
 
 -- `t` is the type of the receiver: the type definition that it names, or a pointer to it where it has a star.
 pub record IsReceived (p : Package) (files_of : List ℕ → List SourceFile) (file : ℕ) (r : ReceiverTree) (t : PlainType) : Type 0 where
@@ -102,11 +102,11 @@ pub data BeginWithReceiver (p : Package) (files_of : List ℕ → List SourceFil
       BeginWithReceiver p files_of file (Some r) (t ∷ ts) ts
 
 -- The line of a function has the types of its receiver, its parameters and its results.
-pub record HasTypes (p : Package) (files_of : List ℕ → List SourceFile) (f : PlacedFunction) (line : Function) : Type 0 where
+pub record HasTypes (p : Package) (files_of : List ℕ → List SourceFile) (f : PlacedFunction) (line : ObjectFunction) : Type 0 where
   pub parameters : List PlainType
   pub receiver : BeginWithReceiver p files_of f.file f.function.receiver line.parameters parameters
-  pub are_parameters : ArePrinted p files_of f.file (parameter_types f.function.params) parameters
-  pub are_results : ArePrinted p files_of f.file (result_types f.function.result) line.results
+  pub are_parameters : AreTypesPrinted p files_of f.file (parameter_types f.function.params) parameters
+  pub are_results : AreTypesPrinted p files_of f.file (result_types f.function.result) line.results
 
 -- Lines
 
@@ -115,15 +115,15 @@ abbrev pub name_in : Package → (file token : ℕ) → GlobalName
 name_in p file token = record { path = p.path; name = spelled p file token }
 
 -- Each definition has its line, in order, and there is no other line. `names` are the names of the functions among them, in order.
-pub data HaveLines (p : Package) (files_of : List ℕ → List SourceFile) : (names : List FunctionName) → List Placed → List Declaration → Type 0 where
+pub data HaveLines (p : Package) (files_of : List ℕ → List SourceFile) : (names : List FunctionName) → List Placed → List ObjectDeclaration → Type 0 where
   none_left : HaveLines p files_of [] [] []
-  type_line : {names : List FunctionName} {t : PlacedType} {xs : List Placed} {definition : Definition} {lines : List Declaration} →
+  type_line : {names : List FunctionName} {t : PlacedType} {xs : List Placed} {definition : ObjectDefinition} {lines : List ObjectDeclaration} →
       IsDefinedAs p files_of t.file t.spec.body definition → HaveLines p files_of names xs lines →
       HaveLines p files_of names (OfType t ∷ xs) (TypeOf (name_in p t.file t.spec.name) definition ∷ lines)
-  variable_line : {names : List FunctionName} {v : PlacedVariable} {xs : List Placed} {t : PlainType} {value : Option Initial} {lines : List Declaration} →
+  variable_line : {names : List FunctionName} {v : PlacedVariable} {xs : List Placed} {t : PlainType} {value : Option Initial} {lines : List ObjectDeclaration} →
       IsPrinted p files_of v.file v.type_use t → HaveLines p files_of names xs lines →
       HaveLines p files_of names (OfVariable v ∷ xs) (Variable (name_in p v.file v.name) t value ∷ lines)
-  function_line : {names : List FunctionName} {f : PlacedFunction} {xs : List Placed} {line : Function} {lines : List Declaration} →
+  function_line : {names : List FunctionName} {f : PlacedFunction} {xs : List Placed} {line : ObjectFunction} {lines : List ObjectDeclaration} →
       HasTypes p files_of f line → HaveLines p files_of names xs lines →
       HaveLines p files_of (line.name ∷ names) (OfFunction f ∷ xs) (FunctionOf line ∷ lines)
 
@@ -133,7 +133,7 @@ HasEachLine p files_of o = HaveLines p files_of (function_names p.path p.files) 
 
 -- In a workspace without faults the object of each package has a line for each definition.
 abbrev pub ObjectsHaveLines : Type 0
-ObjectsHaveLines = (w : Workspace) → ListsFaults w [] → (known : Verdicts) → AreVerdicts w known → (p : Package) → IsPackage w known p →
+ObjectsHaveLines = (w : Workspace) → ListsFaults w [] → (known : Verdicts) → AreVerdicts w known → (p : Package) → IsCheckedPackage w known p →
     (files_of : List ℕ → List SourceFile) → AreFilesBelow w p.path files_of → (o : Object) → IsObjectOf p files_of o → HasEachLine p files_of o
 
 -- The text is that of an object with each line.
@@ -144,5 +144,5 @@ pub record HasEachText (p : Package) (files_of : List ℕ → List SourceFile) (
 
 -- So the text of the object of each package has the text of each line.
 abbrev pub TextsHaveLines : Type 0
-TextsHaveLines = (w : Workspace) → ListsFaults w [] → (known : Verdicts) → AreVerdicts w known → (p : Package) → IsPackage w known p →
+TextsHaveLines = (w : Workspace) → ListsFaults w [] → (known : Verdicts) → AreVerdicts w known → (p : Package) → IsCheckedPackage w known p →
     (files_of : List ℕ → List SourceFile) → AreFilesBelow w p.path files_of → (text : List ℕ) → IsObjectText p files_of text → HasEachText p files_of text

@@ -27,7 +27,7 @@ use Rattle.workspace_check.proofs.OnePackage.{layout_formed}
 use Rattle.workspace_check.proofs.PackageFiles.{at_rank}
 use Rattle.refs_binding.specs.declared.declaration.Declaration.{Declaration}
 use Rattle.refs_binding.specs.declared.declaration.Declaration.TheVariants.{Predeclared, Declared, Field, Method}
-use Rattle.refs_binding.specs.Uses.{IsPackage}
+use Rattle.refs_binding.specs.Uses.{IsCheckedPackage}
 use Rattle.law_faultless.proofs.Declared.{kept, given, old_site, new_site, role_is}
 use Rattle.law_faultless.proofs.DeclaringNames.{Told}
 use Rattle.law_faultless.proofs.FilesDecided.{IsGlobal}
@@ -37,7 +37,7 @@ use Rattle.law_faultless.proofs.Numbers.{OfKind, IsTold, IsKept, universal, plai
 use Rattle.law_faultless.proofs.PackageWorlds.{strings_known, broken_decided}
 use Rattle.refactor_rename.specs.declared.renamed.Literal.{Literal}
 use Rattle.refactor_rename.specs.FileEdits.{IsLiteralAt}
-use Rattle.refactor_rename.specs.Literals.{IsTokenOf, IsUnnamedImport, IsLiteralIn, IsLiteralOf, IsLiteralFound}
+use Rattle.refactor_rename.specs.Literals.{IsTokenOf, IsUnnamedImport, IsPathLiteralIn, IsPathLiteralOf, IsLiteralFound}
 use Rattle.refactor_rename.specs.RenameEdits.{IsSourceIn}
 use Rattle.refactor_rename.proofs.Sources.{one_source}
 
@@ -65,7 +65,7 @@ no_left K G F i (Implied b start) f t e left = true≢false (sym left)
 no_left K G F i Use f t e left = true≢false (sym left)
 no_left K G F i (NotLexical p) f t e left = true≢false (sym left)
 
-module _ (w : Workspace) (sound : ListsFaults w []) (known : Verdicts) (right : AreVerdicts w known) (p : Package) (is : IsPackage w known p) (d : ℕ)
+module _ (w : Workspace) (sound : ListsFaults w []) (known : Verdicts) (right : AreVerdicts w known) (p : Package) (is : IsCheckedPackage w known p) (d : ℕ)
     (lt : d < p.size) (unnamed : IsUnnamedImport p d) where
   left_name_no : is_left_name (p.layout.role d) ≡ true → ⊥
   left_name_no left = by_kind (kept w known p.path p is.is_checked d lt)
@@ -119,7 +119,7 @@ module _ (w : Workspace) (sound : ListsFaults w []) (known : Verdicts) (right : 
 
 module _ (w : Workspace) (sound : ListsFaults w []) (known : Verdicts) (right : AreVerdicts w known) (f : SourceFile) (source : IsSourceIn w known f) (i : ℕ)
     (token : Piece) (at : slice_get (tokens_in f.cut) i ≡ Some token) where
-  in_package : (p : Package) → IsPackage w known p → (d : ℕ) (l : Literal) → IsLiteralIn p d l → l.path ≡ f.path → l.token ≡ i → token.class ≡ Name → ⊥
+  in_package : (p : Package) → IsCheckedPackage w known p → (d : ℕ) (l : Literal) → IsPathLiteralIn p d l → l.path ≡ f.path → l.token ≡ i → token.class ≡ Name → ⊥
   in_package p is d l h path index name = by_file (slice_get p.files (p.layout.place d).file) refl h.2
     where
       by_file : (o : Option SourceFile) → slice_get p.files (p.layout.place d).file ≡ o → IsTokenOf o (p.layout.place d).index l → ⊥
@@ -132,13 +132,13 @@ module _ (w : Workspace) (sound : ListsFaults w []) (known : Verdicts) (right : 
           literal_no_name w sound known right p is d h.0 h.1 f (e ∙ ap (λ (x : SourceFile). Some x) same)
           (ap (λ k. (token_at f.cut k).class) number ∙ ap (λ (x : Piece). x.class) here ∙ name)
 
-  of_declaration : (d : Declaration) (l : Literal) → IsLiteralOf (IsPackage w known) d l → l.path ≡ f.path → l.token ≡ i → token.class ≡ Name → ⊥
+  of_declaration : (d : Declaration) (l : Literal) → IsPathLiteralOf (IsCheckedPackage w known) d l → l.path ≡ f.path → l.token ≡ i → token.class ≡ Name → ⊥
   of_declaration (Predeclared d) l h path index name = h
   of_declaration (Declared q d) l h path index name = in_package h.inside h.is_package d l h.holds path index name
   of_declaration (Field s) l h path index name = h
   of_declaration (Method s) l h path index name = h
 
-  pub found_no_name : (d : Declaration) (o : Option Literal) → IsLiteralFound (IsLiteralOf (IsPackage w known) d) o → IsLiteralAt o f.path i →
+  pub found_no_name : (d : Declaration) (o : Option Literal) → IsLiteralFound (IsPathLiteralOf (IsCheckedPackage w known) d) o → IsLiteralAt o f.path i →
       token.class ≡ Name → ⊥
   found_no_name d None h there name = there
   found_no_name d (Some l) h there name = of_declaration d l h there.0 there.1 name

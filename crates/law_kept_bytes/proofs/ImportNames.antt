@@ -25,7 +25,7 @@ use Rattle.go_ast.specs.SourceFile.{SourceFile, spelling_of, offset_of}
 use Rattle.go_scanner.specs.declared.piece.Class.TheVariants.{Name}
 use Rattle.go_scanner.specs.declared.piece.Piece.{Piece}
 use Rattle.go_scanner.specs.CutText.{tokens_in}
-use Rattle.go_scanner.specs.Spans.{AreInOrder, FollowFrom}
+use Rattle.go_scanner.specs.Spans.{AreTokensInOrder, FollowFrom}
 use Rattle.go_scanner.proofs.SpanLemmas.{tokens_in_order}
 use Rattle.go_scope.proofs.Uniqueness.{same_or_not}
 use Rattle.types_declared.proofs.ByteKeys.{cases_bytes}
@@ -119,7 +119,7 @@ token_within : (f : SourceFile) (token : Piece) (i : ℕ) → slice_get (tokens_
     token.span.end ≤ length f.cut.text
 token_within f token i at follow = ends_within 0 (length f.cut.text) (tokens_in f.cut) follow i token at
 
-module _ (f : SourceFile) (r : Renamed) (edits : List Edit) (are : AreFileEdits f r edits) (in_order : AreInOrder f.cut.text (tokens_in f.cut)) (i : ℕ)
+module _ (f : SourceFile) (r : Renamed) (edits : List Edit) (are : AreFileEdits f r edits) (in_order : AreTokensInOrder f.cut.text (tokens_in f.cut)) (i : ℕ)
     (token : Piece) (at : slice_get (tokens_in f.cut) i ≡ Some token) (no_name : token.class ≡ Name → ⊥) (literal : IsLiteralAt r.literal f.path i)
     (put : List ℕ) (is_put : IsNameBefore f i r.name put) where
   abbrev one : Edit

@@ -15,13 +15,13 @@ use Rattle.base_edits.proofs.Entries.{some_is}
 use Rattle.workspace_snapshot.specs.declared.change.Change.{Change}
 use Rattle.refactor_move.specs.declared.moved.Moved.{Moved}
 use Rattle.refactor_move.specs.Paths.{IsUnder, HasMoved}
-use Rattle.refactor_move.specs.Changes.{AreEditsOf, IsPathAfter}
+use Rattle.refactor_move.specs.Changes.{AreMoveEditsOf, IsPathAfter}
 use Rattle.refactor_move.specs.MoveEdits.{IsMoveOf}
 use Rattle.law_kept_bytes.specs.MovedBytes.{IsPathAfterMove, MovesKeepOtherBytes}
 use Rattle.law_kept_bytes.proofs.FilesKept.{file_there, bytes_stay}
 
 -- the edits of a file are in order
-in_order : (w : Workspace) (known : Verdicts) (m : Moved) (path : List ℕ) (edits : List Edit) → AreEditsOf w known m path edits → AreInOrder 0 edits
+in_order : (w : Workspace) (known : Verdicts) (m : Moved) (path : List ℕ) (edits : List Edit) → AreMoveEditsOf w known m path edits → AreInOrder 0 edits
 in_order w known m path edits are = elim (cases_Bool (is_go path)) [
   | inl go ↦ (are.go go).are.end_by.in_order
   | inr other ↦ subst (AreInOrder 0) (sym (are.other other)) tt

@@ -29,15 +29,15 @@ use Rattle.refs_binding.specs.declared.declaration.Declaration.{Declaration}
 use Rattle.refs_binding.specs.declared.declaration.Declaration.TheVariants.{Predeclared, Declared, Field, Method}
 use Rattle.refs_binding.specs.Binding.{BindsByMember, DeclaresMember, by_member, by_name, declaration_of, field_place}
 use Rattle.refs_binding.specs.DeclaringPlaces.{TokenBegins}
-use Rattle.refs_binding.specs.Identifiers.{BeginsAt, IsName, NameBegins, file_of}
-use Rattle.refs_binding.specs.Uses.{IsPackage, IsBoundTo, IsUseOf}
+use Rattle.refs_binding.specs.Identifiers.{BeginsAt, IsNameToken, NameBegins, file_of}
+use Rattle.refs_binding.specs.Uses.{IsCheckedPackage, IsBoundToDeclaration, IsUseOf}
 use Rattle.refs_binding.proofs.MemberParts.{not_declared}
 use Rattle.refs_binding.proofs.PlaceOrder.{place_is}
 use Rattle.refs_lookup.proofs.Faultless.{no_fault_later}
 use Rattle.refs_lookup.proofs.OneDeclaration.{one_declaration}
 use Rattle.refs_lookup.proofs.OnePlace.{one_begins}
 use Rattle.refs_uses.proofs.NameTokens.{name_at_token}
-use Rattle.refactor_rename.specs.FileEdits.{ReplacesName}
+use Rattle.refactor_rename.specs.FileEdits.{RenamesToken}
 use Rattle.refactor_after.specs.NamesAfter.{HasNameAfter, IsFieldAfter, IsMethodAfter}
 use Rattle.law_renamed_packages.specs.Layouts.{IsToken}
 use Rattle.law_renamed_packages.specs.Renames.{IsPlainRename}
@@ -102,7 +102,7 @@ one_called d name e old a b (gets_name x p) (keeps_name y q) = absurd (y x)
 one_called d name e old a b (keeps_name x p) (gets_name y q) = absurd (x y)
 one_called d name e old a b (keeps_name x p) (keeps_name y q) = p ∙ sym q
 
-named_token : (o : Option Piece) → IsName o → (t : Piece) × ((o ≡ Some t) × (t.class ≡ Name))
+named_token : (o : Option Piece) → IsNameToken o → (t : Piece) × ((o ≡ Some t) × (t.class ≡ Name))
 named_token None h = absurd h
 named_token (Some t) h = (t, (refl, h))
 
@@ -111,7 +111,7 @@ file_at None i path offset h = absurd h
 file_at (Some s) i path offset h = (s, refl)
 
 module _ (w : Workspace) (known : Verdicts) (d : Declaration) (name : List ℕ) (s : FileChanges) (h : IsPlainRename w known d name s) (x : Package)
-    (is : IsPackage w known x) where
+    (is : IsCheckedPackage w known x) where
   abbrev r : Revision
   r = revision_of w s
 
@@ -166,7 +166,7 @@ module _ (w : Workspace) (known : Verdicts) (d : Declaration) (name : List ℕ) 
     )
 
     -- if it is bound to the renamed member, it is replaced
-    bound_replaced : (u : ℕ) → u < x.size → LiesAt x.layout at u → IsBoundTo w known x u d → IsReplaced
+    bound_replaced : (u : ℕ) → u < x.size → LiesAt x.layout at u → IsBoundToDeclaration w known x u d → IsReplaced
     bound_replaced u lt stands bound =
         let t = named_token (slice_get (tokens_in f.cut) i) token.is_name in
         let one : IsUseOf w known d place = record { used_in = x; is_package = is; user = u; begins = begins_at u lt stands; bound = bound } in
@@ -175,7 +175,7 @@ module _ (w : Workspace) (known : Verdicts) (d : Declaration) (name : List ℕ) 
         let here : place ≡ record { path = f.path; offset = t.0.span.start } =
         sym place_here ∙ ap (λ n. record { path = f.path; offset = n }) start in
         let e : Edit = record { span = t.0.span; text = (renamed w known d name s h).name } in
-        let k : ReplacesName f (renamed w known d name s h) i e = record {
+        let k : RenamesToken f (renamed w known d name s h) i e = record {
           token = t.0;
           at = t.1.0;
           is_name = t.1.1;
@@ -190,7 +190,7 @@ module _ (w : Workspace) (known : Verdicts) (d : Declaration) (name : List ℕ) 
 
     -- each identifier there is bound to the member `e`
     abbrev AreBound : Declaration → Type 0
-    AreBound e = (u : ℕ) → u < x.size → LiesAt x.layout at u → (IsBoundTo w known x u e → ⊥) → ⊥
+    AreBound e = (u : ℕ) → u < x.size → LiesAt x.layout at u → (IsBoundToDeclaration w known x u e → ⊥) → ⊥
 
     called_after : (e : Declaration) → IsMember e → AreBound e → IsCalledAfter d name e old (r.called place old)
     called_after e member bound = elim (replaced.replaced_or_not w known d name s h x is at.file f token.of_rank i) [
@@ -203,7 +203,7 @@ module _ (w : Workspace) (known : Verdicts) (d : Declaration) (name : List ℕ) 
       | inr none ↦ keeps_name
           (λ same.
           let u = name_at_token w known x.path x is.is_checked at place named_begins in
-          bound u.0 u.1.0.0.0 u.1.1 (λ b. none (bound_replaced u.0 u.1.0.0.0 u.1.1 (subst (λ k. IsBoundTo w known x u.0 k) same b))))
+          bound u.0 u.1.0.0.0 u.1.1 (λ b. none (bound_replaced u.0 u.1.0.0.0 u.1.1 (subst (λ k. IsBoundToDeclaration w known x u.0 k) same b))))
           (name_kept none)
     ]
 
@@ -215,7 +215,7 @@ module _ (w : Workspace) (known : Verdicts) (d : Declaration) (name : List ℕ) 
       (inr ((λ g inner. no_fault_later w h.rename.sound known h.rename.right x is g (inl inner)), inl k))
 
   field_bound : (rank : ℕ) (f : PlacedField) → slice_get (package_fields x) rank ≡ Some f → (u : ℕ) → u < x.size → LiesAt x.layout (field_place f) u →
-      (IsBoundTo w known x u (Field (symbol_in x rank)) → ⊥) → ⊥
+      (IsBoundToDeclaration w known x u (Field (symbol_in x rank)) → ⊥) → ⊥
   field_bound rank f has u lt stands none =
       no_member_fault (record { file = f.file; token = f.name; kind = kind.Repeated })
       (inl (record {
@@ -240,7 +240,7 @@ module _ (w : Workspace) (known : Verdicts) (d : Declaration) (name : List ℕ) 
       }))
 
   method_bound : (definition rank : ℕ) (m : List ℕ) (f : PlacedFunction) → IsMethodOf x definition m rank f → (u : ℕ) → u < x.size →
-      LiesAt x.layout (function_place f) u → (IsBoundTo w known x u (Method (symbol_in x rank)) → ⊥) → ⊥
+      LiesAt x.layout (function_place f) u → (IsBoundToDeclaration w known x u (Method (symbol_in x rank)) → ⊥) → ⊥
   method_bound definition rank m f own u lt stands none =
       no_member_fault (record { file = f.file; token = f.function.name; kind = kind.Repeated })
       (inr (inl (record {
@@ -263,7 +263,7 @@ module _ (w : Workspace) (known : Verdicts) (d : Declaration) (name : List ℕ) 
 
   -- the name after the change of the member that is named at the position
   after_called : (at : Position) → IsNamedIn x at.file at.index → (e : Declaration) → IsMember e →
-      ((u : ℕ) → u < x.size → LiesAt x.layout at u → (IsBoundTo w known x u e → ⊥) → ⊥) → (m : List ℕ) →
+      ((u : ℕ) → u < x.size → LiesAt x.layout at u → (IsBoundToDeclaration w known x u e → ⊥) → ⊥) → (m : List ℕ) →
       HasNameAfter r x at m ↔ IsCalledAfter d name e (spelled x at.file at.index) m
   after_called at named e member bound m = (
     (λ k.
@@ -355,7 +355,7 @@ module _ (w : Workspace) (known : Verdicts) (d : Declaration) (name : List ℕ) 
           begins = subst (λ o. TokenBegins o i place) (sym f.1) (there.1, there.2);
         }
 
-    member_bound : (e : Declaration) → NamesMember x u e → IsBoundTo w known x u e
+    member_bound : (e : Declaration) → NamesMember x u e → IsBoundToDeclaration w known x u e
     member_bound e n = elim n [ inl b ↦ by_member b | inr b ↦ by_name b ]
 
     names_member : (e : Declaration) → NamesMember x u e → IsMember e
@@ -364,7 +364,7 @@ module _ (w : Workspace) (known : Verdicts) (d : Declaration) (name : List ℕ) 
     identifier_called : (e : Declaration) → NamesMember x u e → IsCalledAfter d name e (spelled_there x u) (r.called place (spelled_there x u))
     identifier_called e n =
         called_after (x.layout.place u) place token_at e (names_member e n)
-        (λ v lt stands none. none (subst (λ k. IsBoundTo w known x k e)
+        (λ v lt stands none. none (subst (λ k. IsBoundToDeclaration w known x k e)
         (sym (one_begins w known x.path x is.is_checked place.path place.offset v u (begins_at (x.layout.place u) place token_at v lt stands) begun))
         (member_bound e n)))
 

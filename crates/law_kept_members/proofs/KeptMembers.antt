@@ -27,7 +27,7 @@ use Rattle.workspace_check.specs.Verdicts.{Verdicts, AreVerdicts}
 use Rattle.refs_binding.specs.declared.declaration.Declaration.{Declaration}
 use Rattle.refs_binding.specs.declared.declaration.Declaration.TheVariants.{Predeclared, Declared, Field, Method}
 use Rattle.refs_binding.specs.Binding.{BindsByMember, DeclaresMember, declaration_of}
-use Rattle.refs_binding.specs.Uses.{IsPackage}
+use Rattle.refs_binding.specs.Uses.{IsCheckedPackage}
 use Rattle.refs_binding.proofs.Units.{one_package}
 use Rattle.refs_lookup.proofs.Faultless.{no_fault_later}
 use Rattle.refactor_after.specs.NamesAfter.{IsFieldAfter, IsMethodAfter}
@@ -35,7 +35,7 @@ use Rattle.refactor_after.specs.MembersAfter.{IsFirstField, IsFirstMethod, HasFi
 use Rattle.refactor_conflict.specs.BoundAfter.{IsBoundByMember}
 use Rattle.law_kept_members.proofs.SeenDefinitions.{definition_at}
 use Rattle.law_kept_members.specs.NamesAfterwards.{spelled_there}
-use Rattle.law_kept_members.specs.Reaching.{Reaches}
+use Rattle.law_kept_members.specs.Reaching.{ReachesPath}
 use Rattle.law_kept_members.proofs.SeenStructs.{IsHome, IsHomeUnder, field_is_written, struct_reached, definition_seen}
 use Rattle.law_kept_members.proofs.UsersReach.{FirstIs, a_field, no_field, first_is, field_there, method_there, owner_reached, struct_reached_by}
 use Rattle.law_kept_members.proofs.SeenStructs.{field_found, world_home, world_definition}
@@ -44,20 +44,20 @@ only_exported : (b c : Bool) → (b || c) ≡ true → c ≡ false → b ≡ tru
 only_exported true c e f = refl
 only_exported false c e f = absurd (true≢false (sym e ∙ f))
 
-owner_home : (w : Workspace) (path : List ℕ) (t : PlainType) (s : Symbol) → owner t ≡ Some s → Reaches w path s.package → IsHome w path t
+owner_home : (w : Workspace) (path : List ℕ) (t : PlainType) (s : Symbol) → owner t ≡ Some s → ReachesPath w path s.package → IsHome w path t
 unfolding owner
 owner_home w path (BasicType b) s e h = tt
-owner_home w path (Defined d) s e h = subst (λ (z : Symbol). Reaches w path z.package) (sym (same_Some d s e)) h
-owner_home w path (Pointer (Defined d)) s e h = subst (λ (z : Symbol). Reaches w path z.package) (sym (same_Some d s e)) h
+owner_home w path (Defined d) s e h = subst (λ (z : Symbol). ReachesPath w path z.package) (sym (same_Some d s e)) h
+owner_home w path (Pointer (Defined d)) s e h = subst (λ (z : Symbol). ReachesPath w path z.package) (sym (same_Some d s e)) h
 owner_home w path (Pointer (BasicType b)) s e h = tt
 owner_home w path (Pointer (Pointer t)) s e h = absurd (none-some s e)
 owner_home w path (Pointer (Slice t)) s e h = absurd (none-some s e)
 owner_home w path (Slice t) s e h = absurd (none-some s e)
 
 module _ (w : Workspace) (sound : ListsFaults w []) (known : Verdicts) (right : AreVerdicts w known) (r : Revision) (m : List ℕ)
-    (Among : List ℕ → Type 0) (closed : (p q : List ℕ) → Among p → Reaches w p q → Among q) where
+    (Among : List ℕ → Type 0) (closed : (p q : List ℕ) → Among p → ReachesPath w p q → Among q) where
   abbrev Known : Package → Type 0
-  Known = IsPackage w known
+  Known = IsCheckedPackage w known
 
   -- In the packages at these paths, what has the name after the change had it before. With a package its paths hold those that it reaches.
   pub record NoneGets : Type 0 where
@@ -130,7 +130,7 @@ module _ (w : Workspace) (sound : ListsFaults w []) (known : Verdicts) (right : 
           path : y.path ≡ st.package
           path = h.has.has.of_path
 
-          reach : Reaches w x.path st.package
+          reach : ReachesPath w x.path st.package
           reach = struct_reached w sound known right x is d st h.underlying
 
           inside : Among y.path
@@ -157,7 +157,7 @@ module _ (w : Workspace) (sound : ListsFaults w []) (known : Verdicts) (right : 
             (let k = subst (IsFoundField i.inside st.rank m) e (i.is_definition.fields m) in
             let home : f.symbol.package ≡ i.inside.path = ap (λ (y : Symbol). y.package) k.1.2 in
             let package_is : f.symbol.package ≡ st.package = home ∙ i.of_path in
-            let reach : Reaches w x.path st.package = struct_reached_by w sound known right x is definitions are m st f e in
+            let reach : ReachesPath w x.path st.package = struct_reached_by w sound known right x is definitions are m st f e in
             let inside : Among i.inside.path = subst Among (sym i.of_path) (closed x.path st.package among reach) in
             record {
               of_struct = st;
@@ -188,7 +188,7 @@ module _ (w : Workspace) (sound : ListsFaults w []) (known : Verdicts) (right : 
             (let k = subst (IsFoundMethod i.inside s.rank m) e (i.is_definition.methods m) in
             let home : f.symbol.package ≡ i.inside.path = ap (λ (y : Symbol). y.package) k.4 in
             let package_is : f.symbol.package ≡ s.package = home ∙ i.of_path in
-            let reach : Reaches w x.path s.package = owner_reached w sound known right x is definitions are m s f e in
+            let reach : ReachesPath w x.path s.package = owner_reached w sound known right x is definitions are m s f e in
             let inside : Among i.inside.path = subst Among (sym i.of_path) (closed x.path s.package among reach) in
             record {
               of_type = s;
@@ -218,24 +218,24 @@ module _ (w : Workspace) (sound : ListsFaults w []) (known : Verdicts) (right : 
       under_of (Pointer t) h = h
       under_of (Slice t) h = h
 
-      struct_home : (u : Underlying) (st : Symbol) → IsHomeUnder w x.path u → struct_of u ≡ Some st → Reaches w x.path st.package
+      struct_home : (u : Underlying) (st : Symbol) → IsHomeUnder w x.path u → struct_of u ≡ Some st → ReachesPath w x.path st.package
       struct_home (Plain b) st h e = absurd (none-some st e)
       struct_home (PointerTo t) st h e = absurd (none-some st e)
       struct_home (SliceOf t) st h e = absurd (none-some st e)
-      struct_home (StructOf s) st h e = subst (λ (z : Symbol). Reaches w x.path z.package) (same_Some s st e) h
+      struct_home (StructOf s) st h e = subst (λ (z : Symbol). ReachesPath w x.path z.package) (same_Some s st e) h
 
-      target_home : (u : Underlying) (st : Symbol) → IsHomeUnder w x.path u → struct_or_target under u ≡ Some st → Reaches w x.path st.package
+      target_home : (u : Underlying) (st : Symbol) → IsHomeUnder w x.path u → struct_or_target under u ≡ Some st → ReachesPath w x.path st.package
       target_home (Plain b) st h e = absurd (none-some st e)
       target_home (PointerTo t) st h e = struct_home (underlying_by under t) st (under_of t h) e
       target_home (SliceOf t) st h e = absurd (none-some st e)
-      target_home (StructOf s) st h e = subst (λ (z : Symbol). Reaches w x.path z.package) (same_Some s st e) h
+      target_home (StructOf s) st h e = subst (λ (z : Symbol). ReachesPath w x.path z.package) (same_Some s st e) h
 
-      owned_struct : (t : PlainType) (st : Symbol) → IsHome w x.path t → field_owner under t ≡ Some st → Reaches w x.path st.package
+      owned_struct : (t : PlainType) (st : Symbol) → IsHome w x.path t → field_owner under t ≡ Some st → ReachesPath w x.path st.package
       unfolding field_owner
       owned_struct t st h e = target_home (underlying_by under t) st (under_of t h) e
 
       -- where no field is selected, none is selected afterwards
-      none_selected : (st : Symbol) → Reaches w x.path st.package → field_of definitions x.path m (Some st) ≡ None → (f : Symbol) →
+      none_selected : (st : Symbol) → ReachesPath w x.path st.package → field_of definitions x.path m (Some st) ≡ None → (f : Symbol) →
           IsFieldOfStruct Known r x.path m (Some st) f → ⊥
       none_selected st reach e f h =
           let same : st ≡ h.of_struct = same_Some st h.of_struct h.is_struct in
@@ -250,7 +250,7 @@ module _ (w : Workspace) (sound : ListsFaults w []) (known : Verdicts) (right : 
           let at : symbol_in y st.rank ≡ st = ap (λ q. record { «package» = q; rank = st.rank }) path in
           let is_definition : IsDefinition y st.rank (definitions st) =
           subst (λ (z : Symbol). IsDefinition y st.rank (definitions z)) at
-          (world_definition w sound known right x is definitions are y also (subst (Reaches w x.path) (sym path) reach) st.rank t.0 t.1) in
+          (world_definition w sound known right x is definitions are y also (subst (ReachesPath w x.path) (sym path) reach) st.rank t.0 t.1) in
           counts y also st.rank f.rank g.0 g.1
           (λ counting. field_found w sound known right y also st.rank (definitions st) is_definition m f.rank g.0 counting
           (λ k there exported home.
@@ -260,7 +260,7 @@ module _ (w : Workspace) (sound : ListsFaults w []) (known : Verdicts) (right : 
           let seen_one : is_seen x.path k.symbol k.exported ≡ true = subst (λ b. is_seen x.path k.symbol b ≡ true) (sym exported) by_package in
           none-some k (sym e ∙ ap (seen_field x.path) there ∙ ap (λ b. if b then Some k else None) seen_one)))
 
-      by_owner : (o : Option Symbol) → ((st : Symbol) → o ≡ Some st → Reaches w x.path st.package) → field_of definitions x.path m o ≡ None →
+      by_owner : (o : Option Symbol) → ((st : Symbol) → o ≡ Some st → ReachesPath w x.path st.package) → field_of definitions x.path m o ≡ None →
           (f : Symbol) → IsFieldOfStruct Known r x.path m o f → ⊥
       by_owner None reach e f h = none-some h.of_struct h.is_struct
       by_owner (Some st) reach e f h = none_selected st (reach st refl) e f h

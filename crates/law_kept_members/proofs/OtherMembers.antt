@@ -13,12 +13,12 @@ use Rattle.refs_binding.specs.declared.declaration.Declaration.{Declaration}
 use Rattle.refs_binding.specs.declared.declaration.Declaration.TheVariants.{Predeclared, Declared, Field, Method}
 use Rattle.refs_binding.specs.Binding.{BindsByMember, DeclaresMember}
 use Rattle.refs_binding.specs.Identifiers.{BeginsAt}
-use Rattle.refs_binding.specs.Uses.{IsPackage}
+use Rattle.refs_binding.specs.Uses.{IsCheckedPackage}
 use Rattle.refactor_after.specs.MembersAfter.{CountsAfter}
 use Rattle.refactor_conflict.specs.BoundAfter.{IsBoundByMember}
 use Rattle.law_renamed_packages.specs.Renames.{IsPlainRename}
 use Rattle.law_kept_members.specs.NamesAfterwards.{IsMember, IsCalledAfter, gets_name, keeps_name, NamesMember, spelled_there}
-use Rattle.law_kept_members.specs.Reaching.{Reaches, home_of}
+use Rattle.law_kept_members.specs.Reaching.{ReachesPath, home_of}
 use Rattle.law_kept_members.proofs.Called.{fields, identifiers, methods, used_is_member, declared_is_member}
 use Rattle.law_kept_members.proofs.KeptMembers.{NoneGets, IsKept, use_stays, name_stays}
 
@@ -34,7 +34,7 @@ module _ (w : Workspace) (known : Verdicts) (d : Declaration) (name : List ℕ) 
 
   -- a name, and packages where no renamed member gets it
 
-  module _ (m : List ℕ) (Among : List ℕ → Type 0) (closed : (p q : List ℕ) → Among p → Reaches w p q → Among q)
+  module _ (m : List ℕ) (Among : List ℕ → Type 0) (closed : (p q : List ℕ) → Among p → ReachesPath w p q → Among q)
       (apart : (e : Declaration) → IsMember e → e ≡ d → Among (home_of e) → m ≡ name → ⊥) where
     -- what is called so afterwards was called so
     was_called : (e : Declaration) → IsMember e → Among (home_of e) → (old : List ℕ) → IsCalledAfter d name e old m → old ≡ m
@@ -96,7 +96,7 @@ module _ (w : Workspace) (known : Verdicts) (d : Declaration) (name : List ℕ) 
 
   -- a use or declaring identifier of another member than what is renamed
 
-  module _ (x : Package) (is : IsPackage w known x) (u : ℕ) (place : Place) (begins : BeginsAt x place.path place.offset u) where
+  module _ (x : Package) (is : IsCheckedPackage w known x) (u : ℕ) (place : Place) (begins : BeginsAt x place.path place.offset u) where
     abbrev m : List ℕ
     m = spelled_there x u
 
@@ -107,22 +107,22 @@ module _ (w : Workspace) (known : Verdicts) (d : Declaration) (name : List ℕ) 
         by_case (gets_name same new) = absurd (apart same)
         by_case (keeps_name away same) = same
 
-    module _ (Among : List ℕ → Type 0) (closed : (p q : List ℕ) → Among p → Reaches w p q → Among q) (among : Among x.path)
+    module _ (Among : List ℕ → Type 0) (closed : (p q : List ℕ) → Among p → ReachesPath w p q → Among q) (among : Among x.path)
         (apart : (e : Declaration) → IsMember e → e ≡ d → Among (home_of e) → m ≡ name → ⊥) (old : Declaration) (away : old ≡ d → ⊥) where
-      pub use_kept : (was : BindsByMember x u old) → IsBoundByMember (IsPackage w known) r place x u old was old
+      pub use_kept : (was : BindsByMember x u old) → IsBoundByMember (IsCheckedPackage w known) r place x u old was old
       use_kept was =
           use_stays w sound known right r m Among closed (none_gets m Among closed apart) x is among u place old was
           (kept m Among closed apart old (used_is_member x u old was) away) refl (called_so old (inl was) away)
 
-      pub name_kept : DeclaresMember x u old → CountsAfter (IsPackage w known) r old
+      pub name_kept : DeclaresMember x u old → CountsAfter (IsCheckedPackage w known) r old
       name_kept declares =
           name_stays w sound known right r m Among closed (none_gets m Among closed apart) x is among u place old declares
           (kept m Among closed apart old (declared_is_member x u old declares) away) refl
 
     -- where no member gets the name
     module _ (free : (e : Declaration) → IsMember e → e ≡ d → m ≡ name → ⊥) (old : Declaration) (away : old ≡ d → ⊥) where
-      pub use_kept_everywhere : (was : BindsByMember x u old) → IsBoundByMember (IsPackage w known) r place x u old was old
+      pub use_kept_everywhere : (was : BindsByMember x u old) → IsBoundByMember (IsCheckedPackage w known) r place x u old was old
       use_kept_everywhere was = use_kept (λ q. ⊤) (λ p q a k. tt) tt (λ e member same a new. free e member same new) old away was
 
-      pub name_kept_everywhere : DeclaresMember x u old → CountsAfter (IsPackage w known) r old
+      pub name_kept_everywhere : DeclaresMember x u old → CountsAfter (IsCheckedPackage w known) r old
       name_kept_everywhere declares = name_kept (λ q. ⊤) (λ p q a k. tt) tt (λ e member same a new. free e member same new) old away declares

@@ -11,7 +11,7 @@ use Rattle.workspace_check.specs.Verdicts.{Verdicts}
 use Rattle.refs_binding.specs.declared.declaration.Declaration.{Declaration}
 use Rattle.refs_binding.specs.declared.declaration.Declaration.TheVariants.{Field, Method}
 use Rattle.refs_binding.specs.DeclaredNames.{HasDeclaredName, HasDeclaredNameIn}
-use Rattle.refs_binding.specs.Uses.{IsPackage}
+use Rattle.refs_binding.specs.Uses.{IsCheckedPackage}
 use Rattle.refactor_after.specs.NamesAfter.{IsFieldAfter, IsMethodAfter}
 use Rattle.refactor_after.proofs.FieldsAfter.{of_one}
 use Rattle.law_renamed_packages.specs.Renames.{IsPlainRename}
@@ -19,8 +19,8 @@ use Rattle.law_kept_members.specs.NamesAfterwards.{IsCalledAfter, gets_name, kee
 use Rattle.law_kept_members.proofs.Called.{fields, methods}
 
 module _ (w : Workspace) (known : Verdicts) (d : Declaration) (name : List ℕ) (s : FileChanges) (h : IsPlainRename w known d name s) (old other : List ℕ)
-    (has : HasDeclaredName (IsPackage w known) d old) (not_old : other ≡ old → ⊥) (not_new : other ≡ name → ⊥) (x : Package)
-    (is : IsPackage w known x) (definition rank : ℕ) where
+    (has : HasDeclaredName (IsCheckedPackage w known) d old) (not_old : other ≡ old → ⊥) (not_new : other ≡ name → ⊥) (x : Package)
+    (is : IsCheckedPackage w known x) (definition rank : ℕ) where
   was_called : (e : Declaration) (was : List ℕ) → IsCalledAfter d name e was other → was ≡ other
   was_called e was (gets_name same new) = absurd (not_new new)
   was_called e was (keeps_name away kept) = sym kept
@@ -30,7 +30,7 @@ module _ (w : Workspace) (known : Verdicts) (d : Declaration) (name : List ℕ) 
   field_apart f own same =
       let e : Declaration = Field (symbol_in x rank) in
       let named : HasDeclaredNameIn x e old =
-      of_one w known x is x.path refl (λ p. HasDeclaredNameIn p e old) (subst (λ k. HasDeclaredName (IsPackage w known) k old) (sym same) has) in
+      of_one w known x is x.path refl (λ p. HasDeclaredNameIn p e old) (subst (λ k. HasDeclaredName (IsCheckedPackage w known) k old) (sym same) has) in
       let c = named.is_at.counts in
       let one : c.field ≡ f = same_Some c.field f (sym c.counting.is_field.has_rank ∙ own.has_rank) in
       let at : spelled x c.field.file c.field.name ≡ old =
@@ -41,7 +41,7 @@ module _ (w : Workspace) (known : Verdicts) (d : Declaration) (name : List ℕ) 
   method_apart f own same =
       let e : Declaration = Method (symbol_in x rank) in
       let named : HasDeclaredNameIn x e old =
-      of_one w known x is x.path refl (λ p. HasDeclaredNameIn p e old) (subst (λ k. HasDeclaredName (IsPackage w known) k old) (sym same) has) in
+      of_one w known x is x.path refl (λ p. HasDeclaredNameIn p e old) (subst (λ k. HasDeclaredName (IsCheckedPackage w known) k old) (sym same) has) in
       let c = named.is_at.counts in
       let one : c.method ≡ f = same_Some c.method f (sym c.counting.is_method.has_rank ∙ own.has_rank) in
       let at : spelled x c.method.file c.method.function.name ≡ old =

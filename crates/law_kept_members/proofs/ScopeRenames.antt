@@ -12,7 +12,7 @@ use Rattle.workspace_check.specs.Verdicts.{Verdicts}
 use Rattle.refs_binding.specs.declared.declaration.Declaration.{Declaration}
 use Rattle.refs_binding.specs.declared.declaration.Declaration.TheVariants.{Predeclared, Declared, Field, Method}
 use Rattle.refs_binding.specs.Identifiers.{BeginsAt}
-use Rattle.refs_binding.specs.Uses.{IsPackage}
+use Rattle.refs_binding.specs.Uses.{IsCheckedPackage}
 use Rattle.refactor_after.specs.NamesAfter.{IsFieldAfter, IsMethodAfter}
 use Rattle.refactor_conflict.specs.Staying.{StaysByMember, StaysByName}
 use Rattle.law_renamed_packages.specs.Renames.{IsPlainRename}
@@ -30,7 +30,7 @@ apart (Field f) path n member same = cc
 apart (Method f) path n member same = cc
 
 module _ (w : Workspace) (known : Verdicts) (path : List ℕ) (n : ℕ) (name : List ℕ) (s : FileChanges) (h : IsPlainRename w known (Declared path n) name s)
-    (x : Package) (is : IsPackage w known x) where
+    (x : Package) (is : IsCheckedPackage w known x) where
   abbrev r : Revision
   r = revision_of w s
 

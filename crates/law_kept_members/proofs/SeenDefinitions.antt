@@ -13,12 +13,12 @@ use Rattle.types_declared.specs.Package.{Package, ExportData, PlacedType, packag
 use Rattle.workspace_check.specs.Verdicts.{Verdicts, AreVerdicts, IsSeenAs, seen, unseen, IsPackageIn}
 use Rattle.workspace_check.proofs.Closed.{to_package}
 use Rattle.workspace_check.proofs.OneVerdict.{right_below, verdict_by}
-use Rattle.refs_binding.specs.Uses.{IsPackage}
+use Rattle.refs_binding.specs.Uses.{IsCheckedPackage}
 
 -- `d` is the type definition of this symbol, in the package of the symbol's path.
 pub record IsDefinedIn (w : Workspace) (known : Verdicts) (s : Symbol) (d : Definition) : Type 0 where
   pub inside : Package
-  pub is_package : IsPackage w known inside
+  pub is_package : IsCheckedPackage w known inside
   pub of_path : inside.path ≡ s.package
   pub is_definition : IsDefinition inside s.rank d
 
@@ -26,14 +26,14 @@ pub record IsDefinedIn (w : Workspace) (known : Verdicts) (s : Symbol) (d : Defi
 abbrev pub IsSeenOrNone : Workspace → Verdicts → Symbol → Definition → Type 0
 IsSeenOrNone w known s d = IsDefinedIn w known s d ⊎ (d ≡ no_definition s)
 
-module _ (w : Workspace) (known : Verdicts) (right : AreVerdicts w known) (p : Package) (is : IsPackage w known p) (definitions : Symbol → Definition)
+module _ (w : Workspace) (known : Verdicts) (right : AreVerdicts w known) (p : Package) (is : IsCheckedPackage w known p) (definitions : Symbol → Definition)
     (are : AreDefinitions p definitions) where
   own : (rank : ℕ) (o : Option PlacedType) → slice_get (package_types p) rank ≡ o →
       IsSeenOrNone w known (symbol_in p rank) (definitions (symbol_in p rank))
   own rank None at = inr (are.beyond rank at)
   own rank (Some d) at = inl (record { inside = p; is_package = is; of_path = refl; is_definition = are.own rank d at })
 
-  exported : (c : Package) → IsPackage w known c → (s : Symbol) → c.path ≡ s.package → (i : ExportData) →
+  exported : (c : Package) → IsCheckedPackage w known c → (s : Symbol) → c.path ≡ s.package → (i : ExportData) →
       ((d : PlacedType) → slice_get (package_types c) s.rank ≡ Some d → IsDefinition c s.rank (i.definition s.rank)) →
       (slice_get (package_types c) s.rank ≡ None → i.definition s.rank ≡ no_definition (symbol_in c s.rank)) →
       (o : Option PlacedType) → slice_get (package_types c) s.rank ≡ o → IsSeenOrNone w known s (i.definition s.rank)
@@ -47,7 +47,7 @@ module _ (w : Workspace) (known : Verdicts) (right : AreVerdicts w known) (p : P
       let has = to_package w p.path q on.imported in
       let x = (verdict_by w q known (known q) (right_below w known right q) (right q has)).has_export_data sees in
       let path : x.checked.path ≡ q = ap (λ (c : Package). c.path) x.is_package.is_package.is_package in
-      let also : IsPackage w known x.checked = record {
+      let also : IsCheckedPackage w known x.checked = record {
         of_workspace = subst (Contains (package_paths w)) (sym path) has;
         is_checked = subst (λ k. IsPackageIn w known k x.checked) (sym path) x.is_package;
       } in

@@ -31,11 +31,11 @@ use Rattle.workspace_check.proofs.Closed.{to_package}
 use Rattle.workspace_check.proofs.OneList.{is_faultless}
 use Rattle.workspace_check.proofs.OneVerdict.{one_verdict, right_below, verdict_by}
 use Rattle.workspace_check.proofs.Underway.{builds_then}
-use Rattle.refs_binding.specs.Uses.{IsPackage}
+use Rattle.refs_binding.specs.Uses.{IsCheckedPackage}
 use Rattle.refs_binding.proofs.Units.{one_package}
 use Rattle.law_faultless.proofs.PackageWorlds.{not_broken}
 use Rattle.law_renamed_scopes.proofs.OwnNames.{seen_exports}
-use Rattle.law_kept_members.specs.Reaching.{Reaches}
+use Rattle.law_kept_members.specs.Reaching.{ReachesPath}
 
 -- the type expression of a field is written in the type definition of its struct
 
@@ -158,7 +158,7 @@ sees_by w known p q _ _ (unseen none) on e = absurd (true≢false (sym (none on)
 -- A type of whose definitions each is of a package that the path reaches.
 abbrev pub IsHome : Workspace → List ℕ → PlainType → Type 0
 IsHome w path (BasicType b) = ⊤
-IsHome w path (Defined s) = Reaches w path s.package
+IsHome w path (Defined s) = ReachesPath w path s.package
 IsHome w path (PointerType t) = IsHome w path t
 IsHome w path (SliceType t) = IsHome w path t
 
@@ -167,11 +167,11 @@ abbrev pub IsHomeUnder : Workspace → List ℕ → Underlying → Type 0
 IsHomeUnder w path (Plain b) = ⊤
 IsHomeUnder w path (PointerTo t) = IsHome w path t
 IsHomeUnder w path (SliceOf t) = IsHome w path t
-IsHomeUnder w path (StructOf s) = Reaches w path s.package
+IsHomeUnder w path (StructOf s) = ReachesPath w path s.package
 
 -- what a package below reaches is reached
 module _ (w : Workspace) (path q : List ℕ) (on : BuildsOn w path q) where
-  pub reached_then : (o : List ℕ) → Reaches w q o → Reaches w path o
+  pub reached_then : (o : List ℕ) → ReachesPath w q o → ReachesPath w path o
   reached_then o (inl same) = inr (subst (BuildsOn w path) (sym same) on)
   reached_then o (inr more) = inr (builds_then w path q o on more)
 
@@ -200,7 +200,7 @@ module _ (w : Workspace) (sound : ListsFaults w []) (known : Verdicts) (right : 
   -- The package at a path, and its export data.
   pub record IsThere (q : List ℕ) : Type 0 where
     pub checked : Package
-    pub is_package : IsPackage w known checked
+    pub is_package : IsCheckedPackage w known checked
     pub of_path : checked.path ≡ q
     pub export_data : IsExportData checked (known q).export_data
 
@@ -218,7 +218,7 @@ module _ (w : Workspace) (sound : ListsFaults w []) (known : Verdicts) (right : 
         export_data = v.is_export_data;
       }
 
-  module _ (p : Package) (is : IsPackage w known p) where
+  module _ (p : Package) (is : IsCheckedPackage w known p) where
     -- what the package sees of a path
     pub sight : (q : List ℕ) → (n : Option (List ℕ)) × IsSeenAs w known p.path q n (p.export_data_of q)
     sight q =
@@ -251,15 +251,15 @@ module _ (w : Workspace) (sound : ListsFaults w []) (known : Verdicts) (right : 
 
   -- The underlying type of a type that is at home in the package at the path is at home there.
   abbrev KeepsHome : List ℕ → Type 0
-  KeepsHome path = (p : Package) → IsPackage w known p → p.path ≡ path → (t : PlainType) (u : Underlying) → IsHome w path t → HasUnderlying p t u →
+  KeepsHome path = (p : Package) → IsCheckedPackage w known p → p.path ≡ path → (t : PlainType) (u : Underlying) → IsHome w path t → HasUnderlying p t u →
       IsHomeUnder w path u
 
-  of_definition : (q : List ℕ) → KeepsHome q → (y : Package) → IsPackage w known y → y.path ≡ q → (rank : ℕ) (u : Underlying) →
+  of_definition : (q : List ℕ) → KeepsHome q → (y : Package) → IsCheckedPackage w known y → y.path ≡ q → (rank : ℕ) (u : Underlying) →
       IsUnderlyingOf y rank u → IsHomeUnder w q u
   of_definition q keeps y also path rank _ (has {u = u} h) = keeps y also path (Defined (symbol_in y rank)) u (inl path) h
   of_definition q keeps y also path rank _ (has_none none) = inl path
 
-  module _ (p : Package) (is : IsPackage w known p) (below : (q : List ℕ) → BuildsOn w p.path q → KeepsHome q) where
+  module _ (p : Package) (is : IsCheckedPackage w known p) (below : (q : List ℕ) → BuildsOn w p.path q → KeepsHome q) where
     of_imported : (q : List ℕ) (rank : ℕ) → BuildsOn w p.path q → IsHomeUnder w p.path (((p.export_data_of q).definition rank).underlying)
     of_imported q rank on =
         subst (λ (i : ExportData). IsHomeUnder w p.path ((i.definition rank).underlying)) (sym (sees p is q on))
@@ -293,7 +293,7 @@ module _ (w : Workspace) (sound : ListsFaults w []) (known : Verdicts) (right : 
       (subst (λ k. IsHome w k t) (sym same) home))
 
   -- A field that counts in a package is found in its type definition.
-  pub field_found : (y : Package) → IsPackage w known y → (definition : ℕ) (d : Definition) → IsDefinition y definition d → (name : List ℕ) (rank : ℕ)
+  pub field_found : (y : Package) → IsCheckedPackage w known y → (definition : ℕ) (d : Definition) → IsDefinition y definition d → (name : List ℕ) (rank : ℕ)
       (f : PlacedField) → IsCountingField y definition name rank f →
       ((g : Field) → d.field name ≡ Some g → g.exported ≡ is_exported name → g.symbol.package ≡ y.path → ⊥) → ⊥
   field_found y also definition d is name rank f counts none = by_field (d.field name) refl (is.fields name)
@@ -311,13 +311,13 @@ module _ (w : Workspace) (sound : ListsFaults w []) (known : Verdicts) (right : 
           (by_itself written_there (λ u denotes. never rank f u counts (record { names = denotes; whole = λ n m b. whole n b })))
       by_field (Some g) e found = none g e found.1.3 (ap (λ (z : Symbol). z.package) found.1.2)
 
-  module _ (p : Package) (is : IsPackage w known p) where
-    pub struct_reached : (definition : ℕ) (st : Symbol) → HasUnderlying p (Defined (symbol_in p definition)) (StructOf st) → Reaches w p.path st.package
+  module _ (p : Package) (is : IsCheckedPackage w known p) where
+    pub struct_reached : (definition : ℕ) (st : Symbol) → HasUnderlying p (Defined (symbol_in p definition)) (StructOf st) → ReachesPath w p.path st.package
     struct_reached definition st h =
         keeps_home p.path (known p.path) (right p.path is.of_workspace) p is refl (Defined (symbol_in p definition)) (StructOf st) (inl refl) h
 
     -- The definitions of another package that it builds on are those that it sees.
-    pub definition_seen : (q : List ℕ) → BuildsOn w p.path q → (y : Package) → IsPackage w known y → y.path ≡ q → (rank : ℕ) (d : PlacedType) →
+    pub definition_seen : (q : List ℕ) → BuildsOn w p.path q → (y : Package) → IsCheckedPackage w known y → y.path ≡ q → (rank : ℕ) (d : PlacedType) →
         slice_get (package_types y) rank ≡ Some d → IsDefinition y rank ((p.export_data_of q).definition rank)
     definition_seen q on y also path rank d at =
         let x = there q (to_package w p.path q on.imported) in
@@ -337,7 +337,7 @@ module _ (w : Workspace) (sound : ListsFaults w []) (known : Verdicts) (right : 
               (keeps_home p.path (known p.path) (right p.path is.of_workspace)) p is refl rank (all (symbol_in p rank)).underlying
               (are.own rank d is_there).underlying
 
-      pub world_home : (s : Symbol) → Reaches w p.path s.package → IsHomeUnder w p.path (all s).underlying
+      pub world_home : (s : Symbol) → ReachesPath w p.path s.package → IsHomeUnder w p.path (all s).underlying
       world_home s reach = elim (cases_bytes s.package p.path) [
         | inl same ↦
             (let at : symbol_in p s.rank ≡ s = ap (λ q. record { «package» = q; rank = s.rank }) (sym same) in
@@ -350,7 +350,7 @@ module _ (w : Workspace) (sound : ListsFaults w []) (known : Verdicts) (right : 
       ]
 
       -- So each definition of such a package is that of the world.
-      pub world_definition : (y : Package) → IsPackage w known y → Reaches w p.path y.path → (rank : ℕ) (d : PlacedType) →
+      pub world_definition : (y : Package) → IsCheckedPackage w known y → ReachesPath w p.path y.path → (rank : ℕ) (d : PlacedType) →
           slice_get (package_types y) rank ≡ Some d → IsDefinition y rank (all (symbol_in y rank))
       world_definition y also reach rank d at = elim (cases_bytes y.path p.path) [
         | inl same ↦

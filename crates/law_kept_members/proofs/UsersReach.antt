@@ -16,10 +16,10 @@ use Rattle.workspace_check.specs.Verdicts.{Verdicts, AreVerdicts, BuildsOn, IsSe
 use Rattle.refs_binding.specs.declared.declaration.Declaration.{Declaration}
 use Rattle.refs_binding.specs.declared.declaration.Declaration.TheVariants.{Field, Method}
 use Rattle.refs_binding.specs.Binding.{BindsByMember, declaration_of}
-use Rattle.refs_binding.specs.Uses.{IsPackage}
+use Rattle.refs_binding.specs.Uses.{IsCheckedPackage}
 use Rattle.refs_binding.proofs.MemberParts.{method_declared}
 use Rattle.law_kept_members.proofs.SeenDefinitions.{definition_at}
-use Rattle.law_kept_members.specs.Reaching.{Reaches, home_of, UsersReachMembers}
+use Rattle.law_kept_members.specs.Reaching.{ReachesPath, home_of, UsersReachMembers}
 use Rattle.law_kept_members.proofs.SeenStructs.{sight}
 
 -- a seen member
@@ -66,10 +66,10 @@ field_of_seen : (w : Workspace) (known : Verdicts) (p q : List ℕ) (n : Option 
 field_of_seen w known p q _ _ (seen on sees) rank m f e = on
 field_of_seen w known p q _ _ (unseen none) rank m f e = absurd (none-some f e)
 
-module _ (w : Workspace) (sound : ListsFaults w []) (known : Verdicts) (right : AreVerdicts w known) (x : Package) (is : IsPackage w known x) where
+module _ (w : Workspace) (sound : ListsFaults w []) (known : Verdicts) (right : AreVerdicts w known) (x : Package) (is : IsCheckedPackage w known x) where
   module _ (definitions : Symbol → Definition) (are : AreDefinitions x definitions) (m : List ℕ) where
     -- the type of which a method is selected is at home
-    pub owner_reached : (s : Symbol) (f : TypeMethod) → (definitions s).method m ≡ Some f → Reaches w x.path s.package
+    pub owner_reached : (s : Symbol) (f : TypeMethod) → (definitions s).method m ≡ Some f → ReachesPath w x.path s.package
     owner_reached s f e = elim (cases_bytes s.package x.path) [
       | inl own ↦ inl own
       | inr other ↦
@@ -80,7 +80,7 @@ module _ (w : Workspace) (sound : ListsFaults w []) (known : Verdicts) (right : 
     ]
 
     -- so is the struct of which a field is selected
-    pub struct_reached_by : (st : Symbol) (f : StructField) → (definitions st).field m ≡ Some f → Reaches w x.path st.package
+    pub struct_reached_by : (st : Symbol) (f : StructField) → (definitions st).field m ≡ Some f → ReachesPath w x.path st.package
     struct_reached_by st f e = elim (cases_bytes st.package x.path) [
       | inl own ↦ inl own
       | inr other ↦
@@ -91,47 +91,47 @@ module _ (w : Workspace) (sound : ListsFaults w []) (known : Verdicts) (right : 
     ]
 
     -- so the package reaches that of the field or method
-    field_home : (st : Symbol) (f : StructField) → (definitions st).field m ≡ Some f → Reaches w x.path f.symbol.package
+    field_home : (st : Symbol) (f : StructField) → (definitions st).field m ≡ Some f → ReachesPath w x.path f.symbol.package
     field_home st f e = elim (definition_at w known right x is definitions are st) [
       | inl i ↦
           (let k = subst (IsFoundField i.inside st.rank m) e (i.is_definition.fields m) in
-          subst (Reaches w x.path) (sym (ap (λ (y : Symbol). y.package) k.1.2 ∙ i.of_path)) (struct_reached_by st f e))
+          subst (ReachesPath w x.path) (sym (ap (λ (y : Symbol). y.package) k.1.2 ∙ i.of_path)) (struct_reached_by st f e))
       | inr nothing ↦ absurd (none-some f (sym (ap (λ (d : Definition). d.field m) nothing) ∙ e))
     ]
 
-    method_home : (s : Symbol) (f : TypeMethod) → (definitions s).method m ≡ Some f → Reaches w x.path f.symbol.package
+    method_home : (s : Symbol) (f : TypeMethod) → (definitions s).method m ≡ Some f → ReachesPath w x.path f.symbol.package
     method_home s f e = elim (definition_at w known right x is definitions are s) [
       | inl i ↦
           (let k = subst (IsFoundMethod i.inside s.rank m) e (i.is_definition.methods m) in
-          subst (Reaches w x.path) (sym (ap (λ (y : Symbol). y.package) k.4 ∙ i.of_path)) (owner_reached s f e))
+          subst (ReachesPath w x.path) (sym (ap (λ (y : Symbol). y.package) k.4 ∙ i.of_path)) (owner_reached s f e))
       | inr nothing ↦ absurd (none-some f (sym (ap (λ (d : Definition). d.method m) nothing) ∙ e))
     ]
 
-    field_by : (o : Option Symbol) (f : StructField) → field_of definitions x.path m o ≡ Some f → Reaches w x.path f.symbol.package
+    field_by : (o : Option Symbol) (f : StructField) → field_of definitions x.path m o ≡ Some f → ReachesPath w x.path f.symbol.package
     field_by None f e = absurd (none-some f e)
     field_by (Some st) f e = field_home st f (field_there x.path ((definitions st).field m) f e).0
 
-    method_by : (o : Option Symbol) (f : TypeMethod) → method_of definitions x.path m o ≡ Some f → Reaches w x.path f.symbol.package
+    method_by : (o : Option Symbol) (f : TypeMethod) → method_of definitions x.path m o ≡ Some f → ReachesPath w x.path f.symbol.package
     method_by None f e = absurd (none-some f e)
     method_by (Some s) f e = method_home s f (method_there x.path ((definitions s).method m) f e).0
 
     by_first : (a b : Option Symbol) (found : Member) → FirstIs (field_of definitions x.path m a) (method_of definitions x.path m b) found →
-        Reaches w x.path (home_of (declaration_of found))
-    by_first a b found (a_field f there of) = subst (λ e. Reaches w x.path (home_of e)) (sym of) (field_by a f there)
-    by_first a b found (no_field f none there of) = subst (λ e. Reaches w x.path (home_of e)) (sym of) (method_by b f there)
+        ReachesPath w x.path (home_of (declaration_of found))
+    by_first a b found (a_field f there of) = subst (λ e. ReachesPath w x.path (home_of e)) (sym of) (field_by a f there)
+    by_first a b found (no_field f none there of) = subst (λ e. ReachesPath w x.path (home_of e)) (sym of) (method_by b f there)
 
-    member_home : (t : PlainType) (found : Member) → member_by definitions x.path m t ≡ Some found → Reaches w x.path (home_of (declaration_of found))
+    member_home : (t : PlainType) (found : Member) → member_by definitions x.path m t ≡ Some found → ReachesPath w x.path (home_of (declaration_of found))
     unfolding member_by
     member_home t found e =
         let o = field_owner (λ y. (definitions y).underlying) t in
         by_first o (owner t) found (first_is (field_of definitions x.path m o) (method_of definitions x.path m (owner t)) found e)
 
-  pub reached : (u : ℕ) (e : Declaration) → BindsByMember x u e → Reaches w x.path (home_of e)
+  pub reached : (u : ℕ) (e : Declaration) → BindsByMember x u e → ReachesPath w x.path (home_of e)
   reached u e was =
       let j = was.judged in
       let v = j.judged_by in
       let i = (x.layout.place u).index in
-      subst (λ k. Reaches w x.path (home_of k)) was.declares
+      subst (λ k. ReachesPath w x.path (home_of k)) was.declares
       (member_home v.definitions v.are_definitions (spelling_of j.source i) was.found.before was.member
       (sym (v.member i was.found.before) ∙ was.is_member))
 

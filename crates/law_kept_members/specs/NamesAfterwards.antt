@@ -14,7 +14,7 @@ use Rattle.refs_binding.specs.declared.declaration.Declaration.TheVariants.{Pred
 use Rattle.refs_binding.specs.Binding.{BindsByMember, DeclaresMember}
 use Rattle.refs_binding.specs.DeclaredNames.{HasDeclaredName}
 use Rattle.refs_binding.specs.Identifiers.{BeginsAt}
-use Rattle.refs_binding.specs.Uses.{IsPackage}
+use Rattle.refs_binding.specs.Uses.{IsCheckedPackage}
 use Rattle.refactor_after.specs.NamesAfter.{IsFieldAfter, IsMethodAfter}
 use Rattle.law_renamed_packages.specs.Renames.{IsPlainRename}
 
@@ -45,7 +45,7 @@ NamesMember x u e = BindsByMember x u e ⊎ DeclaresMember x u e
 
 -- An identifier that names a member is spelled afterwards as this member is called.
 abbrev pub MembersAreCalled : Type 0
-MembersAreCalled = OfPlainRenames (λ w known d name s. (x : Package) → IsPackage w known x → (u : ℕ) (place : Place) →
+MembersAreCalled = OfPlainRenames (λ w known d name s. (x : Package) → IsCheckedPackage w known x → (u : ℕ) (place : Place) →
     BeginsAt x place.path place.offset u → (e : Declaration) → NamesMember x u e →
     IsCalledAfter d name e (spelled_there x u) ((revision_of w s).called place (spelled_there x u)))
 
@@ -65,20 +65,20 @@ pub record IsMethodCalled (d : Declaration) (name : List ℕ) (x : Package) (def
 
 -- The fields and methods that have a name after the rename.
 abbrev pub FieldNamesAfter : Type 0
-FieldNamesAfter = OfPlainRenames (λ w known d name s. (x : Package) → IsPackage w known x → (definition : ℕ) (other : List ℕ) (rank : ℕ) →
+FieldNamesAfter = OfPlainRenames (λ w known d name s. (x : Package) → IsCheckedPackage w known x → (definition : ℕ) (other : List ℕ) (rank : ℕ) →
     IsFieldAfter (revision_of w s) x definition other rank ↔ IsFieldCalled d name x definition other rank)
 
 abbrev pub MethodNamesAfter : Type 0
-MethodNamesAfter = OfPlainRenames (λ w known d name s. (x : Package) → IsPackage w known x → (definition : ℕ) (other : List ℕ) (rank : ℕ) →
+MethodNamesAfter = OfPlainRenames (λ w known d name s. (x : Package) → IsCheckedPackage w known x → (definition : ℕ) (other : List ℕ) (rank : ℕ) →
     IsMethodAfter (revision_of w s) x definition other rank ↔ IsMethodCalled d name x definition other rank)
 
 -- So where `other` is neither the old name nor the new one, just those have it that had it.
 abbrev pub OtherFieldNamesStay : Type 0
-OtherFieldNamesStay = OfPlainRenames (λ w known d name s. (old other : List ℕ) → HasDeclaredName (IsPackage w known) d old → (other ≡ old → ⊥) →
-    (other ≡ name → ⊥) → (x : Package) → IsPackage w known x → (definition rank : ℕ) →
+OtherFieldNamesStay = OfPlainRenames (λ w known d name s. (old other : List ℕ) → HasDeclaredName (IsCheckedPackage w known) d old → (other ≡ old → ⊥) →
+    (other ≡ name → ⊥) → (x : Package) → IsCheckedPackage w known x → (definition rank : ℕ) →
     IsFieldAfter (revision_of w s) x definition other rank ↔ ((f : PlacedField) × IsFieldOf x definition other rank f))
 
 abbrev pub OtherMethodNamesStay : Type 0
-OtherMethodNamesStay = OfPlainRenames (λ w known d name s. (old other : List ℕ) → HasDeclaredName (IsPackage w known) d old → (other ≡ old → ⊥) →
-    (other ≡ name → ⊥) → (x : Package) → IsPackage w known x → (definition rank : ℕ) →
+OtherMethodNamesStay = OfPlainRenames (λ w known d name s. (old other : List ℕ) → HasDeclaredName (IsCheckedPackage w known) d old → (other ≡ old → ⊥) →
+    (other ≡ name → ⊥) → (x : Package) → IsCheckedPackage w known x → (definition rank : ℕ) →
     IsMethodAfter (revision_of w s) x definition other rank ↔ ((f : PlacedFunction) × IsMethodOf x definition other rank f))

@@ -12,7 +12,7 @@ use Rattle.workspace_check.specs.Found.{KnowsVerdicts}
 use Rattle.workspace_check.specs.KnownFindings.{IsKnownVerdict}
 use Rattle.workspace_check.specs.Verdicts.{Verdicts, AreVerdicts}
 use Rattle.refs_binding.specs.declared.declaration.Declaration.TheVariants.{Declared}
-use Rattle.refs_binding.specs.Uses.{IsPackage}
+use Rattle.refs_binding.specs.Uses.{IsCheckedPackage}
 use Rattle.refactor_conflict.specs.Staying.{NoneIsLost}
 use Rattle.law_renamed_packages.specs.Renames.{IsPlainRename}
 
@@ -21,7 +21,7 @@ use Rattle.law_renamed_packages.specs.Renames.{IsPlainRename}
 pub record IsKeptLocalRename (w : Workspace) (before : Verdicts) (path : List ℕ) (n : ℕ) (name : List ℕ) (s : FileChanges) : Type 0 where
   pub plain : IsPlainRename w before (Declared path n) name s
   pub kept : NoneIsLost w before (revision_of w s)
-  pub local : (p : Package) → IsPackage w before p → p.path ≡ path → IsPackageLevel p.layout n → ⊥
+  pub local : (p : Package) → IsCheckedPackage w before p → p.path ≡ path → IsPackageLevel p.layout n → ⊥
 
 -- A known verdict on a package is right of the edited workspace too.
 abbrev pub LocalRenamesKeepKnown : Type 0

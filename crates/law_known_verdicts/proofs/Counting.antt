@@ -8,7 +8,7 @@ use Rattle.types_declared.specs.Package.{Package, PlacedFunction}
 use Rattle.types_members.specs.MemberFaults.{IsMemberFault}
 use Rattle.workspace_check.specs.FaultLists.{ListsFaults}
 use Rattle.workspace_check.specs.Verdicts.{Verdicts, AreVerdicts}
-use Rattle.refs_binding.specs.Uses.{IsPackage}
+use Rattle.refs_binding.specs.Uses.{IsCheckedPackage}
 use Rattle.refs_lookup.proofs.Faultless.{no_fault_later}
 
 -- Each field is the first of its name in its struct. No field of the type and no earlier method has a method's name.
@@ -16,7 +16,7 @@ pub record EachMemberCounts (p : Package) : Type 0 where
   pub fields : (d rank : ℕ) (name : List ℕ) (f : PlacedField) → IsFieldOf p d name rank f → IsCountingField p d name rank f
   pub methods : (d rank : ℕ) (name : List ℕ) (f : PlacedFunction) → IsMethodOf p d name rank f → IsCountingMethod p d name rank f
 
-module _ (w : Workspace) (sound : ListsFaults w []) (known : Verdicts) (right : AreVerdicts w known) (p : Package) (is : IsPackage w known p) where
+module _ (w : Workspace) (sound : ListsFaults w []) (known : Verdicts) (right : AreVerdicts w known) (p : Package) (is : IsCheckedPackage w known p) where
   no_member_fault : (f : Fault) → IsMemberFault p f → ⊥
   no_member_fault f fault =
       no_fault_later w sound known right p is f (inr ((λ g inner. no_fault_later w sound known right p is g (inl inner)), inl fault))

@@ -12,7 +12,7 @@ use Rattle.go_ast.specs.Tree.{FileTree}
 use Rattle.go_scope.specs.declared.model.Position.{Position}
 use Rattle.go_scope.specs.Bindings.{Layout}
 use Rattle.types_expr.specs.Judge.{MemberUse}
-use Rattle.types_stmt.specs.Checked.{Checked}
+use Rattle.types_stmt.specs.Checked.{FoundSoFar}
 use Rattle.types_declared.specs.Package.{Package, ExportData}
 use Rattle.types_info.specs.declared.lists.Qualified.{Qualified}
 use Rattle.types_info.specs.MemberUses.{AreUsesIn, AreMemberUses, uses_in}
@@ -27,7 +27,7 @@ use Rattle.workspace_check.proofs.Alike.{fault_as, package_as}
 use Rattle.workspace_check.proofs.OneList.{no_fault}
 use Rattle.workspace_check.proofs.OneVerdict.{one_verdict, right_alike, right_below}
 use Rattle.refs_binding.specs.declared.declaration.Declaration.{Declaration}
-use Rattle.refs_binding.specs.Uses.{IsPackage}
+use Rattle.refs_binding.specs.Uses.{IsCheckedPackage}
 use Rattle.law_faultless.proofs.PackageWorlds.{have_worlds}
 use Rattle.law_same_bindings.specs.SameBindings.{trees_of}
 use Rattle.law_same_bindings.proofs.Alike.{Alike, of_bound, turned, tokens}
@@ -110,7 +110,7 @@ module _ (w : Workspace) (before after : Verdicts) (d : Declaration) (name : Lis
   abbrev IsThere : (p q : Package) → Type 0
   IsThere p q = IsPackageAfter w before after s p q
 
-  package_after : (p : Package) → IsPackage w before p → (q : Package) × IsThere p q
+  package_after : (p : Package) → IsCheckedPackage w before p → (q : Package) × IsThere p q
   package_after p was = moved.package_after w before after d name s h right p was
 
   has_now : (o : List ℕ) → Contains (package_paths w) o → Contains (package_paths x) o
@@ -127,7 +127,7 @@ module _ (w : Workspace) (before after : Verdicts) (d : Declaration) (name : Lis
         judged_by = y.1;
         found =
             a.found
-            ∙ sym (ap (λ (c : Checked). c.uses)
+            ∙ sym (ap (λ (c : FoundSoFar). c.uses)
             (found w before after d name s h.plain h.kept p q there file a.source g.0 a.world y.0 a.in_file g.1 a.judged_by y.1));
       }
 
@@ -140,7 +140,7 @@ module _ (w : Workspace) (before after : Verdicts) (d : Declaration) (name : Lis
     is_before : IsPackageIn w before o c
     is_before = package_as w o known before (right_alike w o known before below (right_below w before was_right o)) c is
 
-    own_package : IsPackage w before c
+    own_package : IsCheckedPackage w before c
     own_package = record {
       of_workspace = subst (Contains (package_paths w)) (sym own_path) has;
       is_checked = subst (λ r. IsPackageIn w before r c) (sym own_path) is_before;

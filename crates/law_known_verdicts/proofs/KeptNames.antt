@@ -25,8 +25,8 @@ use Rattle.refs_binding.specs.Binding.{by_name, field_place}
 use Rattle.refs_binding.specs.declared.declaration.Declaration.{Declaration}
 use Rattle.refs_binding.specs.declared.declaration.Declaration.TheVariants.{Predeclared, Declared, Field, Method}
 use Rattle.refs_binding.specs.DeclaringPlaces.{TokenBegins}
-use Rattle.refs_binding.specs.Identifiers.{IsInFiles, IsName}
-use Rattle.refs_binding.specs.Uses.{IsPackage, IsBoundTo}
+use Rattle.refs_binding.specs.Identifiers.{IsInFiles, IsNameToken}
+use Rattle.refs_binding.specs.Uses.{IsCheckedPackage, IsBoundToDeclaration}
 use Rattle.refs_lookup.proofs.OneDeclaration.{one_declaration}
 use Rattle.refs_places.specs.Outside.{declaring_path}
 use Rattle.law_faultless.proofs.LinksBound.{source_is}
@@ -58,13 +58,13 @@ no_member w before (Field f) name p (inr none) = absurd none
 no_member w before (Method f) name p (inr none) = absurd none
 
 module _ (w : Workspace) (before : Verdicts) (d : Declaration) (name : List ℕ) (s : FileChanges) (h : IsKeptRename w before d name s)
-    (p q : Package) (is : IsPackage w before p) (relaid : IsRelaid (revision_of w s) p q) where
+    (p q : Package) (is : IsCheckedPackage w before p) (relaid : IsRelaid (revision_of w s) p q) where
   -- Nothing that stands at the token is bound to the declaration.
   abbrev IsOtherToken : (file i : ℕ) → Type 0
-  IsOtherToken file i = (v : ℕ) → IsInFiles p v → LiesAt p.layout (record { file = file; index = i }) v → IsBoundTo w before p v d → ⊥
+  IsOtherToken file i = (v : ℕ) → IsInFiles p v → LiesAt p.layout (record { file = file; index = i }) v → IsBoundToDeclaration w before p v d → ⊥
 
   -- such a token is spelled as it was
-  token_kept : (f : SourceFile) (file i : ℕ) (at : slice_get p.files file ≡ Some f) → IsName (slice_get (tokens_in f.cut) i) → IsOtherToken file i →
+  token_kept : (f : SourceFile) (file i : ℕ) (at : slice_get p.files file ≡ Some f) → IsNameToken (slice_get (tokens_in f.cut) i) → IsOtherToken file i →
       spelled q file i ≡ spelled p file i
   token_kept f file i at named other =
       let place : Place = record { path = f.path; offset = offset_of f i } in

@@ -18,7 +18,7 @@ use Rattle.workspace_check.proofs.OnePackage.{one_checked, layout_formed, files_
 use Rattle.workspace_check.proofs.OneVerdict.{one_verdict, right_below, verdict_by}
 use Rattle.workspace_check.proofs.SameImports.{imports_back, builds_by}
 use Rattle.refs_binding.specs.declared.declaration.Declaration.{Declaration}
-use Rattle.refs_binding.specs.Uses.{IsPackage}
+use Rattle.refs_binding.specs.Uses.{IsCheckedPackage}
 use Rattle.law_same_bindings.proofs.Alike.{of_bound}
 use Rattle.law_renamed_packages.specs.Layouts.{AreSoundBelow, IsRelaid}
 use Rattle.law_renamed_packages.specs.MovedExports.{AreMovedBelow}
@@ -40,7 +40,7 @@ known_faultless w sound known right o has =
     (one_verdict w o (known o) (sound.known o) (right o has) (sound.right o has)).faulty ∙ is_faultless w sound o has
 
 -- so a package has the export data of the verdict on it
-pub has_data : (w : Workspace) (sound : ListsFaults w []) (known : Verdicts) → AreVerdicts w known → (p : Package) → IsPackage w known p →
+pub has_data : (w : Workspace) (sound : ListsFaults w []) (known : Verdicts) → AreVerdicts w known → (p : Package) → IsCheckedPackage w known p →
     IsExportData p (known p.path).export_data
 has_data w sound known right p is =
     let by = verdict_by w p.path known (known p.path) (right_below w known right p.path) (right p.path is.of_workspace) in
@@ -75,7 +75,7 @@ module _ (w : Workspace) (before after : Verdicts) (d : Declaration) (name : Lis
   pub has_now : (o : List ℕ) → Contains (package_paths w) o → Contains (package_paths x) o
   has_now o has = subst (λ ps. Contains ps o) same.paths has
 
-  module _ (p : Package) (was : IsPackage w before p) where
+  module _ (p : Package) (was : IsCheckedPackage w before p) where
     has_below : (o : List ℕ) → BuildsOn w p.path o → Contains (package_paths w) o
     has_below o on = to_package w p.path o on.imported
 
@@ -88,7 +88,7 @@ module _ (w : Workspace) (before after : Verdicts) (d : Declaration) (name : Lis
     sound_below : AreSoundBelow w before after p.path
     sound_below = record { faultless = λ o on. (moved_to o on).sound; named = λ o on. (moved_to o on).name }
 
-    relay : (q : Package) × (IsPackage x after q × IsRelaid (revision_of w s) p q)
+    relay : (q : Package) × (IsCheckedPackage x after q × IsRelaid (revision_of w s) p q)
     relay = packages_are w before after d name s h.plain right p was sound_below
 
     abbrev q : Package

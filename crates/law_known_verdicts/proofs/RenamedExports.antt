@@ -15,7 +15,7 @@ use Rattle.types_check.specs.Exports.{IsExport, IsExported}
 use Rattle.workspace_check.specs.Verdicts.{Verdicts}
 use Rattle.workspace_check.proofs.OnePackage.{layout_formed}
 use Rattle.refs_binding.specs.declared.declaration.Declaration.TheVariants.{Declared}
-use Rattle.refs_binding.specs.Uses.{IsPackage}
+use Rattle.refs_binding.specs.Uses.{IsCheckedPackage}
 use Rattle.law_rename.specs.Renaming.{Renames}
 use Rattle.law_same_bindings.proofs.Alike.{Alike, turned}
 use Rattle.law_renamed_packages.specs.Layouts.{IsRelaid}
@@ -32,7 +32,7 @@ found_as p q m n there back None none = λ e x. none e (back e x)
 found_as p q m n there back (Some e) x = there e x
 
 module _ (w : Workspace) (before : Verdicts) (p q : Package) (n : ℕ) (name : List ℕ) (s : FileChanges) (h : IsKeptRename w before (Declared p.path n) name s)
-    (is : IsPackage w before p) (relaid : IsRelaid (revision_of w s) p q) (alike : Alike p q) (level : IsPackageLevel p.layout n)
+    (is : IsCheckedPackage w before p) (relaid : IsRelaid (revision_of w s) p q) (alike : Alike p q) (level : IsPackageLevel p.layout n)
     (was_exported : is_exported (p.names n) ≡ true) where
   abbrev old : List ℕ
   old = p.names n

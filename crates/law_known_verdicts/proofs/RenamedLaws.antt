@@ -16,7 +16,7 @@ use Rattle.workspace_check.proofs.OnePackage.{layout_formed, files_in_order, one
 use Rattle.refs_binding.specs.Binding.{field_place}
 use Rattle.refs_binding.specs.declared.declaration.Declaration.{Declaration}
 use Rattle.refs_binding.specs.declared.declaration.Declaration.TheVariants.{Declared, Field, Method}
-use Rattle.refs_binding.specs.Uses.{IsPackage}
+use Rattle.refs_binding.specs.Uses.{IsCheckedPackage}
 use Rattle.law_same_bindings.proofs.Alike.{Alike, of_bound}
 use Rattle.law_renamed_verdicts.specs.VerdictsStay.{IsPackageAfter}
 use Rattle.law_known_verdicts.specs.KnownVerdicts.{IsKeptRename}
@@ -146,7 +146,7 @@ exports_are_renamed w before after p n name s was h right level was_exported =
 
 -- fields
 
-field_apart : (w : Workspace) (before : Verdicts) (p : Package) (rank : ℕ) (name : List ℕ) (s : FileChanges) → IsPackage w before p →
+field_apart : (w : Workspace) (before : Verdicts) (p : Package) (rank : ℕ) (name : List ℕ) (s : FileChanges) → IsCheckedPackage w before p →
     IsKeptRename w before (Field (symbol_in p rank)) name s → EachMemberCounts p → (owner : ℕ) (old : List ℕ) (f : PlacedField) →
     IsFieldOf p owner old rank f → old ≡ name → ⊥
 field_apart w before p rank name s is h counts owner old f x same =
@@ -170,7 +170,7 @@ fields_are_renamed w before after p rank name s was h right owner old f is =
 
 -- methods
 
-method_apart : (w : Workspace) (before : Verdicts) (p : Package) (rank : ℕ) (name : List ℕ) (s : FileChanges) → IsPackage w before p →
+method_apart : (w : Workspace) (before : Verdicts) (p : Package) (rank : ℕ) (name : List ℕ) (s : FileChanges) → IsCheckedPackage w before p →
     IsKeptRename w before (Method (symbol_in p rank)) name s → EachMemberCounts p → (owner : ℕ) (old : List ℕ) (f : PlacedFunction) →
     IsMethodOf p owner old rank f → old ≡ name → ⊥
 method_apart w before p rank name s is h counts owner old f x same =

@@ -21,8 +21,8 @@ use Rattle.refs_binding.specs.Binding.{DeclaresMember, by_name, field_place}
 use Rattle.refs_binding.specs.declared.declaration.Declaration.{Declaration}
 use Rattle.refs_binding.specs.declared.declaration.Declaration.TheVariants.{Field, Method}
 use Rattle.refs_binding.specs.DeclaringPlaces.{TokenBegins}
-use Rattle.refs_binding.specs.Identifiers.{NameBegins, IsName}
-use Rattle.refs_binding.specs.Uses.{IsPackage, IsBoundTo}
+use Rattle.refs_binding.specs.Identifiers.{NameBegins, IsNameToken}
+use Rattle.refs_binding.specs.Uses.{IsCheckedPackage, IsBoundToDeclaration}
 use Rattle.refs_binding.proofs.Tokens.{Begins}
 use Rattle.refs_uses.proofs.NameTokens.{name_at_token}
 use Rattle.law_same_bindings.proofs.Alike.{Alike, turned}
@@ -108,7 +108,7 @@ method_rank : (s t : Symbol) → Method s ≡ Method t → s ≡ t
 method_rank s t e = cc
 
 module _ (w : Workspace) (before : Verdicts) (d : Declaration) (name : List ℕ) (s : FileChanges) (h : IsKeptRename w before d name s)
-    (p q : Package) (is : IsPackage w before p) (relaid : IsRelaid (revision_of w s) p q) where
+    (p q : Package) (is : IsCheckedPackage w before p) (relaid : IsRelaid (revision_of w s) p q) where
   abbrev r : Revision
   r = revision_of w s
 
@@ -120,7 +120,7 @@ module _ (w : Workspace) (before : Verdicts) (d : Declaration) (name : List ℕ)
       subst (λ o. NameBegins o at.index st.place.path st.place.offset) (sym t.of_rank) (t.is_name, begun.0, begun.1)
 
   -- the name token of a member is called as its identifier, which is bound to the declaration
-  token_called : (at : Position) → IsNamedIn p at.file at.index → ((v : ℕ) → LiesAt p.layout at v → IsBoundTo w before p v d) →
+  token_called : (at : Position) → IsNamedIn p at.file at.index → ((v : ℕ) → LiesAt p.layout at v → IsBoundToDeclaration w before p v d) →
       spelled q at.file at.index ≡ name
   token_called at x bound =
       let st = name_stands w before p is at x in
@@ -128,7 +128,7 @@ module _ (w : Workspace) (before : Verdicts) (d : Declaration) (name : List ℕ)
       let u = name_at_token w before p.path p is.is_checked at st.place (begins at x) in
       let here : slice_get p.files (p.layout.place u.0).file ≡ Some t.file = ap (slice_get p.files) u.1.1.1 ∙ t.of_rank in
       let named = named_as_spelled w before p.path p is.is_checked u.0 u.1.0.0 t.file here
-      (subst (λ i. IsName (slice_get (tokens_in t.file.cut) i)) (sym u.1.1.2) t.is_name) in
+      (subst (λ i. IsNameToken (slice_get (tokens_in t.file.cut) i)) (sym u.1.1.2) t.is_name) in
       let same : p.names u.0 ≡ spelled p at.file at.index =
       named ∙ ap (spelling_of t.file) u.1.1.2 ∙ sym (ap (λ o. spelled_at o at.index) t.of_rank) in
       relaid.tokens at st.place t

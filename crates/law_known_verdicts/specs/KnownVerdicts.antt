@@ -16,7 +16,7 @@ use Rattle.workspace_check.specs.KnownFindings.{IsFindingOf, IsKnownVerdict}
 use Rattle.workspace_check.specs.Verdicts.{Verdicts, AreVerdicts}
 use Rattle.refs_binding.specs.declared.declaration.Declaration.{Declaration}
 use Rattle.refs_binding.specs.declared.declaration.Declaration.TheVariants.{Predeclared, Declared, Field, Method}
-use Rattle.refs_binding.specs.Uses.{IsPackage}
+use Rattle.refs_binding.specs.Uses.{IsCheckedPackage}
 use Rattle.refs_places.specs.Outside.{declaring_path}
 use Rattle.refactor_conflict.specs.Staying.{NoneIsLost}
 use Rattle.law_renamed_packages.specs.Renames.{IsPlainRename}
@@ -34,7 +34,7 @@ IsHiddenIn p n name = (IsPackageLevel p.layout n → ⊥) ⊎ ((is_exported (p.n
 -- The declaration is one of scopes, and other packages see it neither under its name nor under the new one.
 abbrev pub IsHidden : Workspace → Verdicts → Declaration → (name : List ℕ) → Type 0
 IsHidden w known (Predeclared n) name = ⊥
-IsHidden w known (Declared path n) name = (p : Package) → IsPackage w known p → p.path ≡ path → IsHiddenIn p n name
+IsHidden w known (Declared path n) name = (p : Package) → IsCheckedPackage w known p → p.path ≡ path → IsHiddenIn p n name
 IsHidden w known (Field s) name = ⊥
 IsHidden w known (Method s) name = ⊥
 

@@ -16,7 +16,7 @@ use Rattle.workspace_check.specs.KnownFindings.{IsKnownVerdict, verdict_from}
 use Rattle.workspace_check.specs.Verdicts.{Verdicts, AreVerdicts}
 use Rattle.refs_binding.specs.declared.declaration.Declaration.{Declaration}
 use Rattle.refs_binding.specs.declared.declaration.Declaration.TheVariants.{Declared, Field, Method}
-use Rattle.refs_binding.specs.Uses.{IsPackage}
+use Rattle.refs_binding.specs.Uses.{IsCheckedPackage}
 use Rattle.refs_places.specs.Outside.{declaring_path}
 use Rattle.law_renamed_packages.specs.MovedExports.{field_called, method_called}
 use Rattle.law_known_verdicts.specs.KnownVerdicts.{IsKeptRename}
@@ -59,19 +59,19 @@ definition_changed owner change i = record {
 
 -- After the rename of a package-level declaration with an exported name, its package's export data are those of before with the new name.
 abbrev pub ExportsAreRenamed : Type 0
-ExportsAreRenamed = (w : Workspace) (before after : Verdicts) (p : Package) (n : ℕ) (name : List ℕ) (s : FileChanges) → IsPackage w before p →
+ExportsAreRenamed = (w : Workspace) (before after : Verdicts) (p : Package) (n : ℕ) (name : List ℕ) (s : FileChanges) → IsCheckedPackage w before p →
     IsKeptRename w before (Declared p.path n) name s → AreVerdicts (edited s w) after → IsPackageLevel p.layout n → is_exported (p.names n) ≡ true →
     (after p.path).export_data ≡ export_renamed (p.names n) name (before p.path).export_data
 
 -- After the rename of a field, its package's export data are those of before, but for the definition that has the field.
 abbrev pub FieldsAreRenamed : Type 0
-FieldsAreRenamed = (w : Workspace) (before after : Verdicts) (p : Package) (rank : ℕ) (name : List ℕ) (s : FileChanges) → IsPackage w before p →
+FieldsAreRenamed = (w : Workspace) (before after : Verdicts) (p : Package) (rank : ℕ) (name : List ℕ) (s : FileChanges) → IsCheckedPackage w before p →
     IsKeptRename w before (Field (symbol_in p rank)) name s → AreVerdicts (edited s w) after → (owner : ℕ) (old : List ℕ) (f : PlacedField) →
     IsFieldOf p owner old rank f → (after p.path).export_data ≡ definition_changed owner (field_renamed old name) (before p.path).export_data
 
 -- So after the rename of a method.
 abbrev pub MethodsAreRenamed : Type 0
-MethodsAreRenamed = (w : Workspace) (before after : Verdicts) (p : Package) (rank : ℕ) (name : List ℕ) (s : FileChanges) → IsPackage w before p →
+MethodsAreRenamed = (w : Workspace) (before after : Verdicts) (p : Package) (rank : ℕ) (name : List ℕ) (s : FileChanges) → IsCheckedPackage w before p →
     IsKeptRename w before (Method (symbol_in p rank)) name s → AreVerdicts (edited s w) after → (owner : ℕ) (old : List ℕ) (f : PlacedFunction) →
     IsMethodOf p owner old rank f → (after p.path).export_data ≡ definition_changed owner (method_renamed old name) (before p.path).export_data
 

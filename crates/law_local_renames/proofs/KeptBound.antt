@@ -11,9 +11,9 @@ use Rattle.types_declared.specs.Package.{Package}
 use Rattle.workspace_check.specs.Verdicts.{Verdicts}
 use Rattle.refs_binding.specs.declared.declaration.Declaration.{Declaration}
 use Rattle.refs_binding.specs.declared.declaration.Declaration.TheVariants.{Predeclared, Declared, Field, Method}
-use Rattle.refs_binding.specs.Binding.{BindsByScope, IsPredeclared}
+use Rattle.refs_binding.specs.Binding.{BindsByScope, IsPredeclaredNumber}
 use Rattle.refs_binding.specs.Identifiers.{BeginsAt}
-use Rattle.refs_binding.specs.Uses.{IsPackage}
+use Rattle.refs_binding.specs.Uses.{IsCheckedPackage}
 use Rattle.refs_index.specs.Corresponding.{predeclared}
 use Rattle.refactor_conflict.specs.BoundAfter.{HasBecome}
 use Rattle.refactor_conflict.specs.Staying.{StaysByPackage, StaysByScope}
@@ -26,7 +26,7 @@ use Rattle.law_local_renames.proofs.KeptSelectors.{selectors}
 use Rattle.law_local_renames.proofs.KeptScopes.{others_keep}
 
 module _ (w : Workspace) (known : Verdicts) (p : Package) (n : ℕ) (name : List ℕ) (s : FileChanges) (h : IsLocalRename w known p n name s)
-    (there : ArePackagesThere w known (revision_of w s)) (x : Package) (is : IsPackage w known x) (u : ℕ) (place : Place)
+    (there : ArePackagesThere w known (revision_of w s)) (x : Package) (is : IsCheckedPackage w known x) (u : ℕ) (place : Place)
     (begins : BeginsAt x place.path place.offset u) where
   abbrev r : Revision
   r = revision_of w s
@@ -42,7 +42,7 @@ module _ (w : Workspace) (known : Verdicts) (p : Package) (n : ℕ) (name : List
       let kept = exports_stay w known p n name s h y q b.is_package a.1.relaid in
       let seen = (kept.exports d).1 b.seen in
       let stays = selectors w known p n name s h x is u place begins path b.behind in
-      let not_predeclared : IsPredeclared d → ⊥ =
+      let not_predeclared : IsPredeclaredNumber d → ⊥ =
       (λ lt. let z : Universe ≡ PackageBlock = sym (in_universe w known y.path y b.is_package.is_checked d lt) ∙ b.seen.package_level in cc) in
       record {
         declaration = Declared path d;
@@ -86,7 +86,7 @@ module _ (w : Workspace) (known : Verdicts) (p : Package) (n : ℕ) (name : List
         becomes (Method f) k now = absurd k
 
 pub names_bound_there : (w : Workspace) (known : Verdicts) (p : Package) (n : ℕ) (name : List ℕ) (s : FileChanges) → IsLocalRename w known p n name s →
-    ArePackagesThere w known (revision_of w s) → (x : Package) → IsPackage w known x → (u : ℕ) (place : Place) → BeginsAt x place.path place.offset u →
+    ArePackagesThere w known (revision_of w s) → (x : Package) → IsCheckedPackage w known x → (u : ℕ) (place : Place) → BeginsAt x place.path place.offset u →
     StaysByPackage w known (revision_of w s) x u place × ((x ≡ p → ⊥) → StaysByScope w known (revision_of w s) x u place)
 names_bound_there w known p n name s h there x is u place begins =
     (by_package w known p n name s h there x is u place begins, by_scope w known p n name s h there x is u place begins)

@@ -7,19 +7,19 @@ use Rattle.types_declared.specs.Package.{Package}
 use Rattle.workspace_check.specs.Verdicts.{Verdicts}
 use Rattle.refs_binding.specs.declared.declaration.Declaration.TheVariants.{Declared}
 use Rattle.refs_binding.specs.Binding.{by_scope, by_package, by_member, by_name}
-use Rattle.refs_binding.specs.Uses.{IsPackage, IsBoundTo}
+use Rattle.refs_binding.specs.Uses.{IsCheckedPackage, IsBoundToDeclaration}
 use Rattle.refs_binding.proofs.Units.{one_package}
 use Rattle.law_renamed_scopes.proofs.OwnNames.{member_is_none}
 use Rattle.law_kept_members.proofs.Called.{names}
 use Rattle.law_local_renames.specs.LocalRenames.{IsLocalRename, OwnScopesAloneBind, OtherNamesStay}
 
 module _ (w : Workspace) (known : Verdicts) (p : Package) (n : ℕ) (name : List ℕ) (s : FileChanges) (h : IsLocalRename w known p n name s) (x : Package)
-    (is : IsPackage w known x) where
+    (is : IsCheckedPackage w known x) where
   -- only scopes bind to the declaration
-  bound_by : (u : ℕ) → IsBoundTo w known x u (Declared p.path n) → (x ≡ p) × scopes.IsBoundTo p.layout p.names u n
+  bound_by : (u : ℕ) → IsBoundToDeclaration w known x u (Declared p.path n) → (x ≡ p) × scopes.IsBoundToDeclaration p.layout p.names u n
   bound_by u (by_scope b) =
       let one : x ≡ p = one_package w known x p is h.is_package (sym b.0) in
-      (one, subst (λ (y : Package). scopes.IsBoundTo y.layout y.names u n) one b.2)
+      (one, subst (λ (y : Package). scopes.IsBoundToDeclaration y.layout y.names u n) one b.2)
   bound_by u (by_package b) =
       let one : b.other ≡ p = one_package w known b.other p b.is_package h.is_package b.of_path in
       absurd (h.local (subst (λ (y : Package). scopes.IsPackageLevel y.layout n) one b.seen.package_level))

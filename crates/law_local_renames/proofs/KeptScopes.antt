@@ -12,7 +12,7 @@ use Rattle.workspace_check.specs.Verdicts.{Verdicts}
 use Rattle.refs_binding.specs.declared.declaration.Declaration.{Declaration}
 use Rattle.refs_binding.specs.declared.declaration.Declaration.TheVariants.{Predeclared, Declared, Field, Method}
 use Rattle.refs_binding.specs.Binding.{BindsByScope}
-use Rattle.refs_binding.specs.Uses.{IsPackage}
+use Rattle.refs_binding.specs.Uses.{IsCheckedPackage}
 use Rattle.law_renamed_packages.specs.Layouts.{IsRelaid}
 use Rattle.law_renamed_scopes.proofs.Renamed.{others_are_kept}
 use Rattle.law_local_renames.specs.LocalRenames.{IsLocalRename}
@@ -46,7 +46,7 @@ turned : (a b : Package) → HasSameScopes a b → HasSameScopes b a
 turned a b h = record { path = sym h.path; layout = sym h.layout; names = sym h.names }
 
 module _ (w : Workspace) (known : Verdicts) (p : Package) (n : ℕ) (name : List ℕ) (s : FileChanges) (h : IsLocalRename w known p n name s) (x q : Package)
-    (is : IsPackage w known x) (other : x ≡ p → ⊥) (relaid : IsRelaid (revision_of w s) x q) where
+    (is : IsCheckedPackage w known x) (other : x ≡ p → ⊥) (relaid : IsRelaid (revision_of w s) x q) where
   named : (u : ℕ) → q.names u ≡ x.names u
   named u =
       others_are_kept w known (Declared p.path n) name s h.rename x q is relaid u

@@ -15,7 +15,7 @@ use Rattle.types_info.specs.QualifiedIdentifiers.{IsQualifiedByPath}
 use Rattle.workspace_check.specs.Verdicts.{Verdicts}
 use Rattle.refs_binding.specs.DeclaringPlaces.{TokenBegins}
 use Rattle.refs_binding.specs.Identifiers.{BeginsAt, NameBegins, file_of}
-use Rattle.refs_binding.specs.Uses.{IsPackage}
+use Rattle.refs_binding.specs.Uses.{IsCheckedPackage}
 use Rattle.refs_lookup.proofs.OnePlace.{one_begins}
 use Rattle.law_renamed_packages.specs.Layouts.{IsToken}
 use Rattle.law_renamed_packages.proofs.NameTokens.{named_as_spelled}
@@ -28,7 +28,7 @@ file_at None i path offset h = absurd h
 file_at (Some s) i path offset h = (s, refl)
 
 module _ (w : Workspace) (known : Verdicts) (p : Package) (n : ℕ) (name : List ℕ) (s : FileChanges) (h : IsLocalRename w known p n name s) (x : Package)
-    (is : IsPackage w known x) (u : ℕ) (place : Place) (begins : BeginsAt x place.path place.offset u) where
+    (is : IsCheckedPackage w known x) (u : ℕ) (place : Place) (begins : BeginsAt x place.path place.offset u) where
   abbrev at : Position
   at = x.layout.place u
 

@@ -27,9 +27,9 @@ use Rattle.law_tokens.proofs.Ordered.{package_ordered, named_ordered}
 use Rattle.law_tokens.proofs.OwnPaths.{entry_cmp, files_sorted, package_sources, part_at}
 use Rattle.types_declared.specs.Package.{Package}
 use Rattle.workspace_check.specs.Verdicts.{Verdicts}
-use Rattle.refs_binding.specs.Identifiers.{IsName, NameBegins, BeginsAt}
+use Rattle.refs_binding.specs.Identifiers.{IsNameToken, NameBegins, BeginsAt}
 use Rattle.refs_binding.specs.Places.{place_cmp}
-use Rattle.refs_binding.specs.Uses.{IsPackage}
+use Rattle.refs_binding.specs.Uses.{IsCheckedPackage}
 use Rattle.refs_binding.proofs.PlaceOrder.{place_cmp_total, place_cmp_exact, place_is}
 use Rattle.refs_lookup.proofs.OnePlace.{names_of, laid_of, same_layout, same_size, same_files, one_begins}
 use Rattle.refactor_conflict.proofs.Firsts.{behind}
@@ -76,7 +76,7 @@ record Begins (o : Option SourceFile) (token : ℕ) (path : List ℕ) (offset : 
   token_is : slice_get (tokens_in file.cut) token ≡ Some piece
   begins : piece.span.start ≡ offset
 
-named_piece : (o : Option Piece) → IsName o → (piece : Piece) × (o ≡ Some piece)
+named_piece : (o : Option Piece) → IsNameToken o → (piece : Piece) × (o ≡ Some piece)
 named_piece None h = absurd h
 named_piece (Some piece) h = (piece, refl)
 
@@ -100,7 +100,7 @@ greater_offset a b same le more =
       | inr ge ↦ (let wrong : Equal ≡ Greater = nat_cmp_is a.offset b.offset Equal (omega (arith, le, ge)) ∙ (sym here ∙ more) in cc)
     ]
 
-module _ (w : Workspace) (known : Verdicts) (p : Package) (is : IsPackage w known p) where
+module _ (w : Workspace) (known : Verdicts) (p : Package) (is : IsCheckedPackage w known p) where
   ordered : StandInOrder p.layout p.size
   ordered =
       let h = is.is_checked in

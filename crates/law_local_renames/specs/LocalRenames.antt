@@ -10,14 +10,14 @@ use Rattle.go_scope.specs.Table.{LiesAt}
 use Rattle.types_declared.specs.Package.{Package, spelled}
 use Rattle.workspace_check.specs.Verdicts.{Verdicts}
 use Rattle.refs_binding.specs.declared.declaration.Declaration.TheVariants.{Declared}
-use Rattle.refs_binding.specs.Uses.{IsPackage, IsBoundTo}
+use Rattle.refs_binding.specs.Uses.{IsCheckedPackage, IsBoundToDeclaration}
 use Rattle.law_renamed_packages.specs.Layouts.{IsToken}
 use Rattle.law_renamed_packages.specs.Renames.{IsPlainRename}
 
 -- A plain rename of a declaration of the package `p` that is not package-level: a local variable, parameter, receiver, or an import's name.
 pub record IsLocalRename (w : Workspace) (known : Verdicts) (p : Package) (n : ℕ) (name : List ℕ) (s : FileChanges) : Type 0 where
   pub rename : IsPlainRename w known (Declared p.path n) name s
-  pub is_package : IsPackage w known p
+  pub is_package : IsCheckedPackage w known p
   pub local : scopes.IsPackageLevel p.layout n → ⊥
 
 -- The statement holds of each such rename.
@@ -27,14 +27,14 @@ OfLocalRenames K = (w : Workspace) (known : Verdicts) (p : Package) (n : ℕ) (n
 
 -- Only the scopes of its own package bind identifiers to the declaration.
 abbrev pub OwnScopesAloneBind : Type 0
-OwnScopesAloneBind = OfLocalRenames (λ w known p n s. (x : Package) → IsPackage w known x → (u : ℕ) → IsBoundTo w known x u (Declared p.path n) →
-    (x ≡ p) × scopes.IsBoundTo p.layout p.names u n)
+OwnScopesAloneBind = OfLocalRenames (λ w known p n s. (x : Package) → IsCheckedPackage w known x → (u : ℕ) → IsBoundToDeclaration w known x u (Declared p.path n) →
+    (x ≡ p) × scopes.IsBoundToDeclaration p.layout p.names u n)
 
 -- The identifier at the position is none of those.
 abbrev pub IsApart : (p : Package) → (n : ℕ) → Package → Position → Type 0
-IsApart p n x at = (u : ℕ) → u < x.size → LiesAt x.layout at u → x ≡ p → scopes.IsBoundTo p.layout p.names u n → ⊥
+IsApart p n x at = (u : ℕ) → u < x.size → LiesAt x.layout at u → x ≡ p → scopes.IsBoundToDeclaration p.layout p.names u n → ⊥
 
 -- Every other name of the workspace stays.
 abbrev pub OtherNamesStay : Type 0
-OtherNamesStay = OfLocalRenames (λ w known p n s. (x : Package) → IsPackage w known x → (at : Position) (place : Place) → IsToken x at place →
+OtherNamesStay = OfLocalRenames (λ w known p n s. (x : Package) → IsCheckedPackage w known x → (at : Position) (place : Place) → IsToken x at place →
     IsApart p n x at → (revision_of w s).called place (spelled x at.file at.index) ≡ spelled x at.file at.index)

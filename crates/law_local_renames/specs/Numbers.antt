@@ -7,10 +7,10 @@ use Rattle.types_declared.specs.Package.{Package}
 use Rattle.workspace_check.specs.Verdicts.{Verdicts}
 use Rattle.refs_binding.specs.Identifiers.{BeginsAt}
 use Rattle.refs_binding.specs.Places.{place_cmp}
-use Rattle.refs_binding.specs.Uses.{IsPackage}
+use Rattle.refs_binding.specs.Uses.{IsCheckedPackage}
 
 -- Of two identifiers of a package, the one with the lesser number begins at the earlier place. So the first by number is the first by path
 -- and offset.
 abbrev pub NumbersFollowPlaces : Type 0
-NumbersFollowPlaces = (w : Workspace) (known : Verdicts) (p : Package) → IsPackage w known p → (u v : ℕ) (a b : Place) →
+NumbersFollowPlaces = (w : Workspace) (known : Verdicts) (p : Package) → IsCheckedPackage w known p → (u v : ℕ) (a b : Place) →
     BeginsAt p a.path a.offset u → BeginsAt p b.path b.offset v → (u < v) ↔ (place_cmp a b ≡ Less)

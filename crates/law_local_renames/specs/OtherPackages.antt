@@ -8,7 +8,7 @@ use Rattle.types_info.specs.QualifiedIdentifiers.{IsQualifiedByPath}
 use Rattle.refs_binding.specs.Binding.{BindsByScope}
 use Rattle.refs_binding.specs.declared.declaration.Declaration.{Declaration}
 use Rattle.refs_binding.specs.Identifiers.{BeginsAt}
-use Rattle.refs_binding.specs.Uses.{IsPackage}
+use Rattle.refs_binding.specs.Uses.{IsCheckedPackage}
 use Rattle.law_renamed_packages.specs.Layouts.{IsRelaid}
 use Rattle.law_local_renames.specs.LocalRenames.{OfLocalRenames}
 
@@ -20,7 +20,7 @@ pub record KeepsScopes (x q : Package) : Type 0 where
 
 -- That is so of each package but that of the declaration.
 abbrev pub OtherPackagesKeepScopes : Type 0
-OtherPackagesKeepScopes = OfLocalRenames (λ w known p n s. (x q : Package) → IsPackage w known x → (x ≡ p → ⊥) → IsRelaid (revision_of w s) x q →
+OtherPackagesKeepScopes = OfLocalRenames (λ w known p n s. (x q : Package) → IsCheckedPackage w known x → (x ≡ p → ⊥) → IsRelaid (revision_of w s) x q →
     KeepsScopes x q)
 
 -- The package `q` exports the declarations that `x` exports, under the same names.
@@ -30,9 +30,9 @@ pub record KeepsExports (x q : Package) : Type 0 where
 
 -- That is so of each package, that of the declaration too.
 abbrev pub ExportsStay : Type 0
-ExportsStay = OfLocalRenames (λ w known p n s. (x q : Package) → IsPackage w known x → IsRelaid (revision_of w s) x q → KeepsExports x q)
+ExportsStay = OfLocalRenames (λ w known p n s. (x q : Package) → IsCheckedPackage w known x → IsRelaid (revision_of w s) x q → KeepsExports x q)
 
 -- In every package the selectors of qualified identifiers keep their names.
 abbrev pub SelectorsKeepNames : Type 0
-SelectorsKeepNames = OfLocalRenames (λ w known p n s. (x : Package) → IsPackage w known x → (u : ℕ) (place : Place) →
+SelectorsKeepNames = OfLocalRenames (λ w known p n s. (x : Package) → IsCheckedPackage w known x → (u : ℕ) (place : Place) →
     BeginsAt x place.path place.offset u → (path : List ℕ) → IsQualifiedByPath x u path → (revision_of w s).called place (x.names u) ≡ x.names u)

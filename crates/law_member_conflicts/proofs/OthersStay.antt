@@ -14,10 +14,10 @@ use Rattle.refs_binding.specs.declared.declaration.Declaration.{Declaration}
 use Rattle.refs_binding.specs.declared.declaration.Declaration.TheVariants.{Predeclared, Declared, Field, Method}
 use Rattle.refs_binding.specs.Binding.{DeclaresMember}
 use Rattle.refs_binding.specs.Identifiers.{BeginsAt}
-use Rattle.refs_binding.specs.Uses.{IsPackage}
+use Rattle.refs_binding.specs.Uses.{IsCheckedPackage}
 use Rattle.refactor_conflict.specs.Staying.{StaysAt, StaysByMember, StaysByName}
 use Rattle.law_kept_members.specs.NamesAfterwards.{IsMember, spelled_there}
-use Rattle.law_kept_members.specs.Reaching.{Reaches, home_of}
+use Rattle.law_kept_members.specs.Reaching.{ReachesPath, home_of}
 use Rattle.law_kept_members.proofs.Called.{same_or_other, used_is_member, declared_is_member}
 use Rattle.law_kept_members.proofs.OtherMembers.{use_kept, name_kept, use_kept_everywhere, name_kept_everywhere}
 use Rattle.law_kept_members.proofs.SeenStructs.{reached_then}
@@ -45,7 +45,7 @@ module _ (w : Workspace) (known : Verdicts) (d : Declaration) (name : List ℕ) 
 
   -- identifiers that are not at stake
 
-  module _ (x : Package) (is : IsPackage w known x) (u : ℕ) (place : Place) (begins : BeginsAt x place.path place.offset u) where
+  module _ (x : Package) (is : IsCheckedPackage w known x) (u : ℕ) (place : Place) (begins : BeginsAt x place.path place.offset u) where
     abbrev m : List ℕ
     m = spelled_there x u
 
@@ -58,12 +58,12 @@ module _ (w : Workspace) (known : Verdicts) (d : Declaration) (name : List ℕ) 
     }
 
     -- in a package that does not reach that of the renamed member
-    module _ (outside : Reaches w x.path (home_of d) → ⊥) where
+    module _ (outside : ReachesPath w x.path (home_of d) → ⊥) where
       abbrev Reached : List ℕ → Type 0
-      Reached q = Reaches w x.path q
+      Reached q = ReachesPath w x.path q
 
-      reached_on : (p q : List ℕ) → Reached p → Reaches w p q → Reached q
-      reached_on p q (inl same) k = subst (λ o. Reaches w o q) same k
+      reached_on : (p q : List ℕ) → Reached p → ReachesPath w p q → Reached q
+      reached_on p q (inl same) k = subst (λ o. ReachesPath w o q) same k
       reached_on p q (inr on) k = reached_then w x.path p on q k
 
       never : (e : Declaration) → IsMember e → e ≡ d → Reached (home_of e) → m ≡ name → ⊥

@@ -19,9 +19,9 @@ use Rattle.types_check.specs.Exports.{DoesExport}
 use Rattle.workspace_check.specs.Verdicts.{Verdicts}
 use Rattle.refs_binding.specs.declared.declaration.Declaration.{Declaration}
 use Rattle.refs_binding.specs.declared.declaration.Declaration.TheVariants.{Predeclared, Declared, Field, Method}
-use Rattle.refs_binding.specs.Binding.{BindsByScope, BindsQualified, IsPredeclared, by_scope, by_package, by_member, by_name}
+use Rattle.refs_binding.specs.Binding.{BindsByScope, BindsQualified, IsPredeclaredNumber, by_scope, by_package, by_member, by_name}
 use Rattle.refs_binding.specs.Identifiers.{BeginsAt, IsInFiles}
-use Rattle.refs_binding.specs.Uses.{IsPackage, IsBoundTo}
+use Rattle.refs_binding.specs.Uses.{IsCheckedPackage, IsBoundToDeclaration}
 use Rattle.refs_lookup.proofs.NamedMembers.{name_member, name_not_package}
 use Rattle.refs_lookup.proofs.UsedMembers.{link_role}
 use Rattle.refs_lookup.proofs.BoundUsedMembers.{member_not_package}
@@ -38,7 +38,7 @@ use Rattle.law_scoped_packages.proofs.There.{packages_there}
 use Rattle.law_local_renames.specs.OtherPackages.{KeepsExports}
 use Rattle.law_kept_members.specs.NamesAfterwards.{IsMember}
 use Rattle.law_member_conflicts.specs.MemberRenames.{IsMemberRename}
-use Rattle.law_member_conflicts.specs.KeptScopes.{KeepsBindings, ScopesAreKept, MemberRenamesKeepScopes, MemberConflictsAreOfMembers}
+use Rattle.law_member_conflicts.specs.KeptScopes.{BindsAlike, ScopesAreKept, MemberRenamesKeepScopes, MemberConflictsAreOfMembers}
 
 no_scope : (x : Package) (u : ℕ) (d : Declaration) → IsMember d → BindsByScope x u d → ⊥
 no_scope x u (Predeclared n) m b = m
@@ -63,7 +63,7 @@ module _ (w : Workspace) (known : Verdicts) (d : Declaration) (name : List ℕ) 
   abbrev r : Revision
   r = revision_of w s
 
-  module _ (x q : Package) (is : IsPackage w known x) (relaid : IsRelaid r x q) where
+  module _ (x q : Package) (is : IsCheckedPackage w known x) (relaid : IsRelaid r x q) where
     abbrev l : Layout
     l = x.layout
 
@@ -71,9 +71,9 @@ module _ (w : Workspace) (known : Verdicts) (d : Declaration) (name : List ℕ) 
     lexical_kept : (u : ℕ) → (is_use (l.role u) ≡ true) ⊎ (may_declare (l.role u) ≡ true) → q.names u ≡ x.names u
     lexical_kept u k = others_are_kept w known d name s h.rename x q is relaid u apart
       where
-        apart : IsInFiles x u → IsBoundTo w known x u d → ⊥
+        apart : IsInFiles x u → IsBoundToDeclaration w known x u d → ⊥
         apart inside (by_scope b) = no_scope x u d h.member b
-        apart inside (by_package b) = no_package (IsPackage w known) x u d h.member b
+        apart inside (by_package b) = no_package (IsCheckedPackage w known) x u d h.member b
         apart inside (by_member b) = elim (link_role w known x.path x is.is_checked u d inside b) [
           | inl key ↦ not_lexical l u purpose.Key key k
           | inr selected ↦ not_lexical l u purpose.Selected selected k
@@ -107,7 +107,7 @@ module _ (w : Workspace) (known : Verdicts) (d : Declaration) (name : List ℕ) 
     named u (Field f) b = absurd b
     named u (Method f) b = absurd b
 
-    keeps : KeepsBindings x q
+    keeps : BindsAlike x q
     keeps = record { bound = λ u e. (binds_before u e, binds_after u e); named = named }
 
     -- exports
@@ -147,7 +147,7 @@ module _ (w : Workspace) (known : Verdicts) (d : Declaration) (name : List ℕ) 
   abbrev there : ArePackagesThere w known r
   there = packages_there w known d name s h.rename
 
-  module _ (x : Package) (is : IsPackage w known x) (u : ℕ) (place : Place)
+  module _ (x : Package) (is : IsCheckedPackage w known x) (u : ℕ) (place : Place)
       (begins : BeginsAt x place.path place.offset u) where
     abbrev z : Package
     z = (there x is).0
@@ -171,16 +171,16 @@ module _ (w : Workspace) (known : Verdicts) (d : Declaration) (name : List ℕ) 
         }
 
     -- the selector of a qualified identifier keeps its name
-    selector_kept : (e : Declaration) → BindsQualified (IsPackage w known) x u e → r.called place (x.names u) ≡ x.names u
+    selector_kept : (e : Declaration) → BindsQualified (IsCheckedPackage w known) x u e → r.called place (x.names u) ≡ x.names u
     selector_kept e b =
         let a = (there x is).1 in
         sym (a.relaid.names u place begins) ∙ others_are_kept w known d name s h.rename x z is a.relaid u apart
       where
-        apart : IsInFiles x u → IsBoundTo w known x u d → ⊥
+        apart : IsInFiles x u → IsBoundToDeclaration w known x u d → ⊥
         apart inside (by_scope k) = no_scope x u d h.member k
-        apart inside (by_package k) = no_package (IsPackage w known) x u d h.member k
-        apart inside (by_member k) = member_not_package w known x.path x is.is_checked (IsPackage w known) u d e inside k b
-        apart inside (by_name k) = name_not_package w known x.path x is.is_checked (IsPackage w known) u d e inside.0 k b
+        apart inside (by_package k) = no_package (IsCheckedPackage w known) x u d h.member k
+        apart inside (by_member k) = member_not_package w known x.path x is.is_checked (IsCheckedPackage w known) u d e inside k b
+        apart inside (by_name k) = name_not_package w known x.path x is.is_checked (IsCheckedPackage w known) u d e inside.0 k b
 
     package_stays : StaysByPackage w known r x u place
     package_stays (Predeclared n) b = absurd b
@@ -191,7 +191,7 @@ module _ (w : Workspace) (known : Verdicts) (d : Declaration) (name : List ℕ) 
         let a = there y b.is_package in
         let kept = keeps_exports y a.0 b.is_package a.1.relaid in
         let seen = (kept.exports n).1 b.seen in
-        let not_predeclared : IsPredeclared n → ⊥ =
+        let not_predeclared : IsPredeclaredNumber n → ⊥ =
         (λ lt. let k : Universe ≡ PackageBlock = sym (in_universe w known y.path y b.is_package.is_checked n lt) ∙ b.seen.package_level in cc) in
         record {
           declaration = Declared path n;

@@ -12,7 +12,7 @@ use Rattle.refs_binding.specs.declared.declaration.Declaration.{Declaration}
 use Rattle.refs_binding.specs.Binding.{BindsByMember, DeclaresMember}
 use Rattle.refs_binding.specs.Identifiers.{BeginsAt}
 use Rattle.refs_binding.specs.Places.{place_cmp}
-use Rattle.refs_binding.specs.Uses.{IsPackage}
+use Rattle.refs_binding.specs.Uses.{IsCheckedPackage}
 use Rattle.refactor_after.specs.MembersAfter.{CountsAfter}
 use Rattle.refactor_conflict.specs.BoundAfter.{IsBoundByMember}
 use Rattle.refactor_conflict.specs.Staying.{HoldsOfEachAt, StaysAt, NoneIsLost, NoneIsLostBefore}
@@ -26,21 +26,21 @@ IsAtStake d name x u e = (e ≡ d) ⊎ (spelled_there x u ≡ name)
 -- If the identifier `u` is a use of a member at stake, its new name selects this member of the same type. If it declares one, this member
 -- counts under its new name.
 pub record StakeStays (w : Workspace) (known : Verdicts) (r : Revision) (d : Declaration) (name : List ℕ) (x : Package) (u : ℕ) (place : Place) : Type 0 where
-  pub used : (old : Declaration) (was : BindsByMember x u old) → IsAtStake d name x u old → IsBoundByMember (IsPackage w known) r place x u old was old
-  pub declared : (old : Declaration) → DeclaresMember x u old → IsAtStake d name x u old → CountsAfter (IsPackage w known) r old
+  pub used : (old : Declaration) (was : BindsByMember x u old) → IsAtStake d name x u old → IsBoundByMember (IsCheckedPackage w known) r place x u old was old
+  pub declared : (old : Declaration) → DeclaresMember x u old → IsAtStake d name x u old → CountsAfter (IsCheckedPackage w known) r old
 
 -- That is so of each identifier that begins at the place, in any package.
 abbrev pub StakesStayAt : Workspace → Verdicts → Revision → Declaration → List ℕ → Place → Type 0
-StakesStayAt w known r d name place = (x : Package) → IsPackage w known x → HoldsOfEachAt x (StakeStays w known r d name x) place
+StakesStayAt w known r d name place = (x : Package) → IsCheckedPackage w known x → HoldsOfEachAt x (StakeStays w known r d name x) place
 
 -- The other uses of members stay bound, and the other declaring identifiers of members count.
 pub record OthersStay (w : Workspace) (known : Verdicts) (r : Revision) (d : Declaration) (name : List ℕ) (x : Package) (u : ℕ) (place : Place) : Type 0 where
   pub used : (old : Declaration) (was : BindsByMember x u old) → (IsAtStake d name x u old → ⊥) →
-      IsBoundByMember (IsPackage w known) r place x u old was old
-  pub declared : (old : Declaration) → DeclaresMember x u old → (IsAtStake d name x u old → ⊥) → CountsAfter (IsPackage w known) r old
+      IsBoundByMember (IsCheckedPackage w known) r place x u old was old
+  pub declared : (old : Declaration) → DeclaresMember x u old → (IsAtStake d name x u old → ⊥) → CountsAfter (IsCheckedPackage w known) r old
 
 abbrev pub OtherMembersStay : Type 0
-OtherMembersStay = OfMemberRenames (λ w known d name s. (x : Package) → IsPackage w known x → (u : ℕ) (place : Place) →
+OtherMembersStay = OfMemberRenames (λ w known d name s. (x : Package) → IsCheckedPackage w known x → (u : ℕ) (place : Place) →
     BeginsAt x place.path place.offset u → OthersStay w known (revision_of w s) d name x u place)
 
 -- So all identifiers at a place stay bound exactly where those at stake do.

@@ -7,7 +7,7 @@ use Rattle.types_expr.specs.Places.{first_token, place_of}
 use Rattle.types_expr.specs.World.{World, Locals}
 use Rattle.types_expr.specs.Judge.{Judged, JudgedList, TypeJudged, followed, select, index_rule, call_rule, value_at, value_kind, value_before, judge}
 use Rattle.types_expr.specs.Judge.{judge_links, judge_arguments, judge_value, judge_type, imported_type}
-use Rattle.types_stmt.specs.Checked.{Checked, with_found}
+use Rattle.types_stmt.specs.Checked.{FoundSoFar, with_found}
 use Rattle.types_stmt.specs.Sides.{Wants, Takes, Lefts, left_side, join_lefts, own_type, assignable, judge_operand, values_of, list_followed, judge_each, rhs}
 use Rattle.types_stmt.specs.Sides.{assigned_one, assigned, no_name, defined_one, defined, defined_name, defined_names, all_named, with_locals, with_inferred}
 use Rattle.types_stmt.specs.Sides.{first_of_exprs, first_of_idents}
@@ -128,7 +128,7 @@ same_statement v m locals e h = refl
 
 -- simple statements
 
-pub condition : (v : World) (m : Members) (s : Checked) (e : ExprTree) → IsSettled v m s (check_condition v s e) (check_condition (with_members v m) s e)
+pub condition : (v : World) (m : Members) (s : FoundSoFar) (e : ExprTree) → IsSettled v m s (check_condition v s e) (check_condition (with_members v m) s e)
 unfolding check_condition
 condition v m s e =
     judged s (judge_value v s.locals e) (judge_value (with_members v m) s.locals e)
@@ -136,7 +136,7 @@ condition v m s e =
     (λ (z : Judged). condition_faults (with_members v m) (place_of e) (value_kind z.meaning))
     (λ q. same_judged_value v m s.locals e q) (λ q. same_condition v m (place_of e) (value_kind (judge_value v s.locals e).meaning))
 
-step : (v : World) (m : Members) (s : Checked) (e : ExprTree) → IsSettled v m s (check_step v s e) (check_step (with_members v m) s e)
+step : (v : World) (m : Members) (s : FoundSoFar) (e : ExprTree) → IsSettled v m s (check_step v s e) (check_step (with_members v m) s e)
 unfolding check_step
 step v m s e =
     judged s (judge_operand v s.locals e) (judge_operand (with_members v m) s.locals e)
@@ -144,11 +144,11 @@ step v m s e =
     (λ q. same_operand v m s.locals e q) (λ q. same_step v m (place_of e) (value_kind (judge_operand v s.locals e).meaning))
 
 -- `x op= y`, where x and y are judged as i and j
-updated : World → Checked → BinaryOp → (start : ℕ) → (i j : Judged) → Checked
+updated : World → FoundSoFar → BinaryOp → (start : ℕ) → (i j : Judged) → FoundSoFar
 updated w s o start i j =
     with_found s (i.faults ++ (j.faults ++ update_faults w start o (value_kind i.meaning) (value_kind j.meaning))) (i.uses ++ j.uses)
 
-update : (v : World) (m : Members) (s : Checked) (o : BinaryOp) (x y : ExprTree) →
+update : (v : World) (m : Members) (s : FoundSoFar) (o : BinaryOp) (x y : ExprTree) →
     IsSettled v m s (check_update v s o x y) (check_update (with_members v m) s o x y)
 unfolding check_update updated
 update v m s o x y =
@@ -162,7 +162,7 @@ update v m s o x y =
     ∙ ap (λ (z : List ℕ). with_found s (i.faults ++ (j.faults ++ z)) (i.uses ++ j.uses))
     (same_update v m (first_token x) o (value_kind i.meaning) (value_kind j.meaning))))
 
-alone : (v : World) (m : Members) (s : Checked) (e : ExprTree) → IsSettled v m s (check_expr_statement v s e) (check_expr_statement (with_members v m) s e)
+alone : (v : World) (m : Members) (s : FoundSoFar) (e : ExprTree) → IsSettled v m s (check_expr_statement v s e) (check_expr_statement (with_members v m) s e)
 unfolding check_expr_statement
 alone v m s e =
     let w = with_members v m in
@@ -170,7 +170,7 @@ alone v m s e =
     (λ (z : Judged). statement_faults (place_of e) (is_statement w s.locals e) z.meaning) (λ q. same_judged v m s.locals e q)
     (λ q. ap (λ (z : Bool). statement_faults (place_of e) z (judge v s.locals e).meaning) (same_statement v m s.locals e q))
 
-assign : (v : World) (m : Members) (s : Checked) (xs ys : List (Item ExprTree)) →
+assign : (v : World) (m : Members) (s : FoundSoFar) (xs ys : List (Item ExprTree)) →
     IsSettled v m s (check_assign v s xs ys) (check_assign (with_members v m) s xs ys)
 unfolding check_assign
 assign v m s xs ys =
@@ -178,7 +178,7 @@ assign v m s xs ys =
     given v m s (first_of_exprs xs) (λ r. s.locals) (assigned v s.locals xs) (assigned w s.locals xs) (rhs v s.locals ys) (rhs w s.locals ys)
     (λ q. same_assigned v m s.locals xs q) (λ q. same_rhs v m s.locals ys q)
 
-define : (v : World) (m : Members) (s : Checked) (xs ys : List (Item ExprTree)) →
+define : (v : World) (m : Members) (s : FoundSoFar) (xs ys : List (Item ExprTree)) →
     IsSettled v m s (check_define v s xs ys) (check_define (with_members v m) s xs ys)
 unfolding check_define defined_name
 define v m s xs ys =
@@ -186,7 +186,7 @@ define v m s xs ys =
     given v m s (first_of_exprs xs) (λ (r : JudgedList). with_inferred s.locals (defined_names v xs) r.values) (defined v s.locals xs)
     (defined w s.locals xs) (rhs v s.locals ys) (rhs w s.locals ys) (λ q. same_defined v m s.locals xs q) (λ q. same_rhs v m s.locals ys q)
 
-pub simple : (v : World) (m : Members) (s : Checked) (a : SimpleTree) → IsSettled v m s (check_simple v s a) (check_simple (with_members v m) s a)
+pub simple : (v : World) (m : Members) (s : FoundSoFar) (a : SimpleTree) → IsSettled v m s (check_simple v s a) (check_simple (with_members v m) s a)
 unfolding check_simple
 simple v m s (Alone e) = alone v m s e
 simple v m s (Step e o p) = step v m s e
@@ -194,19 +194,19 @@ simple v m s (Update x o p y) = update v m s (binary_of o) x y
 simple v m s (Assign xs p ys) = assign v m s xs ys
 simple v m s (Define xs p ys) = define v m s xs ys
 
-pub optional_simple : (v : World) (m : Members) (s : Checked) (a : Option SimpleTree) →
+pub optional_simple : (v : World) (m : Members) (s : FoundSoFar) (a : Option SimpleTree) →
     IsSettled v m s (check_optional_simple v s a) (check_optional_simple (with_members v m) s a)
 optional_simple v m s None = unchecked s
 optional_simple v m s (Some a) = simple v m s a
 
-pub optional_condition : (v : World) (m : Members) (s : Checked) (e : Option ExprTree) →
+pub optional_condition : (v : World) (m : Members) (s : FoundSoFar) (e : Option ExprTree) →
     IsSettled v m s (check_optional_condition v s e) (check_optional_condition (with_members v m) s e)
 optional_condition v m s None = unchecked s
 optional_condition v m s (Some e) = condition v m s e
 
 -- declarations of locals
 
-typed_local : (v : World) (m : Members) (s : Checked) (names : List (Item IdentTree)) (t : TypeJudged) (values : Option (ℕ × List (Item ExprTree))) →
+typed_local : (v : World) (m : Members) (s : FoundSoFar) (names : List (Item IdentTree)) (t : TypeJudged) (values : Option (ℕ × List (Item ExprTree))) →
     IsSettled v m s (check_typed_local v s names t values) (check_typed_local (with_members v m) s names t values)
 unfolding check_typed_local
 typed_local v m s names t None =
@@ -215,7 +215,7 @@ typed_local v m s names t (Some x) =
     given v m s (first_of_idents names) (λ r. written_locals s.locals names t.type_of) (written_targets names t) (written_targets names t)
     (rhs v s.locals x.1) (rhs (with_members v m) s.locals x.1) (λ q. refl) (λ q. same_rhs v m s.locals x.1 q)
 
-untyped_local : (v : World) (m : Members) (s : Checked) (names : List (Item IdentTree)) (values : Option (ℕ × List (Item ExprTree))) →
+untyped_local : (v : World) (m : Members) (s : FoundSoFar) (names : List (Item IdentTree)) (values : Option (ℕ × List (Item ExprTree))) →
     IsSettled v m s (check_untyped_local v s names values) (check_untyped_local (with_members v m) s names values)
 unfolding check_untyped_local
 untyped_local v m s names None =
@@ -224,12 +224,12 @@ untyped_local v m s names (Some x) =
     given v m s (first_of_idents names) (λ (r : JudgedList). with_inferred s.locals (all_named names) r.values) (name_targets names Takes)
     (name_targets names Takes) (rhs v s.locals x.1) (rhs (with_members v m) s.locals x.1) (λ q. refl) (λ q. same_rhs v m s.locals x.1 q)
 
-local_of : (v : World) (m : Members) (s : Checked) (names : List (Item IdentTree)) (t : Option TypeTree) (values : Option (ℕ × List (Item ExprTree))) →
+local_of : (v : World) (m : Members) (s : FoundSoFar) (names : List (Item IdentTree)) (t : Option TypeTree) (values : Option (ℕ × List (Item ExprTree))) →
     IsSettled v m s (check_local_of v s names t values) (check_local_of (with_members v m) s names t values)
 unfolding judge_type imported_type
 local_of v m s names (Some t) values = typed_local v m s names (judge_type v t) values
 local_of v m s names None values = untyped_local v m s names values
 
-pub local : (v : World) (m : Members) (s : Checked) (l : LocalTree) → IsSettled v m s (check_local v s l) (check_local (with_members v m) s l)
+pub local : (v : World) (m : Members) (s : FoundSoFar) (l : LocalTree) → IsSettled v m s (check_local v s l) (check_local (with_members v m) s l)
 unfolding check_local
 local v m s l = local_of v m s l.names l.type_use l.values

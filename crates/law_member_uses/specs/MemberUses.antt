@@ -22,13 +22,13 @@ abbrev pub ExpressionsAskForTheirUses : Type 0
 ExpressionsAskForTheirUses = (v w : World) (locals : Locals) (e : ExprTree) → IsAlike (judge v locals e).uses v w → judge w locals e ≡ judge v locals e
 
 -- `old` and `new` agree on whether the name of a declaration is `init`, where that matters: at a function without a receiver.
-abbrev pub KeepsInit : (old new : ℕ → Bool) → DeclTree → Type 0
-KeepsInit old new (VarDecl k g s) = Unit {0}
-KeepsInit old new (TypeDecl k g s) = Unit {0}
-KeepsInit old new (FuncDecl k f s) = f.receiver ≡ None → new f.name ≡ old f.name
+abbrev pub AgreesOnInit : (old new : ℕ → Bool) → DeclTree → Type 0
+AgreesOnInit old new (VarDecl k g s) = Unit {0}
+AgreesOnInit old new (TypeDecl k g s) = Unit {0}
+AgreesOnInit old new (FuncDecl k f s) = f.receiver ≡ None → new f.name ≡ old f.name
 
 -- What is found of a file is the same in a world that is alike at the uses that are found in it. Its functions have to stay `init` or not.
 abbrev pub FilesAskForTheirUses : Type 0
 FilesAskForTheirUses = (v w : World) (is_init is_init' : ℕ → Bool) (f : FileTree) →
-    ((d : DeclTree) → Contains f.decls d → KeepsInit is_init is_init' d) → IsAlike (check_file v is_init f).uses v w →
+    ((d : DeclTree) → Contains f.decls d → AgreesOnInit is_init is_init' d) → IsAlike (check_file v is_init f).uses v w →
     check_file w is_init' f ≡ check_file v is_init f

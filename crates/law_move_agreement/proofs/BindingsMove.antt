@@ -24,7 +24,7 @@ use Rattle.refs_binding.specs.declared.declaration.Declaration.TheVariants.{Pred
 use Rattle.refs_binding.specs.Binding as binds
 use Rattle.refs_binding.specs.Binding.{BindsByScope, BindsQualified, IsQualifiedUse, DeclaresMember}
 use Rattle.refs_binding.specs.Identifiers.{BeginsAt, IsInFiles}
-use Rattle.refs_binding.specs.Uses.{IsPackage, IsUseOf}
+use Rattle.refs_binding.specs.Uses.{IsCheckedPackage, IsUseOf}
 use Rattle.refs_binding.specs.Uses as uses
 use Rattle.refs_binding.proofs.Excluding.{number_bound, exported_as}
 use Rattle.refs_binding.proofs.Folders.{begins_in_folder}
@@ -56,7 +56,7 @@ module _ (w : Workspace) (known : Verdicts) (r : Revision) (goes : PathMap) (h :
   abbrev Kept : Place → Declaration → Type 0
   Kept place old = IsBoundToOne r.after after (r.moved place) (Goes old)
 
-  module _ (p : Package) (is : IsPackage w known p) where
+  module _ (p : Package) (is : IsCheckedPackage w known p) where
     abbrev now : Package
     now = q w known r goes h after c p is
 
@@ -64,7 +64,7 @@ module _ (w : Workspace) (known : Verdicts) (r : Revision) (goes : PathMap) (h :
     moved = moved_to w known r goes h after c p is
 
     -- what an identifier is bound to afterwards
-    kept_as : (u : ℕ) (place : Place) → BeginsAt p place.path place.offset u → (old e : Declaration) → uses.IsBoundTo r.after after now u e → Goes old e →
+    kept_as : (u : ℕ) (place : Place) → BeginsAt p place.path place.offset u → (old e : Declaration) → uses.IsBoundToDeclaration r.after after now u e → Goes old e →
         Kept place old
     kept_as u place b old e bound goes_there = record {
       declaration = e;
@@ -122,13 +122,13 @@ module _ (w : Workspace) (known : Verdicts) (r : Revision) (goes : PathMap) (h :
         moved.names u place b
         ∙ kept_by_role w known r h.kept p is u place b purpose.Selected role (λ e. let z : ⊥ = cc in z) (p.names u)
 
-  by_package : (p : Package) (is : IsPackage w known p) (u : ℕ) (place : Place) → BeginsAt p place.path place.offset u → (path : List ℕ) (n : ℕ) →
-      IsQualifiedUse (IsPackage w known) p u path n → Kept place (Declared path n)
+  by_package : (p : Package) (is : IsCheckedPackage w known p) (u : ℕ) (place : Place) → BeginsAt p place.path place.offset u → (path : List ℕ) (n : ℕ) →
+      IsQualifiedUse (IsCheckedPackage w known) p u path n → Kept place (Declared path n)
   by_package p is u place b path n k =
       let o = k.other in
       let t = moved o k.is_package in
       let to : (now o k.is_package).path ≡ c.g path = t.moved.path ∙ ap c.g k.of_path in
-      let bound : IsQualifiedUse (IsPackage r.after after) (now p is) u (c.g path) n = record {
+      let bound : IsQualifiedUse (IsCheckedPackage r.after after) (now p is) u (c.g path) n = record {
         behind = qualified_there p is u path k.behind;
         other = now o k.is_package;
         is_package = t.is;
@@ -142,11 +142,11 @@ module _ (w : Workspace) (known : Verdicts) (r : Revision) (goes : PathMap) (h :
       kept_as p is u place b (Declared path n) (Declared (c.g path) n) (binds.by_package bound)
       (subst (λ z. Goes (Declared z n) (Declared (c.g z) n)) k.of_path become)
 
-  kept_at : (p : Package) (is : IsPackage w known p) (u : ℕ) (place : Place) → BeginsAt p place.path place.offset u → (old : Declaration) →
-      uses.IsBoundTo w known p u old → Kept place old
+  kept_at : (p : Package) (is : IsCheckedPackage w known p) (u : ℕ) (place : Place) → BeginsAt p place.path place.offset u → (old : Declaration) →
+      uses.IsBoundToDeclaration w known p u old → Kept place old
   kept_at p is u place b old (binds.by_scope k) = by_scope p is u place b old k
   kept_at p is u place b old (binds.by_package k) =
-      let n = exported_as (IsPackage w known) p u old k in
+      let n = exported_as (IsCheckedPackage w known) p u old k in
       subst (Kept place) (sym n.1.1.0) (by_package p is u place b n.0 n.1.0 n.1.1.1)
   kept_at p is u place b old (binds.by_member k) =
       kept_as p is u place b old (moved_declaration c.g old) (binds.by_member (uses_there w known r goes h after c p is u old k))
@@ -156,7 +156,7 @@ module _ (w : Workspace) (known : Verdicts) (r : Revision) (goes : PathMap) (h :
       (name_becomes w known r goes h after c p is u old place b k)
 
   -- What is bound afterwards was bound.
-  module _ (p : Package) (is : IsPackage w known p) (u : ℕ) (stands : IsInFiles p u) where
+  module _ (p : Package) (is : IsCheckedPackage w known p) (u : ℕ) (stands : IsInFiles p u) where
     abbrev became : Package
     became = now p is
 
@@ -232,7 +232,7 @@ module _ (w : Workspace) (known : Verdicts) (r : Revision) (goes : PathMap) (h :
       subst (λ (l : Layout). IsIdentifier l u) (sym (moved p is).moved.layout) stands.1,
     )
 
-    bound_before : (e : Declaration) → uses.IsBoundTo r.after after became u e → (old : Declaration) × uses.IsBoundTo w known p u old
+    bound_before : (e : Declaration) → uses.IsBoundToDeclaration r.after after became u e → (old : Declaration) × uses.IsBoundToDeclaration w known p u old
     bound_before e (binds.by_name k) = let d = declared_before e k in (d.0, binds.by_name d.1)
     bound_before e (binds.by_scope k) = identifier_bound w h.sound known h.right p is u stands (scope_role e k)
       where
@@ -246,7 +246,7 @@ module _ (w : Workspace) (known : Verdicts) (r : Revision) (goes : PathMap) (h :
         scope_role : (e : Declaration) → BindsByScope became u e → is_bound_role (p.layout.role u) ≡ true
         scope_role e k = let n = number_bound became u e k in lexical (p.layout.role u) role_there n.0 n.1
     bound_before e (binds.by_package k) =
-        let n = exported_as (IsPackage r.after after) became u e k in
+        let n = exported_as (IsCheckedPackage r.after after) became u e k in
         identifier_bound w h.sound known h.right p is u stands (ap is_bound_role (sym role_there ∙ n.1.1.1.behind.selected))
     bound_before e (binds.by_member k) =
         identifier_bound w h.sound known h.right p is u stands
@@ -272,9 +272,9 @@ module _ (w : Workspace) (known : Verdicts) (r : Revision) (goes : PathMap) (h :
       subst (λ (z : Package). BeginsAt z to.path to.offset now_used.user) same now_used.begins in
       let user : now_used.user ≡ u =
       one_begins r.after after (now p is).path (now p is) t.is.is_checked to.path to.offset now_used.user u there begins in
-      let bound : uses.IsBoundTo r.after after (now p is) now_used.user e =
-      subst (λ (z : Package). uses.IsBoundTo r.after after z now_used.user e) same now_used.bound in
-      let was = bound_before p is u at.begins.0 e (subst (λ v. uses.IsBoundTo r.after after (now p is) v e) user bound) in
+      let bound : uses.IsBoundToDeclaration r.after after (now p is) now_used.user e =
+      subst (λ (z : Package). uses.IsBoundToDeclaration r.after after z now_used.user e) same now_used.bound in
+      let was = bound_before p is u at.begins.0 e (subst (λ v. uses.IsBoundToDeclaration r.after after (now p is) v e) user bound) in
       (was.0, record { used_in = p; is_package = is; user = u; begins = at.begins; bound = was.1 })
 
   none_added : (place : Place) (e : Declaration) → IsUseOf r.after after e (r.moved place) → (old : Declaration) → IsUseOf w known old place →

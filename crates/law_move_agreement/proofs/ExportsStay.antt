@@ -20,10 +20,10 @@ use Rattle.workspace_check.specs.Verdicts.{Verdicts}
 use Rattle.workspace_check.proofs.OnePackage.{layout_formed}
 use Rattle.refs_binding.specs.declared.declaration.Declaration.{Declaration}
 use Rattle.refs_binding.specs.declared.declaration.Declaration.TheVariants.{Declared}
-use Rattle.refs_binding.specs.Binding.{IsPredeclared, BindsQualified, IsQualifiedUse}
+use Rattle.refs_binding.specs.Binding.{IsPredeclaredNumber, BindsQualified, IsQualifiedUse}
 use Rattle.refs_binding.specs.DeclaringPlaces.{TokenAt, IsDeclaredAt}
 use Rattle.refs_binding.specs.Identifiers.{BeginsAt}
-use Rattle.refs_binding.specs.Uses.{IsPackage}
+use Rattle.refs_binding.specs.Uses.{IsCheckedPackage}
 use Rattle.refs_binding.proofs.Excluding.{exported_as}
 use Rattle.refs_index.specs.Corresponding.{stands}
 use Rattle.refactor_after.specs.ScopedPackages.{IsScopedIn}
@@ -34,7 +34,7 @@ use Rattle.law_renamed_scopes.proofs.Standing.{begins_there, declared_stands}
 use Rattle.law_scoped_packages.proofs.MovedTokens.{have_places}
 use Rattle.law_moved_symbols.specs.Moved.{PathMap}
 use Rattle.law_move_agreement.specs.Moving.{IsScopedMove, AreScopedMoves}
-use Rattle.law_moved_members.specs.KeptNames.{IsOfImport, KeepsOtherNames}
+use Rattle.law_moved_members.specs.KeptNames.{IsBoundToImport, KeepsOtherNames}
 use Rattle.law_moved_members.proofs.MembersStay.{kept_by_role}
 
 -- blocks
@@ -59,17 +59,17 @@ not_universal : PackageBlock ≡ Universe → ⊥
 not_universal e = cc
 
 module _ (w : Workspace) (known : Verdicts) (r : Revision) (kept : KeepsOtherNames w known r) (goes : PathMap) (p q : Package)
-    (is : IsPackage w known p) (a : IsScopedMove w r goes p q) where
+    (is : IsCheckedPackage w known p) (a : IsScopedMove w r goes p q) where
   abbrev l : Layout
   l = p.layout
 
   formed : WellFormed l
   formed = layout_formed w known p.path p is.is_checked
 
-  pub level_own : (d : ℕ) → IsPackageLevel l d → IsPredeclared d → ⊥
+  pub level_own : (d : ℕ) → IsPackageLevel l d → IsPredeclaredNumber d → ⊥
   level_own d level universal = not_universal (sym level ∙ in_universe w known p.path p is.is_checked d universal)
 
-  no_import : (d : ℕ) → IsPackageLevel l d → IsOfImport p d → ⊥
+  no_import : (d : ℕ) → IsPackageLevel l d → IsBoundToImport p d → ⊥
   no_import d level i = by_way i.bound
     where
       by_use : IsUse l p.names d → ⊥
@@ -117,7 +117,7 @@ module _ (w : Workspace) (known : Verdicts) (r : Revision) (kept : KeepsOtherNam
   }
 
   -- what counts before and after the change has become what has its number
-  pub becomes_there : (d : ℕ) → (IsPredeclared d → ⊥) → Counts l p.names d → Counts q.layout q.names d →
+  pub becomes_there : (d : ℕ) → (IsPredeclaredNumber d → ⊥) → Counts l p.names d → Counts q.layout q.names d →
       HasBecome w known r (Declared p.path d) (Declared q.path d)
   becomes_there d apart before after =
       let place = have_places w known p is d before apart in
@@ -125,7 +125,7 @@ module _ (w : Workspace) (known : Verdicts) (r : Revision) (kept : KeepsOtherNam
       let token : TokenAt q at (r.moved place.0) = a.begins.tokens at place.0 place.1 in
       let there : TokenAt q (q.layout.place (literal_of q.layout d)) (r.moved place.0) =
       subst (λ (k : Layout). TokenAt q (k.place (literal_of k d)) (r.moved place.0)) (sym a.layout) token in
-      let old : IsDeclaredAt (IsPackage w known) (Declared p.path d) place.0 = record {
+      let old : IsDeclaredAt (IsCheckedPackage w known) (Declared p.path d) place.0 = record {
         inside = p;
         is_package = is;
         of_path = refl;
@@ -143,13 +143,13 @@ module _ (w : Workspace) (known : Verdicts) (r : Revision) (kept : KeepsOtherNam
   export_becomes d k = becomes_there d (level_own d k.package_level) k.counts (exports_after d k).counts
 
 -- The selector of a qualified identifier stays bound.
-module _ (w : Workspace) (known : Verdicts) (r : Revision) (goes : PathMap) (h : AreScopedMoves w known r goes) (p : Package) (is : IsPackage w known p)
+module _ (w : Workspace) (known : Verdicts) (r : Revision) (goes : PathMap) (h : AreScopedMoves w known r goes) (p : Package) (is : IsCheckedPackage w known p)
     (u : ℕ) (place : Place) (begins : BeginsAt p place.path place.offset u) where
-  selector_called : (path : List ℕ) (n : ℕ) → IsQualifiedUse (IsPackage w known) p u path n → r.called place (p.names u) ≡ p.names u
+  selector_called : (path : List ℕ) (n : ℕ) → IsQualifiedUse (IsCheckedPackage w known) p u path n → r.called place (p.names u) ≡ p.names u
   selector_called path n k =
       kept_by_role w known r h.kept p is u place begins purpose.Selected k.behind.selected (λ e. let z : ⊥ = cc in z) (p.names u)
 
-  by_export : (path : List ℕ) (n : ℕ) → IsQualifiedUse (IsPackage w known) p u path n →
+  by_export : (path : List ℕ) (n : ℕ) → IsQualifiedUse (IsCheckedPackage w known) p u path n →
       StaysBound (HasBecome w known r) (IsBoundByPackage w r place p u) (Declared path n)
   by_export path n k =
       let o = h.there k.other k.is_package in
@@ -177,8 +177,8 @@ module _ (w : Workspace) (known : Verdicts) (r : Revision) (goes : PathMap) (h :
         become = subst (λ z. HasBecome w known r (Declared z n) (Declared q.path n)) k.of_path become;
       }
 
-  pub selector_stays : (old : Declaration) → BindsQualified (IsPackage w known) p u old →
+  pub selector_stays : (old : Declaration) → BindsQualified (IsCheckedPackage w known) p u old →
       StaysBound (HasBecome w known r) (IsBoundByPackage w r place p u) old
   selector_stays old was =
-      let x = exported_as (IsPackage w known) p u old was in
+      let x = exported_as (IsCheckedPackage w known) p u old was in
       subst (StaysBound (HasBecome w known r) (IsBoundByPackage w r place p u)) (sym x.1.1.0) (by_export x.0 x.1.0 x.1.1.1)

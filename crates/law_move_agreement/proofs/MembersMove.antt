@@ -20,7 +20,7 @@ use Rattle.refs_binding.specs.declared.declaration.Declaration.TheVariants.{Pred
 use Rattle.refs_binding.specs.Binding.{BindsByMember, DeclaresMember, UsesMemberAt, declaration_of}
 use Rattle.refs_binding.specs.DeclaringPlaces.{TokenAt, IsDeclaredAt}
 use Rattle.refs_binding.specs.Identifiers.{BeginsAt, NameBegins}
-use Rattle.refs_binding.specs.Uses.{IsPackage}
+use Rattle.refs_binding.specs.Uses.{IsCheckedPackage}
 use Rattle.refs_binding.proofs.NamedPlaces.{stands_once}
 use Rattle.law_faultless.proofs.PackageWorlds.{have_all_worlds}
 use Rattle.law_renamed_scopes.proofs.Apart.{name_token}
@@ -42,14 +42,14 @@ member_moves g (AMethod s p f) = refl
 member_moves g (ABrokenMethod s) = refl
 
 -- the name of a member is declared where it begins
-pub declared_here : (w : Workspace) (known : Verdicts) (p : Package) → IsPackage w known p → (u : ℕ) (place : Place) → BeginsAt p place.path place.offset u →
-    (d : Declaration) → DeclaresMember p u d → IsDeclaredAt (IsPackage w known) d place
+pub declared_here : (w : Workspace) (known : Verdicts) (p : Package) → IsCheckedPackage w known p → (u : ℕ) (place : Place) → BeginsAt p place.path place.offset u →
+    (d : Declaration) → DeclaresMember p u d → IsDeclaredAt (IsCheckedPackage w known) d place
 declared_here w known p is u place b d h = by_kind d h
   where
     token : TokenAt p (p.layout.place u) place
     token = name_token (slice_get p.files (p.layout.place u).file) (p.layout.place u).index place b.1
 
-    by_kind : (d : Declaration) → DeclaresMember p u d → IsDeclaredAt (IsPackage w known) d place
+    by_kind : (d : Declaration) → DeclaresMember p u d → IsDeclaredAt (IsCheckedPackage w known) d place
     by_kind (Predeclared n) h = absurd h
     by_kind (Declared path n) h = absurd h
     by_kind (Field s) h = record {
@@ -95,7 +95,7 @@ member_used p file f v at judged u has n stands m is = record {
 }
 
 module _ (w : Workspace) (known : Verdicts) (r : Revision) (goes : PathMap) (h : AreScopedMoves w known r goes) (after : Verdicts)
-    (c : AreCheckedMoves w known r goes after) (p : Package) (is : IsPackage w known p) where
+    (c : AreCheckedMoves w known r goes after) (p : Package) (is : IsCheckedPackage w known p) where
   abbrev there : Package
   there = q w known r goes h after c p is
 
@@ -216,7 +216,7 @@ module _ (w : Workspace) (known : Verdicts) (r : Revision) (goes : PathMap) (h :
 
 -- what they name has become the moved member
 module _ (w : Workspace) (known : Verdicts) (r : Revision) (goes : PathMap) (h : AreScopedMoves w known r goes) (after : Verdicts)
-    (c : AreCheckedMoves w known r goes after) (p : Package) (is : IsPackage w known p) (u : ℕ) (d : Declaration) where
+    (c : AreCheckedMoves w known r goes after) (p : Package) (is : IsCheckedPackage w known p) (u : ℕ) (d : Declaration) where
   pub name_becomes : (place : Place) → BeginsAt p place.path place.offset u → DeclaresMember p u d →
       Becomes w known r goes h after c d (moved_declaration c.g d)
   name_becomes place begins k = becomes w known r goes h after c d place (declared_here w known p is u place begins d k)

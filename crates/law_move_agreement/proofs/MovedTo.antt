@@ -13,10 +13,10 @@ use Rattle.types_declared.specs.Package.{Package, PlacedFunction, spelled, spell
 use Rattle.workspace_check.specs.Verdicts.{Verdicts}
 use Rattle.refs_binding.specs.declared.declaration.Declaration.{Declaration}
 use Rattle.refs_binding.specs.declared.declaration.Declaration.TheVariants.{Predeclared, Declared, Field, Method}
-use Rattle.refs_binding.specs.Binding.{IsPredeclared, IsFieldAt, IsMethodAt}
+use Rattle.refs_binding.specs.Binding.{IsPredeclaredNumber, IsFieldAt, IsMethodAt}
 use Rattle.refs_binding.specs.DeclaringPlaces.{TokenAt, TokenBegins, IsDeclaredAt}
 use Rattle.refs_binding.specs.Identifiers.{BeginsAt}
-use Rattle.refs_binding.specs.Uses.{IsPackage}
+use Rattle.refs_binding.specs.Uses.{IsCheckedPackage}
 use Rattle.refs_index.specs.Corresponding.{Corresponds, stands}
 use Rattle.refactor_after.specs.ScopedPackages.{IsScopedIn}
 use Rattle.refactor_after.proofs.OneScoped.{one_scoped}
@@ -52,17 +52,17 @@ module _ (w : Workspace) (known : Verdicts) (r : Revision) (goes : PathMap) (h :
 
   -- The checked package `q` is p after the move.
   pub record IsMovedTo (p q : Package) : Type 0 where
-    pub is : IsPackage x after q
+    pub is : IsCheckedPackage x after q
     pub moved : IsMovedPackage c.g p q
     pub begins : HasMovedTokens r p q
     pub tokens : (at : Position) (place : Place) → IsToken p at place → spelled q at.file at.index ≡ r.called place (spelled p at.file at.index)
     pub names : (u : ℕ) (place : Place) → BeginsAt p place.path place.offset u → q.names u ≡ r.called place (p.names u)
 
-  module _ (p : Package) (is : IsPackage w known p) where
+  module _ (p : Package) (is : IsCheckedPackage w known p) where
     abbrev pub q : Package
     q = (c.there p is).0
 
-    is_q : IsPackage x after q
+    is_q : IsCheckedPackage x after q
     is_q = (c.there p is).1.0
 
     moved : IsMovedPackage c.g p q
@@ -164,8 +164,8 @@ module _ (w : Workspace) (known : Verdicts) (r : Revision) (goes : PathMap) (h :
         }
 
   -- a declaration is declared afterwards where its place is moved
-  declared_there : (d : Declaration) (place : Place) → IsDeclaredAt (IsPackage w known) d place →
-      IsDeclaredAt (IsPackage x after) (moved_declaration c.g d) (r.moved place)
+  declared_there : (d : Declaration) (place : Place) → IsDeclaredAt (IsCheckedPackage w known) d place →
+      IsDeclaredAt (IsCheckedPackage x after) (moved_declaration c.g d) (r.moved place)
   declared_there (Predeclared n) place k = absurd k
   declared_there (Declared path n) place k =
       let p = k.inside in
@@ -212,12 +212,12 @@ module _ (w : Workspace) (known : Verdicts) (r : Revision) (goes : PathMap) (h :
       }
 
   abbrev pub Becomes : Declaration → Declaration → Type 0
-  Becomes d e = Corresponds (IsPackage w known) (IsPackage x after) r.moved d e
+  Becomes d e = Corresponds (IsCheckedPackage w known) (IsCheckedPackage x after) r.moved d e
 
-  pub becomes : (d : Declaration) (place : Place) → IsDeclaredAt (IsPackage w known) d place → Becomes d (moved_declaration c.g d)
+  pub becomes : (d : Declaration) (place : Place) → IsDeclaredAt (IsCheckedPackage w known) d place → Becomes d (moved_declaration c.g d)
   becomes d place k = stands place k (declared_there d place k)
 
-  pub scope_becomes : (p : Package) → IsPackage w known p → (n : ℕ) → (IsPredeclared n → ⊥) → Counts p.layout p.names n →
+  pub scope_becomes : (p : Package) → IsCheckedPackage w known p → (n : ℕ) → (IsPredeclaredNumber n → ⊥) → Counts p.layout p.names n →
       Becomes (Declared p.path n) (Declared (c.g p.path) n)
   scope_becomes p is n apart counts =
       let place = have_places w known p is n counts apart in

@@ -17,7 +17,7 @@ use Rattle.refs_binding.specs.Binding as binds
 use Rattle.refs_binding.specs.Binding.{BindsByScope}
 use Rattle.refs_binding.specs.DeclaringPlaces.{IsDeclaredAt}
 use Rattle.refs_binding.specs.Identifiers.{BeginsAt}
-use Rattle.refs_binding.specs.Uses.{IsPackage, IsUseOf}
+use Rattle.refs_binding.specs.Uses.{IsCheckedPackage, IsUseOf}
 use Rattle.refs_binding.specs.Uses as uses
 use Rattle.refs_binding.proofs.Excluding.{number_bound, exported_as}
 use Rattle.refs_lookup.proofs.NamedMembers.{name_member}
@@ -44,29 +44,29 @@ module _ (w : Workspace) (known : Verdicts) (r : Revision) (goes : PathMap) (h :
   x = r.after
 
   -- the package without checking
-  scopes_of : (q : Package) → IsPackage x after q → (o : Package) × (IsScopedIn x o × HasSameScopes q o)
+  scopes_of : (q : Package) → IsCheckedPackage x after q → (o : Package) × (IsScopedIn x o × HasSameScopes q o)
   scopes_of q is = faultless_scoped x after right sound q is
 
   -- what corresponds among checked packages corresponds by scopes
-  declared_scoped : (path : List ℕ) (n : ℕ) (place : Place) → IsDeclaredAt (IsPackage x after) (Declared path n) place →
+  declared_scoped : (path : List ℕ) (n : ℕ) (place : Place) → IsDeclaredAt (IsCheckedPackage x after) (Declared path n) place →
       IsDeclaredAt (IsScopedIn x) (Declared path n) place
   declared_scoped path n place d =
       let o = scopes_of d.inside d.is_package in
       record { inside = o.0; is_package = o.1.0; of_path = o.1.1.path ∙ d.of_path; holds = declares_same d.inside o.0 o.1.1 path n place d.holds }
 
-  become_declared : (old : Declaration) (path : List ℕ) (n : ℕ) → Corresponds (IsPackage w known) (IsPackage x after) r.moved old (Declared path n) →
+  become_declared : (old : Declaration) (path : List ℕ) (n : ℕ) → Corresponds (IsCheckedPackage w known) (IsCheckedPackage x after) r.moved old (Declared path n) →
       HasBecome w known r old (Declared path n)
-  become_declared old path n c = elim (by_cases (IsPackage w known) (IsPackage x after) r.moved old (Declared path n) c) [
+  become_declared old path n c = elim (by_cases (IsCheckedPackage w known) (IsCheckedPackage x after) r.moved old (Declared path n) c) [
     | inl m ↦ absurd (not_predeclared (Declared path n) (Declared path n) refl tt m.number m.other)
     | inr t ↦ stands t.place t.old (declared_scoped path n (r.moved t.place) t.new)
   ]
 
-  become_predeclared : (old : Declaration) (n : ℕ) → Corresponds (IsPackage w known) (IsPackage x after) r.moved old (Predeclared n) →
+  become_predeclared : (old : Declaration) (n : ℕ) → Corresponds (IsCheckedPackage w known) (IsCheckedPackage x after) r.moved old (Predeclared n) →
       HasBecome w known r old (Predeclared n)
   become_predeclared old n predeclared = predeclared
   become_predeclared old n (stands place d k) = absurd k
 
-  become_scoped : (o : Package) (u : ℕ) (old e : Declaration) → BindsByScope o u e → Corresponds (IsPackage w known) (IsPackage x after) r.moved old e →
+  become_scoped : (o : Package) (u : ℕ) (old e : Declaration) → BindsByScope o u e → Corresponds (IsCheckedPackage w known) (IsCheckedPackage x after) r.moved old e →
       HasBecome w known r old e
   become_scoped o u old (Predeclared n) b c = become_predeclared old n c
   become_scoped o u old (Declared path n) b c = become_declared old path n c
@@ -74,8 +74,8 @@ module _ (w : Workspace) (known : Verdicts) (r : Revision) (goes : PathMap) (h :
   become_scoped o u old (Method t) b c = absurd b
 
   -- An identifier, and what it is bound to after the change. `q` is the package that has it after the change, and `o` the same by scopes.
-  module _ (p : Package) (is : IsPackage w known p) (u : ℕ) (place : Place) (begins : BeginsAt p place.path place.offset u) (old e : Declaration)
-      (now : IsUseOf x after e (r.moved place)) (same : Corresponds (IsPackage w known) (IsPackage x after) r.moved old e) where
+  module _ (p : Package) (is : IsCheckedPackage w known p) (u : ℕ) (place : Place) (begins : BeginsAt p place.path place.offset u) (old e : Declaration)
+      (now : IsUseOf x after e (r.moved place)) (same : Corresponds (IsCheckedPackage w known) (IsCheckedPackage x after) r.moved old e) where
     abbrev q : Package
     q = now.used_in
 
@@ -119,23 +119,23 @@ module _ (w : Workspace) (known : Verdicts) (r : Revision) (goes : PathMap) (h :
     stays_there : BindsByScope p u old → StaysBound (HasBecome w known r) (IsBoundByScopes r place) old
     stays_there was = by_way now.bound
       where
-        by_way : uses.IsBoundTo x after q now.user e → StaysBound (HasBecome w known r) (IsBoundByScopes r place) old
+        by_way : uses.IsBoundToDeclaration x after q now.user e → StaysBound (HasBecome w known r) (IsBoundByScopes r place) old
         by_way (binds.by_scope b) = by_scopes b
-        by_way (binds.by_package b) = absurd (never was purpose.Selected (exported_as (IsPackage x after) q now.user e b).1.1.1.behind.selected)
+        by_way (binds.by_package b) = absurd (never was purpose.Selected (exported_as (IsCheckedPackage x after) q now.user e b).1.1.1.behind.selected)
         by_way (binds.by_member b) = elim (link_role x after q.path q now.is_package.is_checked now.user e now.begins.0 b) [
           | inl key ↦ absurd (never was purpose.Key key)
           | inr selected ↦ absurd (never was purpose.Selected selected)
         ]
         by_way (binds.by_name b) = absurd (never was purpose.Member (name_member x after q.path q now.is_package.is_checked now.user e now.begins.0.0 b))
 
-  scope_stays : (p : Package) → IsPackage w known p → (u : ℕ) (place : Place) → BeginsAt p place.path place.offset u → StaysByScope w known r p u place
+  scope_stays : (p : Package) → IsCheckedPackage w known p → (u : ℕ) (place : Place) → BeginsAt p place.path place.offset u → StaysByScope w known r p u place
   scope_stays p is u place begins old was =
       let k = kept.keeps place old (record { used_in = p; is_package = is; user = u; begins = begins; bound = binds.by_scope was }) in
       stays_there p is u place begins old k.declaration k.is_use k.holds was
 
 -- what stays bound by scopes stays bound
 pub scopes_decide : (w : Workspace) (known : Verdicts) (r : Revision) (goes : PathMap) → AreScopedMoves w known r goes →
-    ((p : Package) → IsPackage w known p → (u : ℕ) (place : Place) → BeginsAt p place.path place.offset u → StaysByScope w known r p u place) →
+    ((p : Package) → IsCheckedPackage w known p → (u : ℕ) (place : Place) → BeginsAt p place.path place.offset u → StaysByScope w known r p u place) →
     NoneIsLost w known r
 scopes_decide w known r goes h stay place p is u begins = record {
   by_scope = stay p is u place begins;

@@ -9,7 +9,7 @@ use Rattle.types_declared.specs.Package.{Package, spelled}
 use Rattle.workspace_check.specs.FaultLists.{ListsFaults}
 use Rattle.workspace_check.specs.Verdicts.{Verdicts, AreVerdicts}
 use Rattle.refs_binding.specs.Identifiers.{BeginsAt}
-use Rattle.refs_binding.specs.Uses.{IsPackage}
+use Rattle.refs_binding.specs.Uses.{IsCheckedPackage}
 use Rattle.refactor_after.specs.ScopedPackages.{IsScopedIn}
 use Rattle.law_renamed_packages.specs.Layouts.{IsToken}
 use Rattle.law_scoped_packages.specs.ScopedPackages.{HasMovedTokens}
@@ -34,7 +34,7 @@ pub record IsScopedMove (w : Workspace) (r : Revision) (goes : PathMap) (p q : P
 pub record AreScopedMoves (w : Workspace) (known : Verdicts) (r : Revision) (goes : PathMap) : Type 0 where
   pub right : AreVerdicts w known
   pub sound : ListsFaults w []
-  pub there : (p : Package) → IsPackage w known p → (q : Package) × IsScopedMove w r goes p q
+  pub there : (p : Package) → IsCheckedPackage w known p → (q : Package) × IsScopedMove w r goes p q
   pub kept : KeepsOtherNames w known r
 
 -- The workspace after the change has no fault, and each of its packages is one of before, moved. The map `g` gives packages their paths.
@@ -44,4 +44,4 @@ pub record AreCheckedMoves (w : Workspace) (known : Verdicts) (r : Revision) (go
   pub g : PathMap
   pub injective : IsInjective g
   pub agrees : (path : List ℕ) → Contains (package_paths w) path → g path ≡ goes path
-  pub there : (p : Package) → IsPackage w known p → (q : Package) × (IsPackage r.after after q × IsMovedPackage g p q)
+  pub there : (p : Package) → IsCheckedPackage w known p → (q : Package) × (IsCheckedPackage r.after after q × IsMovedPackage g p q)

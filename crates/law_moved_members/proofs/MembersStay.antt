@@ -20,7 +20,7 @@ use Rattle.refs_binding.specs.declared.declaration.Declaration.TheVariants.{Pred
 use Rattle.refs_binding.specs.Binding.{BindsByMember, DeclaresMember, field_place}
 use Rattle.refs_binding.specs.DeclaringPlaces.{TokenAt, TokenBegins}
 use Rattle.refs_binding.specs.Identifiers.{BeginsAt, NameBegins}
-use Rattle.refs_binding.specs.Uses.{IsPackage}
+use Rattle.refs_binding.specs.Uses.{IsCheckedPackage}
 use Rattle.refs_binding.proofs.Tokens.{Begins}
 use Rattle.refs_lookup.proofs.NamedMembers.{IsMemberIn, field_in_tree, method_in_tree, role_of}
 use Rattle.refs_lookup.proofs.UsedMembers.{link_role}
@@ -37,13 +37,13 @@ use Rattle.law_moved_members.specs.KeptNames.{KeepsOtherNames}
 
 module _ (w : Workspace) (known : Verdicts) (r : Revision) (kept : KeepsOtherNames w known r) where
   -- an identifier that scopes do not bind keeps its name, unless it is in a package clause
-  pub kept_by_role : (p : Package) → IsPackage w known p → (u : ℕ) (place : Place) → BeginsAt p place.path place.offset u → (kind : Purpose) →
+  pub kept_by_role : (p : Package) → IsCheckedPackage w known p → (u : ℕ) (place : Place) → BeginsAt p place.path place.offset u → (kind : Purpose) →
       p.layout.role u ≡ NotLexical kind → (NotLexical kind ≡ NotLexical purpose.PackageClause → ⊥) → (name : List ℕ) → r.called place name ≡ name
   kept_by_role p is u place b kind role other name =
       kept p is u place b (λ i. never_bound p.layout p.names u i.import kind role i.bound) (λ clause. other (sym role ∙ clause)) name
 
   -- the name of a member
-  named_kept : (p : Package) → IsPackage w known p → (at : Position) → IsMemberIn p.files at → IsNamedIn p at.file at.index → (place : Place) →
+  named_kept : (p : Package) → IsCheckedPackage w known p → (at : Position) → IsMemberIn p.files at → IsNamedIn p at.file at.index → (place : Place) →
       TokenAt p at place → (name : List ℕ) → r.called place name ≡ name
   named_kept p is at member named place token name =
       let t = (name_stands w known p is at named).stands in
@@ -53,7 +53,7 @@ module _ (w : Workspace) (known : Verdicts) (r : Revision) (kept : KeepsOtherNam
       kept_by_role p is u.0 place u.1.0 purpose.Member (role_of w known p.path p is.is_checked at member u.0 u.1.0.0.0 u.1.1)
       (λ e. let z : ⊥ = cc in z) name
 
-  called_before : (p : Package) → IsPackage w known p → (at : Position) → IsMemberIn p.files at → IsNamedIn p at.file at.index → (name : List ℕ) →
+  called_before : (p : Package) → IsCheckedPackage w known p → (at : Position) → IsMemberIn p.files at → IsNamedIn p at.file at.index → (name : List ℕ) →
       HasNameAfter r p at name ↔ (spelled p at.file at.index ≡ name)
   called_before p is at member named name = (
     (λ k. sym (named_kept p is at member named k.place k.stands (spelled p at.file at.index)) ∙ k.called),
@@ -66,11 +66,11 @@ module _ (w : Workspace) (known : Verdicts) (r : Revision) (kept : KeepsOtherNam
         }),
   )
 
-  field_called : (p : Package) → IsPackage w known p → (rank : ℕ) (f : PlacedField) → slice_get (package_fields p) rank ≡ Some f → (name : List ℕ) →
+  field_called : (p : Package) → IsCheckedPackage w known p → (rank : ℕ) (f : PlacedField) → slice_get (package_fields p) rank ≡ Some f → (name : List ℕ) →
       HasNameAfter r p (field_place f) name ↔ (spelled p f.file f.name ≡ name)
   field_called p is rank f has name = called_before p is (field_place f) (field_in_tree p rank f has) (field_name p rank f has) name
 
-  method_called : (p : Package) → IsPackage w known p → (rank : ℕ) (f : PlacedFunction) (x : ReceiverTree) → slice_get (package_functions p) rank ≡ Some f →
+  method_called : (p : Package) → IsCheckedPackage w known p → (rank : ℕ) (f : PlacedFunction) (x : ReceiverTree) → slice_get (package_functions p) rank ≡ Some f →
       f.function.receiver ≡ Some x → (name : List ℕ) → HasNameAfter r p (function_place f) name ↔ (spelled p f.file f.function.name ≡ name)
   method_called p is rank f x has received name =
       called_before p is (function_place f) (method_in_tree p rank f x has received) (function_name p rank f has) name
@@ -118,7 +118,7 @@ module _ (w : Workspace) (known : Verdicts) (r : Revision) (kept : KeepsOtherNam
       called = (method_called y is f.rank x own.receiver own.has_rank own.received m).1 own.named;
     }
 
-    module _ (p : Package) (is : IsPackage w known p) (u : ℕ) (place : Place) (begins : BeginsAt p place.path place.offset u) (old : Declaration) where
+    module _ (p : Package) (is : IsCheckedPackage w known p) (u : ℕ) (place : Place) (begins : BeginsAt p place.path place.offset u) (old : Declaration) where
       -- a use of a member keeps its name
       pub use_called : BindsByMember p u old → (name : List ℕ) → r.called place name ≡ name
       use_called was name = elim (link_role w known p.path p is.is_checked u old begins.0 was) [
@@ -126,13 +126,13 @@ module _ (w : Workspace) (known : Verdicts) (r : Revision) (kept : KeepsOtherNam
         | inr selected ↦ kept_by_role p is u place begins purpose.Selected selected (λ e. let z : ⊥ = cc in z) name
       ]
 
-      pub use_kept : (was : BindsByMember p u old) → IsBoundByMember (IsPackage w known) r place p u old was old
+      pub use_kept : (was : BindsByMember p u old) → IsBoundByMember (IsCheckedPackage w known) r place p u old was old
       use_kept was =
           let m = spelled_there p u in
           use_stays w sound known right r m (λ q. ⊤) (λ p q a k. tt) (none_gets m) p is tt u place old was
           (keeps_it m old (used_is_member p u old was)) refl (use_called was m)
 
-      pub name_kept : DeclaresMember p u old → CountsAfter (IsPackage w known) r old
+      pub name_kept : DeclaresMember p u old → CountsAfter (IsCheckedPackage w known) r old
       name_kept declares =
           let m = spelled_there p u in
           name_stays w sound known right r m (λ q. ⊤) (λ p q a k. tt) (none_gets m) p is tt u place old declares

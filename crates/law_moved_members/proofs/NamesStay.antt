@@ -23,8 +23,8 @@ use Rattle.go_scope.specs.Bindings.{IsBoundTo}
 use Rattle.go_scope.specs.Table.{LiesAt}
 use Rattle.types_declared.specs.Package.{Package}
 use Rattle.workspace_check.specs.Verdicts.{Verdicts}
-use Rattle.refs_binding.specs.Identifiers.{BeginsAt, IsName, NameBegins, file_of}
-use Rattle.refs_binding.specs.Uses.{IsPackage}
+use Rattle.refs_binding.specs.Identifiers.{BeginsAt, IsNameToken, NameBegins, file_of}
+use Rattle.refs_binding.specs.Uses.{IsCheckedPackage}
 use Rattle.refs_lookup.proofs.OnePlace.{one_begins}
 use Rattle.refactor_move.specs.FileEdits.{IsMoveEditAt, IsImportUse, IsClauseNameToken, ReplacesPath}
 use Rattle.refactor_move.specs.declared.moved.Moved.{Moved}
@@ -32,9 +32,9 @@ use Rattle.law_faultless.proofs.TypesBound.{Stands, all_kept}
 use Rattle.law_moved_packages.specs.Moves.{IsMove}
 use Rattle.law_moved_packages.proofs.MoveEdits.{edited_file, edit_of, is_file, k, replaces, replacements, word_of}
 use Rattle.law_moved_packages.proofs.NewSpelled.{found_edit, is_piece, one_number}
-use Rattle.law_moved_members.specs.KeptNames.{IsOfImport, MovesKeepNames}
+use Rattle.law_moved_members.specs.KeptNames.{IsBoundToImport, MovesKeepNames}
 
-named_token : (o : Option Piece) → IsName o → (t : Piece) × ((o ≡ Some t) × (t.class ≡ Name))
+named_token : (o : Option Piece) → IsNameToken o → (t : Piece) × ((o ≡ Some t) × (t.class ≡ Name))
 named_token None h = absurd h
 named_token (Some t) h = (t, (refl, h))
 
@@ -47,7 +47,7 @@ no_string c e (inl s) = let same : Name ≡ InterpretedString = sym e ∙ s in l
 no_string c e (inr s) = let same : Name ≡ RawString = sym e ∙ s in let z : ⊥ = cc in z
 
 module _ (w : Workspace) (known : Verdicts) (from to : List ℕ) (s : FileChanges) (h : IsMove w known from to s) (p : Package)
-    (is : IsPackage w known p) (u : ℕ) (place : Place) (begins : BeginsAt p place.path place.offset u) where
+    (is : IsCheckedPackage w known p) (u : ℕ) (place : Place) (begins : BeginsAt p place.path place.offset u) where
   abbrev rank : ℕ
   rank = (p.layout.place u).file
 
@@ -108,7 +108,7 @@ module _ (w : Workspace) (known : Verdicts) (from to : List ℕ) (s : FileChange
       (subst (λ n. NameBegins (slice_get p.files rank) n place.path place.offset) (sym stands.2) begins.1) in
       one_begins w known p.path p is.is_checked place.path place.offset v u ((lt, stands.0), named) begins
 
-  no_edit : (IsOfImport p u → ⊥) → (p.layout.role u ≡ NotLexical purpose.PackageClause → ⊥) → (e : Edit) → Contains edits e → e.span ≡ token.0.span → ⊥
+  no_edit : (IsBoundToImport p u → ⊥) → (p.layout.role u ≡ NotLexical purpose.PackageClause → ⊥) → (e : Edit) → Contains edits e → e.span ≡ token.0.span → ⊥
   no_edit apart other e has span =
       let x = replaces w known from to s h p is rank f at e has in by_way x.0 x.1
     where
@@ -140,7 +140,7 @@ module _ (w : Workspace) (known : Verdicts) (from to : List ℕ) (s : FileChange
         | inr c ↦ import_use j c (same_token j e (inr r) span)
       ]
 
-  none_found : (IsOfImport p u → ⊥) → (p.layout.role u ≡ NotLexical purpose.PackageClause → ⊥) → find (replaces_at (offset_of f i)) edits ≡ None
+  none_found : (IsBoundToImport p u → ⊥) → (p.layout.role u ≡ NotLexical purpose.PackageClause → ⊥) → find (replaces_at (offset_of f i)) edits ≡ None
   none_found apart other = by_found (find (replaces_at (offset_of f i)) edits) refl
     where
       by_found : (o : Option Edit) → find (replaces_at (offset_of f i)) edits ≡ o → find (replaces_at (offset_of f i)) edits ≡ None
@@ -151,7 +151,7 @@ module _ (w : Workspace) (known : Verdicts) (from to : List ℕ) (s : FileChange
           let d = found_edit f.path f edits good are i token.0 token.1.0 (is_piece f.path f edits good are i token.0 token.1.0 (inl token.1.1)) x e in
           absurd (no_edit apart other x d.0 d.1)
 
-  kept : (IsOfImport p u → ⊥) → (p.layout.role u ≡ NotLexical purpose.PackageClause → ⊥) → (name : List ℕ) → (revision_of w s).called place name ≡ name
+  kept : (IsBoundToImport p u → ⊥) → (p.layout.role u ≡ NotLexical purpose.PackageClause → ⊥) → (name : List ℕ) → (revision_of w s).called place name ≡ name
   kept apart other name =
       ap (λ n. text_or name (find (replaces_at n) (edits_by (change_of s place.path)))) (sym there.2)
       ∙ ap (λ path. text_or name (find (replaces_at (offset_of f i)) (edits_by (change_of s path)))) (sym there.1)

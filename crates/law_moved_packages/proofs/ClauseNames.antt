@@ -14,7 +14,7 @@ use Rattle.types_declared.specs.Files.{package_name}
 use Rattle.types_declared.specs.Package.{Package}
 use Rattle.workspace_check.specs.Verdicts.{Verdicts}
 use Rattle.workspace_check.proofs.PackageFiles.{package_file, some_tree}
-use Rattle.refs_binding.specs.Uses.{IsPackage}
+use Rattle.refs_binding.specs.Uses.{IsCheckedPackage}
 use Rattle.refs_lookup.proofs.OnePlace.{same_files}
 use Rattle.refactor_after.specs.ScopedPackages.{IsClauseName, named}
 use Rattle.refactor_move.specs.declared.moved.Moved.{Moved}
@@ -27,7 +27,7 @@ use Rattle.law_moved_packages.proofs.NewFiles.{new_parts, new_trees}
 use Rattle.law_moved_packages.proofs.NewLayout.{file_at, moved_paths, plain_layout, plain_size, same_trees, source_at}
 
 module _ (w : Workspace) (known : Verdicts) (from to : List ℕ) (s : FileChanges) (h : IsMove w known from to s) (p : Package)
-    (is : IsPackage w known p) where
+    (is : IsCheckedPackage w known p) where
   abbrev ts : List FileParts
   ts = is.is_checked.files
 

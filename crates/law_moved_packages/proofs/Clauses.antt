@@ -25,7 +25,7 @@ use Rattle.go_scope.specs.declared.model.Role.{Role}
 use Rattle.go_scope.specs.declared.model.Role.TheVariants.{Declaring, NotLexical}
 use Rattle.go_scope.specs.Bindings.{Layout, Names, IsBoundTo, IsImport, use_bound, own, block_of, is_use, is_left_name}
 use Rattle.go_scope.specs.FileSites.{file_sites, func_role}
-use Rattle.go_scope.specs.Site.{Source, Site}
+use Rattle.go_scope.specs.Site.{TokenSpellings, Site}
 use Rattle.go_scope.specs.Table.{LiesAt}
 use Rattle.law_rename.specs.Respelled.{KeepsRole, KeepsRoles}
 use Rattle.law_tokens.specs.Roles.{IsOfKind}
@@ -35,8 +35,8 @@ use Rattle.types_declared.specs.Package.{Package}
 use Rattle.types_declared.proofs.ByteKeys.{cases_bytes}
 use Rattle.types_info.proofs.DeclKinds.{Holds}
 use Rattle.workspace_check.specs.Verdicts.{Verdicts}
-use Rattle.refs_binding.specs.Identifiers.{BeginsAt, IsName, NameBegins}
-use Rattle.refs_binding.specs.Uses.{IsPackage}
+use Rattle.refs_binding.specs.Identifiers.{BeginsAt, IsNameToken, NameBegins}
+use Rattle.refs_binding.specs.Uses.{IsCheckedPackage}
 use Rattle.refs_binding.proofs.Tokens.{Begins}
 use Rattle.refs_lookup.proofs.OnePlace.{one_begins}
 use Rattle.refs_uses.proofs.NameTokens.{name_at_token}
@@ -51,7 +51,7 @@ use Rattle.law_renamed_packages.proofs.TokenKinds.{Fits, file_fits}
 use Rattle.law_renamed_scopes.proofs.NameTokens.{ident_piece}
 use Rattle.law_moved_packages.specs.Moves.{IsMove}
 use Rattle.law_moved_packages.specs.MovedPackages.{name_after}
-use Rattle.law_moved_packages.specs.Replacements.{AreReplacements}
+use Rattle.law_moved_packages.specs.Replacements.{AreReplacedPieces}
 use Rattle.law_moved_packages.proofs.Literals.{are, how, new}
 use Rattle.law_moved_packages.proofs.MovedFiles.{m}
 use Rattle.law_moved_packages.proofs.MoveEdits.{edits, edited_file, is_file, k}
@@ -82,7 +82,7 @@ by_receiver : (o : Option ReceiverTree) (old new : List ℕ) → (o ≡ None →
 by_receiver None old other f = ap (func_role None) (f refl)
 by_receiver (Some r) old other f = refl
 
-module _ (w : Workspace) (known : Verdicts) (from to : List ℕ) (s : FileChanges) (h : IsMove w known from to s) (p : Package) (is : IsPackage w known p)
+module _ (w : Workspace) (known : Verdicts) (from to : List ℕ) (s : FileChanges) (h : IsMove w known from to s) (p : Package) (is : IsCheckedPackage w known p)
     (rank : ℕ) (f : SourceFile) (at : slice_get p.files rank ≡ Some f) (path : List ℕ) where
   abbrev pub moved : Moved
   moved = m w known from to s h
@@ -93,7 +93,7 @@ module _ (w : Workspace) (known : Verdicts) (from to : List ℕ) (s : FileChange
   abbrev pub file : IsSourceFile f
   file = is_file w known from to s h p is rank f at
 
-  abbrev pub good : AreReplacements f.cut.pieces es
+  abbrev pub good : AreReplacedPieces f.cut.pieces es
   good = are w known from to s h p is rank f at path
 
   abbrev pub rank_there : ℕ
@@ -126,7 +126,7 @@ module _ (w : Workspace) (known : Verdicts) (from to : List ℕ) (s : FileChange
       let u = r.binds.identifier in
       let stands : LiesAt p.layout (record { file = rank_there; index = i }) u = r.binds.found.holds in
       let place : Place = record { path = f.path; offset = n.piece.span.start } in
-      let named : NameBegins (Some f) i f.path n.piece.span.start = (subst IsName (sym n.held) n.is_name, refl, ap (offset_at f.cut.text) n.held) in
+      let named : NameBegins (Some f) i f.path n.piece.span.start = (subst IsNameToken (sym n.held) n.is_name, refl, ap (offset_at f.cut.text) n.held) in
       let begins : Begins p (here i) place = subst (λ o. NameBegins o i f.path n.piece.span.start) (sym at) named in
       let there : slice_get p.files rank_there ≡ Some f = (edited_file w known from to s h p is rank f at).at_there in
       let own : BeginsAt p f.path n.piece.span.start u = (
@@ -174,7 +174,7 @@ module _ (w : Workspace) (known : Verdicts) (from to : List ℕ) (s : FileChange
   pub clause : IsNameAt f.tree.name
   clause = name_at f.tree.name (clause_named f file)
 
-  abbrev from_file : Source
+  abbrev from_file : TokenSpellings
   from_file = record { rank = rank; spell = spelling_of f }
 
   pub clause_stands : Stands p rank f.tree.name (NotLexical purpose.PackageClause)

@@ -20,13 +20,13 @@ use Rattle.types_declared.specs.Files.{HasLiteral}
 use Rattle.types_declared.specs.Package.{Package}
 use Rattle.workspace_graph.specs.FileImports.{import_literals}
 use Rattle.workspace_check.specs.Verdicts.{Verdicts}
-use Rattle.refs_binding.specs.Uses.{IsPackage}
+use Rattle.refs_binding.specs.Uses.{IsCheckedPackage}
 use Rattle.refactor_move.specs.declared.moved.Moved.{Moved}
 use Rattle.refactor_move.specs.FileEdits.{IsMoveEditAt, ReplacesPath}
 use Rattle.refactor_move.specs.Paths.{HasMovedPackage, quoted}
 use Rattle.law_renamed_packages.proofs.Literals.{to_string, from_string, no_name}
 use Rattle.law_moved_packages.specs.Moves.{IsMove, moved_path}
-use Rattle.law_moved_packages.specs.Replacements.{AreReplacements, class_by, is_replaced, new_piece, replaced_file}
+use Rattle.law_moved_packages.specs.Replacements.{AreReplacedPieces, class_by, is_replaced, new_piece, replaced_file}
 use Rattle.law_moved_packages.proofs.MovedPaths.{IsOutside, cases_moving, moves_to, stays_at}
 use Rattle.law_moved_packages.proofs.MovedFiles.{m}
 use Rattle.law_moved_packages.proofs.MoveEdits.{edits, edited_file, edit_of, imported, is_file, k, moves, new_is_path, replacements, replaces, word_of}
@@ -41,7 +41,7 @@ mapped_back : (g : Piece → Piece) (o : Option Piece) (y : Piece) → option_ma
 mapped_back g None y e = absurd (none-some y e)
 mapped_back g (Some x) y e = (x, (refl, same_Some (g x) y e))
 
-module _ (w : Workspace) (known : Verdicts) (from to : List ℕ) (s : FileChanges) (h : IsMove w known from to s) (p : Package) (is : IsPackage w known p)
+module _ (w : Workspace) (known : Verdicts) (from to : List ℕ) (s : FileChanges) (h : IsMove w known from to s) (p : Package) (is : IsCheckedPackage w known p)
     (rank : ℕ) (f : SourceFile) (at : slice_get p.files rank ≡ Some f) (path : List ℕ) where
   abbrev pub goes : List ℕ → List ℕ
   goes = moved_path from to
@@ -55,7 +55,7 @@ module _ (w : Workspace) (known : Verdicts) (from to : List ℕ) (s : FileChange
   abbrev file : IsSourceFile f
   file = is_file w known from to s h p is rank f at
 
-  pub are : AreReplacements f.cut.pieces es
+  pub are : AreReplacedPieces f.cut.pieces es
   are = replacements w known from to s h p is rank f at
 
   abbrev rank_there : ℕ

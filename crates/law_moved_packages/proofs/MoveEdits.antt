@@ -42,14 +42,14 @@ use Rattle.workspace_check.specs.Verdicts.{Verdicts}
 use Rattle.workspace_check.proofs.Closed.{to_package}
 use Rattle.workspace_check.proofs.Members.{cases_contains, passes}
 use Rattle.workspace_check.proofs.PackageFiles.{entry_at, in_folder, package_file}
-use Rattle.refs_binding.specs.Identifiers.{IsName}
-use Rattle.refs_binding.specs.Uses.{IsPackage}
+use Rattle.refs_binding.specs.Identifiers.{IsNameToken}
+use Rattle.refs_binding.specs.Uses.{IsCheckedPackage}
 use Rattle.refs_binding.proofs.Bound.{bound_named}
 use Rattle.refs_binding.proofs.Folders.{file_in_folder}
 use Rattle.refs_binding.proofs.Units.{one_package}
 use Rattle.refs_lookup.proofs.OnePlace.{same_files}
 use Rattle.refactor_move.specs.declared.moved.Moved.{Moved}
-use Rattle.refactor_move.specs.FileEdits.{AreFileEdits, IsMoveEditAt, IsImportUse, ReplacesPath, ReplacesPackageName}
+use Rattle.refactor_move.specs.FileEdits.{AreFileMoveEdits, IsMoveEditAt, IsImportUse, ReplacesPath, ReplacesPackageName}
 use Rattle.refactor_move.specs.Following.{Follows}
 use Rattle.refactor_move.specs.Paths.{HasMovedPackage, last_of}
 use Rattle.refactor_move.proofs.GoFiles.{text_of_file}
@@ -63,7 +63,7 @@ use Rattle.law_renamed_packages.proofs.NameEdits.{ranked}
 use Rattle.law_renamed_packages.proofs.NameTokens.{named_as_spelled}
 use Rattle.law_renamed_scopes.proofs.GoodImports.{imports_are_good}
 use Rattle.law_moved_packages.specs.Moves.{IsMove}
-use Rattle.law_moved_packages.specs.Replacements.{AreReplacements, IsReplacement, KeepNameKinds, MayReplace, MovesAreReplacements}
+use Rattle.law_moved_packages.specs.Replacements.{AreReplacedPieces, IsReplacement, KeepNameKinds, MayReplace, MovesAreReplacements}
 use Rattle.law_moved_packages.proofs.MovedFiles.{entry_goes, m}
 use Rattle.law_moved_packages.proofs.MovedFolders.{folder_moves, folder_stays}
 use Rattle.law_moved_packages.proofs.MovedPaths.{IsOutside, cases_joined, folder_alone, folder_joined}
@@ -125,12 +125,12 @@ module _ (w : Workspace) (known : Verdicts) (from to : List ℕ) (s : FileChange
       ]
 
   -- the new name of the package
-  pub new_name : (name : List ℕ) → moved.name ≡ Some name → Follows (IsPackage w known) from h.called × (name ≡ last_of h.called)
+  pub new_name : (name : List ℕ) → moved.name ≡ Some name → Follows (IsCheckedPackage w known) from h.called × (name ≡ last_of h.called)
   new_name name is =
-      subst (λ (o : Option (List ℕ)). MatchOption o (Follows (IsPackage w known) from h.called → ⊥)
-      (λ n. Follows (IsPackage w known) from h.called × (n ≡ last_of h.called))) is h.edits.is_move.name
+      subst (λ (o : Option (List ℕ)). MatchOption o (Follows (IsCheckedPackage w known) from h.called → ⊥)
+      (λ n. Follows (IsCheckedPackage w known) from h.called × (n ≡ last_of h.called))) is h.edits.is_move.name
 
-  module _ (p : Package) (is : IsPackage w known p) (rank : ℕ) (f : SourceFile) (at : slice_get p.files rank ≡ Some f) where
+  module _ (p : Package) (is : IsCheckedPackage w known p) (rank : ℕ) (f : SourceFile) (at : slice_get p.files rank ≡ Some f) where
     pub is_file : IsSourceFile f
     is_file = source_is w known p.path p is.is_checked rank f at
 
@@ -153,7 +153,7 @@ module _ (w : Workspace) (known : Verdicts) (from to : List ℕ) (s : FileChange
     pub record IsFileEdited : Type 0 where
       pub rank_there : ℕ
       pub at_there : slice_get p.files rank_there ≡ Some f
-      pub are : AreFileEdits p rank_there f moved edits
+      pub are : AreFileMoveEdits p rank_there f moved edits
 
     pub edited_file : IsFileEdited
     edited_file =
@@ -174,8 +174,8 @@ module _ (w : Workspace) (known : Verdicts) (from to : List ℕ) (s : FileChange
         record {
           rank_there = a.rank;
           at_there = ap (λ (x : Package). slice_get x.files a.rank) (sym inside) ∙ a.has_rank ∙ ap Some same;
-          are = subst (λ (x : Package). AreFileEdits x a.rank f moved edits) inside
-              (subst (λ (x : SourceFile). AreFileEdits a.inside a.rank x moved edits) same a.are);
+          are = subst (λ (x : Package). AreFileMoveEdits x a.rank f moved edits) inside
+              (subst (λ (x : SourceFile). AreFileMoveEdits a.inside a.rank x moved edits) same a.are);
         }
 
     abbrev pub k : ℕ
@@ -257,7 +257,7 @@ module _ (w : Workspace) (known : Verdicts) (from to : List ℕ) (s : FileChange
         let d = edit_of r.0 e r.1 in
         record { old = d.token; is_piece = word_piece f r.0 d.token d.held (word_of r.0 e d); span = d.span; may = d.may }
 
-    pub replacements : AreReplacements f.cut.pieces edits
+    pub replacements : AreReplacedPieces f.cut.pieces edits
     replacements = record {
       in_order = edited_file.are.end_by.in_order;
       each = All-from_recursion (IsReplacement f.cut.pieces) edits (all_from_each (IsReplacement f.cut.pieces) edits replacement);
@@ -265,13 +265,13 @@ module _ (w : Workspace) (known : Verdicts) (from to : List ℕ) (s : FileChange
 
     -- names keep their kinds
 
-    use_not_blank : (i : ℕ) (r : IsImportUse p k moved i) → IsName (slice_get (tokens_in f.cut) i) → spelling_of f i ≡ 95 ∷ [] → ⊥
+    use_not_blank : (i : ℕ) (r : IsImportUse p k moved i) → IsNameToken (slice_get (tokens_in f.cut) i) → spelling_of f i ≡ 95 ∷ [] → ⊥
     use_not_blank i r named blank =
         let u = r.binds.identifier in
         let stands : LiesAt p.layout (record { file = k; index = i }) u = r.binds.found.holds in
         let there : slice_get p.files (p.layout.place u).file ≡ Some f = ap (slice_get p.files) stands.1 ∙ edited_file.at_there in
         let spelled = named_as_spelled w known p.path p is.is_checked u (r.binds.found.within, stands.0) f there
-        (subst (λ n. IsName (slice_get (tokens_in f.cut) n)) (sym stands.2) named) in
+        (subst (λ n. IsNameToken (slice_get (tokens_in f.cut) n)) (sym stands.2) named) in
         not_blank w h.sound p.path p (own_package w h.sound known h.right p is).is_checked r.import
         (counts_of p u r.import r.binds.bound).declares.may
         (sym (bound_named p.layout p.names u r.import r.binds.bound) ∙ spelled ∙ ap (spelling_of f) stands.2 ∙ blank)
@@ -279,7 +279,7 @@ module _ (w : Workspace) (known : Verdicts) (from to : List ℕ) (s : FileChange
     old_not_blank : (i : ℕ) (e : Edit) → (r : ReplacesPackageName p k f moved i e) → spelling_of f i ≡ 95 ∷ [] → ⊥
     old_not_blank i e r blank = elim r.names [
       | inl clause ↦ name_spelled f f.tree.name (clause_named f is_file) (ap (spelling_of f) clause.1 ∙ blank)
-      | inr used ↦ use_not_blank i used (subst IsName (sym r.at) r.is_name) blank
+      | inr used ↦ use_not_blank i used (subst IsNameToken (sym r.at) r.is_name) blank
     ]
 
     abbrev KeepsKind : Edit → Type 0

@@ -20,7 +20,7 @@ use Rattle.types_declared.specs.Package.{Package}
 use Rattle.workspace_check.specs.Verdicts.{Verdicts, BuildsOn}
 use Rattle.workspace_check.proofs.Closed.{to_package}
 use Rattle.workspace_check.proofs.Members.{cases_contains}
-use Rattle.refs_binding.specs.Uses.{IsPackage}
+use Rattle.refs_binding.specs.Uses.{IsCheckedPackage}
 use Rattle.refs_lookup.proofs.OnePlace.{same_files}
 use Rattle.refactor_rename.specs.RenameEdits.{IsSourceIn}
 use Rattle.law_renamed_packages.proofs.Literals.{from_string, to_string}
@@ -29,7 +29,7 @@ use Rattle.law_renamed_packages.proofs.Packages.{package_there, tree_of}
 use Rattle.law_renamed_scopes.proofs.GoodImports.{imports_are_good}
 use Rattle.law_moved_packages.specs.Moves.{IsMove, moved_entry, moved_path}
 use Rattle.law_moved_packages.specs.MovedPackages.{PackageImportsMove}
-use Rattle.law_moved_packages.specs.Replacements.{AreReplacements, KeepNameKinds, replaced}
+use Rattle.law_moved_packages.specs.Replacements.{AreReplacedPieces, KeepNameKinds, replaced}
 use Rattle.law_moved_packages.proofs.Literals.{literal_back, literal_moves}
 use Rattle.law_moved_packages.proofs.MovedFiles.{file_there, file_was, files_move, stay_apart, package_there as moved_there}
 use Rattle.law_moved_packages.proofs.MoveEdits.{moves_are}
@@ -40,7 +40,7 @@ abbrev pub new_parts : FileChanges → FileParts → FileParts
 new_parts s t = record { path = unwrap_or (path_after s t.path) t.path; cut = replaced (edits_by (change_of s t.path)) t.cut; file = t.file }
 
 abbrev IsReplaced : FileChanges → FileParts → Type 0
-IsReplaced s t = AreReplacements t.cut.pieces (edits_by (change_of s t.path)) × KeepNameKinds t.cut (edits_by (change_of s t.path))
+IsReplaced s t = AreReplacedPieces t.cut.pieces (edits_by (change_of s t.path)) × KeepNameKinds t.cut (edits_by (change_of s t.path))
 
 new_parsed : (s : FileChanges) (e : List ℕ × List ℕ) (t : FileParts) → IsParsed e.0 e.1 (source_of t) → IsReplaced s t →
     IsParsed (moved_entry s e).0 (moved_entry s e).1 (source_of (new_parts s t))
@@ -75,7 +75,7 @@ module _ (w : Workspace) (known : Verdicts) (from to : List ℕ) (s : FileChange
   goes = moved_path from to
 
   -- the files of a package
-  module _ (p : Package) (is : IsPackage w known p) where
+  module _ (p : Package) (is : IsCheckedPackage w known p) where
     abbrev pub trees : List FileParts
     trees = is.is_checked.files
 

@@ -21,7 +21,7 @@ use Rattle.law_tokens.proofs.Ordered.{same_length}
 use Rattle.law_same_bindings.specs.SameBindings.{trees_of, paths_of}
 use Rattle.types_declared.specs.Package.{Package, spelled_at}
 use Rattle.workspace_check.specs.Verdicts.{Verdicts}
-use Rattle.refs_binding.specs.Uses.{IsPackage}
+use Rattle.refs_binding.specs.Uses.{IsCheckedPackage}
 use Rattle.refs_lookup.proofs.OnePlace.{same_files, same_layout as same_layout_in, same_size as same_size_in}
 use Rattle.law_renamed_packages.proofs.SpelledSites.{plain_stays, size_stays}
 use Rattle.law_moved_packages.specs.Moves.{IsMove}
@@ -98,7 +98,7 @@ layout_alike : (g : ℕ → List ℕ → List ℕ) (names : ℕ → Option (List
 layout_alike g names xs = λ i. record { role = λ u. (named_alike g names xs u).role i; place = λ u. (named_alike g names xs u).place i }
 
 module _ (w : Workspace) (known : Verdicts) (from to : List ℕ) (s : FileChanges) (h : IsMove w known from to s) (p : Package)
-    (is : IsPackage w known p) where
+    (is : IsCheckedPackage w known p) where
   abbrev pub ts : List FileParts
   ts = is.is_checked.files
 

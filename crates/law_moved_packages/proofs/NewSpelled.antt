@@ -29,7 +29,7 @@ use Rattle.go_ast.specs.SourceFile.{SourceFile, IsSourceFile, offset_at, offset_
 use Rattle.go_respelled.proofs.Places.{apart, begins_behind}
 use Rattle.go_respelled.proofs.Spelled.{held_at}
 use Rattle.go_respelled.proofs.Trees.{each_token}
-use Rattle.law_moved_packages.specs.Replacements.{AreReplacements, IsReplacement, MayReplace, new_piece, replaced_file}
+use Rattle.law_moved_packages.specs.Replacements.{AreReplacedPieces, IsReplacement, MayReplace, new_piece, replaced_file}
 use Rattle.law_moved_packages.proofs.NewTokens.{may_put, other_bytes, put_bytes, tokens_moved, within}
 
 -- tokens by their places
@@ -94,7 +94,7 @@ empty text at = let none : at - at ≡ 0 = omega arith in ap (λ (k : ℕ). take
 abbrev pub IsWordClass : Class → Type 0
 IsWordClass c = (c ≡ Name) ⊎ IsStringClass c
 
-module _ (path : List ℕ) (f : SourceFile) (edits : List Edit) (is : IsSourceFile f) (are : AreReplacements f.cut.pieces edits) where
+module _ (path : List ℕ) (f : SourceFile) (edits : List Edit) (is : IsSourceFile f) (are : AreReplacedPieces f.cut.pieces edits) where
   abbrev new : List ℕ
   new = edited_text edits f.cut.text
 

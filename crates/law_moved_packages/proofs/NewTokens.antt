@@ -29,7 +29,7 @@ use Rattle.base_edits.proofs.MovedPlaces.{keeps_bytes, moves_all, puts_bytes, st
 use Rattle.go_respelled.proofs.Offsets.{HaveBytes}
 use Rattle.go_respelled.proofs.Places.{apart, begins_behind}
 use Rattle.go_respelled.proofs.Trees.{each_token}
-use Rattle.law_moved_packages.specs.Replacements.{AreReplacements, IsReplacement, KeepNameKinds, MayReplace, class_by, is_replaced, new_piece, replaced}
+use Rattle.law_moved_packages.specs.Replacements.{AreReplacedPieces, IsReplacement, KeepNameKinds, MayReplace, class_by, is_replaced, new_piece, replaced}
 use Rattle.law_moved_packages.specs.Replacements.{replaced_file, ReplacedFilesKeepTrees}
 use Rattle.law_moved_packages.proofs.Recut.{have_bytes, recut_cut}
 
@@ -127,7 +127,7 @@ edited_or_kept text pieces (e ∷ edits) p cut each has =
 
 -- bytes
 
-module _ (c : CutText) (edits : List Edit) (cut : IsCut c.text c.pieces) (are : AreReplacements c.pieces edits) where
+module _ (c : CutText) (edits : List Edit) (cut : IsCut c.text c.pieces) (are : AreReplacedPieces c.pieces edits) where
   pub each_edit : AllByRecursion (IsReplacement c.pieces) edits
   each_edit = recursion_from_All (IsReplacement c.pieces) edits are.each
 
@@ -284,7 +284,7 @@ by_name : (bytes : List ℕ) → MayReplace class.Name bytes → IsPiece class.N
 by_name bytes (inl n) = n.1
 by_name bytes (inr s) = elim s.0 [ inl e ↦ (let z : ⊥ = cc in absurd z) | inr e ↦ (let z : ⊥ = cc in absurd z) ]
 
-pub tokens_moved : (c : CutText) (edits : List Edit) → IsCut c.text c.pieces → AreReplacements c.pieces edits →
+pub tokens_moved : (c : CutText) (edits : List Edit) → IsCut c.text c.pieces → AreReplacedPieces c.pieces edits →
     tokens_in (replaced edits c) ≡ map (new_piece edits) (tokens_in c)
 tokens_moved c edits cut are =
     let new : List ℕ = edited_text edits c.text in
@@ -294,7 +294,7 @@ tokens_moved c edits cut are =
     (other_bytes c edits cut are p has
     (λ e at is. no_comment e.text (subst (λ d. MayReplace d e.text) comment (may_put c edits cut are e p has at is)))))))
 
-pub kinds_stay : (c : CutText) (edits : List Edit) → IsCut c.text c.pieces → AreReplacements c.pieces edits → KeepNameKinds c edits →
+pub kinds_stay : (c : CutText) (edits : List Edit) → IsCut c.text c.pieces → AreReplacedPieces c.pieces edits → KeepNameKinds c edits →
     kinds_of (replaced edits c) ≡ kinds_of c
 kinds_stay c edits cut are keep =
     let new : List ℕ = edited_text edits c.text in
@@ -313,7 +313,7 @@ kinds_stay c edits cut are keep =
         edits e keep at word
         ∙ ap (λ (x : Span). kind_of_name (slice_range c.text x.start x.end)) is
 
-pub file_stays : (path : List ℕ) (f : SourceFile) (edits : List Edit) → IsSourceFile f → AreReplacements f.cut.pieces edits → KeepNameKinds f.cut edits →
+pub file_stays : (path : List ℕ) (f : SourceFile) (edits : List Edit) → IsSourceFile f → AreReplacedPieces f.cut.pieces edits → KeepNameKinds f.cut edits →
     IsSourceFile (replaced_file path edits f)
 file_stays path f edits is are keep =
     let same = sym (kinds_stay f.cut edits is.is_cut are keep) in

@@ -22,7 +22,7 @@ use Rattle.go_respelled.specs.Literals.{piece_at, shifted}
 use Rattle.go_respelled.proofs.Many.{edited_split}
 use Rattle.go_respelled.proofs.Offsets.{HaveBytes, before_all, before_one, order_from, past_one}
 use Rattle.go_respelled.proofs.Places.{begins_behind, covers_parts, map_agree, parts}
-use Rattle.law_moved_packages.specs.Replacements.{AreReplacements, IsReplacement, MayReplace, class_by, is_replaced, new_piece, replaced}
+use Rattle.law_moved_packages.specs.Replacements.{AreReplacedPieces, IsReplacement, MayReplace, class_by, is_replaced, new_piece, replaced}
 use Rattle.law_moved_packages.proofs.OneEdit.{may_still, one_replaced}
 
 -- edits that replace pieces have bytes
@@ -180,6 +180,6 @@ cut_again (e ∷ edits) text pieces cut order each =
     (one_more text e edits order some o each.0.span found.before found.after covers (subst (λ l. Contains l o) found.whole each.0.is_piece) each.0.may
     (subst (λ l. IsCut (edited_text edits text) (map (new_piece edits) l)) found.whole rest))
 
-pub recut_cut : (c : CutText) (edits : List Edit) → IsCut c.text c.pieces → AreReplacements c.pieces edits →
+pub recut_cut : (c : CutText) (edits : List Edit) → IsCut c.text c.pieces → AreReplacedPieces c.pieces edits →
     (let new = replaced edits c in IsCut new.text new.pieces)
 recut_cut c edits cut are = cut_again edits c.text c.pieces cut are.in_order (recursion_from_All (IsReplacement c.pieces) edits are.each)

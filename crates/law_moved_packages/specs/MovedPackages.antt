@@ -13,7 +13,7 @@ use Rattle.law_same_bindings.specs.SameBindings.{trees_of, paths_of}
 use Rattle.workspace_check.specs.Verdicts.{Verdicts, BuildsOn}
 use Rattle.workspace_graph.specs.Packages.{PackageImports}
 use Rattle.workspace_graph.specs.Parsed.{AreParsed}
-use Rattle.refs_binding.specs.Uses.{IsPackage}
+use Rattle.refs_binding.specs.Uses.{IsCheckedPackage}
 use Rattle.refactor_after.specs.ScopedPackages.{IsClauseName}
 use Rattle.refactor_move.specs.declared.moved.Moved.{Moved}
 use Rattle.law_moved_packages.specs.Moves.{IsMove, moved_path}
@@ -38,7 +38,7 @@ pub record AreMovedFiles (w : Workspace) (m : Moved) (s : FileChanges) (p : Pack
 -- Each package has such files after the move, and its clauses have its name, which follows the path.
 abbrev pub PackagesHaveMovedFiles : Type 0
 PackagesHaveMovedFiles = (w : Workspace) (known : Verdicts) (from to : List ℕ) (s : FileChanges) → (h : IsMove w known from to s) → (p : Package) →
-    (is : IsPackage w known p) → (files : List FileParts) × AreMovedFiles w h.edits.moved s p is.is_checked.files files
+    (is : IsCheckedPackage w known p) → (files : List FileParts) × AreMovedFiles w h.edits.moved s p is.is_checked.files files
 
 -- Each package imports afterwards the moved paths of what it imports, and builds on the moved paths of what it builds on.
 abbrev pub PackageImportsMove : Type 0

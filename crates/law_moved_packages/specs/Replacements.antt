@@ -38,7 +38,7 @@ pub record IsReplacement (pieces : List Piece) (e : Edit) : Type 0 where
   pub may : MayReplace old.class e.text
 
 -- The edits are in order, and each replaces a piece.
-pub record AreReplacements (pieces : List Piece) (edits : List Edit) : Type 0 where
+pub record AreReplacedPieces (pieces : List Piece) (edits : List Edit) : Type 0 where
   pub in_order : AreInOrder 0 edits
   pub each : All (IsReplacement pieces) edits
 
@@ -72,11 +72,11 @@ replaced_file path edits f = record { path = path; cut = replaced edits f.cut; t
 
 -- The new text is cut into the old pieces, with their ends moved. Its tokens are the old tokens so, and the tree stays.
 abbrev pub ReplacedFilesKeepTrees : Type 0
-ReplacedFilesKeepTrees = (path : List ℕ) (edits : List Edit) (f : SourceFile) → IsSourceFile f → AreReplacements f.cut.pieces edits →
+ReplacedFilesKeepTrees = (path : List ℕ) (edits : List Edit) (f : SourceFile) → IsSourceFile f → AreReplacedPieces f.cut.pieces edits →
     KeepNameKinds f.cut edits → IsSourceFile (replaced_file path edits f) ×
     (tokens_in (replaced edits f.cut) ≡ map (new_piece edits) (tokens_in f.cut))
 
 -- By file: the edits of a move are such edits.
 abbrev pub MovesAreReplacements : Type 0
 MovesAreReplacements = (w : Workspace) (known : Verdicts) (from to : List ℕ) (s : FileChanges) → IsMove w known from to s → (f : SourceFile) →
-    IsSourceIn w known f → AreReplacements f.cut.pieces (edits_by (change_of s f.path)) × KeepNameKinds f.cut (edits_by (change_of s f.path))
+    IsSourceIn w known f → AreReplacedPieces f.cut.pieces (edits_by (change_of s f.path)) × KeepNameKinds f.cut (edits_by (change_of s f.path))

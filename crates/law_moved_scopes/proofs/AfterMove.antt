@@ -33,7 +33,7 @@ use Rattle.types_info.specs.PackageOf.{package_in}
 use Rattle.workspace_check.specs.Verdicts.{Verdicts, BuildsOn, IsSeenAs, seen, unseen, IsPackageIn}
 use Rattle.workspace_check.proofs.Closed.{to_package}
 use Rattle.workspace_check.proofs.Members.{cases_contains}
-use Rattle.refs_binding.specs.Uses.{IsPackage}
+use Rattle.refs_binding.specs.Uses.{IsCheckedPackage}
 use Rattle.refactor_after.specs.ScopedPackages.{AreClauseNames, IsClauseName, IsScopedIn, unnamed}
 use Rattle.refactor_move.specs.declared.moved.Moved.{Moved}
 use Rattle.law_faultless.proofs.Declared.{name_is, old_site}
@@ -86,7 +86,7 @@ module _ (w : Workspace) (known : Verdicts) (from to : List ℕ) (s : FileChange
   -- A package of the workspace, with the name in its clauses.
   pub record IsNamed (path : List ℕ) : Type 0 where
     pub inside : Package
-    pub is_package : IsPackage w known inside
+    pub is_package : IsCheckedPackage w known inside
     pub of_path : inside.path ≡ path
     pub named : (known path).export_data.name ≡ package_name inside.files
 
@@ -157,7 +157,7 @@ module _ (w : Workspace) (known : Verdicts) (from to : List ℕ) (s : FileChange
   clause_is x there (inl has) = refl
   clause_is x there (inr not) = absurd (not there)
 
-  module _ (p : Package) (is : IsPackage w known p) where
+  module _ (p : Package) (is : IsCheckedPackage w known p) where
     -- what it sees
 
     pub record SeenAs (x : List ℕ) : Type 0 where
@@ -411,7 +411,7 @@ module _ (w : Workspace) (known : Verdicts) (from to : List ℕ) (s : FileChange
       is_package = record { laid = laid; is_laid = record { names = given; are_names = are_names; is_named = refl }; is_package = refl };
     }
 
-    pub is_package : IsPackage v after checked
+    pub is_package : IsCheckedPackage v after checked
     is_package = record { of_workspace = package_there w known from to s h p.path is.of_workspace; is_checked = is_checked }
 
     pub layout_same : checked.layout ≡ p.layout

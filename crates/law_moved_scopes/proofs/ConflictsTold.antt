@@ -27,10 +27,10 @@ use Rattle.workspace_check.specs.Verdicts.{Verdicts}
 use Rattle.workspace_check.proofs.OnePackage.{layout_formed}
 use Rattle.refs_binding.specs.declared.declaration.Declaration.{Declaration}
 use Rattle.refs_binding.specs.declared.declaration.Declaration.TheVariants.{Predeclared, Declared, Field, Method}
-use Rattle.refs_binding.specs.Binding.{BindsByScope, IsPredeclared, IsQualifiedUse}
+use Rattle.refs_binding.specs.Binding.{BindsByScope, IsPredeclaredNumber, IsQualifiedUse}
 use Rattle.refs_binding.specs.DeclaringPlaces.{IsDeclaredAt, TokenAt, TokenBegins}
 use Rattle.refs_binding.specs.Identifiers.{BeginsAt, NameBegins, file_of}
-use Rattle.refs_binding.specs.Uses.{IsPackage}
+use Rattle.refs_binding.specs.Uses.{IsCheckedPackage}
 use Rattle.refs_binding.proofs.Excluding.{exported_as}
 use Rattle.refs_index.specs.Corresponding.{predeclared, stands}
 use Rattle.refactor_after.specs.ScopedPackages.{IsScopedIn}
@@ -44,7 +44,7 @@ use Rattle.refactor_conflict.proofs.BoundAfter.{counted_use}
 use Rattle.refactor_move.specs.declared.moved.Moved.{Moved}
 use Rattle.law_renamed_packages.specs.Layouts.{IsToken}
 use Rattle.law_renamed_scopes.proofs.OwnNames.{counted, in_universe}
-use Rattle.law_rename_agrees.specs.ConflictsByTables.{IsNumbered}
+use Rattle.law_rename_agrees.specs.ConflictsByTables.{IsOwnNumber}
 use Rattle.law_rename_agrees.proofs.OwnConflicts.{number_of, numbered, one_number, one_numbered}
 use Rattle.law_rename_agrees.proofs.ScopedPlaces.{bound_there}
 use Rattle.law_scope_conflicts.specs.ScopeConflicts.{IsOwnConflictBy}
@@ -62,11 +62,11 @@ use Rattle.law_moved_scopes.proofs.PlacesApart.{move_apart}
 not_universal : PackageBlock ≡ Universe → ⊥
 not_universal e = cc
 
-binds_number : (p : Package) (u m : ℕ) (d : Declaration) → IsNumbered p m d → IsBoundTo p.layout p.names u m → BindsByScope p u d
-binds_number p u m (Predeclared k) h b = subst (λ j. IsPredeclared j × IsBoundTo p.layout p.names u j) (sym h.0) (h.1, b)
+binds_number : (p : Package) (u m : ℕ) (d : Declaration) → IsOwnNumber p m d → IsBoundTo p.layout p.names u m → BindsByScope p u d
+binds_number p u m (Predeclared k) h b = subst (λ j. IsPredeclaredNumber j × IsBoundTo p.layout p.names u j) (sym h.0) (h.1, b)
 binds_number p u m (Declared path k) h b =
-    let both : (IsPredeclared k → ⊥) × IsBoundTo p.layout p.names u k =
-    subst (λ j. (IsPredeclared j → ⊥) × IsBoundTo p.layout p.names u j) (sym h.1) (h.2, b) in
+    let both : (IsPredeclaredNumber k → ⊥) × IsBoundTo p.layout p.names u k =
+    subst (λ j. (IsPredeclaredNumber j → ⊥) × IsBoundTo p.layout p.names u j) (sym h.1) (h.2, b) in
     (h.0, both.0, both.1)
 binds_number p u m (Field f) h b = absurd h
 binds_number p u m (Method f) h b = absurd h
@@ -85,7 +85,7 @@ module _ (w : Workspace) (known : Verdicts) (from to : List ℕ) (s : FileChange
   r = revision_of w s
 
   abbrev Known : Package → Type 0
-  Known = IsPackage w known
+  Known = IsCheckedPackage w known
 
   abbrev Bec : Declaration → Declaration → Type 0
   Bec = HasBecome w known r
@@ -93,7 +93,7 @@ module _ (w : Workspace) (known : Verdicts) (from to : List ℕ) (s : FileChange
   abbrev m : Moved
   m = h.edits.moved
 
-  module _ (p : Package) (is : IsPackage w known p) where
+  module _ (p : Package) (is : IsCheckedPackage w known p) where
     abbrev q : Package
     q = after.moved w known from to s h p is
 
@@ -122,7 +122,7 @@ module _ (w : Workspace) (known : Verdicts) (from to : List ℕ) (s : FileChange
     from_layout u n b = subst (λ (k : Layout). IsBoundTo k q.names u n) there.moved.layout b
 
     -- what counts before and after has become what has its number
-    declared_again : (n : ℕ) → (IsPredeclared n → ⊥) → Counts l p.names n → Counts l q.names n → Bec (Declared p.path n) (Declared q.path n)
+    declared_again : (n : ℕ) → (IsPredeclaredNumber n → ⊥) → Counts l p.names n → Counts l q.names n → Bec (Declared p.path n) (Declared q.path n)
     declared_again n own before now =
         let place = have_places w known p is n before own in
         let at : Position = l.place (literal_of l n) in
@@ -144,7 +144,7 @@ module _ (w : Workspace) (known : Verdicts) (from to : List ℕ) (s : FileChange
         } in
         stands place.0 old new
 
-    becomes : (n : ℕ) (d e : Declaration) → IsNumbered p n d → IsNumbered q n e → Counts l p.names n → Counts l q.names n → Bec d e
+    becomes : (n : ℕ) (d e : Declaration) → IsOwnNumber p n d → IsOwnNumber q n e → Counts l p.names n → Counts l q.names n → Bec d e
     becomes n (Predeclared j) (Predeclared k) x z before now = subst (λ i. Bec (Predeclared j) (Predeclared i)) (x.0 ∙ sym z.0) predeclared
     becomes n (Predeclared j) (Declared path k) x z before now = absurd (z.2 x.1)
     becomes n (Declared path j) (Predeclared k) x z before now = absurd (x.2 z.1)
@@ -167,11 +167,11 @@ module _ (w : Workspace) (known : Verdicts) (from to : List ℕ) (s : FileChange
       begins_after : BeginsAt q (r.moved place).path (r.moved place).offset u
       begins_after = there.begins.names u place begins
 
-      used : (n : ℕ) (e : Declaration) → IsNumbered q n e → IsBoundTo l q.names u n → E e
+      used : (n : ℕ) (e : Declaration) → IsOwnNumber q n e → IsBoundTo l q.names u n → E e
       used n e x b =
           record { used_in = q; is_package = there.is_scoped; user = u; begins = begins_after; bound = binds_number q u n e x (to_layout u n b) }
 
-      found : (e : Declaration) → E e → (n : ℕ) × (IsNumbered q n e × IsBoundTo l q.names u n)
+      found : (e : Declaration) → E e → (n : ℕ) × (IsOwnNumber q n e × IsBoundTo l q.names u n)
       found e k =
           let x = number_of q u e (bound_there r.after q there.is_scoped (r.moved place) u begins_after e k) in
           (x.0, (x.1.0, from_layout u x.0 x.1.1))
@@ -180,7 +180,7 @@ module _ (w : Workspace) (known : Verdicts) (from to : List ℕ) (s : FileChange
       only a b e k x z = becomes_once w known r (move_apart w known from to s h) a b e (counted_use r.after (r.moved place) e k) x z
 
       -- what it was bound to, and what it is bound to
-      itself : (o n : ℕ) (d e : Declaration) → IsBoundTo l p.names u o → IsNumbered p n d → IsNumbered q n e → IsBoundTo l q.names u n → Bec d e
+      itself : (o n : ℕ) (d e : Declaration) → IsBoundTo l p.names u o → IsOwnNumber p n d → IsOwnNumber q n e → IsBoundTo l q.names u n → Bec d e
       itself o n d e was x z b =
           becomes n d e x z (counted_before l p.names Follows y q.names at_once u n o was b) (counted l q.names u n b)
 
@@ -194,12 +194,12 @@ module _ (w : Workspace) (known : Verdicts) (from to : List ℕ) (s : FileChange
           record { declaration = e.0; bound = used n e.0 e.1 now; become = itself n n old e.0 x.1.1 x.1.0 e.1 now }
 
       -- what stays bound is bound to the same number
-      same_after : (n : ℕ) (old : Declaration) → IsNumbered p n old → IsBoundTo l p.names u n → StaysBound Bec E old → IsBoundTo l q.names u n
+      same_after : (n : ℕ) (old : Declaration) → IsOwnNumber p n old → IsBoundTo l p.names u n → StaysBound Bec E old → IsBoundTo l q.names u n
       same_after n old x was stay =
           let f = found stay.declaration stay.bound in
           let c = numbered p f.0 in
           let same : c.0 ≡ old = only c.0 old stay.declaration stay.bound (itself n f.0 c.0 stay.declaration was c.1 f.1.0 f.1.1) stay.become in
-          let one : f.0 ≡ n = one_number p f.0 n old (subst (IsNumbered p f.0) same c.1) x in
+          let one : f.0 ≡ n = one_number p f.0 n old (subst (IsOwnNumber p f.0) same c.1) x in
           subst (IsBoundTo l q.names u) one f.1.1
 
       scope_free : StaysByScope w known r p u place → (n : ℕ) → IsBoundTo l p.names u n → (d : ℕ) → Follows d → HasNoConflictAt l p.names d y u
@@ -236,10 +236,10 @@ module _ (w : Workspace) (known : Verdicts) (from to : List ℕ) (s : FileChange
           (is_captured e.0 name.declaration (used c e.0 e.1 x.now_bound) become name.told (λ g bound also.
           let f = found g bound in
           let one : f.0 ≡ c = bound_once l (nests l formed) q.names u f.0 c f.1.1 x.now_bound in
-          let here : g ≡ e.0 = one_numbered q c g e.0 (subst (λ i. IsNumbered q i g) one f.1.0) e.1 in
+          let here : g ≡ e.0 = one_numbered q c g e.0 (subst (λ i. IsOwnNumber q i g) one f.1.0) e.1 in
           let same : name.declaration ≡ old.0 =
           only name.declaration old.0 g bound (subst (Bec name.declaration) (sym here) become) also in
-          x.other (one_number p c x.old old.0 (subst (IsNumbered p c) same name.numbered) old.1)))
+          x.other (one_number p c x.old old.0 (subst (IsOwnNumber p c) same name.numbered) old.1)))
 
       -- and the move has no others
       scope_conflict : (old : Declaration) → BindsByScope p u old → (by : Option Capturer) → LostOrCaptured Bec Known E old by →
@@ -262,7 +262,7 @@ module _ (w : Workspace) (known : Verdicts) (from to : List ℕ) (s : FileChange
           let now : Bec d.0 e = itself x.0 f.0 d.0 e x.1.1 d.1 f.1.0 f.1.1 in
           let same : c ≡ d.0 = only c d.0 e bound become now in
           let other : f.0 ≡ x.0 → ⊥ =
-          (λ one. not e bound (subst (λ g. Bec g e) (one_numbered p x.0 d.0 old (subst (λ i. IsNumbered p i d.0) one d.1) x.1.0) now)) in
+          (λ one. not e bound (subst (λ g. Bec g e) (one_numbered p x.0 d.0 old (subst (λ i. IsOwnNumber p i d.0) one d.1) x.1.0) now)) in
           let k = caught l p.names Follows y q.names at_once u f.0 (record { old = x.0; was = x.1.1; other = other; now_bound = f.1.1 }) in
           free k.0 k.1.0
           (f.0, (k.1.1, record { declaration = d.0; numbered = d.1; told = subst (λ g. IsCapturer Known g t) same tells }))
@@ -312,7 +312,7 @@ module _ (w : Workspace) (known : Verdicts) (from to : List ℕ) (s : FileChange
 
   -- the selector of a qualified identifier stays bound
 
-  module _ (p : Package) (is : IsPackage w known p) (u : ℕ) (place : Place) (begins : BeginsAt p place.path place.offset u) where
+  module _ (p : Package) (is : IsCheckedPackage w known p) (u : ℕ) (place : Place) (begins : BeginsAt p place.path place.offset u) where
     selector_called : (path : List ℕ) (n : ℕ) → IsQualifiedUse Known p u path n → r.called place (p.names u) ≡ p.names u
     selector_called path n k =
         let token = token_of p u place begins in
@@ -360,7 +360,7 @@ module _ (w : Workspace) (known : Verdicts) (from to : List ℕ) (s : FileChange
 
   -- together
 
-  pub conflict_is : (p : Package) (is : IsPackage w known p) (c : Conflict) → IsImportConflict Known m p c → IsConflictIn w known r p c
+  pub conflict_is : (p : Package) (is : IsCheckedPackage w known p) (c : Conflict) → IsImportConflict Known m p c → IsConflictIn w known r p c
   conflict_is p is c k = record {
     user = k.1.1.user;
     begins = k.1.1.begins;
@@ -375,7 +375,7 @@ module _ (w : Workspace) (known : Verdicts) (from to : List ℕ) (s : FileChange
   never_lost E old None lost stay = lost old stay
   never_lost E old (Some by) caught stay = caught.other stay
 
-  module _ (members : KeepsMembers w known r) (p : Package) (is : IsPackage w known p) where
+  module _ (members : KeepsMembers w known r) (p : Package) (is : IsCheckedPackage w known p) where
     not_turned : (c : Conflict) (u : ℕ) (begins : BeginsAt p c.used.path c.used.offset u) → ChangesBinding w known r p u c →
         (IsImportConflict Known m p c → ⊥) → ⊥
     not_turned c u begins (by_scope old was lost) free =
@@ -397,5 +397,5 @@ module _ (w : Workspace) (known : Verdicts) (from to : List ℕ) (s : FileChange
       by_name = (members p is u place begins).1;
     }
 
-  pub place_free : (p : Package) (is : IsPackage w known p) (place : Place) → StaysIn w known r p place → IsFreeOfImports m p place
+  pub place_free : (p : Package) (is : IsCheckedPackage w known p) (place : Place) → StaysIn w known r p place → IsFreeOfImports m p place
   place_free p is place stay d follows u begins = free_somehow p is u place begins (stay u begins).by_scope d follows

@@ -15,7 +15,7 @@ use Rattle.law_rename.specs.Renaming.{new_name, own_use, assigned, to_renamed, t
 use Rattle.types_declared.specs.Package.{Package}
 use Rattle.workspace_check.specs.Verdicts.{Verdicts}
 use Rattle.refs_binding.specs.Identifiers.{BeginsAt}
-use Rattle.refs_binding.specs.Uses.{IsPackage}
+use Rattle.refs_binding.specs.Uses.{IsCheckedPackage}
 use Rattle.refactor_conflict.specs.Staying.{NoneIsLost}
 use Rattle.refactor_conflict.specs.declared.conflict.Conflict.{Conflict}
 use Rattle.law_rename_agrees.specs.ConflictsByTables.{TellsFirstOf}
@@ -34,7 +34,7 @@ use Rattle.law_moved_scopes.proofs.AfterMove as after
 module _ (w : Workspace) (known : Verdicts) (from to : List ℕ) (s : FileChanges) (h : IsMove w known from to s) where
   -- the first of all
   pub first_told : KeepsMembers w known (revision_of w s) → (told : Option Conflict) →
-      TellsFirstImportConflict (IsPackage w known) h.edits.moved told → TellsFirstOf w known (revision_of w s) told
+      TellsFirstImportConflict (IsCheckedPackage w known) h.edits.moved told → TellsFirstOf w known (revision_of w s) told
   first_told members None free = λ place p is. place_stays w known from to s h members p is place (free place p is)
   first_told members (Some c) first =
       let x = first.0 in (
@@ -48,12 +48,12 @@ module _ (w : Workspace) (known : Verdicts) (from to : List ℕ) (s : FileChange
       place_stays w known from to s h members p is place (λ d follows u begins.
       absurd (none-some (followed_name h.edits.moved) (sym none ∙ follows.follows)))
 
-  pub lost_none : KeepsMembers w known (revision_of w s) → ((p : Package) → IsPackage w known p → HasNoImportConflict h.edits.moved p) →
+  pub lost_none : KeepsMembers w known (revision_of w s) → ((p : Package) → IsCheckedPackage w known p → HasNoImportConflict h.edits.moved p) →
       NoneIsLost w known (revision_of w s)
   lost_none members free = λ place p is. place_stays w known from to s h members p is place (λ d follows u begins. free p is d follows u)
 
   -- where none is lost, no import has a conflict
-  module _ (none : NoneIsLost w known (revision_of w s)) (p : Package) (is : IsPackage w known p) where
+  module _ (none : NoneIsLost w known (revision_of w s)) (p : Package) (is : IsCheckedPackage w known p) where
     abbrev Follows : ℕ → Type 0
     Follows d = IsFollowingImport h.edits.moved p d
 

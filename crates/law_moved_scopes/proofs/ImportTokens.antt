@@ -31,7 +31,7 @@ use Rattle.law_tokens.proofs.OwnPaths.{package_sources, part_at}
 use Rattle.law_tokens.proofs.Places.{one_has_place, named_has_one}
 use Rattle.law_tokens.proofs.Roles.{role_keeps}
 use Rattle.types_declared.specs.Package.{Package}
-use Rattle.types_declared.specs.Written.{ImportsPath}
+use Rattle.types_declared.specs.Written.{DeclaresImport}
 use Rattle.workspace_check.specs.Verdicts.{Verdicts, IsPackageIn}
 use Rattle.workspace_graph.specs.Packages.{PackageImports}
 use Rattle.workspace_check.proofs.Importing.{literal_path}
@@ -171,7 +171,7 @@ module _ (w : Workspace) (known : Verdicts) (path : List ℕ) (p : Package) (h :
       ≡ ((layout_in (scoped h.files)).place (literal_of (layout_in (scoped h.files)) d)).index
   plain_index d = ap (λ n. (p.layout.place n).index) (plain_number d) ∙ ap (λ (a : Position). a.index) (plain_place (literal_of (layout_in (scoped h.files)) d))
 
-  pub to_plain : (d : ℕ) (q : List ℕ) → ImportsPath p d q → IsPathOf (map source_of h.files) (laid_in (scoped h.files)) d q
+  pub to_plain : (d : ℕ) (q : List ℕ) → DeclaresImport p d q → IsPathOf (map source_of h.files) (laid_in (scoped h.files)) d q
   to_plain d q i = record {
     source = i.of_path.source;
     is_file =
@@ -180,7 +180,7 @@ module _ (w : Workspace) (known : Verdicts) (path : List ℕ) (p : Package) (h :
     has_literal = subst (λ n. HasLiteral i.of_path.source n q) (plain_index d) i.of_path.has_literal;
   }
 
-  pub to_laid : (d : ℕ) → IsImport p.layout d → (q : List ℕ) → IsPathOf (map source_of h.files) (laid_in (scoped h.files)) d q → ImportsPath p d q
+  pub to_laid : (d : ℕ) → IsImport p.layout d → (q : List ℕ) → IsPathOf (map source_of h.files) (laid_in (scoped h.files)) d q → DeclaresImport p d q
   to_laid d import q i = record {
     is_import = import;
     of_path = record {
@@ -196,7 +196,7 @@ module _ (w : Workspace) (known : Verdicts) (path : List ℕ) (p : Package) (h :
   plain_within d lt = subst (λ n. d < n) (same_length (given w known path p h) all) (subst (λ n. d < n) (same_size w known path p h) lt)
 
   -- An import without a name, whose package has a name.
-  pub declares_name : (d : ℕ) → d < p.size → is_unnamed_import (old_site w known path p h d).role ≡ true → (q : List ℕ) → ImportsPath p d q →
+  pub declares_name : (d : ℕ) → d < p.size → is_unnamed_import (old_site w known path p h d).role ≡ true → (q : List ℕ) → DeclaresImport p d q →
       (name : List ℕ) → h.name_of q ≡ Some name → p.names d ≡ name
   declares_name d lt bare q i name is =
       let own = h.is_package.is_laid.are_names d (plain_within d lt) bare in
@@ -204,13 +204,13 @@ module _ (w : Workspace) (known : Verdicts) (path : List ℕ) (p : Package) (h :
 
   -- It has a path.
   pub has_path : (d : ℕ) → d < p.size → IsImport p.layout d → is_unnamed_import (old_site w known path p h d).role ≡ true → (name : List ℕ) →
-      given w known path p h d ≡ Some name → ((q : List ℕ) → ImportsPath p d q → ⊥) → ⊥
+      given w known path p h d ≡ Some name → ((q : List ℕ) → DeclaresImport p d q → ⊥) → ⊥
   has_path d lt import bare name is none =
       let own = h.is_package.is_laid.are_names d (plain_within d lt) bare in
       none-some name (sym (own.unknown (λ q i. none q (to_laid d import q i))) ∙ is)
 
   -- A package imports the path of each of its imports.
-  pub import_is_counted : (d : ℕ) → d < p.size → (q : List ℕ) → ImportsPath p d q → PackageImports w path q
+  pub import_is_counted : (d : ℕ) → d < p.size → (q : List ℕ) → DeclaresImport p d q → PackageImports w path q
   import_is_counted d lt q i =
       let n = literal_of p.layout d in
       let place = p.layout.place n in

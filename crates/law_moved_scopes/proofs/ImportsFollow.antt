@@ -20,12 +20,12 @@ use Rattle.types_declared.proofs.ByteKeys.{cases_bytes}
 use Rattle.types_declared.specs.Files.{package_name}
 use Rattle.types_declared.specs.Laid.{literal_of}
 use Rattle.types_declared.specs.Package.{Package}
-use Rattle.types_declared.specs.Written.{ImportsPath}
+use Rattle.types_declared.specs.Written.{DeclaresImport}
 use Rattle.types_declared.proofs.Naming.{one_import_path}
 use Rattle.workspace_check.specs.Verdicts.{Verdicts}
 use Rattle.workspace_check.proofs.OnePackage.{layout_formed}
-use Rattle.refs_binding.specs.Identifiers.{IsName}
-use Rattle.refs_binding.specs.Uses.{IsPackage}
+use Rattle.refs_binding.specs.Identifiers.{IsNameToken}
+use Rattle.refs_binding.specs.Uses.{IsCheckedPackage}
 use Rattle.refs_binding.proofs.Units.{one_package}
 use Rattle.refactor_move.specs.declared.moved.Moved.{Moved}
 use Rattle.refactor_move.specs.Paths.{last_of}
@@ -44,7 +44,7 @@ use Rattle.law_moved_scopes.proofs.NamesAt.{name_token}
 use Rattle.law_moved_scopes.proofs.NamesMove.{all_count, checked_old, import_may, import_within, laid_path, name_or_import, no_left_import}
 
 module _ (w : Workspace) (known : Verdicts) (from to : List ℕ) (s : FileChanges) (h : IsMove w known from to s) (p : Package)
-    (is : IsPackage w known p) where
+    (is : IsCheckedPackage w known p) where
   abbrev m : Moved
   m = h.edits.moved
 
@@ -59,13 +59,13 @@ module _ (w : Workspace) (known : Verdicts) (from to : List ℕ) (s : FileChange
       no e = cc
 
   -- a string is no name
-  no_string : (d : ℕ) → (i : ImportsPath p d m.from) → literal_of p.layout d ≡ d → StandsAtName p d → ⊥
+  no_string : (d : ℕ) → (i : DeclaresImport p d m.from) → literal_of p.layout d ≡ d → StandsAtName p d → ⊥
   no_string d i unnamed stands =
       let at = p.layout.place d in
       let f = i.of_path.source in
       let same : stands.source ≡ f = same_Some stands.source f (sym stands.of_rank ∙ i.of_path.is_file) in
       let x = name_token (slice_get (tokens_in f.cut) at.index)
-      (subst (λ (g : SourceFile). IsName (slice_get (tokens_in g.cut) at.index)) same stands.is_name) in
+      (subst (λ (g : SourceFile). IsNameToken (slice_get (tokens_in g.cut) at.index)) same stands.is_name) in
       let token : token_at f.cut at.index ≡ x.0 = get_or_from_slice_get (tokens_in f.cut) at.index x.0 (semicolon 0) x.1.0 in
       let string : IsStringClass (token_at f.cut at.index).class =
       subst (λ n. IsStringClass (token_at f.cut (p.layout.place n).index).class) unnamed i.of_path.has_literal.is_string in
@@ -112,7 +112,7 @@ module _ (w : Workspace) (known : Verdicts) (from to : List ℕ) (s : FileChange
   by_path d follows unnamed = elim (path p (layout_formed w known p.path p is.is_checked) (strings_known w h.sound known h.right p is) d) [
     | inr none ↦ inr (λ k. none m.from k.imports)
     | inl found ↦ elim (cases_bytes found.0 m.from) [
-      | inl same ↦ inl (record { follows = follows; imports = subst (ImportsPath p d) same found.1; unnamed = unnamed })
+      | inl same ↦ inl (record { follows = follows; imports = subst (DeclaresImport p d) same found.1; unnamed = unnamed })
       | inr other ↦ inr (λ k. other (one_import_path p d found.0 m.from found.1 k.imports))
     ]
   ]

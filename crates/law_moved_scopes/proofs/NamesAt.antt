@@ -19,8 +19,8 @@ use Rattle.law_tokens.proofs.Ordered.{one_stands}
 use Rattle.types_declared.specs.Package.{Package, spelled, spelled_at}
 use Rattle.workspace_check.specs.Verdicts.{Verdicts}
 use Rattle.refs_binding.specs.DeclaringPlaces.{TokenBegins}
-use Rattle.refs_binding.specs.Identifiers.{BeginsAt, IsName, NameBegins}
-use Rattle.refs_binding.specs.Uses.{IsPackage}
+use Rattle.refs_binding.specs.Identifiers.{BeginsAt, IsNameToken, NameBegins}
+use Rattle.refs_binding.specs.Uses.{IsCheckedPackage}
 use Rattle.refs_binding.proofs.PlaceOrder.{place_is}
 use Rattle.refs_binding.proofs.Tokens.{Begins}
 use Rattle.refs_lookup.proofs.OnePlace.{one_begins}
@@ -39,7 +39,7 @@ use Rattle.law_moved_scopes.specs.ThereMoved.{IsFollowingImport, NamesApartFromM
 pub follows_so : (m : Moved) (name : List ℕ) → m.name ≡ Some name → followed_name m ≡ name
 follows_so m name is = ap (λ o. unwrap_or o []) is
 
-module _ (w : Workspace) (known : Verdicts) (from to : List ℕ) (s : FileChanges) (h : IsMove w known from to s) (p : Package) (is : IsPackage w known p)
+module _ (w : Workspace) (known : Verdicts) (from to : List ℕ) (s : FileChanges) (h : IsMove w known from to s) (p : Package) (is : IsCheckedPackage w known p)
     (rank : ℕ) (f : SourceFile) (at : slice_get p.files rank ≡ Some f) (path : List ℕ) where
   abbrev moved : Moved
   moved = m w known from to s h
@@ -92,7 +92,7 @@ module _ (w : Workspace) (known : Verdicts) (from to : List ℕ) (s : FileChange
     lies_there : LiesAt p.layout also_here u
     lies_there =
         let place : Place = record { path = f.path; offset = n.piece.span.start } in
-        let named : NameBegins (Some f) i f.path n.piece.span.start = (subst IsName (sym n.held) n.is_name, refl, ap (offset_at f.cut.text) n.held) in
+        let named : NameBegins (Some f) i f.path n.piece.span.start = (subst IsNameToken (sym n.held) n.is_name, refl, ap (offset_at f.cut.text) n.held) in
         let begins : Begins p also_here place =
         subst (λ o. NameBegins o i f.path n.piece.span.start) (sym (edited_file w known from to s h p is rank f at).at_there) named in
         let a = name_at_token w known p.path p is.is_checked also_here place begins in
@@ -148,7 +148,7 @@ module _ (w : Workspace) (known : Verdicts) (from to : List ℕ) (s : FileChange
       ∙ sym (called path f edits is_file are i n.piece n.held (is_piece path f edits is_file are i n.piece n.held (inl n.is_name)))
 
 -- a token that is a name
-pub name_token : (o : Option Piece) → IsName o → (t : Piece) × ((o ≡ Some t) × (t.class ≡ Name))
+pub name_token : (o : Option Piece) → IsNameToken o → (t : Piece) × ((o ≡ Some t) × (t.class ≡ Name))
 name_token None h = absurd h
 name_token (Some t) h = (t, (refl, h))
 

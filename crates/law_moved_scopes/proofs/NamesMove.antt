@@ -43,13 +43,13 @@ use Rattle.types_declared.proofs.ByteKeys.{cases_bytes}
 use Rattle.types_declared.specs.Files.{HasLiteral}
 use Rattle.types_declared.specs.Laid.{literal_of}
 use Rattle.types_declared.specs.Package.{Package, spelled, spelled_at}
-use Rattle.types_declared.specs.Written.{ImportsPath}
+use Rattle.types_declared.specs.Written.{DeclaresImport}
 use Rattle.workspace_check.specs.Verdicts.{Verdicts}
 use Rattle.workspace_check.proofs.OnePackage.{layout_formed}
 use Rattle.workspace_check.proofs.PackageFiles.{in_folder, package_file}
 use Rattle.refs_binding.specs.DeclaringPlaces.{TokenBegins}
-use Rattle.refs_binding.specs.Identifiers.{BeginsAt, IsInFiles, IsName, NameBegins, file_of}
-use Rattle.refs_binding.specs.Uses.{IsPackage}
+use Rattle.refs_binding.specs.Identifiers.{BeginsAt, IsInFiles, IsNameToken, NameBegins, file_of}
+use Rattle.refs_binding.specs.Uses.{IsCheckedPackage}
 use Rattle.refs_lookup.proofs.Faultless.{no_fault_later}
 use Rattle.refs_lookup.proofs.OnePlace.{same_files, same_size as same_size_in}
 use Rattle.types_resolve.specs.Scoping.{fault_at}
@@ -116,7 +116,7 @@ first_file w path e has (first ∷ rest) is = (first, (rest, is))
 
 -- In a workspace without faults no declaration is repeated.
 pub all_count : (w : Workspace) (known : Verdicts) (from to : List ℕ) (s : FileChanges) → IsMove w known from to s → (p : Package) →
-    IsPackage w known p → AllCount p.layout p.names
+    IsCheckedPackage w known p → AllCount p.layout p.names
 all_count w known from to s h p is d declares = record {
   declares = declares;
   first = λ e also named displaces.
@@ -129,7 +129,7 @@ all_count w known from to s h p is d declares = record {
 }
 
 module _ (w : Workspace) (known : Verdicts) (from to : List ℕ) (s : FileChanges) (h : IsMove w known from to s) (p : Package)
-    (is : IsPackage w known p) where
+    (is : IsCheckedPackage w known p) where
   abbrev pub q : Package
   q = moved w known from to s h p is
 
@@ -165,26 +165,26 @@ module _ (w : Workspace) (known : Verdicts) (from to : List ℕ) (s : FileChange
     abbrev NameAt : ℕ → Type 0
     NameAt i = IsNameAt w known from to s h p is k f at (path_of t) i
 
-    name_at : (i : ℕ) → IsName (slice_get (tokens_in f.cut) i) → NameAt i
+    name_at : (i : ℕ) → IsNameToken (slice_get (tokens_in f.cut) i) → NameAt i
     name_at i named = let x = name_token (slice_get (tokens_in f.cut) i) named in record { piece = x.0; held = x.1.0; is_name = x.1.1 }
 
     -- a name is called afterwards as the change has it
-    token_called : (i : ℕ) (place : Place) → IsName (slice_get (tokens_in f.cut) i) → TokenBegins (Some f) i place →
+    token_called : (i : ℕ) (place : Place) → IsNameToken (slice_get (tokens_in f.cut) i) → TokenBegins (Some f) i place →
         spelled q k i ≡ new_name_at s place (spelled p k i)
     token_called i place named begins =
         spelled_new k t e i ∙ sym (called_so w known from to s h p is k f at (path_of t) i (name_at i named) place begins)
         ∙ ap (new_name_at s place) (sym (spelled_old k t e i))
 
-    name_there : (i : ℕ) → IsName (slice_get (tokens_in f.cut) i) → IsName (slice_get (tokens_in (source_of (new_parts s t)).cut) i)
+    name_there : (i : ℕ) → IsNameToken (slice_get (tokens_in f.cut) i) → IsNameToken (slice_get (tokens_in (source_of (new_parts s t)).cut) i)
     name_there i named =
         let x = name_token (slice_get (tokens_in f.cut) i) named in
         let good = are w known from to s h p is k f at (path_of t) in
         let held : slice_get (tokens_in (source_of (new_parts s t)).cut) i ≡ Some (new_piece es x.0) =
         token_of (path_of t) f es (is_file w known from to s h p is k f at) good i ∙ ap (option_map (new_piece es)) x.1.0 in
-        subst IsName (sym held) (name_kept x.0.class (is_replaced es x.0) x.1.1)
+        subst IsNameToken (sym held) (name_kept x.0.class (is_replaced es x.0) x.1.1)
 
     -- what is neither a name nor the literal of an import stays as it is
-    other_by : (i : ℕ) → (IsName (slice_get (tokens_in f.cut) i) → ⊥) → (Contains (import_literals f.tree) i → ⊥) → (o : Option Piece) →
+    other_by : (i : ℕ) → (IsNameToken (slice_get (tokens_in f.cut) i) → ⊥) → (Contains (import_literals f.tree) i → ⊥) → (o : Option Piece) →
         slice_get (tokens_in f.cut) i ≡ o → spelling_of (source_of (new_parts s t)) i ≡ spelling_of f i
     other_by i no_name no_literal None at_token =
         other_kept (path_of t) f es (is_file w known from to s h p is k f at) (are w known from to s h p is k f at (path_of t)) i
@@ -200,7 +200,7 @@ module _ (w : Workspace) (known : Verdicts) (from to : List ℕ) (s : FileChange
           (λ y held word.
           let same : x ≡ y = same_Some x y (sym at_token ∙ held) in
           elim (subst (λ (z : Piece). IsWordClass z.class) (sym same) word) [
-            | inl name ↦ no_name (subst IsName (sym at_token) name)
+            | inl name ↦ no_name (subst IsNameToken (sym at_token) name)
             | inr string ↦ not string
           ])
     ]
@@ -212,16 +212,16 @@ module _ (w : Workspace) (known : Verdicts) (from to : List ℕ) (s : FileChange
       let t = tree_at at.file token.file token.of_rank in
       let begins : TokenBegins (Some token.file) at.index place = subst (λ o. TokenBegins o at.index place) token.of_rank token.begins in
       token_called at.file t.0 t.1.0 at.index place
-      (subst (λ (x : SourceFile). IsName (slice_get (tokens_in x.cut) at.index)) (sym t.1.1) token.is_name)
+      (subst (λ (x : SourceFile). IsNameToken (slice_get (tokens_in x.cut) at.index)) (sym t.1.1) token.is_name)
       (subst (λ (x : SourceFile). TokenBegins (Some x) at.index place) (sym t.1.1) begins)
 
-  others_are : (at : Position) (f : SourceFile) → slice_get p.files at.file ≡ Some f → (IsName (slice_get (tokens_in f.cut) at.index) → ⊥) →
+  others_are : (at : Position) (f : SourceFile) → slice_get p.files at.file ≡ Some f → (IsNameToken (slice_get (tokens_in f.cut) at.index) → ⊥) →
       (Contains (import_literals f.tree) at.index → ⊥) → spelled q at.file at.index ≡ spelled p at.file at.index
   others_are at f of_rank no_name no_literal =
       let t = tree_at at.file f of_rank in
       spelled_new at.file t.0 t.1.0 at.index
       ∙ other_by at.file t.0 t.1.0 at.index
-      (λ named. no_name (subst (λ (x : SourceFile). IsName (slice_get (tokens_in x.cut) at.index)) t.1.1 named))
+      (λ named. no_name (subst (λ (x : SourceFile). IsNameToken (slice_get (tokens_in x.cut) at.index)) t.1.1 named))
       (λ literal. no_literal (subst (λ (x : SourceFile). Contains (import_literals x.tree) at.index) t.1.1 literal))
       (slice_get (tokens_in (source_of t.0).cut) at.index) refl
       ∙ sym (spelled_old at.file t.0 t.1.0 at.index)
@@ -282,7 +282,7 @@ module _ (w : Workspace) (known : Verdicts) (from to : List ℕ) (s : FileChange
           let at = p.layout.place u in
           let t = tree_at at.file f e in
           let named = name_there at.file t.0 t.1.0 at.index
-          (subst (λ (x : SourceFile). IsName (slice_get (tokens_in x.cut) at.index)) (sym t.1.1) b.0) in
+          (subst (λ (x : SourceFile). IsNameToken (slice_get (tokens_in x.cut) at.index)) (sym t.1.1) b.0) in
           let file = file_at s ts at.file (Some t.0) t.1.0 in
           let here : TokenBegins (Some (source_of (new_parts s t.0))) at.index ((revision_of w s).moved place) =
           subst (λ o. TokenBegins o at.index ((revision_of w s).moved place)) file token in
@@ -294,7 +294,7 @@ module _ (w : Workspace) (known : Verdicts) (from to : List ℕ) (s : FileChange
   -- names of identifiers
 
   named_new : (u : ℕ) → IsInFiles p u → (t : FileParts) → slice_get ts (p.layout.place u).file ≡ Some t →
-      IsName (slice_get (tokens_in t.cut) (p.layout.place u).index) → q.names u ≡ spelled q (p.layout.place u).file (p.layout.place u).index
+      IsNameToken (slice_get (tokens_in t.cut) (p.layout.place u).index) → q.names u ≡ spelled q (p.layout.place u).file (p.layout.place u).index
   named_new u i t e named =
       let at = p.layout.place u in
       let x = source_of (new_parts s t) in
@@ -304,11 +304,11 @@ module _ (w : Workspace) (known : Verdicts) (from to : List ℕ) (s : FileChange
       let there = name_there at.file t e at.index named in
       named_as_spelled (v w known from to s h) (after w known from to s h) (goes w known from to s h p.path) (checked w known from to s h p is)
       (is_checked w known from to s h p is) u (inside_new u i) x file
-      (subst (λ (a : Position). IsName (slice_get (tokens_in x.cut) a.index)) (sym place) there)
+      (subst (λ (a : Position). IsNameToken (slice_get (tokens_in x.cut) a.index)) (sym place) there)
       ∙ ap (λ (a : Position). spelling_of x a.index) place ∙ sym (spelled_new at.file t e at.index)
 
   pub named_old : (u : ℕ) → IsInFiles p u → (f : SourceFile) → slice_get p.files (p.layout.place u).file ≡ Some f →
-      IsName (slice_get (tokens_in f.cut) (p.layout.place u).index) → p.names u ≡ spelled p (p.layout.place u).file (p.layout.place u).index
+      IsNameToken (slice_get (tokens_in f.cut) (p.layout.place u).index) → p.names u ≡ spelled p (p.layout.place u).file (p.layout.place u).index
   named_old u i f e named =
       named_as_spelled w known p.path p is.is_checked u i f e named ∙ sym (ap (λ o. spelled_at o (p.layout.place u).index) e)
 
@@ -318,8 +318,8 @@ module _ (w : Workspace) (known : Verdicts) (from to : List ℕ) (s : FileChange
   name_called u place i (Some f) e b =
       let at = p.layout.place u in
       let t = tree_at at.file f e in
-      let named : IsName (slice_get (tokens_in t.0.cut) at.index) =
-      subst (λ (x : SourceFile). IsName (slice_get (tokens_in x.cut) at.index)) (sym t.1.1) b.0 in
+      let named : IsNameToken (slice_get (tokens_in t.0.cut) at.index) =
+      subst (λ (x : SourceFile). IsNameToken (slice_get (tokens_in x.cut) at.index)) (sym t.1.1) b.0 in
       named_new u i t.0 t.1.0 named
       ∙ token_called at.file t.0 t.1.0 at.index place named (subst (λ (x : SourceFile). TokenBegins (Some x) at.index place) (sym t.1.1) (b.1, b.2))
       ∙ ap (new_name_at s place) (sym (named_old u i f e b.0))
@@ -329,7 +329,7 @@ module _ (w : Workspace) (known : Verdicts) (from to : List ℕ) (s : FileChange
 
   -- imports
 
-  pub among : (u : ℕ) → u < p.size → (r : List ℕ) → (i : ImportsPath p u r) →
+  pub among : (u : ℕ) → u < p.size → (r : List ℕ) → (i : DeclaresImport p u r) →
       Contains (import_literals i.of_path.source.tree) (p.layout.place (literal_of p.layout u)).index
   among u lt r i = literal_among w known p.path p is.is_checked u lt i.is_import i.of_path.source i.of_path.is_file i.of_path.has_literal.is_string
 
@@ -346,7 +346,7 @@ module _ (w : Workspace) (known : Verdicts) (from to : List ℕ) (s : FileChange
   abbrev token : ℕ → ℕ
   token u = (p.layout.place (literal_of p.layout u)).index
 
-  imports_moved : (u : ℕ) (r : List ℕ) → ImportsPath p u r → ImportsPath q u (goes w known from to s h r)
+  imports_moved : (u : ℕ) (r : List ℕ) → DeclaresImport p u r → DeclaresImport q u (goes w known from to s h r)
   imports_moved u r i =
       let k = (p.layout.place u).file in
       let f = i.of_path.source in
@@ -369,7 +369,7 @@ module _ (w : Workspace) (known : Verdicts) (from to : List ℕ) (s : FileChange
         };
       }
 
-  imports_back : (u : ℕ) (x : List ℕ) → ImportsPath q u x → (r : List ℕ) × (ImportsPath p u r × (x ≡ goes w known from to s h r))
+  imports_back : (u : ℕ) (x : List ℕ) → DeclaresImport q u x → (r : List ℕ) × (DeclaresImport p u r × (x ≡ goes w known from to s h r))
   imports_back u x i =
       let l = layout_same w known from to s h p is in
       let import : IsImport p.layout u = subst (λ (y : Layout). IsImport y u) l i.is_import in
@@ -381,14 +381,14 @@ module _ (w : Workspace) (known : Verdicts) (from to : List ℕ) (s : FileChange
       by_part import k refl i.of_path.source file literal
     where
       by_part : IsImport p.layout u → (k : ℕ) → (p.layout.place u).file ≡ k → (g : SourceFile) → slice_get q.files k ≡ Some g → HasLiteral g (token u) x →
-          (r : List ℕ) × (ImportsPath p u r × (x ≡ goes w known from to s h r))
+          (r : List ℕ) × (DeclaresImport p u r × (x ≡ goes w known from to s h r))
       by_part import k is_k g file literal =
           let n = part_at (map (new_parts s) ts) k g file in
           by_old (slice_get ts k) refl n.0 (sym (slice_get-map (new_parts s) ts k) ∙ n.1.0)
           (subst (λ (y : SourceFile). HasLiteral y (token u) x) (sym n.1.1) literal)
         where
           by_old : (o : Option FileParts) → slice_get ts k ≡ o → (y : FileParts) → option_map (new_parts s) o ≡ Some y →
-              HasLiteral (source_of y) (token u) x → (r : List ℕ) × (ImportsPath p u r × (x ≡ goes w known from to s h r))
+              HasLiteral (source_of y) (token u) x → (r : List ℕ) × (DeclaresImport p u r × (x ≡ goes w known from to s h r))
           by_old None e y same l = absurd (none-some y same)
           by_old (Some t) e y same l =
               let here = source_at w known from to s h p is k t e in
@@ -408,7 +408,7 @@ module _ (w : Workspace) (known : Verdicts) (from to : List ℕ) (s : FileChange
 
   pub has_moved_imports : HasMovedImports move p q
   has_moved_imports = record {
-    moved = λ u r i. subst (ImportsPath q u) (sym (goes_by w known from to s h r)) (imports_moved u r i);
+    moved = λ u r i. subst (DeclaresImport q u) (sym (goes_by w known from to s h r)) (imports_moved u r i);
     back = λ u x i.
         let r = imports_back u x i in
         (r.0, (r.1.0, r.1.1 ∙ sym (goes_by w known from to s h r.0)));
@@ -487,7 +487,7 @@ module _ (w : Workspace) (known : Verdicts) (from to : List ℕ) (s : FileChange
           (ap (λ (x : Site). may_declare x.role) e ∙ sym (ap may_declare role) ∙ may))
       by_kind (laid g e r) = (_, ap block_of (role ∙ r))
 
-  pub laid_path : (u : ℕ) → u < p.size → checked_old u → (r : List ℕ) → ImportsPath p u r →
+  pub laid_path : (u : ℕ) → u < p.size → checked_old u → (r : List ℕ) → DeclaresImport p u r →
       (p.names u ≡ (known r).export_data.name) × (q.names u ≡ name_after move r (known r).export_data.name)
   laid_path u lt is_laid r i =
       let c = is.is_checked in
@@ -503,7 +503,7 @@ module _ (w : Workspace) (known : Verdicts) (from to : List ℕ) (s : FileChange
             ∙ new_name_is w known from to s h r there,
       )
     where
-      checked_imports : (u : ℕ) (r : List ℕ) → ImportsPath p u r → ImportsPath (checked w known from to s h p is) u (goes w known from to s h r)
+      checked_imports : (u : ℕ) (r : List ℕ) → DeclaresImport p u r → DeclaresImport (checked w known from to s h p is) u (goes w known from to s h r)
       checked_imports u r i = let x = imports_moved u r i in record { is_import = x.is_import; of_path = x.of_path }
 
   follows_at : (r name : List ℕ) → move.name ≡ Some name → r ≡ move.from → (n : List ℕ) → name_after move r n ≡ name
@@ -524,17 +524,17 @@ module _ (w : Workspace) (known : Verdicts) (from to : List ℕ) (s : FileChange
       itself : IsBoundTo p.layout p.names u u
       itself = own refl (all_count w known from to s h p is u (record { may = may; is_new = λ left. absurd (no_left_import u import left) }))
 
-      by_name : (r : List ℕ) → ImportsPath p u r → (n : List ℕ) → (o : Option (List ℕ)) → move.name ≡ o → r ≡ move.from →
+      by_name : (r : List ℕ) → DeclaresImport p u r → (n : List ℕ) → (o : Option (List ℕ)) → move.name ≡ o → r ≡ move.from →
           cond true (unwrap_or o n) n ≡ n
       by_name r i n None e same = refl
       by_name r i n (Some name) e same =
           absurd (none u (record {
             follows = e ∙ ap Some (sym (ap (λ o. unwrap_or o []) e));
-            imports = subst (ImportsPath p u) same i;
+            imports = subst (DeclaresImport p u) same i;
             unnamed = laid_literal w known p.path p is.is_checked u lt is_laid;
           }) itself)
 
-      same_name : (r : List ℕ) → ImportsPath p u r → (n : List ℕ) → name_after move r n ≡ n
+      same_name : (r : List ℕ) → DeclaresImport p u r → (n : List ℕ) → name_after move r n ≡ n
       same_name r i n = elim (cases_bytes r move.from) [
         | inl same ↦ ap (λ b. cond b (unwrap_or move.name n) n) ((bytes_decides r move.from).1 same) ∙ by_name r i n move.name refl same
         | inr other ↦ ap (λ b. cond b (unwrap_or move.name n) n) (false_from_ne_true (bytes_eq r move.from) (λ e. other ((bytes_decides r move.from).0 e)))
@@ -549,8 +549,8 @@ module _ (w : Workspace) (known : Verdicts) (from to : List ℕ) (s : FileChange
   at_name u lt identifier stands P each =
       let at = p.layout.place u in
       let t = tree_at at.file stands.source stands.of_rank in
-      let named : IsName (slice_get (tokens_in (source_of t.0).cut) at.index) =
-      subst (λ (x : SourceFile). IsName (slice_get (tokens_in x.cut) at.index)) (sym t.1.1) stands.is_name in
+      let named : IsNameToken (slice_get (tokens_in (source_of t.0).cut) at.index) =
+      subst (λ (x : SourceFile). IsNameToken (slice_get (tokens_in x.cut) at.index)) (sym t.1.1) stands.is_name in
       let old : p.names u ≡ spelling_of (source_of t.0) at.index =
       named_old u (lt, identifier) stands.source stands.of_rank stands.is_name ∙ spelled_old at.file t.0 t.1.0 at.index in
       let new : q.names u ≡ spelling_of (source_of (new_parts s t.0)) at.index =
@@ -607,7 +607,7 @@ module _ (w : Workspace) (known : Verdicts) (from to : List ℕ) (s : FileChange
           | inl stands ↦ name_put_at u d lt identifier stands follows bound
           | inr bare_one ↦
               let same : u ≡ d = own_of_laid u d bare_one.0 bare_one.1 (laid_import u lt identifier bare_one.0 bare_one.1) bound in
-              let i : ImportsPath p u move.from = subst (λ k. ImportsPath p k move.from) (sym same) follows.imports in
+              let i : DeclaresImport p u move.from = subst (λ k. DeclaresImport p k move.from) (sym same) follows.imports in
               (laid_path u lt bare_one.0 move.from i).1 ∙ follows_at move.from (followed_name move) follows.follows refl (known move.from).export_data.name
         ]
   ]

@@ -25,8 +25,8 @@ use Rattle.types_declared.specs.Package.{Package}
 use Rattle.workspace_check.specs.Verdicts.{Verdicts}
 use Rattle.refs_binding.specs.declared.declaration.Declaration.{Declaration}
 use Rattle.refs_binding.specs.declared.declaration.Declaration.TheVariants.{Predeclared, Declared, Field, Method}
-use Rattle.refs_binding.specs.DeclaringPlaces.{InPackage, TokenBegins, DeclaresAt, IsDeclaredAt}
-use Rattle.refs_binding.specs.Uses.{IsPackage}
+use Rattle.refs_binding.specs.DeclaringPlaces.{InPackage, TokenBegins, HasDeclarationAt, IsDeclaredAt}
+use Rattle.refs_binding.specs.Uses.{IsCheckedPackage}
 use Rattle.refs_binding.proofs.PlaceOrder.{place_is}
 use Rattle.refactor_move.specs.Paths.{IsUnder, HasMoved, quoted}
 use Rattle.refactor_move.proofs.GoFiles.{text_of_file}
@@ -48,18 +48,18 @@ some_put c text (inr string) = subst (λ (t : List ℕ). 0 < length t) (sym stri
     longer path = omega (arith, length-append path (34 ∷ []))
 
 module _ (w : Workspace) (known : Verdicts) where
-  token_file : (p : Package) → IsPackage w known p → (rank index : ℕ) (o : Option SourceFile) → slice_get p.files rank ≡ o → (place : Place) →
+  token_file : (p : Package) → IsCheckedPackage w known p → (rank index : ℕ) (o : Option SourceFile) → slice_get p.files rank ≡ o → (place : Place) →
       TokenBegins o index place → StandsAtToken w known place
   token_file p is rank index None e place h = absurd h
   token_file p is rank index (Some f) e place h =
       record { inside = p; is_package = is; rank = rank; file = f; of_rank = e; index = index; of_path = h.0; begins = h.1 }
 
-  in_package : (path : List ℕ) (d : Declaration) (place : Place) → InPackage (IsPackage w known) path (λ p. DeclaresAt p d place) →
+  in_package : (path : List ℕ) (d : Declaration) (place : Place) → InPackage (IsCheckedPackage w known) path (λ p. HasDeclarationAt p d place) →
       StandsAtToken w known place
   in_package path d place h =
       token_file h.inside h.is_package h.holds.at.file h.holds.at.index (slice_get h.inside.files h.holds.at.file) refl place h.holds.begins
 
-  stands_at : (d : Declaration) (place : Place) → IsDeclaredAt (IsPackage w known) d place → StandsAtToken w known place
+  stands_at : (d : Declaration) (place : Place) → IsDeclaredAt (IsCheckedPackage w known) d place → StandsAtToken w known place
   stands_at (Predeclared n) place h = absurd h
   stands_at (Declared path n) place h = in_package path (Declared path n) place h
   stands_at (Field s) place h = in_package s.package (Field s) place h
@@ -159,4 +159,4 @@ module _ (w : Workspace) (known : Verdicts) (from to : List ℕ) (s : FileChange
   pub move_apart : MoveApart w known (revision_of w s)
   move_apart c e a b old new same =
       let place : a ≡ b = moved_once a b (stands_at w known c a old) (stands_at w known e b new) same in
-      stand_apart w known c e b (subst (λ (x : Place). IsDeclaredAt (IsPackage w known) c x) place old) new
+      stand_apart w known c e b (subst (λ (x : Place). IsDeclaredAt (IsCheckedPackage w known) c x) place old) new

@@ -9,7 +9,7 @@ use Rattle.base_edits.specs.RevisionsOfEdits.{revision_of}
 use Rattle.law_rename.specs.Renaming.{HasNoConflict, HasSameBindings}
 use Rattle.types_declared.specs.Package.{Package}
 use Rattle.workspace_check.specs.Verdicts.{Verdicts}
-use Rattle.refs_binding.specs.Uses.{IsPackage}
+use Rattle.refs_binding.specs.Uses.{IsCheckedPackage}
 use Rattle.refactor_conflict.specs.Conflicts.{IsConflictIn}
 use Rattle.refactor_conflict.specs.Staying.{NoneIsLost, StaysIn}
 use Rattle.refactor_conflict.specs.declared.conflict.Conflict.{Conflict}
@@ -23,7 +23,7 @@ use Rattle.law_moved_scopes.specs.ThereMoved.{IsFollowingImport, IsMovedWith, fo
 -- The statement holds of each move, and of each package of the workspace.
 abbrev pub OfMoves : ((w : Workspace) → Verdicts → Moved → Revision → Package → Type 0) → Type 0
 OfMoves K = (w : Workspace) (known : Verdicts) (from to : List ℕ) (s : FileChanges) → (h : IsMove w known from to s) → (p : Package) →
-    IsPackage w known p → K w known h.edits.moved (revision_of w s) p
+    IsCheckedPackage w known p → K w known h.edits.moved (revision_of w s) p
 
 -- The imports of the package that get the new name are renamed at once.
 abbrev pub MovesRenameImports : Type 0
@@ -49,12 +49,12 @@ IsFreeOfImports m p place = (d : ℕ) → IsFollowingImport m p d → HasNoOwnCo
 
 -- Each conflict of such a rename is one of the move.
 abbrev pub ImportConflictsAreConflicts : Type 0
-ImportConflictsAreConflicts = OfMoves (λ w known m r p. (c : Conflict) → IsImportConflict (IsPackage w known) m p c → IsConflictIn w known r p c)
+ImportConflictsAreConflicts = OfMoves (λ w known m r p. (c : Conflict) → IsImportConflict (IsCheckedPackage w known) m p c → IsConflictIn w known r p c)
 
 -- The move has no other conflict.
 abbrev pub MoveConflictsAreOfImports : Type 0
 MoveConflictsAreOfImports = OfMoves (λ w known m r p. (c : Conflict) → IsConflictIn w known r p c →
-    (IsImportConflict (IsPackage w known) m p c → ⊥) → ⊥)
+    (IsImportConflict (IsCheckedPackage w known) m p c → ⊥) → ⊥)
 
 -- All identifiers at a place stay bound exactly where none of them has such a conflict.
 abbrev pub PlacesStayWithoutConflict : Type 0
@@ -80,9 +80,9 @@ TellsFirstImportConflict Known m told = IsFirstBy (IsMoveConflict Known m) (IsFr
 -- It is the first conflict of the move.
 abbrev pub FirstImportConflictsAreTold : Type 0
 FirstImportConflictsAreTold = (w : Workspace) (known : Verdicts) (from to : List ℕ) (s : FileChanges) → (h : IsMove w known from to s) →
-    (told : Option Conflict) → TellsFirstImportConflict (IsPackage w known) h.edits.moved told → TellsFirstOf w known (revision_of w s) told
+    (told : Option Conflict) → TellsFirstImportConflict (IsCheckedPackage w known) h.edits.moved told → TellsFirstOf w known (revision_of w s) told
 
 -- A move loses and captures no identifier exactly where each package is bound as it was.
 abbrev pub NoneLostIsSame : Type 0
 NoneLostIsSame = (w : Workspace) (known : Verdicts) (from to : List ℕ) (s : FileChanges) → (h : IsMove w known from to s) →
-    NoneIsLost w known (revision_of w s) ↔ ((p : Package) → IsPackage w known p → HasNoImportConflict h.edits.moved p)
+    NoneIsLost w known (revision_of w s) ↔ ((p : Package) → IsCheckedPackage w known p → HasNoImportConflict h.edits.moved p)

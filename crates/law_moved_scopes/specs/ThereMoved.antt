@@ -15,11 +15,11 @@ use Rattle.go_scope.specs.Table.{LiesAt}
 use Rattle.law_same_bindings.specs.SameBindings.{trees_of, paths_of}
 use Rattle.types_declared.specs.Laid.{literal_of}
 use Rattle.types_declared.specs.Package.{Package, spelled}
-use Rattle.types_declared.specs.Written.{ImportsPath}
+use Rattle.types_declared.specs.Written.{DeclaresImport}
 use Rattle.workspace_check.specs.Verdicts.{Verdicts}
 use Rattle.workspace_graph.specs.FileImports.{import_literals}
-use Rattle.refs_binding.specs.Identifiers.{BeginsAt, IsName}
-use Rattle.refs_binding.specs.Uses.{IsPackage}
+use Rattle.refs_binding.specs.Identifiers.{BeginsAt, IsNameToken}
+use Rattle.refs_binding.specs.Uses.{IsCheckedPackage}
 use Rattle.refactor_after.specs.ScopedPackages.{IsScopedIn}
 use Rattle.refactor_move.specs.declared.moved.Moved.{Moved}
 use Rattle.law_renamed_packages.specs.Layouts.{IsToken}
@@ -35,7 +35,7 @@ followed_name m = unwrap_or m.name []
 -- move.
 pub record IsFollowingImport (m : Moved) (p : Package) (d : ℕ) : Type 0 where
   pub follows : m.name ≡ Some (followed_name m)
-  pub imports : ImportsPath p d m.from
+  pub imports : DeclaresImport p d m.from
   pub unnamed : literal_of p.layout d ≡ d
 
 -- `q` is p after the move: at its moved path, with the same layout and trees. Its files are at their new paths, in their order. Each name is
@@ -49,13 +49,13 @@ pub record IsMovedWith (m : Moved) (r : Revision) (p q : Package) : Type 0 where
   pub names : AreRenamedTo p.layout p.names (IsFollowingImport m p) (followed_name m) q.names
   pub called : (u : ℕ) (place : Place) → BeginsAt p place.path place.offset u → q.names u ≡ r.called place (p.names u)
   pub tokens : (at : Position) (place : Place) → IsToken p at place → spelled q at.file at.index ≡ r.called place (spelled p at.file at.index)
-  pub other_tokens : (at : Position) (f : SourceFile) → slice_get p.files at.file ≡ Some f → (IsName (slice_get (tokens_in f.cut) at.index) → ⊥) →
+  pub other_tokens : (at : Position) (f : SourceFile) → slice_get p.files at.file ≡ Some f → (IsNameToken (slice_get (tokens_in f.cut) at.index) → ⊥) →
       (Contains (import_literals f.tree) at.index → ⊥) → spelled q at.file at.index ≡ spelled p at.file at.index
 
 -- The imports of `q` are those of p, of the moved paths.
 pub record HasMovedImports (m : Moved) (p q : Package) : Type 0 where
-  pub moved : (u : ℕ) (path : List ℕ) → ImportsPath p u path → ImportsPath q u (moved_path m.from m.to path)
-  pub back : (u : ℕ) (path : List ℕ) → ImportsPath q u path → (old : List ℕ) × (ImportsPath p u old × (path ≡ moved_path m.from m.to old))
+  pub moved : (u : ℕ) (path : List ℕ) → DeclaresImport p u path → DeclaresImport q u (moved_path m.from m.to path)
+  pub back : (u : ℕ) (path : List ℕ) → DeclaresImport q u path → (old : List ℕ) × (DeclaresImport p u old × (path ≡ moved_path m.from m.to old))
 
 -- The package `q` of the workspace after the change, by its scopes, is p after the move, and its tokens are moved.
 pub record IsThereMoved (w : Workspace) (m : Moved) (r : Revision) (p q : Package) : Type 0 where
@@ -68,7 +68,7 @@ pub record IsThereMoved (w : Workspace) (m : Moved) (r : Revision) (p q : Packag
 -- By scopes each package is there after the move. This asks for no verdict of the edited workspace.
 abbrev pub ScopedPackagesMove : Type 0
 ScopedPackagesMove = (w : Workspace) (known : Verdicts) (from to : List ℕ) (s : FileChanges) → (h : IsMove w known from to s) → (p : Package) →
-    IsPackage w known p → (q : Package) × IsThereMoved w h.edits.moved (revision_of w s) p q
+    IsCheckedPackage w known p → (q : Package) × IsThereMoved w h.edits.moved (revision_of w s) p q
 
 -- The identifier stands at the position. It is no name of a package clause, and bound to no import that gets the new name.
 pub record IsApartFromMove (m : Moved) (p : Package) (at : Position) (u : ℕ) : Type 0 where
@@ -80,5 +80,5 @@ pub record IsApartFromMove (m : Moved) (p : Package) (at : Position) (u : ℕ) :
 -- A move leaves the name of each such identifier.
 abbrev pub NamesApartFromMoveStay : Type 0
 NamesApartFromMoveStay = (w : Workspace) (known : Verdicts) (from to : List ℕ) (s : FileChanges) → (h : IsMove w known from to s) → (p : Package) →
-    IsPackage w known p → (at : Position) (place : Place) (u : ℕ) → IsToken p at place → IsApartFromMove h.edits.moved p at u →
+    IsCheckedPackage w known p → (at : Position) (place : Place) (u : ℕ) → IsToken p at place → IsApartFromMove h.edits.moved p at u →
     (revision_of w s).called place (spelled p at.file at.index) ≡ spelled p at.file at.index

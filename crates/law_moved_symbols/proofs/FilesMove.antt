@@ -11,7 +11,7 @@ use Rattle.go_ast.specs.Tree as tree
 use Rattle.types_expr.specs.Types.{PlainType, BasicType, Defined, Pointer, Slice, points}
 use Rattle.types_expr.specs.World.{no_locals}
 use Rattle.types_expr.specs.Judge.{ListValue, JudgedList, TypeJudged, good_type, no_type_at, judge_type, named_type}
-use Rattle.types_stmt.specs.Checked.{Checked, with_declared, with_found, fault_if, check_items}
+use Rattle.types_stmt.specs.Checked.{FoundSoFar, with_declared, with_found, fault_if, check_items}
 use Rattle.types_stmt.specs.Sides.{Target, Wants, rhs, with_locals, named, all_refused}
 use Rattle.types_stmt.specs.Simple.{check_optional_simple, check_optional_condition, check_condition, check_local, written_locals}
 use Rattle.types_stmt.specs.Statements.{returned, returning, check_return, check_init, check_for_header, check_statement, check_block, check_statements}
@@ -21,7 +21,7 @@ use Rattle.types_stmt.specs.Headers.{check_param, ResultsJudged, with_result, ju
 use Rattle.types_stmt.specs.Headers.{check_function}
 use Rattle.types_stmt.specs.Declarations.{literal_value, first_name, literal_faults, value_faults, global_faults, field_faults, body_faults, check_global}
 use Rattle.types_stmt.specs.Declarations.{check_type, check_decl, check_decls, check_file}
-use Rattle.law_member_uses.specs.MemberUses.{KeepsInit}
+use Rattle.law_member_uses.specs.MemberUses.{AgreesOnInit}
 use Rattle.law_moved_symbols.specs.Moved.{moved_type, moved_locals, moved_target, moved_checked}
 use Rattle.law_moved_symbols.specs.Moves.{StatementsMove, FilesMove}
 use Rattle.law_moved_symbols.proofs.Moving.{Move, the_move, ap2, ap3, if_moves}
@@ -40,7 +40,7 @@ unfolding returned
 returned_stays m place vs ts =
     ap3 (λ (c : Bool) (fs : List ℕ) (b : Bool). if c then fs else fault_if b place) (counts_stay m vs ts) (all_refused_stay m vs ts) (all_whole_stays m vs)
 
-return_found : (m : Move) (s : Checked) (place : ℕ) (results : List Target) (es : List (Item ExprTree)) →
+return_found : (m : Move) (s : FoundSoFar) (place : ℕ) (results : List Target) (es : List (Item ExprTree)) →
     IsMoved m s (check_return m.old s place results es) (check_return m.new (moved_checked m.path s) place (moved_targets m results) es)
 unfolding check_return
 return_found m s place results es =
@@ -51,11 +51,11 @@ return_found m s place results es =
     ∙ (ap (λ (z : List ℕ). with_found old (r.faults ++ z) (moved_list m r).uses) (returned_stays m place r.values results)
     ∙ declared_after m s s.locals (moved_locals m.path s.locals) (r.faults ++ returned m.old place r.values results) r.uses refl))
 
-init_found : (m : Move) (s : Checked) (i : Option InitTree) → IsMoved m s (check_init m.old s i) (check_init m.new (moved_checked m.path s) i)
+init_found : (m : Move) (s : FoundSoFar) (i : Option InitTree) → IsMoved m s (check_init m.old s i) (check_init m.new (moved_checked m.path s) i)
 init_found m s None = unchecked s
 init_found m s (Some i) = optional_simple m s i.simple
 
-for_header : (m : Move) (s : Checked) (h : ForTree) → IsMoved m s (check_for_header m.old s h) (check_for_header m.new (moved_checked m.path s) h)
+for_header : (m : Move) (s : FoundSoFar) (h : ForTree) → IsMoved m s (check_for_header m.old s h) (check_for_header m.new (moved_checked m.path s) h)
 unfolding check_for_header
 for_header m s forever = unchecked s
 for_header m s (while e) = condition m s e
@@ -71,7 +71,7 @@ for_header m s (clauses init p test q post) =
 mutual
   unfolding check_statement
 
-  statement_found : (m : Move) (results : List Target) (s : Checked) (x : StatementTree) →
+  statement_found : (m : Move) (results : List Target) (s : FoundSoFar) (x : StatementTree) →
       IsMoved m s (check_statement m.old results s x) (check_statement m.new (moved_targets m results) (moved_checked m.path s) x)
   statement_found m results s Empty = unchecked s
   statement_found m results s (Var p g) = group (check_local m.old) (check_local m.new) (λ z l. local m z l) s g
@@ -85,11 +85,11 @@ mutual
   statement_found m results s (Continue p) = unchecked s
   statement_found m results s (Return p es) = return_found m s p results es
 
-  block_found : (m : Move) (results : List Target) (s : Checked) (b : BlockTree) →
+  block_found : (m : Move) (results : List Target) (s : FoundSoFar) (b : BlockTree) →
       IsMoved m s (check_block m.old results s b) (check_block m.new (moved_targets m results) (moved_checked m.path s) b)
   block_found m results s (block o ss c) = statements_found m results s ss
 
-  statements_found : (m : Move) (results : List Target) (s : Checked) (ss : StatementTrees) →
+  statements_found : (m : Move) (results : List Target) (s : FoundSoFar) (ss : StatementTrees) →
       IsMoved m s (check_statements m.old results s ss) (check_statements m.new (moved_targets m results) (moved_checked m.path s) ss)
   statements_found m results s no_statement = unchecked s
   statements_found m results s (statement x p rest) =
@@ -97,7 +97,7 @@ mutual
       (λ z. check_statements m.old results z rest) (λ z. check_statements m.new (moved_targets m results) z rest)
       (statement_found m results s x) (λ z. statements_found m results z rest)
 
-  if_found : (m : Move) (results : List Target) (s : Checked) (i : IfTree) →
+  if_found : (m : Move) (results : List Target) (s : FoundSoFar) (i : IfTree) →
       IsMoved m s (check_if m.old results s i) (check_if m.new (moved_targets m results) (moved_checked m.path s) i)
   if_found m results s (if_tree p init e b otherwise) =
       let rs = moved_targets m results in
@@ -110,7 +110,7 @@ mutual
       (and_then (check_init m.old s init) (check_init m.new old init) (λ z. check_condition m.old z e) (λ z. check_condition m.new z e)
       (init_found m s init) (λ z. condition m z e)) (λ z. block_found m results z b)) (λ z. else_found m results z otherwise)
 
-  else_found : (m : Move) (results : List Target) (s : Checked) (x : ElseTree) →
+  else_found : (m : Move) (results : List Target) (s : FoundSoFar) (x : ElseTree) →
       IsMoved m s (check_else m.old results s x) (check_else m.new (moved_targets m results) (moved_checked m.path s) x)
   else_found m results s no_else = unchecked s
   else_found m results s (else_if p i) = if_found m results s i
@@ -153,7 +153,7 @@ receiver_moves : (m : Move) (r : ReceiverTree) → judge_receiver m.new r ≡ mo
 unfolding judge_receiver
 receiver_moves m r = ap (starred r.star) (receiver_base_moves m r.type_name) ∙ starred_moves m r.star (receiver_base m.old r.type_name)
 
-receiver_found : (m : Move) (s : Checked) (r : Option ReceiverTree) →
+receiver_found : (m : Move) (s : FoundSoFar) (r : Option ReceiverTree) →
     IsMoved m s (check_optional_receiver m.old s r) (check_optional_receiver m.new (moved_checked m.path s) r)
 unfolding check_receiver
 receiver_found m s None = unchecked s
@@ -167,7 +167,7 @@ receiver_found m s (Some r) =
 
 -- parameters and results
 
-param_found : (m : Move) (s : Checked) (p : ParamTree) → IsMoved m s (check_param m.old s p) (check_param m.new (moved_checked m.path s) p)
+param_found : (m : Move) (s : FoundSoFar) (p : ParamTree) → IsMoved m s (check_param m.old s p) (check_param m.new (moved_checked m.path s) p)
 unfolding check_param
 param_found m s p =
     let t = judge_type m.old p.type_use in
@@ -214,7 +214,7 @@ same_init m old new f wanted e =
     ap (λ (z : Bool). new && (is_none f.receiver && (if is_empty_list f.params then (if z then false else true) else true))) (empty_stays m wanted)
     ∙ init_matters f.receiver old new (if is_empty_list f.params then (if is_empty_list wanted then false else true) else true) e
 
-signature_found : (m : Move) (old new : Bool) (s : Checked) (f : FuncTree) → (f.receiver ≡ None → new ≡ old) →
+signature_found : (m : Move) (old new : Bool) (s : FoundSoFar) (f : FuncTree) → (f.receiver ≡ None → new ≡ old) →
     IsMoved m s (check_signature m.old old s f) (check_signature m.new new (moved_checked m.path s) f)
 unfolding check_signature
 signature_found m old new s f e =
@@ -229,7 +229,7 @@ signature_found m old new s f e =
     (λ z. faulty z (before old r) (before new (judge_results m.new f.result))
     (ap (before new) (results_move m f.result) ∙ ap (λ (b : Bool). r.faults ++ fault_if b f.name) (same_init m old new f r.wanted e)))
 
-function_found : (m : Move) (old new : Bool) (s : Checked) (f : FuncTree) → (f.receiver ≡ None → new ≡ old) →
+function_found : (m : Move) (old new : Bool) (s : FoundSoFar) (f : FuncTree) → (f.receiver ≡ None → new ≡ old) →
     IsMoved m s (check_function m.old old s f) (check_function m.new new (moved_checked m.path s) f)
 unfolding check_function
 function_found m old new s f e =
@@ -283,7 +283,7 @@ unfolding body_faults
 body_faults_stay m (Other t) = ap (λ (z : TypeJudged). z.faults) (type_moves m t)
 body_faults_stay m (tree.Struct p o fs c) = field_faults_stay m fs
 
-decl_found : (m : Move) (old new : ℕ → Bool) (s : Checked) (d : DeclTree) → KeepsInit old new d →
+decl_found : (m : Move) (old new : ℕ → Bool) (s : FoundSoFar) (d : DeclTree) → AgreesOnInit old new d →
     IsMoved m s (check_decl m.old old s d) (check_decl m.new new (moved_checked m.path s) d)
 unfolding check_decl
 decl_found m old new s (VarDecl p g c) e =
@@ -292,8 +292,8 @@ decl_found m old new s (TypeDecl p g c) e =
     group (check_type m.old) (check_type m.new) (λ z x. faulty z (body_faults m.old x.body) (body_faults m.new x.body) (body_faults_stay m x.body)) s g
 decl_found m old new s (FuncDecl p f c) e = function_found m (old f.name) (new f.name) s f e
 
-decls_found : (m : Move) (old new : ℕ → Bool) (s : Checked) (ds : List DeclTree) →
-    ((d : DeclTree) → Contains ds d → KeepsInit old new d) → IsMoved m s (check_decls m.old old s ds) (check_decls m.new new (moved_checked m.path s) ds)
+decls_found : (m : Move) (old new : ℕ → Bool) (s : FoundSoFar) (ds : List DeclTree) →
+    ((d : DeclTree) → Contains ds d → AgreesOnInit old new d) → IsMoved m s (check_decls m.old old s ds) (check_decls m.new new (moved_checked m.path s) ds)
 unfolding check_decls
 decls_found m old new s [] e = unchecked s
 decls_found m old new s (d ∷ ds) e =
@@ -303,6 +303,6 @@ decls_found m old new s (d ∷ ds) e =
 pub files_move : FilesMove
 unfolding check_file
 files_move g inj v w old new f e h =
-    let nothing : Checked = record { locals = no_locals; faults = []; uses = [] } in
+    let nothing : FoundSoFar = record { locals = no_locals; faults = []; uses = [] } in
     let found = decls_found (the_move g inj v w h) old new nothing f.decls e in
     found.same (record { each = λ u c. h.members u c })

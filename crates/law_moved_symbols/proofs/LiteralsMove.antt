@@ -3,11 +3,11 @@ use Rattle.std.proofs.Common.{ℕ, ◌≡◌, Bool, ◌&&◌, ◌||◌, true, fa
 use Rattle.go_ast.specs.Tree.{TypeTree}
 use Rattle.go_ast.specs.Tree as tree
 use Rattle.types_expr.specs.declared.symbol.Symbol.{Symbol}
-use Rattle.types_expr.specs.Types.{PlainType, Pointer, Slice, Underlying, Plain, PointerTo, SliceOf, Struct, Kind, Typed, Untyped, Nil, Meaning, Value}
+use Rattle.types_expr.specs.Types.{PlainType, Pointer, Slice, Underlying, Plain, PointerTo, SliceOf, Struct, ValueKind, Typed, Untyped, Nil, Meaning, Value}
 use Rattle.types_expr.specs.Types.{TypeName, Function, BuiltinName, Package, Results, Broken, element_of}
 use Rattle.types_expr.specs.World.{Bound, Local, Means, BrokenVariable, BrokenFunction, BrokenType, Member, AField, AMethod, ABrokenMethod, underlying}
 use Rattle.types_expr.specs.Judge.{MemberUse, Judged, also, value_kind, is_whole, TypeJudged, named_meaning, named_type, imported_meaning}
-use Rattle.types_expr.specs.Judge.{imported_type, under, judge_type, address_of, Key, FieldKey, BrokenKey, WrongKey, Seen, key_of_member, key_in, symbol_of_key}
+use Rattle.types_expr.specs.Judge.{imported_type, under, judge_type, address_of, KeyMeaning, FieldKey, BrokenKey, WrongKey, Seen, key_of_member, key_in, symbol_of_key}
 use Rattle.types_expr.specs.Judge.{key_faults, is_whole_key, seen_with, wanted_after_key, JudgedElements, misfit_if, is_empty, JudgedKey, element_key}
 use Rattle.types_expr.specs.Judge.{seen_after, with_element, literal_result, literal_meaning, literal_of}
 use Rattle.law_moved_symbols.specs.Moved.{moved_symbol, moved_type, moved_underlying, moved_kind, moved_meaning, moved_bound, moved_member, moved_use}
@@ -32,7 +32,7 @@ moved_judged_key m k = record {
 abbrev pub moved_elements : Move → JudgedElements → JudgedElements
 moved_elements m es = record { whole = es.whole; unkeyed = es.unkeyed; faults = es.faults; uses = map (moved_use m.path) es.uses }
 
-abbrev moved_key : Move → Key → Key
+abbrev moved_key : Move → KeyMeaning → KeyMeaning
 moved_key m (FieldKey rank t) = FieldKey rank (moved_type m.path t)
 moved_key m BrokenKey = BrokenKey
 moved_key m WrongKey = WrongKey
@@ -119,29 +119,29 @@ symbol_of_key_moves m (PointerTo t) x = refl
 symbol_of_key_moves m (SliceOf t) x = refl
 symbol_of_key_moves m (Struct s) x = member_symbol_moves m x
 
-key_faults_stay : (m : Move) (k : Key) (place : ℕ) → key_faults (moved_key m k) place ≡ key_faults k place
+key_faults_stay : (m : Move) (k : KeyMeaning) (place : ℕ) → key_faults (moved_key m k) place ≡ key_faults k place
 key_faults_stay m (FieldKey rank t) place = refl
 key_faults_stay m BrokenKey place = refl
 key_faults_stay m WrongKey place = refl
 
-whole_key_stays : (m : Move) (k : Key) → is_whole_key (moved_key m k) ≡ is_whole_key k
+whole_key_stays : (m : Move) (k : KeyMeaning) → is_whole_key (moved_key m k) ≡ is_whole_key k
 whole_key_stays m (FieldKey rank t) = refl
 whole_key_stays m BrokenKey = refl
 whole_key_stays m WrongKey = refl
 
-seen_stays : (m : Move) (k : Key) (seen : Seen) → seen_with (moved_key m k) seen ≡ seen_with k seen
+seen_stays : (m : Move) (k : KeyMeaning) (seen : Seen) → seen_with (moved_key m k) seen ≡ seen_with k seen
 seen_stays m (FieldKey rank t) seen = refl
 seen_stays m BrokenKey seen = refl
 seen_stays m WrongKey seen = refl
 
-wanted_moves : (m : Move) (k : Key) (u : Underlying) →
+wanted_moves : (m : Move) (k : KeyMeaning) (u : Underlying) →
     wanted_after_key (moved_key m k) (moved_underlying m.path u) ≡ option_map (moved_type m.path) (wanted_after_key k u)
 wanted_moves m (FieldKey rank t) u = refl
 wanted_moves m BrokenKey u = element_moves m u
 wanted_moves m WrongKey u = element_moves m u
 
 -- the judgement of a key k that denotes the member s, in a literal of type t whose underlying type is u
-keyed_as : PlainType → ℕ → Underlying → Key → Option Symbol → JudgedKey
+keyed_as : PlainType → ℕ → Underlying → KeyMeaning → Option Symbol → JudgedKey
 keyed_as t place u k s = record {
   whole = is_whole_key k;
   unkeyed = false;
@@ -150,7 +150,7 @@ keyed_as t place u k s = record {
   uses = record { place = place; before = t; member = s } ∷ [];
 }
 
-keyed_as_moves : (m : Move) (t : PlainType) (place : ℕ) (u : Underlying) (k : Key) (s : Option Symbol) →
+keyed_as_moves : (m : Move) (t : PlainType) (place : ℕ) (u : Underlying) (k : KeyMeaning) (s : Option Symbol) →
     keyed_as (moved_type m.path t) place (moved_underlying m.path u) (moved_key m k) (option_map (moved_symbol m.path) s) ≡
     moved_judged_key m (keyed_as t place u k s)
 unfolding keyed_as
@@ -197,7 +197,7 @@ seen_after_stays m (Some t) seen (Some k) h =
 
 -- elements and literals
 
-misfit_if_stays : (m : Move) (place : ℕ) (k : Option Kind) (t : Option PlainType) →
+misfit_if_stays : (m : Move) (place : ℕ) (k : Option ValueKind) (t : Option PlainType) →
     misfit_if m.new place (option_map (moved_kind m.path) k) (option_map (moved_type m.path) t) ≡ misfit_if m.old place k t
 misfit_if_stays m place k None = refl
 misfit_if_stays m place k (Some t) = same_misfit m place k t

@@ -10,7 +10,7 @@ use Rattle.types_expr.specs.declared.types.Builtin.{Builtin}
 use Rattle.types_expr.specs.declared.types.Builtin.TheVariants as builtin
 use Rattle.types_expr.specs.declared.symbol.Symbol.{Symbol}
 use Rattle.types_expr.specs.Places.{place_of}
-use Rattle.types_expr.specs.Types.{PlainType, BasicType, Kind, Typed, Untyped, Nil, Signature, Meaning, Value, TypeName, Function, BuiltinName}
+use Rattle.types_expr.specs.Types.{PlainType, BasicType, ValueKind, Typed, Untyped, Nil, Signature, Meaning, Value, TypeName, Function, BuiltinName}
 use Rattle.types_expr.specs.Types.{Package, Results, Broken}
 use Rattle.types_expr.specs.Types.{is_pointer, points}
 use Rattle.types_expr.specs.World.{Locals, Bound, Local, Means, BrokenVariable, BrokenFunction, BrokenType, Member, AField, AMethod, ABrokenMethod}
@@ -84,7 +84,7 @@ means_or_wrong_moves : (m : Move) (x : Option Meaning) (place : ℕ) →
 means_or_wrong_moves m None place = refl
 means_or_wrong_moves m (Some x) place = refl
 
-value_or_wrong_moves : (m : Move) (k : Option Kind) (place : ℕ) →
+value_or_wrong_moves : (m : Move) (k : Option ValueKind) (place : ℕ) →
     value_or_wrong (option_map (moved_kind m.path) k) place ≡ moved_found m.path (value_or_wrong k place)
 value_or_wrong_moves m None place = refl
 value_or_wrong_moves m (Some k) place = refl
@@ -162,7 +162,7 @@ select_moves m locals place name Broken h = refl
 
 -- lists of values
 
-pub whole_stays : (m : Move) (k : Option Kind) → is_whole (option_map (moved_kind m.path) k) ≡ is_whole k
+pub whole_stays : (m : Move) (k : Option ValueKind) → is_whole (option_map (moved_kind m.path) k) ≡ is_whole k
 whole_stays m None = refl
 whole_stays m (Some k) = refl
 
@@ -171,7 +171,7 @@ unfolding all_whole
 all_whole_stays m [] = refl
 all_whole_stays m (v ∷ vs) = ap2 (λ x y. x && y) (whole_stays m v.kind) (all_whole_stays m vs)
 
-pub same_misfit : (m : Move) (place : ℕ) (k : Option Kind) (t : PlainType) →
+pub same_misfit : (m : Move) (place : ℕ) (k : Option ValueKind) (t : PlainType) →
     misfit m.new place (option_map (moved_kind m.path) k) (moved_type m.path t) ≡ misfit m.old place k t
 unfolding misfit
 same_misfit m place None t = refl
@@ -192,7 +192,7 @@ all_same_misfits m (v ∷ vs) t = ap2 (λ x y. x ++ y) (same_misfit m v.place v.
 pub value_before_moves : (m : Move) (place : ℕ) (j : Judged) (rest : JudgedList) →
     value_before place (moved_found m.path j) (moved_list m rest) ≡ moved_list m (value_before place j rest)
 value_before_moves m place j rest =
-    ap2 (λ (k : Option Kind) (us : List MemberUse). record {
+    ap2 (λ (k : Option ValueKind) (us : List MemberUse). record {
       values = record { place = place; kind = k } ∷ moved_values m rest.values;
       faults = j.faults ++ rest.faults;
       uses = us;
@@ -241,7 +241,7 @@ call_function_moves m start s vs =
     ∙ called_moves m (length vs == length s.parameters) (misfits m.old vs s.parameters) (all_whole vs) (result_meaning s.results)
     (wrong_if_whole (all_whole vs) start))
 
-convert_one_moves : (m : Move) (start : ℕ) (t : PlainType) (k : Option Kind) →
+convert_one_moves : (m : Move) (start : ℕ) (t : PlainType) (k : Option ValueKind) →
     convert_one m.new start (moved_type m.path t) (option_map (moved_kind m.path) k) ≡ moved_found m.path (convert_one m.old start t k)
 convert_one_moves m start t None = refl
 convert_one_moves m start t (Some k) = if_moves (moved_found m.path) (converts m.old k t) _ (means (Value (Typed t) false)) (wrong start) (same_converts m k t)
@@ -253,14 +253,14 @@ convert_moves m start t [] = wrong_if_whole_moves m [] start
 convert_moves m start t (v ∷ []) = convert_one_moves m start t v.kind
 convert_moves m start t (v ∷ u ∷ vs) = wrong_if_whole_moves m (v ∷ u ∷ vs) start
 
-append_to_moves : (m : Move) (start : ℕ) (k : Kind) (t : Option PlainType) (vs : List ListValue) →
+append_to_moves : (m : Move) (start : ℕ) (k : ValueKind) (t : Option PlainType) (vs : List ListValue) →
     append_to m.new start (moved_kind m.path k) (option_map (moved_type m.path) t) (moved_values m vs) ≡ moved_found m.path (append_to m.old start k t vs)
 append_to_moves m start k None vs = wrong_if_whole_moves m vs start
 append_to_moves m start k (Some t) vs =
     ap2 (λ x y. unless_faults x y (Value (moved_kind m.path k) false)) (all_same_misfits m vs t) (all_whole_stays m vs)
     ∙ unless_faults_moves m (all_misfits m.old vs t) (all_whole vs) (Value k false)
 
-append_first_moves : (m : Move) (start : ℕ) (k : Option Kind) (vs : List ListValue) →
+append_first_moves : (m : Move) (start : ℕ) (k : Option ValueKind) (vs : List ListValue) →
     append_first m.new start (option_map (moved_kind m.path) k) (moved_values m vs) ≡ moved_found m.path (append_first m.old start k vs)
 append_first_moves m start None vs = refl
 append_first_moves m start (Some k) vs =
@@ -272,7 +272,7 @@ unfolding append
 append_moves m start [] = refl
 append_moves m start (v ∷ vs) = append_first_moves m start v.kind vs
 
-len_value_stays : (m : Move) (k : Option Kind) → len_value m.new (option_map (moved_kind m.path) k) ≡ len_value m.old k
+len_value_stays : (m : Move) (k : Option ValueKind) → len_value m.new (option_map (moved_kind m.path) k) ≡ len_value m.old k
 len_value_stays m None = refl
 len_value_stays m (Some k) = ap has_length (class_stays m k)
 
@@ -281,7 +281,7 @@ len_stays m [] = refl
 len_stays m (v ∷ []) = len_value_stays m v.kind
 len_stays m (v ∷ u ∷ vs) = refl
 
-printed_stays : (m : Move) (k : Option Kind) → is_printed_value m.new (option_map (moved_kind m.path) k) ≡ is_printed_value m.old k
+printed_stays : (m : Move) (k : Option ValueKind) → is_printed_value m.new (option_map (moved_kind m.path) k) ≡ is_printed_value m.old k
 printed_stays m None = refl
 printed_stays m (Some k) = ap is_printed (class_stays m k)
 
@@ -338,7 +338,7 @@ call_rule_moves m start place args x =
 
 -- indexes and operators
 
-bad_index_stays : (m : Move) (place : ℕ) (k : Option Kind) → bad_index m.new place (option_map (moved_kind m.path) k) ≡ bad_index m.old place k
+bad_index_stays : (m : Move) (place : ℕ) (k : Option ValueKind) → bad_index m.new place (option_map (moved_kind m.path) k) ≡ bad_index m.old place k
 unfolding bad_index
 bad_index_stays m place None = refl
 bad_index_stays m place (Some k) = ap (λ z. if is_int z then [] else place ∷ []) (class_stays m k)
@@ -380,7 +380,7 @@ index_rule_moves m start place e i x =
     (followed_moves m i (index_of m.old start (place_of e) s.meaning) (index_of m.new start (place_of e) (moved_meaning m.path s.meaning))
     (index_of_moves m start (place_of e) s.meaning i.meaning))
 
-operation_on_moves : (m : Move) (o : BinaryOp) (start : ℕ) (a b : Option Kind) →
+operation_on_moves : (m : Move) (o : BinaryOp) (start : ℕ) (a b : Option ValueKind) →
     operation_on m.new o start (option_map (moved_kind m.path) a) (option_map (moved_kind m.path) b) ≡ moved_found m.path (operation_on m.old o start a b)
 operation_on_moves m o start (Some a) (Some b) =
     ap (λ z. value_or_wrong z start) (operate_moves m o a b) ∙ value_or_wrong_moves m (operate m.old o a b) start

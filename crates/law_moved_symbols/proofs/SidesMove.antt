@@ -5,7 +5,7 @@ use Rattle.std.proofs.Math.Path.{fun_ext}
 use Rattle.std.proofs.lemmas.List.{map-append, length-map}
 use Rattle.go_ast.specs.Tree.{Item, ExprTree, Name, Blank}
 use Rattle.types_expr.specs.Places.{place_of}
-use Rattle.types_expr.specs.Types.{PlainType, Kind, Typed, Untyped, Nil, Meaning, Value, TypeName, Function, BuiltinName, Package, Results, Broken}
+use Rattle.types_expr.specs.Types.{PlainType, ValueKind, Typed, Untyped, Nil, Meaning, Value, TypeName, Function, BuiltinName, Package, Results, Broken}
 use Rattle.types_expr.specs.World.{Locals, Bound, Local, Means, BrokenVariable, BrokenFunction, BrokenType, name_meaning}
 use Rattle.types_expr.specs.Judge.{MemberUse, Judged, JudgedList, ListValue, means, followed, as_value, value_kind, value_at, value_before}
 use Rattle.types_expr.specs.Judge.{judge, judge_value}
@@ -196,14 +196,14 @@ defined_moves m locals (i ∷ is) h =
 
 -- targets
 
-nil_stays : (m : Move) (place : ℕ) (k : Option Kind) → nil_refused place (option_map (moved_kind m.path) k) ≡ nil_refused place k
+nil_stays : (m : Move) (place : ℕ) (k : Option ValueKind) → nil_refused place (option_map (moved_kind m.path) k) ≡ nil_refused place k
 unfolding nil_refused
 nil_stays m place None = refl
 nil_stays m place (Some (Typed t)) = refl
 nil_stays m place (Some (Untyped b)) = refl
 nil_stays m place (Some Nil) = refl
 
-refused_stays : (m : Move) (place : ℕ) (k : Option Kind) (t : Target) →
+refused_stays : (m : Move) (place : ℕ) (k : Option ValueKind) (t : Target) →
     refused_at m.new place (option_map (moved_kind m.path) k) (moved_target m.path t) ≡ refused_at m.old place k t
 unfolding refused_at
 refused_stays m place k (Wants None) = refl
@@ -239,13 +239,13 @@ given_faults_stay m place vs ts =
 
 -- locals
 
-default_moves : (m : Move) (k : Kind) → default_type (moved_kind m.path k) ≡ option_map (moved_type m.path) (default_type k)
+default_moves : (m : Move) (k : ValueKind) → default_type (moved_kind m.path k) ≡ option_map (moved_type m.path) (default_type k)
 unfolding default_type
 default_moves m (Typed t) = refl
 default_moves m (Untyped b) = refl
 default_moves m Nil = refl
 
-inferred_type_moves : (m : Move) (k : Option Kind) → inferred_type (option_map (moved_kind m.path) k) ≡ option_map (moved_type m.path) (inferred_type k)
+inferred_type_moves : (m : Move) (k : Option ValueKind) → inferred_type (option_map (moved_kind m.path) k) ≡ option_map (moved_type m.path) (inferred_type k)
 unfolding inferred_type
 inferred_type_moves m None = refl
 inferred_type_moves m (Some k) = default_moves m k

@@ -4,12 +4,12 @@ use Rattle.go_ast.specs.declared.syntax.BinaryOp.{BinaryOp}
 use Rattle.go_ast.specs.Tree.{Item, IdentTree, TypeTree, ExprTree, Chain, LinkTrees, no_link, selector, index, call}
 use Rattle.go_ast.specs.Tree.{SimpleTree, Alone, Step, Update, Assign, Define, LocalTree}
 use Rattle.types_expr.specs.Places.{first_token, place_of}
-use Rattle.types_expr.specs.Types.{PlainType, Kind, Meaning, Value, TypeName, Function, BuiltinName, Package, Results, Broken}
+use Rattle.types_expr.specs.Types.{PlainType, ValueKind, Meaning, Value, TypeName, Function, BuiltinName, Package, Results, Broken}
 use Rattle.types_expr.specs.World.{World, Locals}
 use Rattle.types_expr.specs.Operations.{is_int, is_bool, operate}
 use Rattle.types_expr.specs.Judge.{Judged, JudgedList, TypeJudged, followed, select, index_rule, call_rule, value_at, value_kind, judge, judge_links}
 use Rattle.types_expr.specs.Judge.{judge_arguments, judge_value, judge_type, MemberUse}
-use Rattle.types_stmt.specs.Checked.{Checked, with_found}
+use Rattle.types_stmt.specs.Checked.{FoundSoFar, with_found}
 use Rattle.types_stmt.specs.Sides.{Target, Wants, Takes, judge_operand, rhs, assigned, defined, defined_names, all_named, with_locals, with_inferred}
 use Rattle.types_stmt.specs.Sides.{first_of_exprs, first_of_idents}
 use Rattle.types_stmt.specs.Simple.{condition_faults, check_condition, step_faults, check_step, binary_of, fault_if_none, update_faults, check_update, is_end}
@@ -29,21 +29,21 @@ use Rattle.law_moved_symbols.proofs.PartsMove.{IsMoved, unchecked, same_as, part
 
 -- faults that stay
 
-condition_stays : (m : Move) (place : ℕ) (k : Option Kind) → condition_faults m.new place (option_map (moved_kind m.path) k) ≡ condition_faults m.old place k
+condition_stays : (m : Move) (place : ℕ) (k : Option ValueKind) → condition_faults m.new place (option_map (moved_kind m.path) k) ≡ condition_faults m.old place k
 unfolding condition_faults
 condition_stays m place None = refl
 condition_stays m place (Some k) = ap (λ z. if is_bool z then [] else place ∷ []) (class_stays m k)
 
-step_stays : (m : Move) (place : ℕ) (k : Option Kind) → step_faults m.new place (option_map (moved_kind m.path) k) ≡ step_faults m.old place k
+step_stays : (m : Move) (place : ℕ) (k : Option ValueKind) → step_faults m.new place (option_map (moved_kind m.path) k) ≡ step_faults m.old place k
 unfolding step_faults
 step_stays m place None = refl
 step_stays m place (Some k) = ap (λ z. if is_int z then [] else place ∷ []) (class_stays m k)
 
-some_kind : (m : Move) (k : Option Kind) (start : ℕ) → fault_if_none (option_map (moved_kind m.path) k) start ≡ fault_if_none k start
+some_kind : (m : Move) (k : Option ValueKind) (start : ℕ) → fault_if_none (option_map (moved_kind m.path) k) start ≡ fault_if_none k start
 some_kind m None start = refl
 some_kind m (Some k) start = refl
 
-update_stays : (m : Move) (start : ℕ) (o : BinaryOp) (a b : Option Kind) →
+update_stays : (m : Move) (start : ℕ) (o : BinaryOp) (a b : Option ValueKind) →
     update_faults m.new start o (option_map (moved_kind m.path) a) (option_map (moved_kind m.path) b) ≡ update_faults m.old start o a b
 unfolding update_faults
 update_stays m start o (Some a) (Some b) = ap (λ z. fault_if_none z start) (operate_moves m o a b) ∙ some_kind m (operate m.old o a b) start
@@ -126,7 +126,7 @@ statement_stays m locals e h = refl
 
 -- simple statements
 
-pub condition : (m : Move) (s : Checked) (e : ExprTree) → IsMoved m s (check_condition m.old s e) (check_condition m.new (moved_checked m.path s) e)
+pub condition : (m : Move) (s : FoundSoFar) (e : ExprTree) → IsMoved m s (check_condition m.old s e) (check_condition m.new (moved_checked m.path s) e)
 unfolding check_condition
 condition m s e =
     let j = judge_value m.old s.locals e in
@@ -134,7 +134,7 @@ condition m s e =
     (λ (z : Judged). condition_faults m.new (place_of e) (value_kind z.meaning)) (λ q. judged_value_moves m s.locals e q)
     (λ q. ap (condition_faults m.new (place_of e)) (value_kind_moves m j.meaning) ∙ condition_stays m (place_of e) (value_kind j.meaning))
 
-step : (m : Move) (s : Checked) (e : ExprTree) → IsMoved m s (check_step m.old s e) (check_step m.new (moved_checked m.path s) e)
+step : (m : Move) (s : FoundSoFar) (e : ExprTree) → IsMoved m s (check_step m.old s e) (check_step m.new (moved_checked m.path s) e)
 unfolding check_step
 step m s e =
     let j = judge_operand m.old s.locals e in
@@ -143,11 +143,11 @@ step m s e =
     (λ q. ap (step_faults m.new (place_of e)) (value_kind_moves m j.meaning) ∙ step_stays m (place_of e) (value_kind j.meaning))
 
 -- `x op= y`, where x and y are judged as i and j
-updated : World → Checked → BinaryOp → (start : ℕ) → (i j : Judged) → Checked
+updated : World → FoundSoFar → BinaryOp → (start : ℕ) → (i j : Judged) → FoundSoFar
 updated w s o start i j =
     with_found s (i.faults ++ (j.faults ++ update_faults w start o (value_kind i.meaning) (value_kind j.meaning))) (i.uses ++ j.uses)
 
-updated_moves : (m : Move) (s : Checked) (o : BinaryOp) (start : ℕ) (i j : Judged) →
+updated_moves : (m : Move) (s : FoundSoFar) (o : BinaryOp) (start : ℕ) (i j : Judged) →
     updated m.new (moved_checked m.path s) o start (moved_found m.path i) (moved_found m.path j) ≡ moved_checked m.path (updated m.old s o start i j)
 unfolding updated
 updated_moves m s o start i j =
@@ -158,7 +158,7 @@ updated_moves m s o start i j =
     }) (ap2 (update_faults m.new start o) (value_kind_moves m i.meaning) (value_kind_moves m j.meaning)
     ∙ update_stays m start o (value_kind i.meaning) (value_kind j.meaning)) (three_uses m s.uses i.uses j.uses)
 
-update : (m : Move) (s : Checked) (o : BinaryOp) (x y : ExprTree) →
+update : (m : Move) (s : FoundSoFar) (o : BinaryOp) (x y : ExprTree) →
     IsMoved m s (check_update m.old s o x y) (check_update m.new (moved_checked m.path s) o x y)
 unfolding check_update updated
 update m s o x y =
@@ -170,7 +170,7 @@ update m s o x y =
     (judged_value_moves m s.locals y (of_second i.uses j.uses h))
     ∙ updated_moves m s o (first_token x) i j)
 
-alone : (m : Move) (s : Checked) (e : ExprTree) → IsMoved m s (check_expr_statement m.old s e) (check_expr_statement m.new (moved_checked m.path s) e)
+alone : (m : Move) (s : FoundSoFar) (e : ExprTree) → IsMoved m s (check_expr_statement m.old s e) (check_expr_statement m.new (moved_checked m.path s) e)
 unfolding check_expr_statement
 alone m s e =
     let j = judge m.old s.locals e in
@@ -180,7 +180,7 @@ alone m s e =
     (λ q. ap (λ (b : Bool). statement_faults (place_of e) b (moved_meaning m.path j.meaning)) (statement_stays m s.locals e q)
     ∙ statement_faults_stay m (place_of e) (is_statement m.old s.locals e) j.meaning)
 
-assign : (m : Move) (s : Checked) (xs ys : List (Item ExprTree)) →
+assign : (m : Move) (s : FoundSoFar) (xs ys : List (Item ExprTree)) →
     IsMoved m s (check_assign m.old s xs ys) (check_assign m.new (moved_checked m.path s) xs ys)
 unfolding check_assign
 assign m s xs ys =
@@ -188,7 +188,7 @@ assign m s xs ys =
     given m s (first_of_exprs xs) (λ r. s.locals) (λ r. new) (assigned m.old s.locals xs) (assigned m.new new xs) (rhs m.old s.locals ys)
     (rhs m.new new ys) (λ q. assigned_moves m s.locals xs q) (λ q. rhs_moves m s.locals ys q) refl
 
-define : (m : Move) (s : Checked) (xs ys : List (Item ExprTree)) →
+define : (m : Move) (s : FoundSoFar) (xs ys : List (Item ExprTree)) →
     IsMoved m s (check_define m.old s xs ys) (check_define m.new (moved_checked m.path s) xs ys)
 unfolding check_define
 define m s xs ys =
@@ -200,7 +200,7 @@ define m s xs ys =
     (ap (λ (ns : List (Option ℕ)). with_inferred new ns (moved_values m r.values)) (defined_names_stay m xs)
     ∙ with_inferred_moves m s.locals (defined_names m.old xs) r.values)
 
-pub simple : (m : Move) (s : Checked) (a : SimpleTree) → IsMoved m s (check_simple m.old s a) (check_simple m.new (moved_checked m.path s) a)
+pub simple : (m : Move) (s : FoundSoFar) (a : SimpleTree) → IsMoved m s (check_simple m.old s a) (check_simple m.new (moved_checked m.path s) a)
 unfolding check_simple
 simple m s (Alone e) = alone m s e
 simple m s (Step e o p) = step m s e
@@ -208,12 +208,12 @@ simple m s (Update x o p y) = update m s (binary_of o) x y
 simple m s (Assign xs p ys) = assign m s xs ys
 simple m s (Define xs p ys) = define m s xs ys
 
-pub optional_simple : (m : Move) (s : Checked) (a : Option SimpleTree) →
+pub optional_simple : (m : Move) (s : FoundSoFar) (a : Option SimpleTree) →
     IsMoved m s (check_optional_simple m.old s a) (check_optional_simple m.new (moved_checked m.path s) a)
 optional_simple m s None = unchecked s
 optional_simple m s (Some a) = simple m s a
 
-pub optional_condition : (m : Move) (s : Checked) (e : Option ExprTree) →
+pub optional_condition : (m : Move) (s : FoundSoFar) (e : Option ExprTree) →
     IsMoved m s (check_optional_condition m.old s e) (check_optional_condition m.new (moved_checked m.path s) e)
 optional_condition m s None = unchecked s
 optional_condition m s (Some e) = condition m s e
@@ -240,7 +240,7 @@ name_targets_move : (m : Move) (names : List (Item IdentTree)) → name_targets 
 name_targets_move m names =
     ap (λ (ts : List Target). record { targets = ts; faults = []; uses = [] }) (constant_moves (moved_target m.path) Takes names)
 
-typed_local : (m : Move) (s : Checked) (names : List (Item IdentTree)) (t : TypeJudged) (values : Option (ℕ × List (Item ExprTree))) →
+typed_local : (m : Move) (s : FoundSoFar) (names : List (Item IdentTree)) (t : TypeJudged) (values : Option (ℕ × List (Item ExprTree))) →
     IsMoved m s (check_typed_local m.old s names t values) (check_typed_local m.new (moved_checked m.path s) names (moved_written m t) values)
 unfolding check_typed_local
 typed_local m s names t None =
@@ -252,7 +252,7 @@ typed_local m s names t (Some x) =
     (written_targets names (moved_written m t)) (rhs m.old s.locals x.1) (rhs m.new (moved_locals m.path s.locals) x.1)
     (λ q. written_targets_move m names t) (λ q. rhs_moves m s.locals x.1 q) (written_locals_move m s.locals names t.type_of)
 
-untyped_local : (m : Move) (s : Checked) (names : List (Item IdentTree)) (values : Option (ℕ × List (Item ExprTree))) →
+untyped_local : (m : Move) (s : FoundSoFar) (names : List (Item IdentTree)) (values : Option (ℕ × List (Item ExprTree))) →
     IsMoved m s (check_untyped_local m.old s names values) (check_untyped_local m.new (moved_checked m.path s) names values)
 unfolding check_untyped_local
 untyped_local m s names None =
@@ -264,7 +264,7 @@ untyped_local m s names (Some x) =
     (name_targets names Takes) (rhs m.old s.locals x.1) (rhs m.new (moved_locals m.path s.locals) x.1) (λ q. name_targets_move m names)
     (λ q. rhs_moves m s.locals x.1 q) (with_inferred_moves m s.locals (all_named names) (rhs m.old s.locals x.1).values)
 
-local_of : (m : Move) (s : Checked) (names : List (Item IdentTree)) (t : Option TypeTree) (values : Option (ℕ × List (Item ExprTree))) →
+local_of : (m : Move) (s : FoundSoFar) (names : List (Item IdentTree)) (t : Option TypeTree) (values : Option (ℕ × List (Item ExprTree))) →
     IsMoved m s (check_local_of m.old s names t values) (check_local_of m.new (moved_checked m.path s) names t values)
 local_of m s names (Some t) values =
     same_as (check_typed_local m.new (moved_checked m.path s) names (moved_written m (judge_type m.old t)) values) _
@@ -272,6 +272,6 @@ local_of m s names (Some t) values =
     (typed_local m s names (judge_type m.old t) values)
 local_of m s names None values = untyped_local m s names values
 
-pub local : (m : Move) (s : Checked) (l : LocalTree) → IsMoved m s (check_local m.old s l) (check_local m.new (moved_checked m.path s) l)
+pub local : (m : Move) (s : FoundSoFar) (l : LocalTree) → IsMoved m s (check_local m.old s l) (check_local m.new (moved_checked m.path s) l)
 unfolding check_local
 local m s l = local_of m s l.names l.type_use l.values

@@ -1,11 +1,11 @@
 -- A move of packages gives them other paths. The symbols of types, members and meanings change their package with it; nothing else does.
 use Rattle.std.specs.Prelude.{ℕ, ◌≡◌, List, option_map, map}
 use Rattle.types_expr.specs.declared.symbol.Symbol.{Symbol}
-use Rattle.types_expr.specs.Types.{PlainType, BasicType, Defined, Pointer, Slice, Underlying, Plain, PointerTo, SliceOf, Struct, Kind, Typed, Untyped, Nil}
+use Rattle.types_expr.specs.Types.{PlainType, BasicType, Defined, Pointer, Slice, Underlying, Plain, PointerTo, SliceOf, Struct, ValueKind, Typed, Untyped, Nil}
 use Rattle.types_expr.specs.Types.{Signature, Meaning, Value, TypeName, Function, BuiltinName, Package, Results, Broken}
 use Rattle.types_expr.specs.World.{Bound, Local, Means, BrokenVariable, BrokenFunction, BrokenType, Member, AField, AMethod, ABrokenMethod, Locals}
 use Rattle.types_expr.specs.Judge.{MemberUse, Judged}
-use Rattle.types_stmt.specs.Checked.{Checked}
+use Rattle.types_stmt.specs.Checked.{FoundSoFar}
 use Rattle.types_stmt.specs.Sides.{Target, Takes, Wants}
 
 -- The path of each package after the move. Where a package comes to a path that was free, the map may swap the two.
@@ -32,7 +32,7 @@ moved_underlying g (PointerTo t) = PointerTo (moved_type g t)
 moved_underlying g (SliceOf t) = SliceOf (moved_type g t)
 moved_underlying g (Struct s) = Struct (moved_symbol g s)
 
-abbrev pub moved_kind : PathMap → Kind → Kind
+abbrev pub moved_kind : PathMap → ValueKind → ValueKind
 moved_kind g (Typed t) = Typed (moved_type g t)
 moved_kind g (Untyped b) = Untyped b
 moved_kind g Nil = Nil
@@ -79,5 +79,5 @@ moved_target g Takes = Takes
 moved_target g (Wants t) = Wants (option_map (moved_type g) t)
 
 -- What is found of statements and files: the faults stay, the types of locals and the uses are moved.
-abbrev pub moved_checked : PathMap → Checked → Checked
+abbrev pub moved_checked : PathMap → FoundSoFar → FoundSoFar
 moved_checked g s = record { locals = moved_locals g s.locals; faults = s.faults; uses = map (moved_use g) s.uses }

@@ -4,11 +4,11 @@ use Rattle.go_ast.specs.Tree.{ExprTree, StatementTree, DeclTree, FileTree}
 use Rattle.types_expr.specs.declared.symbol.Symbol.{Symbol}
 use Rattle.types_expr.specs.World.{World, Locals}
 use Rattle.types_expr.specs.Judge.{MemberUse, judge}
-use Rattle.types_stmt.specs.Checked.{Checked}
+use Rattle.types_stmt.specs.Checked.{FoundSoFar}
 use Rattle.types_stmt.specs.Sides.{Target}
 use Rattle.types_stmt.specs.Statements.{check_statement}
 use Rattle.types_stmt.specs.Declarations.{check_file}
-use Rattle.law_member_uses.specs.MemberUses.{KeepsInit}
+use Rattle.law_member_uses.specs.MemberUses.{AgreesOnInit}
 use Rattle.law_moved_symbols.specs.Moved.{PathMap, IsInjective, moved_symbol, moved_type, moved_underlying, moved_bound, moved_member, moved_locals}
 use Rattle.law_moved_symbols.specs.Moved.{moved_found, moved_target, moved_checked}
 
@@ -31,12 +31,12 @@ ExpressionsMove = (g : PathMap) → IsInjective g → (v w : World) (locals : Lo
 
 -- That holds of statements, in a function whose results are moved too. `s` is what was found before the statement.
 abbrev pub StatementsMove : Type 0
-StatementsMove = (g : PathMap) → IsInjective g → (v w : World) (results : List Target) (s : Checked) (x : StatementTree) →
+StatementsMove = (g : PathMap) → IsInjective g → (v w : World) (results : List Target) (s : FoundSoFar) (x : StatementTree) →
     IsMovedWorld g (check_statement v results s x).uses v w →
     check_statement w (map (moved_target g) results) (moved_checked g s) x ≡ moved_checked g (check_statement v results s x)
 
 -- And of files. Their functions have to stay `init` or not.
 abbrev pub FilesMove : Type 0
 FilesMove = (g : PathMap) → IsInjective g → (v w : World) (is_init is_init' : ℕ → Bool) (f : FileTree) →
-    ((d : DeclTree) → Contains f.decls d → KeepsInit is_init is_init' d) → IsMovedWorld g (check_file v is_init f).uses v w →
+    ((d : DeclTree) → Contains f.decls d → AgreesOnInit is_init is_init' d) → IsMovedWorld g (check_file v is_init f).uses v w →
     check_file w is_init' f ≡ moved_checked g (check_file v is_init f)

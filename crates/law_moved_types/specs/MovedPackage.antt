@@ -10,14 +10,14 @@ use Rattle.law_moved_symbols.specs.Moves.{IsMovedWorld}
 use Rattle.types_expr.specs.Types.{PlainType}
 use Rattle.types_expr.specs.World.{World, Field, Method, Definition}
 use Rattle.types_declared.specs.Package.{Package, PlacedFunction, Export, package_functions, spelled}
-use Rattle.types_declared.specs.Written.{ImportsPath, IsBroken, IsTypeOf}
+use Rattle.types_declared.specs.Written.{DeclaresImport, IsBroken, IsTypeOf}
 use Rattle.types_declared.specs.MeaningOf.{IsMeaningOf}
 use Rattle.types_declared.specs.Definitions.{HasUnderlying, PlacedField, package_fields, IsDefinition}
-use Rattle.law_same_bindings.specs.SameBindings.{IsParsed, IsSelectedAt, IsDotted, trees_of}
+use Rattle.law_same_bindings.specs.SameBindings.{IsParsedPackage, IsSelectedAt, IsDotted, trees_of}
 use Rattle.law_moved_symbols.specs.Moved.{PathMap, IsInjective, moved_symbol, moved_type, moved_underlying, moved_signature, moved_meaning, moved_bound}
 
 -- What holds of something in the old package holds of it in the new one once it is moved, and of nothing else.
-pub record MovesTo {A : Type 0} (moved : A → A) (before after : A → Type 0) : Type 0 where
+pub record HoldsAfterMove {A : Type 0} (moved : A → A) (before after : A → Type 0) : Type 0 where
   pub forth : (x : A) → before x → after (moved x)
   pub back : (y : A) → after y → (x : A) × ((y ≡ moved x) × before x)
 
@@ -54,8 +54,8 @@ pub record IsMovedPackage (g : PathMap) (p q : Package) : Type 0 where
   pub trees : trees_of q.files ≡ trees_of p.files
   pub bindings : HasSameBindings p.layout p.names q.names
   pub predeclared : (d : ℕ) → is_implied (p.layout.role d) ≡ true → q.names d ≡ p.names d
-  pub parsed : IsParsed p
-  pub imports : (d : ℕ) → MovesTo g (ImportsPath p d) (ImportsPath q d)
+  pub parsed : IsParsedPackage p
+  pub imports : (d : ℕ) → HoldsAfterMove g (DeclaresImport p d) (DeclaresImport q d)
   pub selectors : (file token : ℕ) → IsSelectedAt p file token → spelled q file token ≡ spelled p file token
   pub fields : (rank : ℕ) (f : PlacedField) → slice_get (package_fields p) rank ≡ Some f → spelled q f.file f.name ≡ spelled p f.file f.name
   pub functions : (rank : ℕ) (f : PlacedFunction) → slice_get (package_functions p) rank ≡ Some f →
@@ -68,7 +68,7 @@ pub record IsMovedPackage (g : PathMap) (p q : Package) : Type 0 where
 -- The type expressions of declarations have the moved types.
 abbrev pub TypesMove : Type 0
 TypesMove = (g : PathMap) → IsInjective g → (p q : Package) → IsMovedPackage g p q → (file : ℕ) (tree : TypeTree) → IsDotted p file tree →
-    MovesTo (moved_type g) (IsTypeOf p file tree) (IsTypeOf q file tree)
+    HoldsAfterMove (moved_type g) (IsTypeOf p file tree) (IsTypeOf q file tree)
 
 -- The same definitions are broken.
 abbrev pub BrokenMove : Type 0
@@ -77,12 +77,12 @@ BrokenMove = (g : PathMap) → IsInjective g → (p q : Package) → IsMovedPack
 -- A moved type has the moved underlying type.
 abbrev pub UnderlyingMove : Type 0
 UnderlyingMove = (g : PathMap) → IsInjective g → (p q : Package) → IsMovedPackage g p q → (t : PlainType) →
-    MovesTo (moved_underlying g) (HasUnderlying p t) (HasUnderlying q (moved_type g t))
+    HoldsAfterMove (moved_underlying g) (HasUnderlying p t) (HasUnderlying q (moved_type g t))
 
 -- A declaration has the moved meaning.
 abbrev pub MeaningsMove : Type 0
 MeaningsMove = (g : PathMap) → IsInjective g → (p q : Package) → IsMovedPackage g p q → (d : ℕ) →
-    MovesTo (moved_bound g) (IsMeaningOf p d) (IsMeaningOf q d)
+    HoldsAfterMove (moved_bound g) (IsMeaningOf p d) (IsMeaningOf q d)
 
 -- The definition of a rank in p, moved, is that of the rank in q.
 abbrev pub DefinitionsMove : Type 0
@@ -92,7 +92,7 @@ DefinitionsMove = (g : PathMap) → IsInjective g → (p q : Package) → IsMove
 -- The name at a token, a qualified one too, has the moved meaning.
 abbrev pub NamesMove : Type 0
 NamesMove = (g : PathMap) → IsInjective g → (p q : Package) → IsMovedPackage g p q → (file token : ℕ) →
-    MovesTo (moved_bound g) (IsName p file token) (IsName q file token)
+    HoldsAfterMove (moved_bound g) (IsName p file token) (IsName q file token)
 
 -- The world of a file after the move is the moved world, at uses whose names are spelled as before. So whatever judging finds in it is what
 -- it found before, moved.

@@ -13,7 +13,7 @@ use Rattle.types_declared.specs.Files.{package_name}
 use Rattle.types_declared.specs.Laid.{laid_in}
 use Rattle.types_declared.specs.Package.{ExportData, Package, spelled, spelled_at}
 use Rattle.types_declared.specs.PackageNames.{ArePackageNames}
-use Rattle.types_declared.specs.Written.{ImportsPath}
+use Rattle.types_declared.specs.Written.{DeclaresImport}
 use Rattle.types_info.specs.PackageOf.{package_in}
 use Rattle.law_tokens.proofs.OwnPaths.{package_sources}
 use Rattle.workspace_graph.specs.Packages.{PackageImports}
@@ -21,12 +21,12 @@ use Rattle.workspace_graph.specs.Parsed.{AreParsed}
 use Rattle.workspace_check.specs.Verdicts.{Verdicts, BuildsOn, IsSeenAs, seen, unseen, AreSeen, IsPackageIn}
 use Rattle.workspace_check.proofs.Closed.{to_package}
 use Rattle.workspace_check.proofs.OnePackage.{one_sources}
-use Rattle.refs_binding.specs.Uses.{IsPackage}
+use Rattle.refs_binding.specs.Uses.{IsCheckedPackage}
 use Rattle.refactor_after.specs.ScopedPackages.{IsClauseName, named, unnamed}
 use Rattle.refactor_move.specs.declared.moved.Moved.{Moved}
 use Rattle.refs_lookup.proofs.OnePlace.{same_files}
 use Rattle.law_rename.specs.Renaming.{HasSameBindings}
-use Rattle.law_same_bindings.specs.SameBindings.{IsParsed, trees_of}
+use Rattle.law_same_bindings.specs.SameBindings.{IsParsedPackage, trees_of}
 use Rattle.law_renamed_packages.proofs.Packages.{package_there}
 use Rattle.law_renamed_scopes.proofs.GoodImports.{imports_are_good}
 use Rattle.law_renamed_scopes.proofs.ScopedAgain.{imported}
@@ -41,7 +41,7 @@ use Rattle.law_moved_packages.proofs.NewFiles.{from_imports, new_parts, new_tree
 use Rattle.law_moved_packages.proofs.NewLayout.{same_trees}
 use Rattle.refactor_known.specs.MovedData.{moved_data}
 use Rattle.refactor_known.specs.Swaps.{swapped}
-use Rattle.law_moved_verdicts.specs.MovedVerdicts.{IsBoundThere, IsCheckedThere, MovesBySwap, moved_verdicts}
+use Rattle.law_moved_verdicts.specs.MovedVerdicts.{IsBoundAfterMove, IsCheckedThere, MovesBySwap, moved_verdicts}
 use Rattle.law_moved_verdicts.proofs.ImportedThere.{imported_there}
 use Rattle.law_moved_verdicts.proofs.KeptSpellings.{field_kept, function_kept_so, selector_kept}
 use Rattle.law_moved_verdicts.proofs.PathsAfter.{back, builds_now, built, had}
@@ -71,7 +71,7 @@ module _ (w : Workspace) (before : Verdicts) (from to : List ℕ) (s : FileChang
   pub data_at : (path : List ℕ) → (after (g path)).export_data ≡ moved_data m.from m.name g path (before path).export_data
   data_at path = ap (λ o. moved_data m.from m.name g o (before o).export_data) (swap.inverse path)
 
-  module _ (p : Package) (is : IsPackage w before p) where
+  module _ (p : Package) (is : IsCheckedPackage w before p) where
     -- what the package sees of others
 
     pub record IsSeenMoved (path : List ℕ) (i : ExportData) : Type 0 where
@@ -156,7 +156,7 @@ module _ (w : Workspace) (before : Verdicts) (from to : List ℕ) (s : FileChang
         one_clause x path o (Some (after path).export_data.name) c (clause_at path (to_package x (g p.path) path on.imported))
     seen_name path imports _ _ (unseen none) o c = absurd (imports_good path imports (λ on. true≢false (sym (none on))))
 
-    module _ (q : Package) (there : IsBoundThere w from to s p q) where
+    module _ (q : Package) (there : IsBoundAfterMove w from to s p q) where
       abbrev own : List FileParts
       own = there.is_scoped.files
 
@@ -214,31 +214,31 @@ module _ (w : Workspace) (before : Verdicts) (from to : List ℕ) (s : FileChang
         };
       }
 
-      pub is_package : IsPackage x after checked
+      pub is_package : IsCheckedPackage x after checked
       is_package = record { of_workspace = there.is_scoped.of_workspace; is_checked = is_checked }
 
       -- it is the moved package
 
       imports_by : (a b : Package) → a.layout ≡ b.layout → a.names ≡ b.names → a.size ≡ b.size → a.files ≡ b.files → (d : ℕ) (path : List ℕ) →
-          ImportsPath a d path → ImportsPath b d path
+          DeclaresImport a d path → DeclaresImport b d path
       imports_by a b layout names size fs d path i =
-          subst (λ k. ImportsPath (record { path = b.path; files = b.files; layout = b.layout; names = b.names; size = k; export_data_of = b.export_data_of }) d
+          subst (λ k. DeclaresImport (record { path = b.path; files = b.files; layout = b.layout; names = b.names; size = k; export_data_of = b.export_data_of }) d
           path) size
-          (subst (λ k. ImportsPath (record { path = b.path; files = b.files; layout = b.layout; names = k; size = a.size; export_data_of = b.export_data_of }) d
+          (subst (λ k. DeclaresImport (record { path = b.path; files = b.files; layout = b.layout; names = k; size = a.size; export_data_of = b.export_data_of }) d
           path) names
-          (subst (λ k. ImportsPath (record { path = b.path; files = b.files; layout = k; names = a.names; size = a.size; export_data_of = b.export_data_of }) d
+          (subst (λ k. DeclaresImport (record { path = b.path; files = b.files; layout = k; names = a.names; size = a.size; export_data_of = b.export_data_of }) d
           path) layout
-          (subst (λ k. ImportsPath (record { path = b.path; files = k; layout = a.layout; names = a.names; size = a.size; export_data_of = b.export_data_of }) d
+          (subst (λ k. DeclaresImport (record { path = b.path; files = k; layout = a.layout; names = a.names; size = a.size; export_data_of = b.export_data_of }) d
           path) fs (record { is_import = i.is_import; of_path = i.of_path }))))
 
       -- what the package imports is there
-      imports_there : (d : ℕ) (path : List ℕ) → ImportsPath p d path → Contains (package_paths w) path
+      imports_there : (d : ℕ) (path : List ℕ) → DeclaresImport p d path → Contains (package_paths w) path
       imports_there d path i = imported_there w h.sound before h.right p is d path i
 
       spelled_so : (file token : ℕ) → spelled q file token ≡ spelled p file token → spelled checked file token ≡ spelled p file token
       spelled_so file token e = ap (λ fs. spelled_at (slice_get fs file) token) scopes.files ∙ e
 
-      parsed : IsParsed p
+      parsed : IsParsedPackage p
       parsed = record {
         path = p.path;
         files = is.is_checked.files;
@@ -278,19 +278,19 @@ module _ (w : Workspace) (before : Verdicts) (from to : List ℕ) (s : FileChang
             ∙ ap (λ (i : List ℕ → ExportData). moved_definition g ((i path).definition rank)) (sym old_exports);
       }
         where
-          forth : (d : ℕ) (path : List ℕ) → ImportsPath p d path → ImportsPath checked d (g path)
+          forth : (d : ℕ) (path : List ℕ) → DeclaresImport p d path → DeclaresImport checked d (g path)
           forth d path i =
-              subst (ImportsPath checked d) (sym (swap.goes path (imports_there d path i)))
+              subst (DeclaresImport checked d) (sym (swap.goes path (imports_there d path i)))
               (imports_by q checked (sym scopes.layout) (sym scopes.names) (sym scopes.size) (sym scopes.files) d (moved_path from to path)
               (there.imports d path i))
 
-          back_to : (d : ℕ) (path : List ℕ) → ImportsPath checked d path → (old : List ℕ) × ((path ≡ g old) × ImportsPath p d old)
+          back_to : (d : ℕ) (path : List ℕ) → DeclaresImport checked d path → (old : List ℕ) × ((path ≡ g old) × DeclaresImport p d old)
           back_to d path i =
               let o = there.imports_back d path (imports_by checked q scopes.layout scopes.names scopes.size scopes.files d path i) in
               (o.0, (o.1.1 ∙ sym (swap.goes o.0 (imports_there d o.0 o.1.0)), o.1.0))
 
 pub checked_there : (w : Workspace) (before : Verdicts) (from to : List ℕ) (s : FileChanges) (h : IsMove w before from to s) (swap : MovesBySwap w from to)
-    (p q : Package) → IsPackage w before p → IsBoundThere w from to s p q →
+    (p q : Package) → IsCheckedPackage w before p → IsBoundAfterMove w from to s p q →
     (o : Package) × IsCheckedThere w before (moved_verdicts h.edits.moved (swapped from to) before) from to s p o
 checked_there w before from to s h swap p q is there = (
   checked w before from to s h swap p is q there,

@@ -12,7 +12,7 @@ use Rattle.go_scope.specs.SpelledFiles.{spelled_file}
 use Rattle.go_scope.specs.WellFormed.{WellFormed}
 use Rattle.types_declared.specs.declared.fault.Fault.{Fault}
 use Rattle.types_declared.specs.Package.{Package}
-use Rattle.types_declared.specs.Written.{ImportsPath}
+use Rattle.types_declared.specs.Written.{DeclaresImport}
 use Rattle.types_resolve.specs.Scoping.{IsScopeFault}
 use Rattle.workspace_graph.specs.Packages.{PackageImports}
 use Rattle.workspace_check.specs.FaultLists.{ListsFaults}
@@ -20,7 +20,7 @@ use Rattle.workspace_check.specs.Verdicts.{Verdicts, AreVerdicts}
 use Rattle.workspace_check.proofs.Closed.{to_package}
 use Rattle.workspace_check.proofs.Members.{cases_contains}
 use Rattle.workspace_check.proofs.OnePackage.{layout_formed}
-use Rattle.refs_binding.specs.Uses.{IsPackage}
+use Rattle.refs_binding.specs.Uses.{IsCheckedPackage}
 use Rattle.refs_lookup.proofs.Faultless.{no_fault_later}
 use Rattle.refs_lookup.proofs.ImportSites.{import_identifies}
 use Rattle.refs_lookup.proofs.NamedImports.{named_is_imported, role_at}
@@ -37,7 +37,7 @@ import_declares (Implied b start) f e = refl
 import_declares Use f e = let z : ⊥ = cc in absurd z
 import_declares (NotLexical p) f e = let z : ⊥ = cc in absurd z
 
-module _ (w : Workspace) (sound : ListsFaults w []) (known : Verdicts) (right : AreVerdicts w known) (p : Package) (is : IsPackage w known p) where
+module _ (w : Workspace) (sound : ListsFaults w []) (known : Verdicts) (right : AreVerdicts w known) (p : Package) (is : IsCheckedPackage w known p) where
   formed : WellFormed p.layout
   formed = layout_formed w known p.path p is.is_checked
 
@@ -57,7 +57,7 @@ module _ (w : Workspace) (sound : ListsFaults w []) (known : Verdicts) (right : 
       not_left : IsLeftName p.layout d → ⊥
       not_left left = let b = formed.left_inner d left in let z : File i.0 ≡ Inner b.0 b.1 b.2 = sym i.1 ∙ b.3 in cc
 
-  imports : (d : ℕ) (path : List ℕ) → ImportsPath p d path → Counts p.layout p.names d → PackageImports w p.path path
+  imports : (d : ℕ) (path : List ℕ) → DeclaresImport p d path → Counts p.layout p.names d → PackageImports w p.path path
   imports d path i counts =
       let at = p.layout.place d in
       let lt = may_within w known p.path p is.is_checked d (may d i.is_import) in
@@ -74,7 +74,7 @@ module _ (w : Workspace) (sound : ListsFaults w []) (known : Verdicts) (right : 
   no_scope_fault : (f : Fault) → IsScopeFault (record { layout = p.layout; names = p.names; size = p.size }) f → ⊥
   no_scope_fault f fault = no_fault_later w sound known right p is f (inl (inl (inl fault)))
 
-  pub imported_there : (d : ℕ) (path : List ℕ) → ImportsPath p d path → Contains (package_paths w) path
+  pub imported_there : (d : ℕ) (path : List ℕ) → DeclaresImport p d path → Contains (package_paths w) path
   imported_there d path i = elim (cases_contains (package_paths w) path) [
     | inl there ↦ there
     | inr none ↦ absurd (all_counted p.layout p.size p.names p.names (λ u e. ((λ b. b), (λ b. b))) no_scope_fault d

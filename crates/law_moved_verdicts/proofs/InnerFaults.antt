@@ -11,7 +11,7 @@ use Rattle.go_scope.specs.Bindings.{IsPackageLevel, Layout, is_implied}
 use Rattle.types_declared.specs.declared.fault.Fault.{Fault}
 use Rattle.types_declared.specs.Laid.{Laid, is_exported}
 use Rattle.types_declared.specs.Package.{Package, laid_of, spelled}
-use Rattle.types_declared.specs.Written.{ImportsPath}
+use Rattle.types_declared.specs.Written.{DeclaresImport}
 use Rattle.types_resolve.specs.Scoping.{IsQualified, IsQualifiedFault, IsScopeFault, fault_at, qualified_fault}
 use Rattle.types_resolve.specs.StatementMarks.{IsMarkFault}
 use Rattle.types_resolve.specs.Stages.{IsInnerFault}
@@ -54,7 +54,7 @@ module _ (g : PathMap) (w x : Workspace) (before after : Verdicts) (p q : Packag
     is_import = h.is_import;
   }
 
-  module _ (b u d : ℕ) (path : List ℕ) (lt : u < p.size) (qualified : IsQualified (laid_of p) b u d) (imports : ImportsPath p d path) where
+  module _ (b u d : ℕ) (path : List ℕ) (lt : u < p.size) (qualified : IsQualified (laid_of p) b u d) (imports : DeclaresImport p d path) where
     same_name : q.names u ≡ p.names u
     same_name =
         let at = p.layout.place u in

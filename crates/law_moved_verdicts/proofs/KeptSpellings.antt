@@ -16,7 +16,7 @@ use Rattle.go_scope.specs.declared.model.Purpose.TheVariants as purpose
 use Rattle.go_scope.specs.declared.model.Role.TheVariants.{Declaring, NotLexical}
 use Rattle.go_scope.specs.Bindings.{IsBoundTo, IsImport, use_bound, own, block_of, is_use, is_left_name}
 use Rattle.go_scope.specs.FileSites.{func_role}
-use Rattle.go_scope.specs.Site.{Source}
+use Rattle.go_scope.specs.Site.{TokenSpellings}
 use Rattle.go_scope.specs.Table.{LiesAt}
 use Rattle.types_expr.specs.Judge.{MemberUse}
 use Rattle.types_expr.specs.World.{World}
@@ -29,8 +29,8 @@ use Rattle.workspace_check.specs.FaultLists.{ListsFaults}
 use Rattle.workspace_check.specs.Verdicts.{Verdicts, AreVerdicts}
 use Rattle.refs_binding.specs.Binding.{BindsByMember, declaration_of, field_place}
 use Rattle.refs_binding.specs.DeclaringPlaces.{TokenBegins}
-use Rattle.refs_binding.specs.Identifiers.{IsName, NameBegins}
-use Rattle.refs_binding.specs.Uses.{IsPackage}
+use Rattle.refs_binding.specs.Identifiers.{IsNameToken, NameBegins}
+use Rattle.refs_binding.specs.Uses.{IsCheckedPackage}
 use Rattle.refs_binding.proofs.Tokens.{Begins}
 use Rattle.refs_lookup.proofs.NamedMembers.{name_member}
 use Rattle.refs_lookup.proofs.UsedMembers.{link_role}
@@ -46,15 +46,15 @@ use Rattle.law_renamed_members.proofs.NameTokens.{field_name, function_name}
 use Rattle.law_renamed_members.proofs.NewNames.{name_stands}
 use Rattle.law_renamed_members.proofs.UsesOfMembers.{IsUseAt, is_use_at}
 use Rattle.law_known_verdicts.proofs.Counting.{each_counts}
-use Rattle.law_moved_verdicts.specs.MovedVerdicts.{IsBoundThere}
+use Rattle.law_moved_verdicts.specs.MovedVerdicts.{IsBoundAfterMove}
 
 module _ (w : Workspace) (sound : ListsFaults w []) (known : Verdicts) (right : AreVerdicts w known) (from to : List ℕ) (s : FileChanges) (p q : Package)
-    (is : IsPackage w known p) (there : IsBoundThere w from to s p q) where
+    (is : IsCheckedPackage w known p) (there : IsBoundAfterMove w from to s p q) where
   abbrev Keeps : (file token : ℕ) → Type 0
   Keeps file token = spelled q file token ≡ spelled p file token
 
   -- a name at a position
-  token_of : (at : Position) (f : SourceFile) → slice_get p.files at.file ≡ Some f → IsName (slice_get (tokens_in f.cut) at.index) →
+  token_of : (at : Position) (f : SourceFile) → slice_get p.files at.file ≡ Some f → IsNameToken (slice_get (tokens_in f.cut) at.index) →
       (place : Place) × IsToken p at place
   token_of at f of_rank named =
       let place : Place = record { path = f.path; offset = offset_of f at.index } in (
@@ -87,7 +87,7 @@ module _ (w : Workspace) (sound : ListsFaults w []) (known : Verdicts) (right : 
       let stands = h.found.holds in
       let n = named_stands w known p.path p is.is_checked u h.found.within (ap is_named h.selected) in
       let t = token_of at n.source (ap (slice_get p.files) (sym stands.1) ∙ n.of_rank)
-      (subst (λ i. IsName (slice_get (tokens_in n.source.cut) i)) stands.2 n.is_name) in
+      (subst (λ i. IsNameToken (slice_get (tokens_in n.source.cut) i)) stands.2 n.is_name) in
       kept_by at u h.found.within stands t.0 t.1 purpose.Selected h.selected (λ e. cc)
 
   -- uses of members
@@ -179,7 +179,7 @@ module _ (w : Workspace) (sound : ListsFaults w []) (known : Verdicts) (right : 
   function_kept_so rank f got =
       let i = in_file_of p rank f got in
       let at = function_place f in
-      let source : Source = record { rank = f.file; spell = spelling_of i.source } in
+      let source : TokenSpellings = record { rank = f.file; spell = spelling_of i.source } in
       let old = spelling_of i.source f.function.name in
       let u : Stands p f.file f.function.name (func_role f.function.receiver old) =
       function_name_kept (Kept p f.file) source f.function

@@ -16,10 +16,10 @@ use Rattle.go_scope.specs.Bindings.{Layout}
 use Rattle.std.specs.Global.{Vec}
 use Rattle.types_expr.specs.declared.found.MemberUse.{MemberUse as FoundUse}
 use Rattle.types_expr.specs.Judge.{MemberUse}
-use Rattle.types_stmt.specs.Checked.{Checked}
+use Rattle.types_stmt.specs.Checked.{FoundSoFar}
 use Rattle.types_declared.specs.ExportTablesView.{export_data_known}
 use Rattle.types_declared.specs.Package.{Package}
-use Rattle.types_declared.specs.Written.{ImportsPath}
+use Rattle.types_declared.specs.Written.{DeclaresImport}
 use Rattle.types_info.specs.declared.lists.Qualified.{Qualified}
 use Rattle.types_info.specs.Lists.{IsListedUnder}
 use Rattle.types_info.specs.MemberUses.{AreMemberUses, AreUsesIn, uses_in}
@@ -37,7 +37,7 @@ use Rattle.workspace_check.specs.Verdicts.{Verdicts, AreVerdicts, AreVerdictsBel
 use Rattle.workspace_check.proofs.Alike.{package_as}
 use Rattle.workspace_check.proofs.OneVerdict.{one_verdict, right_alike, right_below, verdict_by}
 use Rattle.workspace_check.proofs.PackageFiles.{at_rank}
-use Rattle.refs_binding.specs.Uses.{IsPackage}
+use Rattle.refs_binding.specs.Uses.{IsCheckedPackage}
 use Rattle.law_faultless.proofs.PackageWorlds.{have_worlds}
 use Rattle.law_same_bindings.specs.SameBindings.{trees_of}
 use Rattle.law_known_verdicts.proofs.Findings.{file_there, same_verdict}
@@ -51,7 +51,7 @@ use Rattle.law_moved_packages.specs.Moves.{IsMove}
 use Rattle.refactor_known.specs.MovedData.{moved_data}
 use Rattle.refactor_known.specs.MovedKnown.{AreMovedKnown, IsMovedFinding, IsMovedKnown, listed, moved_listed}
 use Rattle.refactor_known.specs.Swaps.{swapped}
-use Rattle.law_moved_verdicts.specs.MovedVerdicts.{IsBoundThere, IsCheckedThere, MovesBySwap, moved_verdicts}
+use Rattle.law_moved_verdicts.specs.MovedVerdicts.{IsBoundAfterMove, IsCheckedThere, MovesBySwap, moved_verdicts}
 use Rattle.law_moved_verdicts.proofs.CheckedThere.{checked_there, data_at}
 use Rattle.law_moved_verdicts.proofs.MovedVerdicts.{are_right}
 use Rattle.law_moved_verdicts.proofs.PathsAfter.{has_now}
@@ -113,7 +113,7 @@ module _ (g : PathMap) (inj : IsInjective g) (inverse : (path : List ℕ) → g 
           named = record {
             import = n.import;
             binds = binds_back g inj p q a (p.layout.place u).file h.behind.before n.import n.binds;
-            imports = subst (ImportsPath p n.import) (sym same) old.1.1;
+            imports = subst (DeclaresImport p n.import) (sym same) old.1.1;
           };
         };
       }
@@ -167,7 +167,7 @@ module _ (g : PathMap) (inj : IsInjective g) (inverse : (path : List ℕ) → g 
 
 module _ (worlds_move : WorldsMove) (files_move : FilesMove) (w : Workspace) (before : Verdicts) (from to : List ℕ) (s : FileChanges)
     (h : IsMove w before from to s) (swap : MovesBySwap w from to)
-    (bound : (p : Package) → IsPackage w before p → (q : Package) × IsBoundThere w from to s p q) where
+    (bound : (p : Package) → IsCheckedPackage w before p → (q : Package) × IsBoundAfterMove w from to s p q) where
   abbrev x : Workspace
   x = edited s w
 
@@ -197,7 +197,7 @@ module _ (worlds_move : WorldsMove) (files_move : FilesMove) (w : Workspace) (be
     own_path : c.path ≡ path
     own_path = ap (λ (z : Package). z.path) is.is_package.is_package
 
-    own_package : IsPackage w before c
+    own_package : IsCheckedPackage w before c
     own_package = record {
       of_workspace = subst (Contains (package_paths w)) (sym own_path) has;
       is_checked = subst (λ r. IsPackageIn w before r c) (sym own_path)
@@ -227,7 +227,7 @@ module _ (worlds_move : WorldsMove) (files_move : FilesMove) (w : Workspace) (be
           judged_by = y.1;
           found =
               ap (map (moved_use g)) u.found
-              ∙ sym (ap (λ (z : Checked). z.uses)
+              ∙ sym (ap (λ (z : FoundSoFar). z.uses)
               (found_moves worlds_move files_move g (injective w from to swap) w h.sound before h.right from to s c there.1.there own_package there.1.bound
               x after q there.1.is.is_checked moved (sym there.1.scopes.files) file u.source k.0 u.world y.0 u.in_file k.1 u.judged_by y.1));
         }

@@ -21,13 +21,13 @@ use Rattle.workspace_graph.specs.Packages.{IsInClosure}
 use Rattle.workspace_graph.specs.Parsed.{AreParsed}
 use Rattle.workspace_check.specs.declared.fault.FileFault.{FileFault}
 use Rattle.workspace_check.specs.Faults.{placed_in}
-use Rattle.workspace_check.specs.Verdicts.{Verdicts, AreVerdicts, AreVerdictsBelow, BuildsOn, IsFaultBy, IsInnerFault, IsPackageIn, IsReadFault, IsVerdict}
+use Rattle.workspace_check.specs.Verdicts.{Verdicts, AreVerdicts, AreVerdictsBelow, BuildsOn, IsFaultBy, IsFaultBehindOuter, IsPackageIn, IsReadFault, IsVerdict}
 use Rattle.workspace_check.specs.Verdicts.{IsVerdictBy, follows}
 use Rattle.workspace_check.proofs.FaultFiles.{in_outer, some_source}
 use Rattle.workspace_check.proofs.OneList.{no_fault}
 use Rattle.workspace_check.proofs.OnePackage.{one_checked, one_sources}
 use Rattle.workspace_check.proofs.Unread.{none_unread}
-use Rattle.refs_binding.specs.Uses.{IsPackage}
+use Rattle.refs_binding.specs.Uses.{IsCheckedPackage}
 use Rattle.refs_lookup.proofs.Faultless.{all_decided, are_states, no_fault_later, state_in}
 use Rattle.law_renamed_packages.proofs.Packages.{package_there}
 use Rattle.law_renamed_verdicts.proofs.AlongImports.{along}
@@ -41,7 +41,7 @@ use Rattle.law_moved_packages.proofs.ClauseNames.{new_name}
 use Rattle.law_moved_packages.proofs.NewFiles.{new_parts, new_trees}
 use Rattle.refactor_known.specs.MovedData.{moved_data}
 use Rattle.refactor_known.specs.Swaps.{swapped}
-use Rattle.law_moved_verdicts.specs.MovedVerdicts.{IsBoundThere, MovesBySwap, moved_verdicts}
+use Rattle.law_moved_verdicts.specs.MovedVerdicts.{IsBoundAfterMove, MovesBySwap, moved_verdicts}
 use Rattle.law_moved_verdicts.proofs.CheckedThere as there
 use Rattle.law_moved_verdicts.proofs.InnerFaults.{no_inner_fault}
 use Rattle.law_moved_verdicts.proofs.MemberFaults.{no_member_fault}
@@ -62,7 +62,7 @@ module _ (worlds_move : WorldsMove) (files_move : FilesMove) (w : Workspace) (be
   abbrev after : Verdicts
   after = moved_verdicts h.edits.moved g before
 
-  module _ (p : Package) (is : IsPackage w before p) (q : Package) (bound : IsBoundThere w from to s p q) where
+  module _ (p : Package) (is : IsCheckedPackage w before p) (q : Package) (bound : IsBoundAfterMove w from to s p q) where
     abbrev checked : Package
     checked = there.checked w before from to s h swap p is q bound
 
@@ -128,7 +128,7 @@ module _ (worlds_move : WorldsMove) (files_move : FilesMove) (w : Workspace) (be
         sources : map source_of r.files ≡ map source_of (map (new_parts s) ts)
         sources = one_sources r.parsed trees_there
 
-        by_stage : FirstOf (IsOuterFault r.state (map source_of r.files)) (IsInnerFault x after (g p.path)) r.fault → ⊥
+        by_stage : FirstOf (IsOuterFault r.state (map source_of r.files)) (IsFaultBehindOuter x after (g p.path)) r.fault → ⊥
         by_stage (inl o) =
             no_outer_fault w before from to s h swap p is was_clause_fine r.state r.are_states r.fault
             (subst (λ fs. IsOuterFault r.state fs r.fault) sources o)
@@ -160,7 +160,7 @@ module _ (worlds_move : WorldsMove) (files_move : FilesMove) (w : Workspace) (be
     }
 
   -- along the imports
-  module _ (bound : (p : Package) → IsPackage w before p → (q : Package) × IsBoundThere w from to s p q) where
+  module _ (bound : (p : Package) → IsCheckedPackage w before p → (q : Package) × IsBoundAfterMove w from to s p q) where
     abbrev IsRight : List ℕ → Type 0
     IsRight path = IsVerdict x (g path) (after (g path))
 

@@ -23,7 +23,7 @@ use Rattle.workspace_graph.specs.Parsed.{AreParsed}
 use Rattle.workspace_check.specs.Verdicts.{Verdicts, AreStates, IsStateOf, is_missing, is_on_cycle, is_faulty, is_good}
 use Rattle.workspace_check.proofs.Closed.{to_package}
 use Rattle.workspace_check.proofs.Importing.{outer_as}
-use Rattle.refs_binding.specs.Uses.{IsPackage}
+use Rattle.refs_binding.specs.Uses.{IsCheckedPackage}
 use Rattle.refactor_move.specs.declared.moved.Moved.{Moved}
 use Rattle.law_moved_packages.specs.MovedPackages.{name_after}
 use Rattle.law_moved_packages.specs.Moves.{IsMove}
@@ -58,7 +58,7 @@ clauses_were s name old new e n (t ∷ ts) follow f (inr h) =
     inr (clauses_were s name old new e (n + 1) ts (λ k u at. follow (suc k) u at) f h)
 
 module _ (w : Workspace) (before : Verdicts) (from to : List ℕ) (s : FileChanges) (h : IsMove w before from to s) (swap : MovesBySwap w from to)
-    (p : Package) (is : IsPackage w before p) where
+    (p : Package) (is : IsCheckedPackage w before p) where
   abbrev ts : List FileParts
   ts = is.is_checked.files
 

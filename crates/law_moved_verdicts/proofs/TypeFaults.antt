@@ -5,7 +5,7 @@ use Rattle.go_ast.specs.SourceFile.{SourceFile}
 use Rattle.base_edits.specs.EditSet.{FileChanges}
 use Rattle.base_files.specs.Workspace.{Workspace}
 use Rattle.types_expr.specs.World.{World}
-use Rattle.types_stmt.specs.Checked.{Checked}
+use Rattle.types_stmt.specs.Checked.{FoundSoFar}
 use Rattle.types_stmt.specs.Declarations.{check_file}
 use Rattle.types_declared.specs.declared.fault.Fault.{Fault}
 use Rattle.types_declared.specs.Package.{Package}
@@ -13,18 +13,18 @@ use Rattle.types_info.specs.Worlds.{IsWorldOf, is_init}
 use Rattle.types_check.specs.TypeFaults.{IsTypeFault}
 use Rattle.workspace_check.specs.FaultLists.{ListsFaults}
 use Rattle.workspace_check.specs.Verdicts.{Verdicts, AreVerdicts, IsPackageIn}
-use Rattle.refs_binding.specs.Uses.{IsPackage}
+use Rattle.refs_binding.specs.Uses.{IsCheckedPackage}
 use Rattle.law_faultless.proofs.PackageWorlds.{have_worlds}
 use Rattle.law_renamed_verdicts.proofs.Inits.{file_of_tree, keep_inits, same_tree}
 use Rattle.law_moved_symbols.specs.Moved.{PathMap, IsInjective, moved_checked}
 use Rattle.law_moved_symbols.specs.Moves.{FilesMove}
 use Rattle.law_moved_types.specs.MovedPackage.{IsMovedPackage, WorldsMove}
-use Rattle.law_moved_verdicts.specs.MovedVerdicts.{IsBoundThere}
+use Rattle.law_moved_verdicts.specs.MovedVerdicts.{IsBoundAfterMove}
 use Rattle.law_moved_verdicts.proofs.KeptSpellings.{uses_kept}
 
 module _ (worlds_move : WorldsMove) (files_move : FilesMove) (g : PathMap) (inj : IsInjective g) (w : Workspace) (sound : ListsFaults w [])
-    (known : Verdicts) (right : AreVerdicts w known) (from to : List ℕ) (s : FileChanges) (p there : Package) (is : IsPackage w known p)
-    (bound : IsBoundThere w from to s p there) (x : Workspace) (after : Verdicts) (q : Package) (also : IsPackageIn x after q.path q)
+    (known : Verdicts) (right : AreVerdicts w known) (from to : List ℕ) (s : FileChanges) (p there : Package) (is : IsCheckedPackage w known p)
+    (bound : IsBoundAfterMove w from to s p there) (x : Workspace) (after : Verdicts) (q : Package) (also : IsPackageIn x after q.path q)
     (a : IsMovedPackage g p q) (files : there.files ≡ q.files) where
   pub found_moves : (file : ℕ) (f h : SourceFile) (v y : World) → slice_get p.files file ≡ Some f → slice_get q.files file ≡ Some h →
       IsWorldOf p file f v → IsWorldOf q file h y → check_file y (is_init h) h.tree ≡ moved_checked g (check_file v (is_init f) f.tree)
@@ -46,6 +46,6 @@ module _ (worlds_move : WorldsMove) (files_move : FilesMove) (g : PathMap) (inj 
         in_file = f.1;
         world = v.0;
         judged_by = v.1;
-        found = subst (λ (c : Checked). Contains c.faults fault.token) same h.found;
+        found = subst (λ (c : FoundSoFar). Contains c.faults fault.token) same h.found;
         kind = h.kind;
       })

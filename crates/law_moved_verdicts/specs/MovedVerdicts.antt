@@ -13,10 +13,10 @@ use Rattle.go_scope.specs.declared.model.Role.TheVariants.{NotLexical}
 use Rattle.go_scope.specs.Bindings.{IsBoundTo, IsImport, IsPackageLevel, is_implied}
 use Rattle.go_scope.specs.Table.{LiesAt}
 use Rattle.types_declared.specs.Package.{Package, spelled}
-use Rattle.types_declared.specs.Written.{ImportsPath}
+use Rattle.types_declared.specs.Written.{DeclaresImport}
 use Rattle.workspace_check.specs.FaultLists.{ListsFaults}
 use Rattle.workspace_check.specs.Verdicts.{Verdicts, AreVerdicts}
-use Rattle.refs_binding.specs.Uses.{IsPackage}
+use Rattle.refs_binding.specs.Uses.{IsCheckedPackage}
 use Rattle.refactor_after.specs.ScopedPackages.{IsScopedIn}
 use Rattle.refactor_conflict.specs.Staying.{NoneIsLost}
 use Rattle.refactor_move.specs.declared.moved.Moved.{Moved}
@@ -50,7 +50,7 @@ abbrev pub SameTargetsSwap : Type 0
 SameTargetsSwap = (w : Workspace) (from : List ℕ) → MovesBySwap w from from
 
 -- The identifier stands at the position. It is no name of a package clause, and bound to no import.
-pub record IsApart (p : Package) (at : Position) (u : ℕ) : Type 0 where
+pub record StandsApart (p : Package) (at : Position) (u : ℕ) : Type 0 where
   pub within : u < p.size
   pub stands : LiesAt p.layout at u
   pub no_clause : p.layout.role u ≡ NotLexical PackageClause → ⊥
@@ -58,7 +58,7 @@ pub record IsApart (p : Package) (at : Position) (u : ℕ) : Type 0 where
 
 -- By scopes the package `q` is p after the move: it is at the moved path, and each identifier is bound as it was. Predeclared names, names of
 -- package-level declarations and all that is apart from imports and clauses are spelled as they were. It imports the moved paths.
-pub record IsBoundThere (w : Workspace) (from to : List ℕ) (s : FileChanges) (p q : Package) : Type 0 where
+pub record IsBoundAfterMove (w : Workspace) (from to : List ℕ) (s : FileChanges) (p q : Package) : Type 0 where
   pub is_scoped : IsScopedIn (edited s w) q
   pub path : q.path ≡ moved_path from to p.path
   pub size : q.size ≡ p.size
@@ -66,14 +66,14 @@ pub record IsBoundThere (w : Workspace) (from to : List ℕ) (s : FileChanges) (
   pub bindings : HasSameBindings p.layout p.names q.names
   pub predeclared : (d : ℕ) → is_implied (p.layout.role d) ≡ true → q.names d ≡ p.names d
   pub levels : (d : ℕ) → IsPackageLevel p.layout d → q.names d ≡ p.names d
-  pub spelled : (at : Position) (place : Place) (u : ℕ) → IsToken p at place → IsApart p at u → spelled q at.file at.index ≡ spelled p at.file at.index
-  pub imports : (d : ℕ) (path : List ℕ) → ImportsPath p d path → ImportsPath q d (moved_path from to path)
-  pub imports_back : (d : ℕ) (path : List ℕ) → ImportsPath q d path → (old : List ℕ) × (ImportsPath p d old × (path ≡ moved_path from to old))
+  pub spelled : (at : Position) (place : Place) (u : ℕ) → IsToken p at place → StandsApart p at u → spelled q at.file at.index ≡ spelled p at.file at.index
+  pub imports : (d : ℕ) (path : List ℕ) → DeclaresImport p d path → DeclaresImport q d (moved_path from to path)
+  pub imports_back : (d : ℕ) (path : List ℕ) → DeclaresImport q d path → (old : List ℕ) × (DeclaresImport p d old × (path ≡ moved_path from to old))
 
 -- Where the move loses and captures no identifier, each package is there so. This asks for no verdict of the edited workspace.
 abbrev pub PackagesStayBound : Type 0
 PackagesStayBound = (w : Workspace) (known : Verdicts) (from to : List ℕ) (s : FileChanges) → IsMove w known from to s →
-    NoneIsLost w known (revision_of w s) → (p : Package) → IsPackage w known p → (q : Package) × IsBoundThere w from to s p q
+    NoneIsLost w known (revision_of w s) → (p : Package) → IsCheckedPackage w known p → (q : Package) × IsBoundAfterMove w from to s p q
 
 -- The edited workspace has right verdicts: those of before, moved.
 abbrev pub MovesHaveVerdicts : Type 0
@@ -87,14 +87,14 @@ MovesStaySound = (w : Workspace) (known : Verdicts) (from to : List ℕ) (s : Fi
 
 -- The package `q` of the edited workspace, as it is checked, is p after the move. Its scopes are those of `there`.
 pub record IsCheckedThere (w : Workspace) (known after : Verdicts) (from to : List ℕ) (s : FileChanges) (p q : Package) : Type 0 where
-  pub is : IsPackage (edited s w) after q
+  pub is : IsCheckedPackage (edited s w) after q
   pub moved : IsMovedPackage (swapped from to) p q
   pub there : Package
-  pub bound : IsBoundThere w from to s p there
+  pub bound : IsBoundAfterMove w from to s p there
   pub scopes : HasSameScopes there q
 
 -- Each package is there after the move, as it is checked.
 abbrev pub PackagesAreCheckedThere : Type 0
 PackagesAreCheckedThere = (w : Workspace) (known : Verdicts) (from to : List ℕ) (s : FileChanges) → (h : IsMove w known from to s) →
-    MovesBySwap w from to → NoneIsLost w known (revision_of w s) → (p : Package) → IsPackage w known p →
+    MovesBySwap w from to → NoneIsLost w known (revision_of w s) → (p : Package) → IsCheckedPackage w known p →
     (q : Package) × IsCheckedThere w known (moved_verdicts h.edits.moved (swapped from to) known) from to s p q

@@ -15,19 +15,19 @@ use Rattle.go_scope.specs.Bindings.{IsBoundTo, IsImport, IsPackageLevel, IsUse, 
 use Rattle.go_scope.specs.FileSites.{universe}
 use Rattle.go_scope.specs.Numbering.{is_lexical}
 use Rattle.types_declared.specs.Package.{Package, spelled}
-use Rattle.types_declared.specs.Written.{ImportsPath}
+use Rattle.types_declared.specs.Written.{DeclaresImport}
 use Rattle.law_rename.specs.Renaming.{HasSameBindings}
 use Rattle.workspace_check.specs.Verdicts.{Verdicts}
 use Rattle.refs_binding.specs.Identifiers.{BeginsAt, NameBegins}
 use Rattle.refs_binding.specs.DeclaringPlaces.{TokenBegins}
-use Rattle.refs_binding.specs.Uses.{IsPackage}
+use Rattle.refs_binding.specs.Uses.{IsCheckedPackage}
 use Rattle.law_renamed_packages.specs.Layouts.{IsToken}
 use Rattle.law_renamed_scopes.proofs.OwnNames.{identifies, in_universe}
 use Rattle.law_moved_packages.specs.Moves.{IsMove, moved_path}
 use Rattle.law_moved_members.specs.KeptNames.{MovesKeepNames}
 use Rattle.law_moved_scopes.specs.MoveConflicts.{MovedBindingsAreSame, NoneLostIsSame}
 use Rattle.law_moved_scopes.specs.ThereMoved.{IsThereMoved, ScopedPackagesMove}
-use Rattle.law_moved_verdicts.specs.MovedVerdicts.{FreeTargetsSwap, IsApart, IsBoundThere, MovesBySwap, MovesHaveVerdicts, MovesStaySound}
+use Rattle.law_moved_verdicts.specs.MovedVerdicts.{FreeTargetsSwap, StandsApart, IsBoundAfterMove, MovesBySwap, MovesHaveVerdicts, MovesStaySound}
 use Rattle.law_moved_verdicts.specs.MovedVerdicts.{PackagesAreCheckedThere, PackagesStayBound, SameTargetsSwap, moved_verdicts}
 use Rattle.refactor_known.specs.Swaps.{swapped}
 use Rattle.law_move_agreement.specs.Agreement.{IsPlannedTarget, MovesAreChecked}
@@ -56,7 +56,7 @@ implied_not_left (Implied block start) e f = true≢false (sym f)
 implied_not_left r e f = true≢false (sym e)
 
 module _ (w : Workspace) (known : Verdicts) (from to : List ℕ) (s : FileChanges) (h : IsMove w known from to s)
-    (keep : MovesKeepNames) (p : Package) (is : IsPackage w known p) (q : Package) (t : IsThereMoved w h.edits.moved (revision_of w s) p q) where
+    (keep : MovesKeepNames) (p : Package) (is : IsCheckedPackage w known p) (q : Package) (t : IsThereMoved w h.edits.moved (revision_of w s) p q) where
   -- predeclared names
   in_no_file : (d : ℕ) → is_implied (p.layout.role d) ≡ true → block_of (p.layout.role d) ≡ Universe
   in_no_file d implied = elim (cases_lt d (length universe)) [
@@ -93,7 +93,7 @@ module _ (w : Workspace) (known : Verdicts) (from to : List ℕ) (s : FileChange
       (level_declares (p.layout.role d) level)
 
   -- spellings
-  begins : (at : Position) (place : Place) (u : ℕ) → IsToken p at place → IsApart p at u → BeginsAt p place.path place.offset u
+  begins : (at : Position) (place : Place) (u : ℕ) → IsToken p at place → StandsApart p at u → BeginsAt p place.path place.offset u
   begins at place u token apart =
       let b : TokenBegins (Some token.file) at.index place = subst (λ o. TokenBegins o at.index place) token.of_rank token.begins in
       let here : NameBegins (slice_get p.files at.file) at.index place.path place.offset =
@@ -103,13 +103,13 @@ module _ (w : Workspace) (known : Verdicts) (from to : List ℕ) (s : FileChange
             (subst (λ n. NameBegins (slice_get p.files at.file) n place.path place.offset) (sym apart.stands.2) here),
       )
 
-  spelled_kept : (at : Position) (place : Place) (u : ℕ) → IsToken p at place → IsApart p at u → spelled q at.file at.index ≡ spelled p at.file at.index
+  spelled_kept : (at : Position) (place : Place) (u : ℕ) → IsToken p at place → StandsApart p at u → spelled q at.file at.index ≡ spelled p at.file at.index
   spelled_kept at place u token apart =
       t.moved.tokens at place token
       ∙ keep w known from to s h p is u place (begins at place u token apart) (λ i. apart.unbound i.import i.is_import i.bound) apart.no_clause
       (spelled p at.file at.index)
 
-  pub bound_there : HasSameBindings p.layout p.names q.names → IsBoundThere w from to s p q
+  pub bound_there : HasSameBindings p.layout p.names q.names → IsBoundAfterMove w from to s p q
   bound_there same = record {
     is_scoped = t.is_scoped;
     path = t.moved.path ∙ same_path w known from to s h p.path;
@@ -119,7 +119,7 @@ module _ (w : Workspace) (known : Verdicts) (from to : List ℕ) (s : FileChange
     predeclared = predeclared_named;
     levels = level_kept;
     spelled = spelled_kept;
-    imports = λ d path i. subst (ImportsPath q d) (same_path w known from to s h path) (t.imports.moved d path i);
+    imports = λ d path i. subst (DeclaresImport q d) (same_path w known from to s h path) (t.imports.moved d path i);
     imports_back = λ d path i. let o = t.imports.back d path i in (o.0, (o.1.0, o.1.1 ∙ same_path w known from to s h o.0));
   }
 

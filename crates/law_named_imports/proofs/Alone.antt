@@ -22,7 +22,7 @@ use Rattle.law_tokens.proofs.HeldBytes.{numbered_files}
 use Rattle.law_tokens.proofs.Ordered.{package_ordered, named_ordered, identifier_stays, one_stands}
 use Rattle.law_rename.specs.Around.{AroundImport, bare_import, file_with, imports_with}
 use Rattle.law_rename.specs.Gained.{Gain, import_site}
-use Rattle.law_same_bindings.specs.SameBindings.{IsParsed}
+use Rattle.law_same_bindings.specs.SameBindings.{IsParsedPackage}
 use Rattle.types_declared.specs.Package.{Package}
 use Rattle.law_named_imports.specs.NamedPackage.{IsNamedPackage}
 use Rattle.law_named_imports.proofs.Layouts.{stood_at, here_within}
@@ -30,7 +30,7 @@ use Rattle.law_named_imports.proofs.Files.{Has, has_front, has_all, literal_in_i
 
 -- identifiers in order
 
-in_order : (p : Package) → IsParsed p → StandInOrder p.layout p.size
+in_order : (p : Package) → IsParsedPackage p → StandInOrder p.layout p.size
 in_order p h =
     let laid = h.is_package.is_laid in
     let plain = package_ordered (map spelled_file h.files) (numbered_files h.files h.sources) in
@@ -49,7 +49,7 @@ implied_first [] xs are u e = absurd (true≢false (sym e ∙ identifier_in xs a
 implied_first (n ∷ names) xs are zero e = refl
 implied_first (n ∷ names) xs are (suc u) e = implied_first names xs are u e
 
-implied_at_first : (p : Package) → IsParsed p → (u : ℕ) → is_implied (p.layout.role u) ≡ true → (p.layout.place u).index ≡ 0
+implied_at_first : (p : Package) → IsParsedPackage p → (u : ℕ) → is_implied (p.layout.role u) ≡ true → (p.layout.place u).index ≡ 0
 unfolding package_sites
 implied_at_first p h u e =
     let laid = h.is_package.is_laid in

@@ -25,7 +25,7 @@ use Rattle.law_tokens.proofs.Roles.{consecutive, named_role_told}
 use Rattle.law_rename.specs.Around.{AroundImport, AroundItem, alone, among, bare_import, file_with, from_on, group_with, imports_with}
 use Rattle.law_rename.specs.Gained.{Gain}
 use Rattle.law_rename.proofs.TokensBehind.{seam}
-use Rattle.law_same_bindings.specs.SameBindings.{IsParsed, IsSelectedAt}
+use Rattle.law_same_bindings.specs.SameBindings.{IsParsedPackage, IsSelectedAt}
 use Rattle.types_declared.specs.Package.{Package}
 use Rattle.types_info.specs.PackageOf.{package_in}
 use Rattle.law_renumbered_types.specs.RenumberedPackage.{IsBehindDot}
@@ -187,7 +187,7 @@ shifted_alike : (number b : ℕ) → (suc b ≡ number → ⊥) → (suc b ≡ s
     from_on (suc number) (suc (suc b)) ≡ suc (suc (from_on (suc number) b))
 shifted_alike number b one two = grind (arith, nat_tests)
 
-module _ (i : Gain) (at : ℕ) (p q : Package) (parsed : IsParsed p) (h : HasNamedFile i p q) where
+module _ (i : Gain) (at : ℕ) (p q : Package) (parsed : IsParsedPackage p) (h : HasNamedFile i p q) where
   -- the file in which the import gets its name, among the parsed ones
   named_file : (parts : FileParts) → slice_get parsed.files i.rank ≡ Some parts → (source_of parts).tree ≡ file_with (bare_import i.number) h.around
   named_file parts of_rank =

@@ -24,7 +24,7 @@ use Rattle.law_rename.proofs.KeptTrees.{file_kept}
 use Rattle.law_rename.proofs.Renumbering.{file_same}
 use Rattle.law_rename.proofs.Sites.{moved_here}
 use Rattle.law_rename.proofs.TokensBehind.{seam}
-use Rattle.law_same_bindings.specs.SameBindings.{IsParsed}
+use Rattle.law_same_bindings.specs.SameBindings.{IsParsedPackage}
 use Rattle.types_declared.specs.Package.{Package, spelled, spelled_at}
 use Rattle.types_info.specs.Uniqueness.{TokensRise}
 use Rattle.law_same_bindings.proofs.Worlds.{tokens_rise}
@@ -197,7 +197,7 @@ rises_here : (first rest : List SourceFile) (x : SourceFile) → ((file : ℕ) (
     AreRising 0 (flatten s.tree)) → AreRising 0 (flatten x.tree)
 rises_here first rest x each = each (length first) x (seam first rest x)
 
-module _ (i : Gain) (at : ℕ) (p q : Package) (parsed : IsParsed p) (h : HasNamedFile i p q) where
+module _ (i : Gain) (at : ℕ) (p q : Package) (parsed : IsParsedPackage p) (h : HasNamedFile i p q) where
   formed : All (λ (s : SourceFile). IsFile s.tree) (h.first ++ h.before ∷ h.rest)
   formed =
       let is : p.files ≡ map source_of parsed.files = ap (λ (x : Package). x.files) parsed.is_package.is_package in

@@ -4,15 +4,15 @@ use Rattle.go_ast.specs.SourceFile.{SourceFile, spelling_of}
 use Rattle.go_scope.specs.Site.{Site, sites_layout, sites_names}
 use Rattle.law_rename.specs.Around.{AroundImport, around_by, bare_import, file_with, from_on, import_with_name}
 use Rattle.law_rename.specs.Gained.{Gain, HasGained, import_site}
-use Rattle.law_same_bindings.specs.SameBindings.{IsParsed}
-use Rattle.law_renumbered_types.specs.RenumberedPackage.{Numbers, IsRenumberedPackage}
+use Rattle.law_same_bindings.specs.SameBindings.{IsParsedPackage}
+use Rattle.law_renumbered_types.specs.RenumberedPackage.{NewNumbers, IsRenumberedPackage}
 use Rattle.types_declared.specs.Files.{HasLiteral}
 use Rattle.types_declared.specs.Laid.{is_literal, literal_of}
 use Rattle.types_declared.specs.Package.{Package}
-use Rattle.types_declared.specs.Written.{ImportsPath}
+use Rattle.types_declared.specs.Written.{DeclaresImport}
 
 -- The new numbers where the import of identifier `at` gains a name. The import keeps its first token, which is now its name.
-abbrev pub numbers_of : Gain → ℕ → Numbers
+abbrev pub numbers_of : Gain → ℕ → NewNumbers
 numbers_of i at = record {
   token = λ file n. cond (nat_eq file i.rank) (from_on (suc i.number) n) n;
   identifier = from_on (suc at);
@@ -41,8 +41,8 @@ pub record HasNamedFile (i : Gain) (p q : Package) : Type 0 where
 -- q is p after an import, the identifier `at`, got the name that it declared already.
 pub record IsNamedPackage (i : Gain) (at : ℕ) (p q : Package) : Type 0 where
   pub path : q.path ≡ p.path
-  pub parsed : IsParsed p
-  pub parsed_too : IsParsed q
+  pub parsed : IsParsedPackage p
+  pub parsed_too : IsParsedPackage q
   pub exports : (path : List ℕ) → q.export_data_of path ≡ p.export_data_of path
   pub old : List Site
   pub new : List Site
@@ -53,7 +53,7 @@ pub record IsNamedPackage (i : Gain) (at : ℕ) (p q : Package) : Type 0 where
 
 -- Imports keep their paths.
 abbrev pub KeepsImports : Gain → ℕ → Package → Package → Type 0
-KeepsImports i at p q = (d : ℕ) (path : List ℕ) → ImportsPath p d path ↔ ImportsPath q ((numbers_of i at).identifier d) path
+KeepsImports i at p q = (d : ℕ) (path : List ℕ) → DeclaresImport p d path ↔ DeclaresImport q ((numbers_of i at).identifier d) path
 
 -- String literals of the file keep their values. The literal of the import is its own identifier in p, and the literals of other imports are
 -- in the files of their names.

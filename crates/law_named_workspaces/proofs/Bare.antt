@@ -14,7 +14,7 @@ use Rattle.go_scope.specs.declared.model.Role.{Role}
 use Rattle.go_scope.specs.declared.model.Role.TheVariants.{NotLexical}
 use Rattle.go_scope.specs.FileSites.{file_sites, files_sites, package_sites, universe, universe_site}
 use Rattle.go_scope.specs.Named.{is_unnamed_import}
-use Rattle.go_scope.specs.Site.{Site, Source, or_blank}
+use Rattle.go_scope.specs.Site.{Site, TokenSpellings, or_blank}
 use Rattle.go_scope.specs.SpelledFiles.{spelled_file}
 use Rattle.law_tokens.specs.Covered.{AreSourceFiles}
 use Rattle.law_tokens.specs.Tokens.{identifiers_among}
@@ -69,7 +69,7 @@ files_texts : (rank : ℕ) (ts : List FileParts) → AreSourceFiles ts → AllBy
 unfolding files_sites
 files_texts rank [] sources = tt
 files_texts rank (t ∷ ts) sources =
-    let s : Source = record { rank = rank; spell = spelling_of (source_of t) } in
+    let s : TokenSpellings = record { rank = rank; spell = spelling_of (source_of t) } in
     let tree = file_view t.file in
     let is : IsSourceFile (source_of t) = All-head (λ (g : FileParts). IsSourceFile (source_of g)) t ts sources in
     let rest : AreSourceFiles ts = All-tail (λ (g : FileParts). IsSourceFile (source_of g)) t ts sources in

@@ -32,7 +32,7 @@ use Rattle.law_named_imports.proofs.Laws.{named_packages_are_renumbered}
 use Rattle.law_named_imports.proofs.Layouts.{bound_to_old, same_names}
 use Rattle.law_named_imports.proofs.Literals.{imports_keep_paths}
 use Rattle.law_renumbered_findings.specs.Findings.{KeepsNames}
-use Rattle.law_named_workspaces.specs.GainedName.{GainedNamesRenumber, GainsName, GainsOwnName, gained_by}
+use Rattle.law_named_workspaces.specs.GainedName.{GainedNamesRenumber, ImportGainsName, GainsOwnName, gained_by}
 use Rattle.law_named_workspaces.proofs.Bare.{bare_behind}
 use Rattle.law_named_workspaces.proofs.Named.{laid, unnamed_at}
 use Rattle.law_named_workspaces.proofs.Standing.{gained, new_sources, spelled}
@@ -86,7 +86,7 @@ module _ (files : List FileParts) (sources : AreSourceFiles files) (names : ℕ 
 
 -- the name of the package
 
-module _ (number : ℕ) (before after : FileParts) (rest : List FileParts) (g : GainsName number before after)
+module _ (number : ℕ) (before after : FileParts) (rest : List FileParts) (g : ImportGainsName number before after)
     (same : (n : ℕ) → spelling_of (source_of after) (from_on number n) ≡ spelling_of (source_of before) n) where
   clause_kept : (first : List FileParts) →
       package_name (map source_of (first ++ after ∷ rest)) ≡ package_name (map source_of (first ++ before ∷ rest))

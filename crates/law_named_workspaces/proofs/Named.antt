@@ -24,7 +24,7 @@ use Rattle.types_declared.specs.Laid.{IsPathOf, is_literal, laid_in, literal_of}
 use Rattle.types_declared.specs.PackageNames.{ArePackageNames}
 use Rattle.types_declared.proofs.ByteKeys.{cases_bytes}
 use Rattle.law_named_imports.proofs.Files.{files_else}
-use Rattle.law_named_workspaces.specs.GainedName.{GainsName}
+use Rattle.law_named_workspaces.specs.GainedName.{ImportGainsName}
 use Rattle.law_named_workspaces.proofs.Bare.{bare_behind}
 use Rattle.law_named_workspaces.proofs.Standing.{i, new_sources, gained, unnamed_within, stood_at, unnamed_else}
 use Rattle.law_named_workspaces.proofs.Standing.{place_else}
@@ -78,7 +78,7 @@ module _ (files : List FileParts) (sources : AreSourceFiles files) where
     has_literal = subst (λ n. HasLiteral h.source (or_blank (slice_get sites n)).place.index path) (sym (own_literal u unnamed)) h.has_literal;
   }
 
-module _ (number : ℕ) (first rest : List FileParts) (before after : FileParts) (g : GainsName number before after)
+module _ (number : ℕ) (first rest : List FileParts) (before after : FileParts) (g : ImportGainsName number before after)
     (sources : AreSourceFiles (first ++ before ∷ rest)) where
   abbrev olds : List FileParts
   olds = first ++ before ∷ rest

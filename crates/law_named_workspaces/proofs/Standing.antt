@@ -29,7 +29,7 @@ use Rattle.law_rename.proofs.Spelling.{from_first, from_suc, from_zero, spelled_
 use Rattle.law_rename.proofs.TokensBehind.{seam}
 use Rattle.law_rename.proofs.WholeFile.{source_kept}
 use Rattle.law_named_imports.proofs.Layouts.{same_number}
-use Rattle.law_named_workspaces.specs.GainedName.{GainsName}
+use Rattle.law_named_workspaces.specs.GainedName.{ImportGainsName}
 
 -- the files
 
@@ -45,7 +45,7 @@ replaced before after (f ∷ first) rest all is =
     (All-head (λ (g : FileParts). IsSourceFile (source_of g)) f (first ++ before ∷ rest) all)
     (replaced before after first rest (All-tail (λ (g : FileParts). IsSourceFile (source_of g)) f (first ++ before ∷ rest) all) is)
 
-module _ (number : ℕ) (first rest : List FileParts) (before after : FileParts) (g : GainsName number before after)
+module _ (number : ℕ) (first rest : List FileParts) (before after : FileParts) (g : ImportGainsName number before after)
     (sources : AreSourceFiles (first ++ before ∷ rest)) where
   abbrev pub old_files : List FileParts
   old_files = first ++ before ∷ rest

@@ -19,7 +19,7 @@ use Rattle.law_tokens.proofs.HeldBytes.{numbered_files}
 use Rattle.law_tokens.proofs.Ordered.{named_ordered, one_stands, package_ordered}
 use Rattle.law_rename.specs.Around.{from_on}
 use Rattle.law_rename.specs.Gained.{Gain}
-use Rattle.law_same_bindings.specs.SameBindings.{IsParsed, IsSelectedAt}
+use Rattle.law_same_bindings.specs.SameBindings.{IsParsedPackage, IsSelectedAt}
 use Rattle.types_check.specs.Check.{exports_in}
 use Rattle.types_declared.specs.declared.fault.Fault.{Fault}
 use Rattle.types_declared.specs.Laid.{IsPathOf, is_exported}
@@ -41,7 +41,7 @@ next_back at u b next = grind (arith, nat_tests)
 
 -- identifiers stand in order
 
-pub in_order : (p : Package) → IsParsed p → StandInOrder p.layout p.size
+pub in_order : (p : Package) → IsParsedPackage p → StandInOrder p.layout p.size
 in_order p h =
     let laid = h.is_package.is_laid in
     let plain = package_ordered (map spelled_file h.files) (numbered_files h.files h.sources) in
@@ -52,7 +52,7 @@ in_order p h =
     ap (λ (x : Package). x.size) h.is_package.is_package ∙ ap (λ (t : ScopedPackage). length t.sites) laid.is_named in
     subst (λ (l : Layout). StandInOrder l p.size) (sym layout) (subst (λ n. StandInOrder (layout_in table) n) (sym size) named)
 
-selected_at : (p : Package) → IsParsed p → (u : ℕ) → u < p.size → p.layout.role u ≡ NotLexical purpose.Selected →
+selected_at : (p : Package) → IsParsedPackage p → (u : ℕ) → u < p.size → p.layout.role u ≡ NotLexical purpose.Selected →
     IsSelectedAt p (p.layout.place u).file (p.layout.place u).index
 selected_at p parsed u less selected =
     let place = p.layout.place u in

@@ -18,7 +18,7 @@ use Rattle.types_resolve.specs.Stages.{IsOuterFault}
 use Rattle.workspace_check.specs.declared.fault.FileFault.{FileFault}
 use Rattle.workspace_check.specs.Faults.{placed_in}
 use Rattle.workspace_check.specs.FaultLists.{IsFaultOfSome, ListsFaults}
-use Rattle.workspace_check.specs.Verdicts.{AreStates, AreVerdicts, IsFaultBy, IsInnerFault, IsReadFault, IsStateOf, IsVerdict, IsVerdictBy}
+use Rattle.workspace_check.specs.Verdicts.{AreStates, AreVerdicts, IsFaultBy, IsFaultBehindOuter, IsReadFault, IsStateOf, IsVerdict, IsVerdictBy}
 use Rattle.workspace_graph.specs.Packages.{IsInClosure, itself, through}
 use Rattle.workspace_check.specs.Earlier.{HaveSameImports}
 use Rattle.workspace_check.specs.Verdicts.{Verdict, follows, is_faulty, is_good, is_missing, is_on_cycle}
@@ -86,7 +86,7 @@ module _ (add : GainedNamesAddNoFault) (bring : GainedNamesBringNoFault) (w x : 
       sources : map source_of r.files ≡ q.files
       sources = one_sources r.parsed h.is.parsed ∙ sym (same_files x sound.known p.path q h.is)
 
-      by_stage : FirstOf (IsOuterFault r.state (map source_of r.files)) (IsInnerFault x sound.known p.path) r.fault → ⊥
+      by_stage : FirstOf (IsOuterFault r.state (map source_of r.files)) (IsFaultBehindOuter x sound.known p.path) r.fault → ⊥
       by_stage (inl o) = outer_none r.state r.are_states r.fault (subst (λ fs. IsOuterFault r.state fs r.fault) sources o)
       by_stage (inr later) =
           later_none r.fault

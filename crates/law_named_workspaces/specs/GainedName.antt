@@ -8,7 +8,7 @@ use Rattle.go_scanner.specs.CutText.{tokens_in}
 use Rattle.law_rename.specs.Around.{AroundImport, around_by, bare_import, file_with, from_on, import_with_name}
 use Rattle.law_rename.specs.Gained.{Gain, gain_of}
 use Rattle.law_rename.specs.Named.{MayPut, NamePut, after_put, before_put, literal_piece}
-use Rattle.law_same_bindings.specs.SameBindings.{IsParsed}
+use Rattle.law_same_bindings.specs.SameBindings.{IsParsedPackage}
 use Rattle.types_check.specs.Check.{IsLaterFault, exports_in}
 use Rattle.types_check.specs.Exports.{IsExportData}
 use Rattle.types_check.specs.TypeFaults.{IsTypeFault}
@@ -26,12 +26,12 @@ use Rattle.types_resolve.specs.StatementMarks.{IsMarkFault}
 use Rattle.law_faultless.specs.Worlds.{HaveWorlds}
 use Rattle.types_info.specs.PackageOf.{IsPackageOf}
 use Rattle.law_named_imports.specs.NamedPackage.{IsNamedPackage, KeepsLiterals, numbers_of}
-use Rattle.law_renumbered_findings.specs.Findings.{IsJudged, KeepsNames}
+use Rattle.law_renumbered_findings.specs.Findings.{IsJudgedAnew, KeepsNames}
 use Rattle.law_renumbered_types.specs.RenumberedPackage.{IsRenumberedPackage}
 
 -- The file `after` is `before` with a name inserted before the string literal of an import without a name. The literal is the token of index
 -- `number`.
-pub record GainsName (number : ℕ) (before after : FileParts) : Type 0 where
+pub record ImportGainsName (number : ℕ) (before after : FileParts) : Type 0 where
   pub put : NamePut
   pub around : AroundImport
   pub may : MayPut put
@@ -45,13 +45,13 @@ pub record GainsName (number : ℕ) (before after : FileParts) : Type 0 where
 -- In one file of the package p an import gained the name that it declared already: that of the package at its path. The package q has the
 -- new file in place of the old one.
 pub record GainsOwnName (number : ℕ) (p q : Package) : Type 0 where
-  pub parsed : IsParsed p
+  pub parsed : IsParsedPackage p
   pub first : List FileParts
   pub before : FileParts
   pub after : FileParts
   pub rest : List FileParts
   pub files : parsed.files ≡ first ++ before ∷ rest
-  pub gains : GainsName number before after
+  pub gains : ImportGainsName number before after
   pub is_package : IsPackageOf parsed.path (first ++ after ∷ rest) parsed.name_of parsed.export_data_of q
   pub path : List ℕ
   pub imports : HasLiteral (source_of before) number path
@@ -81,7 +81,7 @@ pub record IsAsFaultless (p q : Package) : Type 0 where
 -- Where each file of p has a world, each file of q is judged as it was in p.
 abbrev pub GainedNamesAreJudged : Type 0
 GainedNamesAreJudged = (i : Gain) (at : ℕ) (p q : Package) → IsNamedPackage i at p q → HaveWorlds p → (file : ℕ) (s : SourceFile) →
-    slice_get q.files file ≡ Some s → IsJudged (numbers_of i at) p q file s
+    slice_get q.files file ≡ Some s → IsJudgedAnew (numbers_of i at) p q file s
 
 -- So no fault of members or of types comes, and the export data stay.
 abbrev pub GainedNamesBringNoFault : Type 0

@@ -2,7 +2,7 @@
 use Rattle.std.specs.Prelude.{ℕ, ◌≡◌, List, []}
 use Rattle.base_files.specs.Workspace.{Workspace}
 use Rattle.base_files.specs.Packages.{package_files}
-use Rattle.refs_binding.specs.Uses.{IsPackage}
+use Rattle.refs_binding.specs.Uses.{IsCheckedPackage}
 use Rattle.types_declared.specs.Package.{Package}
 use Rattle.workspace_check.specs.Earlier.{HaveSameImports}
 use Rattle.workspace_check.specs.FaultLists.{ListsFaults}
@@ -14,7 +14,7 @@ use Rattle.law_named_workspaces.specs.GainedName.{GainsOwnName}
 pub record HasGainedName (w x : Workspace) (known : Verdicts) (number : ℕ) (p q : Package) : Type 0 where
   pub imports : HaveSameImports w x
   pub paths : (path : List ℕ) → PackageImports w p.path path → PackageImports x p.path path
-  pub was : IsPackage w known p
+  pub was : IsCheckedPackage w known p
   pub is : IsPackageIn x known p.path q
   pub gains : GainsOwnName number p q
   pub others : (path : List ℕ) → (path ≡ p.path → ⊥) → package_files w path ≡ package_files x path

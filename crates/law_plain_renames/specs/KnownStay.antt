@@ -15,7 +15,7 @@ use Rattle.workspace_check.specs.KnownFindings.{IsFindingOf, IsKnownVerdict, ver
 use Rattle.workspace_check.specs.Verdicts.{Verdicts}
 use Rattle.refs_binding.specs.declared.declaration.Declaration.{Declaration}
 use Rattle.refs_binding.specs.declared.declaration.Declaration.TheVariants.{Declared, Field, Method}
-use Rattle.refs_binding.specs.Uses.{IsPackage}
+use Rattle.refs_binding.specs.Uses.{IsCheckedPackage}
 use Rattle.refs_places.specs.Outside.{declaring_path}
 use Rattle.law_known_verdicts.specs.KnownVerdicts.{IsKeptRename, IsHidden, IsUnseen, HoldVerdictsBut}
 use Rattle.law_known_verdicts.specs.RenamedData.{export_renamed, field_renamed, method_renamed, definition_changed, HoldVerdictsWith}
@@ -57,21 +57,21 @@ pub record AreChangedAt (number : ℕ) (path : List ℕ) (change : ExportData �
 -- All known verdicts are right with the new name in the export data of the declaring package: that of a package-level declaration with an
 -- exported name.
 abbrev pub RenamedExportsAreKnown : Type 0
-RenamedExportsAreKnown = (w : Workspace) (before : Verdicts) (p : Package) (n : ℕ) (name : List ℕ) (s : FileChanges) → IsPackage w before p →
+RenamedExportsAreKnown = (w : Workspace) (before : Verdicts) (p : Package) (n : ℕ) (name : List ℕ) (s : FileChanges) → IsCheckedPackage w before p →
     IsKeptRename w before (Declared p.path n) name s → IsPackageLevel p.layout n → is_exported (p.names n) ≡ true → (number : ℕ) →
     slice_get (package_paths w) number ≡ Some p.path → (known rest : Known) → KnowsVerdicts w known →
     AreChangedAt number p.path (export_renamed (p.names n) name) known rest → KnowsVerdicts (edited s w) rest
 
 -- Or that of a field of a type definition.
 abbrev pub RenamedFieldsAreKnown : Type 0
-RenamedFieldsAreKnown = (w : Workspace) (before : Verdicts) (p : Package) (rank : ℕ) (name : List ℕ) (s : FileChanges) → IsPackage w before p →
+RenamedFieldsAreKnown = (w : Workspace) (before : Verdicts) (p : Package) (rank : ℕ) (name : List ℕ) (s : FileChanges) → IsCheckedPackage w before p →
     IsKeptRename w before (Field (symbol_in p rank)) name s → (owner : ℕ) (old : List ℕ) (f : PlacedField) → IsFieldOf p owner old rank f →
     (number : ℕ) → slice_get (package_paths w) number ≡ Some p.path → (known rest : Known) → KnowsVerdicts w known →
     AreChangedAt number p.path (definition_changed owner (field_renamed old name)) known rest → KnowsVerdicts (edited s w) rest
 
 -- Or that of a method.
 abbrev pub RenamedMethodsAreKnown : Type 0
-RenamedMethodsAreKnown = (w : Workspace) (before : Verdicts) (p : Package) (rank : ℕ) (name : List ℕ) (s : FileChanges) → IsPackage w before p →
+RenamedMethodsAreKnown = (w : Workspace) (before : Verdicts) (p : Package) (rank : ℕ) (name : List ℕ) (s : FileChanges) → IsCheckedPackage w before p →
     IsKeptRename w before (Method (symbol_in p rank)) name s → (owner : ℕ) (old : List ℕ) (f : PlacedFunction) → IsMethodOf p owner old rank f →
     (number : ℕ) → slice_get (package_paths w) number ≡ Some p.path → (known rest : Known) → KnowsVerdicts w known →
     AreChangedAt number p.path (definition_changed owner (method_renamed old name)) known rest → KnowsVerdicts (edited s w) rest

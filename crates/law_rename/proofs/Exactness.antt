@@ -8,7 +8,7 @@ use Rattle.go_scope.specs.Bindings.{Layout, Names, InScope, Declares, Counts, Al
 use Rattle.go_scope.proofs.Nesting.{Nested}
 use Rattle.go_scope.proofs.Innermost.{IsFirstAt}
 use Rattle.go_scope.proofs.Uniqueness.{same_or_not, bound_once}
-use Rattle.law_rename.specs.Renaming.{IsRenaming, IsLost, IsCaptured, IsBoundAnew, AreUsesBound, KeepsBindings, HasSameBindings, HasNoConflict}
+use Rattle.law_rename.specs.Renaming.{IsRenaming, IsLost, IsCaptured, IsBoundAnew, AreUsesBound, KeepsScopeBindings, HasSameBindings, HasNoConflict}
 use Rattle.law_rename.specs.Renaming.{HasNoConflictAt, WouldAssign, to_renamed, to_other, WouldCapture, WouldLose, WouldBind}
 use Rattle.law_rename.proofs.AfterRename.{after_same, before_name, declares_other, declares_d}
 use Rattle.law_rename.proofs.Conflicts.{own_is_no_use, binds_named, none_holds, use_after, is_d_after, y_after, y_before, old_declares}
@@ -56,7 +56,7 @@ module _ (l : Layout) (nested : Nested l) (before after : Names) (d : ℕ) (y : 
 
   -- at all
 
-  free_of_kept : KeepsBindings l before after → HasNoConflict l before d y
+  free_of_kept : KeepsScopeBindings l before after → HasNoConflict l before d y
   free_of_kept keep = λ u. record {
     not_captured = λ c x. let k : IsCaptured l before after u c = captured u c x in
         k.other (bound_once l nested after u c k.old k.now_bound (keep u k.old k.was));
@@ -64,7 +64,7 @@ module _ (l : Layout) (nested : Nested l) (before after : Names) (d : ℕ) (y : 
         k.bound_to_none k.old (keep u k.old k.was);
   }
 
-  pub exact : KeepsBindings l before after ↔ HasNoConflict l before d y
+  pub exact : KeepsScopeBindings l before after ↔ HasNoConflict l before d y
   exact = (free_of_kept, λ free u e b. kept_at u e b (free u))
 
   -- what is bound anew
@@ -98,7 +98,7 @@ module _ (l : Layout) (nested : Nested l) (before after : Names) (d : ℕ) (y : 
         (unbound_name u w) (binds_first u w);
   }
 
-  was_use : KeepsBindings l before after → (u : ℕ) → IsUse l after u → IsUse l before u
+  was_use : KeepsScopeBindings l before after → (u : ℕ) → IsUse l after u → IsUse l before u
   was_use keep u (inl i) = inl i
   was_use keep u (inr i) = inr (i.0, λ du. i.1 (counts_of_own u (keep u u (own_bound u du))).declares)
 
@@ -136,7 +136,7 @@ module _ (l : Layout) (nested : Nested l) (before after : Names) (d : ℕ) (y : 
   exact_anew u c = ((λ k. anew_of u c k.was_unbound k.now_bound), anew_at_d u c)
 
   -- where what was bound is kept and nothing would be bound, a binding afterwards was one before, so far as that is not impossible
-  not_unbound : KeepsBindings l before after → ((u : ℕ) → WouldBind l before d y u → ⊥) → (u e : ℕ) → IsUse l before u →
+  not_unbound : KeepsScopeBindings l before after → ((u : ℕ) → WouldBind l before d y u → ⊥) → (u e : ℕ) → IsUse l before u →
       BindsAt l after (after u) u e → (BindsAt l before (before u) u e → ⊥) → ⊥
   not_unbound keep none u e i x never_before =
       let now : IsBoundTo l after u e = use_bound (use_after l nested before after d y all dec fresh ren u i) x in
@@ -148,7 +148,7 @@ module _ (l : Layout) (nested : Nested l) (before after : Names) (d : ℕ) (y : 
       ])) in
       none u (anew_of u e never now).1
 
-  same_back : KeepsBindings l before after → ((u : ℕ) → WouldBind l before d y u → ⊥) → (u e : ℕ) → IsBoundTo l after u e → IsBoundTo l before u e
+  same_back : KeepsScopeBindings l before after → ((u : ℕ) → WouldBind l before d y u → ⊥) → (u e : ℕ) → IsBoundTo l after u e → IsBoundTo l before u e
   same_back keep none u e (own p c) = own p (all e (declares_before e c.declares))
   same_back keep none u e (use_bound i x) =
       let j : IsUse l before u = was_use keep u i in
@@ -163,7 +163,7 @@ module _ (l : Layout) (nested : Nested l) (before after : Names) (d : ℕ) (y : 
   pub exact_both : HasSameBindings l before after ↔ (HasNoConflict l before d y × ((u : ℕ) → WouldBind l before d y u → ⊥))
   exact_both = (
     (λ same. (exact.0 (λ u e b. (same u e).0 b), λ u w. let b : IsBoundAnew l before after u d = binds u w in b.was_unbound d ((same u d).1 b.now_bound))),
-    (λ h u e. let keep : KeepsBindings l before after = exact.1 h.0 in (keep u e, same_back keep h.1 u e)),
+    (λ h u e. let keep : KeepsScopeBindings l before after = exact.1 h.0 in (keep u e, same_back keep h.1 u e)),
   )
 
   -- what declares
@@ -184,13 +184,13 @@ module _ (l : Layout) (nested : Nested l) (before after : Names) (d : ℕ) (y : 
     ]),
   )
 
-  pub declares_same : KeepsBindings l before after → (x : ℕ) → Declares l before x ↔ Declares l after x
+  pub declares_same : KeepsScopeBindings l before after → (x : ℕ) → Declares l before x ↔ Declares l after x
   declares_same keep x = ((λ dx. (counts_of_own x (keep x x (own_bound x dx))).declares), declares_before x)
 
-  pub uses_same : KeepsBindings l before after → (u : ℕ) → IsUse l before u ↔ IsUse l after u
+  pub uses_same : KeepsScopeBindings l before after → (u : ℕ) → IsUse l before u ↔ IsUse l after u
   uses_same keep u = (use_after l nested before after d y all dec fresh ren u, was_use keep u)
 
-  pub all_count_after : KeepsBindings l before after → AllCount l after
+  pub all_count_after : KeepsScopeBindings l before after → AllCount l after
   all_count_after keep x dx = counts_of_own x (keep x x (own_bound x (declares_before x dx)))
 
   -- what is lost
@@ -224,5 +224,5 @@ module _ (l : Layout) (nested : Nested l) (before after : Names) (d : ℕ) (y : 
     (λ free. exact_both.1 (free, none_bound_anew all_bound)),
   )
 
-  pub uses_bound : AreUsesBound l before → KeepsBindings l before after → AreUsesBound l after
+  pub uses_bound : AreUsesBound l before → KeepsScopeBindings l before after → AreUsesBound l after
   uses_bound all_bound keep u i none = all_bound u (was_use keep u i) (λ e b. none e (keep u e b))

@@ -8,7 +8,7 @@ use Rattle.go_scope.specs.Bindings.{Layout, Names, MayDeclare, IsLeftName, Decla
 use Rattle.go_scope.specs.Site.{Site, sites_layout, sites_names}
 use Rattle.go_scope.specs.WellFormed.{WellFormed, InBlock}
 use Rattle.go_scope.proofs.Nests.{nests}
-use Rattle.law_rename.specs.Renaming.{IsRenaming, Renames, KeepsBindings, HasNoConflict, WouldCapture, new_name, own_use, assigned, to_renamed, to_other}
+use Rattle.law_rename.specs.Renaming.{IsRenaming, Renames, KeepsScopeBindings, HasNoConflict, WouldCapture, new_name, own_use, assigned, to_renamed, to_other}
 use Rattle.law_rename.specs.Renaming.{WouldLose, repeats, own_repeats, WouldBind, IsBoundAnew}
 use Rattle.law_rename.proofs.Exactness.{exact, binds}
 
@@ -126,7 +126,7 @@ none_lost u (own_repeats {e = e} de ny disp still) = none_called e de ny
 pub no_conflict : HasNoConflict l before 0 xy
 no_conflict = λ u. record { not_captured = none_captured u; not_lost = none_lost u }
 
-pub bindings_kept : KeepsBindings l before after
+pub bindings_kept : KeepsScopeBindings l before after
 bindings_kept = (exact l (nests l well_formed) before after 0 xy all_count declared other_name renaming).1 no_conflict
 
 would_bind : WouldBind l before 0 xy 2

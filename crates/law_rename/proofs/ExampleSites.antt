@@ -5,7 +5,7 @@ use Rattle.go_scope.specs.declared.model.Block.TheVariants as blocks
 use Rattle.go_scope.specs.declared.model.Role.{Role}
 use Rattle.go_scope.specs.declared.model.Role.TheVariants.{Use, Declaring, LeftName, NotLexical}
 use Rattle.go_scope.specs.declared.model.Purpose.TheVariants as purpose
-use Rattle.go_scope.specs.Site.{Site, Source}
+use Rattle.go_scope.specs.Site.{Site, TokenSpellings}
 use Rattle.go_scope.specs.ExpressionSites.{type_sites, expr_sites}
 use Rattle.go_scope.specs.StatementSites.{simple_sites, group_sites, statement_sites, block_sites, statements_sites}
 use Rattle.go_scope.specs.FileSites.{func_sites, param_sites, result_sites, import_sites, imports_sites, decl_sites, file_sites}
@@ -36,7 +36,7 @@ file = record {
 }
 
 -- the second file of its package, in which all tokens are called `f`
-abbrev source : Source
+abbrev source : TokenSpellings
 source = record { rank = 1; spell = λ n. codes "f" }
 
 -- all numbers of that file's tokens are greater by one hundred

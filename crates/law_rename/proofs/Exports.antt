@@ -5,7 +5,7 @@ use Rattle.types_declared.specs.Laid.{is_exported}
 use Rattle.go_scope.specs.Bindings.{Layout, Names, Declares, Counts, IsPackageLevel, AllCount, own}
 use Rattle.go_scope.proofs.Nesting.{Nested}
 use Rattle.go_scope.proofs.Innermost.{one_in_block}
-use Rattle.law_rename.specs.Renaming.{IsRenaming, KeepsBindings}
+use Rattle.law_rename.specs.Renaming.{IsRenaming, KeepsScopeBindings}
 use Rattle.law_rename.specs.Seen.{IsExportedAs}
 use Rattle.law_rename.proofs.AfterRename.{after_d, after_same, after_other, before_name}
 use Rattle.law_rename.proofs.Conflicts.{other_than_d, y_after, old_declares}
@@ -18,7 +18,7 @@ both_or_neither false false f g = refl
 
 module _ (l : Layout) (nested : Nested l) (before after : Names) (d : ℕ) (y : List ℕ)
     (all : AllCount l before) (dec : Declares l before d) (fresh : before d ≡ y → ⊥) (ren : IsRenaming l before d y after)
-    (keep : KeepsBindings l before after) where
+    (keep : KeepsScopeBindings l before after) where
   counts_after : (e : ℕ) → Declares l before e → Counts l after e
   counts_after e de = counts_of_own l nested before after d y all dec fresh ren e (keep e e (own refl (all e de)))
 

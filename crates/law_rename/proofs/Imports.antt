@@ -9,7 +9,7 @@ use Rattle.go_scope.specs.Bindings.{block_of}
 use Rattle.go_scope.proofs.Nesting.{Nested}
 use Rattle.go_scope.proofs.Innermost.{displaces_precedes, displaces_holds, bound_of_first}
 use Rattle.go_scope.proofs.Uniqueness.{bound_once}
-use Rattle.law_rename.specs.Renaming.{IsRenaming, IsLost, IsCaptured, KeepsBindings, KeepsOtherBindings, AreImportsUsed, to_renamed, to_other}
+use Rattle.law_rename.specs.Renaming.{IsRenaming, IsLost, IsCaptured, KeepsScopeBindings, KeepsOtherBindings, AreImportsUsed, to_renamed, to_other}
 use Rattle.law_rename.specs.Renaming.{WouldCapture, new_name, own_use, assigned, WouldLose, repeats, own_repeats}
 use Rattle.law_rename.proofs.Conflicts.{own_is_no_use, binds_named, some_first_before, use_after, old_declares, captures, loses, keeps}
 
@@ -59,7 +59,7 @@ module _ (l : Layout) (nested : Nested l) (before after : Names) (d : ℕ) (y : 
       some_first_before l nested before y v d dec.may b.in_scope (λ k f q. free v k (own_use i b (bound_of_first l nested before y v k f) q))
       e (de, ny, displaces_holds l nested e d v de.may dec.may disp b.in_scope) (displaces_precedes l nested e d disp))
 
-  pub imports_kept : AreImportsUsed l before → KeepsOtherBindings l before after → KeepsBindings l before after
+  pub imports_kept : AreImportsUsed l before → KeepsOtherBindings l before after → KeepsScopeBindings l before after
   imports_kept used keep u e b =
       let free : (v c : ℕ) → WouldCapture l before d y v c → ⊥ = none_captured keep in
       keeps l nested before after d y all dec fresh ren u e b (free u) (λ w. elim (file_or_not (block_of (l.role u))) [
@@ -68,6 +68,6 @@ module _ (l : Layout) (nested : Nested l) (before after : Names) (d : ℕ) (y : 
             k.bound_to_none k.old (keep u k.old other k.was)
       ])
 
-  pub imports_used : AreImportsUsed l before → KeepsBindings l before after → AreImportsUsed l after
+  pub imports_used : AreImportsUsed l before → KeepsScopeBindings l before after → AreImportsUsed l after
   imports_used used keep i m di none = used i m (old_declares l nested before after d y all dec fresh ren i di)
       (λ u x b. none u (use_after l nested before after d y all dec fresh ren u x) (keep u i b))

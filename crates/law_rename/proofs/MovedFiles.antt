@@ -10,7 +10,7 @@ use Rattle.go_scope.specs.declared.model.Role.{Role}
 use Rattle.go_scope.specs.declared.model.Role.TheVariants.{Use, Declaring, LeftName, NotLexical}
 use Rattle.go_scope.specs.declared.model.Purpose.TheVariants as purpose
 use Rattle.go_scope.specs.Moves.{moved_role}
-use Rattle.go_scope.specs.Site.{Site, Source, site}
+use Rattle.go_scope.specs.Site.{Site, TokenSpellings, site}
 use Rattle.go_scope.specs.ExpressionSites.{sites_if, list_sites, type_sites, key_sites, expr_sites, operand_sites, link_sites, argument_sites}
 use Rattle.go_scope.specs.ExpressionSites.{literal_sites, element_sites, exprs_sites}
 use Rattle.go_scope.specs.StatementSites.{ident_sites, left_sites, assigned_sites, simple_sites, value_sites, local_sites, separated_sites, group_sites}
@@ -49,10 +49,10 @@ module _ (move : ℕ → ℕ → ℕ) (rank : ℕ) (old new : ℕ → List ℕ) 
   abbrev g : ℕ → ℕ
   g = move rank
 
-  abbrev before : Source
+  abbrev before : TokenSpellings
   before = record { rank = rank; spell = old }
 
-  abbrev after : Source
+  abbrev after : TokenSpellings
   after = record { rank = rank; spell = new }
 
   abbrev by : Site → Site
@@ -331,7 +331,7 @@ module _ (move : ℕ → ℕ → ℕ) (rank : ℕ) (old new : ℕ → List ℕ) 
       ∙ init_or (bytes_eq (old n) (codes "init"))
 
   -- a function's identifiers, by the ends of its block
-  abbrev parts : Source → ℕ → ℕ → Role → FuncTree → List Site
+  abbrev parts : TokenSpellings → ℕ → ℕ → Role → FuncTree → List Site
   parts s o c role f =
       sites_if (receiver_sites s (blocks.Inner s.rank o c) o) f.receiver ++ (site s f.name role ∷
       (list_sites (param_sites s (blocks.Inner s.rank o c) o) f.params ++ (result_sites s f.result ++ block_sites s f.body)))

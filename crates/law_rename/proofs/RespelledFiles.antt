@@ -9,7 +9,7 @@ use Rattle.go_scope.specs.declared.model.Block.TheVariants as blocks
 use Rattle.go_scope.specs.declared.model.Role.{Role}
 use Rattle.go_scope.specs.declared.model.Role.TheVariants.{Use, Declaring, LeftName, NotLexical}
 use Rattle.go_scope.specs.declared.model.Purpose.TheVariants as purpose
-use Rattle.go_scope.specs.Site.{Site, Source, site}
+use Rattle.go_scope.specs.Site.{Site, TokenSpellings, site}
 use Rattle.go_scope.specs.ExpressionSites.{sites_if, list_sites, type_sites, key_sites, expr_sites, operand_sites, link_sites, argument_sites}
 use Rattle.go_scope.specs.ExpressionSites.{literal_sites, element_sites, exprs_sites}
 use Rattle.go_scope.specs.StatementSites.{ident_sites, left_sites, assigned_sites, simple_sites, value_sites, local_sites, separated_sites, group_sites}
@@ -28,10 +28,10 @@ use Rattle.go_ast.specs.Tree.{VarDecl, TypeDecl, FuncDecl, FileTree}
 use Rattle.law_rename.specs.Respelled.{Spelling, respelled, KeepsRole, KeepsRoles}
 
 module _ (rank : ℕ) (old : ℕ → List ℕ) (spell : Spelling) where
-  abbrev before : Source
+  abbrev before : TokenSpellings
   before = record { rank = rank; spell = old }
 
-  abbrev after : Source
+  abbrev after : TokenSpellings
   after = record { rank = rank; spell = spell rank }
 
   abbrev by : Site → Site
@@ -294,7 +294,7 @@ module _ (rank : ℕ) (old : ℕ → List ℕ) (spell : Spelling) where
   result_respelled (results o ts c) = list_respelled (type_sites before) (type_sites after) type_respelled ts
 
   -- a function's identifiers, by the ends of its block
-  abbrev parts : Source → ℕ → ℕ → Role → FuncTree → List Site
+  abbrev parts : TokenSpellings → ℕ → ℕ → Role → FuncTree → List Site
   parts s o c role f =
       sites_if (receiver_sites s (blocks.Inner s.rank o c) o) f.receiver ++ (site s f.name role ∷
       (list_sites (param_sites s (blocks.Inner s.rank o c) o) f.params ++ (result_sites s f.result ++ block_sites s f.body)))

@@ -6,7 +6,7 @@ use Rattle.std.proofs.lemmas.Grind.{flat_map-append}
 use Rattle.go_scanner.specs.CutText.{tokens_in}
 use Rattle.go_scope.specs.declared.model.Role.TheVariants.{NotLexical}
 use Rattle.go_scope.specs.declared.model.Purpose.TheVariants as purpose
-use Rattle.go_scope.specs.Site.{Site, Source, site}
+use Rattle.go_scope.specs.Site.{Site, TokenSpellings, site}
 use Rattle.go_scope.specs.ExpressionSites.{list_sites}
 use Rattle.go_scope.specs.StatementSites.{separated_sites, group_sites}
 use Rattle.go_scope.specs.FileSites.{spec_sites, import_sites, imports_sites, decl_sites, file_sites}
@@ -23,28 +23,28 @@ use Rattle.law_rename.proofs.Spelling.{from_itself, spelled_kept, spelled_litera
 
 -- a file's identifiers before those of an import, and behind them
 
-abbrev left_item : Source → AroundItem → List Site
+abbrev left_item : TokenSpellings → AroundItem → List Site
 left_item s alone = []
 left_item s (among o before separator after c) = list_sites (import_sites s) before
 
-abbrev right_item : Source → AroundItem → List Site
+abbrev right_item : TokenSpellings → AroundItem → List Site
 right_item s alone = []
 right_item s (among o before separator after c) = list_sites (import_sites s) after
 
-abbrev left : Source → AroundImport → List Site
+abbrev left : TokenSpellings → AroundImport → List Site
 left s a = site s a.name (NotLexical purpose.PackageClause) ∷ (flat_map (imports_sites s) a.before ++ left_item s a.item)
 
-abbrev right : Source → AroundImport → List Site
+abbrev right : TokenSpellings → AroundImport → List Site
 right s a = right_item s a.item ++ (flat_map (imports_sites s) a.after ++ flat_map (decl_sites s) a.decls)
 
-group_split : (s : Source) (i : ImportTree) (x : AroundItem) →
+group_split : (s : TokenSpellings) (i : ImportTree) (x : AroundItem) →
     spec_sites (import_sites s) (group_with i x) ≡ left_item s x ++ (import_sites s i ++ right_item s x)
 unfolding group_sites separated_sites
 group_split s i alone = sym (append-nil (import_sites s i))
 group_split s i (among o before separator after c) =
     flat_map-append (λ x. import_sites s x.value) before (record { value = i; separator = separator } ∷ after)
 
-file_split : (s : Source) (i : ImportTree) (a : AroundImport) → file_sites s (file_with i a) ≡ left s a ++ (import_sites s i ++ right s a)
+file_split : (s : TokenSpellings) (i : ImportTree) (a : AroundImport) → file_sites s (file_with i a) ≡ left s a ++ (import_sites s i ++ right s a)
 unfolding file_sites imports_sites
 file_split s i a =
     let front : List Site = flat_map (imports_sites s) a.before in
@@ -61,7 +61,7 @@ file_split s i a =
 -- the same with other numbers
 
 module _ (move : ℕ → ℕ → ℕ) (rank : ℕ) (old new : ℕ → List ℕ) (same : (n : ℕ) → new (move rank n) ≡ old n) where
-  abbrev source : (ℕ → List ℕ) → Source
+  abbrev source : (ℕ → List ℕ) → TokenSpellings
   source spell = record { rank = rank; spell = spell }
 
   left_item_moved : (x : AroundItem) → left_item (source new) (item_around_by (move rank) x) ≡ map (moved_site move) (left_item (source old) x)
@@ -100,7 +100,7 @@ module _ (move : ℕ → ℕ → ℕ) (rank : ℕ) (old new : ℕ → List ℕ) 
 pub moved_here : (i : Gain) → moved_by i i.rank ≡ from_on i.number
 moved_here i = let is : nat_eq i.rank i.rank ≡ true = eq-eqb i.rank i.rank refl in λ j n. cond (is j) (from_on i.number n) n
 
-bare_sites : (s : Source) (number : ℕ) → import_sites s (bare_import number) ≡ site s number (NotLexical purpose.UnnamedImport) ∷ []
+bare_sites : (s : TokenSpellings) (number : ℕ) → import_sites s (bare_import number) ≡ site s number (NotLexical purpose.UnnamedImport) ∷ []
 unfolding import_sites
 bare_sites s number = refl
 
@@ -124,8 +124,8 @@ pub gained_sites : (i : Gain) (old new : ℕ → List ℕ) (a : AroundImport) �
     (at : ℕ) × HasGained i (unnamed_site i) at (file_sites (record { rank = i.rank; spell = old }) (file_with (bare_import i.number) a))
     (file_sites (record { rank = i.rank; spell = new }) (file_with (import_with_name i.number) (around_by (from_on i.number) a)))
 gained_sites i old new a spelled =
-    let was : Source = record { rank = i.rank; spell = old } in
-    let now : Source = record { rank = i.rank; spell = new } in
+    let was : TokenSpellings = record { rank = i.rank; spell = old } in
+    let now : TokenSpellings = record { rank = i.rank; spell = new } in
     let g : ℕ → ℕ = from_on i.number in
     let is : moved_by i i.rank ≡ g = moved_here i in
     let same : (n : ℕ) → new (moved_by i i.rank n) ≡ old n = λ n. ap (λ (h : ℕ → ℕ). new (h n)) is ∙ spelled.kept n in

@@ -1,7 +1,7 @@
 -- A tree whose tokens keep their numbers stays, and so do its identifiers.
 use Rattle.std.proofs.Common.{ℕ, ◌≡◌, List, [], ◌∷◌, Option, Some, None, map, refl, sym, ap, ◌∙◌}
 use Rattle.std.specs.Prelude.{option_map}
-use Rattle.go_scope.specs.Site.{Source}
+use Rattle.go_scope.specs.Site.{TokenSpellings}
 use Rattle.go_scope.specs.FileSites.{file_sites}
 use Rattle.go_ast.specs.Tree.{Item, Group, single, several, IdentTree, Named, Underscore, BasicTree, Integer, String, TypeTree, Local, Imported, Pointer}
 use Rattle.go_ast.specs.Tree.{Slice, ExprTree, Number, Text, Name, Blank, Composite, Paren, Prefix, Address, Chain, Binary, OperandTrees, no_operand}
@@ -238,7 +238,7 @@ tree_stays f =
 pub file_stays : (move : ℕ → ℕ → ℕ) (rank : ℕ) (spell : ℕ → List ℕ) (f : FileTree) → ((n : ℕ) → move rank n ≡ n) →
     map (moved_site move) (file_sites (record { rank = rank; spell = spell }) f) ≡ file_sites (record { rank = rank; spell = spell }) f
 file_stays move rank spell f stays =
-    let s : Source = record { rank = rank; spell = spell } in
+    let s : TokenSpellings = record { rank = rank; spell = spell } in
     let same : move rank ≡ itself = λ i n. stays n i in
     sym (file_moved move rank spell spell f (λ n. ap spell (stays n)))
     ∙ ap (λ (g : ℕ → ℕ). file_sites s (renumbered g f)) same ∙ ap (file_sites s) (tree_stays f)

@@ -10,7 +10,7 @@ use Rattle.go_ast.specs.declared.syntax.Kind.{Kind}
 use Rattle.go_ast.specs.declared.syntax.Kind.TheVariants as kind
 use Rattle.go_ast.specs.declared.syntax.Token.{Token}
 use Rattle.go_ast.specs.Flatten.{sign, sign_if, all_tokens, group_tokens, import_tokens, imports_tokens, list_tokens}
-use Rattle.go_ast.specs.Grammar.{A, Begins, Close, File, GroupOf, ImportItem, Imports, Items, MoreItems, One, Opening, Otherwise, Part, Rule, Single, Symbol}
+use Rattle.go_ast.specs.Grammar.{A, Begins, Close, File, GroupOf, ImportItem, Imports, Items, MoreItems, One, Opening, Otherwise, Part, Rule, Single, GrammarSymbol}
 use Rattle.go_ast.specs.Grammar.{Tops, is, rules}
 use Rattle.go_ast.specs.Language.{Among, Derives, below, by_rule, closing, ends, levels, opening, tested, token, untested}
 use Rattle.go_ast.specs.Kinds.{kind_of_name, kinds_of}
@@ -25,105 +25,105 @@ use Rattle.law_rename.proofs.NamedTree.{both_kinds, gained_tree, left, left_item
 abbrev Bound : List ℕ → Type 0
 Bound ls = AllByRecursion (λ l. l ≤ 200) ls
 
-record Back (d : ℕ) (ss : List Symbol) (ts : List Token) (ls : List ℕ) : Type 0 where
+record Back (d : ℕ) (ss : List GrammarSymbol) (ts : List Token) (ls : List ℕ) : Type 0 where
   old : Derives ss ts
   bounds : Bound (levels d old) → Bound ls
 
 -- what derives the one list derives the other, and opens no more levels there
-record Alike (d : ℕ) (ss : List Symbol) (ts us : List Token) : Type 0 where
+record Alike (d : ℕ) (ss : List GrammarSymbol) (ts us : List Token) : Type 0 where
   forth : Derives ss ts → Derives ss us
   back : (x : Derives ss us) → Back d ss ts (levels d x)
 
 -- one token
 
-one_forth : {c : Kind → Bool} {t u : Token} {ss : List Symbol} {ts us : List Token} → t.kind ≡ u.kind → (Derives ss ts → Derives ss us) →
+one_forth : {c : Kind → Bool} {t u : Token} {ss : List GrammarSymbol} {ts us : List Token} → t.kind ≡ u.kind → (Derives ss ts → Derives ss us) →
     Derives (One c ∷ ss) (t ∷ ts) → Derives (One c ∷ ss) (u ∷ us)
 one_forth same go (token e x) = token (cc) (go x)
 
-one_back : {c : Kind → Bool} {d : ℕ} {t u : Token} {ss : List Symbol} {ts us : List Token} → t.kind ≡ u.kind →
+one_back : {c : Kind → Bool} {d : ℕ} {t u : Token} {ss : List GrammarSymbol} {ts us : List Token} → t.kind ≡ u.kind →
     ((x : Derives ss us) → Back d ss ts (levels d x)) → (x : Derives (One c ∷ ss) (u ∷ us)) → Back d (One c ∷ ss) (t ∷ ts) (levels d x)
 one_back same go (token e x) = let b = go x in record { old = token (cc) b.old; bounds = λ all. (all.0, b.bounds all.1) }
 
-one : {c : Kind → Bool} {d : ℕ} {t u : Token} {ss : List Symbol} {ts us : List Token} → t.kind ≡ u.kind → Alike d ss ts us →
+one : {c : Kind → Bool} {d : ℕ} {t u : Token} {ss : List GrammarSymbol} {ts us : List Token} → t.kind ≡ u.kind → Alike d ss ts us →
     Alike d (One c ∷ ss) (t ∷ ts) (u ∷ us)
 one same a = record { forth = one_forth same a.forth; back = one_back same a.back }
 
-opens_forth : {c : Kind → Bool} {t : Token} {ss : List Symbol} {ts us : List Token} → (Derives ss ts → Derives ss us) →
+opens_forth : {c : Kind → Bool} {t : Token} {ss : List GrammarSymbol} {ts us : List Token} → (Derives ss ts → Derives ss us) →
     Derives (Opening c ∷ ss) (t ∷ ts) → Derives (Opening c ∷ ss) (t ∷ us)
 opens_forth go (opening e x) = opening e (go x)
 
-opens_back : {c : Kind → Bool} {d : ℕ} {t : Token} {ss : List Symbol} {ts us : List Token} →
+opens_back : {c : Kind → Bool} {d : ℕ} {t : Token} {ss : List GrammarSymbol} {ts us : List Token} →
     ((x : Derives ss us) → Back (suc d) ss ts (levels (suc d) x)) → (x : Derives (Opening c ∷ ss) (t ∷ us)) →
     Back d (Opening c ∷ ss) (t ∷ ts) (levels d x)
 opens_back go (opening e x) = let b = go x in record { old = opening e b.old; bounds = λ all. (all.0, b.bounds all.1) }
 
-opens : {c : Kind → Bool} {d : ℕ} {t : Token} {ss : List Symbol} {ts us : List Token} → Alike (suc d) ss ts us →
+opens : {c : Kind → Bool} {d : ℕ} {t : Token} {ss : List GrammarSymbol} {ts us : List Token} → Alike (suc d) ss ts us →
     Alike d (Opening c ∷ ss) (t ∷ ts) (t ∷ us)
 opens a = record { forth = opens_forth a.forth; back = opens_back a.back }
 
-closes_forth : {ss : List Symbol} {ts us : List Token} → (Derives ss ts → Derives ss us) → Derives (Close ∷ ss) ts → Derives (Close ∷ ss) us
+closes_forth : {ss : List GrammarSymbol} {ts us : List Token} → (Derives ss ts → Derives ss us) → Derives (Close ∷ ss) ts → Derives (Close ∷ ss) us
 closes_forth go (closing x) = closing (go x)
 
-closes_back : {ss : List Symbol} {ts us : List Token} → ((x : Derives ss us) → Back 0 ss ts (levels 0 x)) → (x : Derives (Close ∷ ss) us) →
+closes_back : {ss : List GrammarSymbol} {ts us : List Token} → ((x : Derives ss us) → Back 0 ss ts (levels 0 x)) → (x : Derives (Close ∷ ss) us) →
     Back 1 (Close ∷ ss) ts (levels 1 x)
 closes_back go (closing x) = let b = go x in record { old = closing b.old; bounds = b.bounds }
 
-closes : {ss : List Symbol} {ts us : List Token} → Alike 0 ss ts us → Alike 1 (Close ∷ ss) ts us
+closes : {ss : List GrammarSymbol} {ts us : List Token} → Alike 0 ss ts us → Alike 1 (Close ∷ ss) ts us
 closes a = record { forth = closes_forth a.forth; back = closes_back a.back }
 
 -- a token that does not fit
 
-no_token : {c : Kind → Bool} {t : Token} {ss : List Symbol} {ts : List Token} → c t.kind ≡ false → Derives (One c ∷ ss) (t ∷ ts) → ⊥
+no_token : {c : Kind → Bool} {t : Token} {ss : List GrammarSymbol} {ts : List Token} → c t.kind ≡ false → Derives (One c ∷ ss) (t ∷ ts) → ⊥
 no_token unfit (token e x) = false≢true (sym unfit ∙ e)
 
-no_opening : {c : Kind → Bool} {t : Token} {ss : List Symbol} {ts : List Token} → c t.kind ≡ false → Derives (Opening c ∷ ss) (t ∷ ts) → ⊥
+no_opening : {c : Kind → Bool} {t : Token} {ss : List GrammarSymbol} {ts : List Token} → c t.kind ≡ false → Derives (Opening c ∷ ss) (t ∷ ts) → ⊥
 no_opening unfit (opening e x) = false≢true (sym unfit ∙ e)
 
 no_end : {t : Token} {ts : List Token} → Derives [] (t ∷ ts) → ⊥
 no_end x = elim x [ ]
 
-refused : {c : Kind → Bool} {d : ℕ} {t u : Token} {ss : List Symbol} {ts us : List Token} → c t.kind ≡ false → c u.kind ≡ false →
+refused : {c : Kind → Bool} {d : ℕ} {t u : Token} {ss : List GrammarSymbol} {ts us : List Token} → c t.kind ≡ false → c u.kind ≡ false →
     Alike d (One c ∷ ss) (t ∷ ts) (u ∷ us)
 refused unfit also = record { forth = λ x. absurd (no_token unfit x); back = λ x. absurd (no_token also x) }
 
-refused_opening : {c : Kind → Bool} {d : ℕ} {t u : Token} {ss : List Symbol} {ts us : List Token} → c t.kind ≡ false → c u.kind ≡ false →
+refused_opening : {c : Kind → Bool} {d : ℕ} {t u : Token} {ss : List GrammarSymbol} {ts us : List Token} → c t.kind ≡ false → c u.kind ≡ false →
     Alike d (Opening c ∷ ss) (t ∷ ts) (u ∷ us)
 refused_opening unfit also = record { forth = λ x. absurd (no_opening unfit x); back = λ x. absurd (no_opening also x) }
 
 -- rules
 
-rule_forth : {p : Part} {d : ℕ} {ss : List Symbol} {ts us : List Token} → ((then : List Symbol) → Among (rules p) then → Alike d (then ++ ss) ts us) →
+rule_forth : {p : Part} {d : ℕ} {ss : List GrammarSymbol} {ts us : List Token} → ((then : List GrammarSymbol) → Among (rules p) then → Alike d (then ++ ss) ts us) →
     Derives (A p ∷ ss) ts → Derives (A p ∷ ss) us
 rule_forth go (by_rule a x) = by_rule a ((go _ a).forth x)
 
-rule_back : {p : Part} {d : ℕ} {ss : List Symbol} {ts us : List Token} → ((then : List Symbol) → Among (rules p) then → Alike d (then ++ ss) ts us) →
+rule_back : {p : Part} {d : ℕ} {ss : List GrammarSymbol} {ts us : List Token} → ((then : List GrammarSymbol) → Among (rules p) then → Alike d (then ++ ss) ts us) →
     (x : Derives (A p ∷ ss) us) → Back d (A p ∷ ss) ts (levels d x)
 rule_back go (by_rule a x) = let b = (go _ a).back x in record { old = by_rule a b.old; bounds = b.bounds }
 
-by_rules : {p : Part} {d : ℕ} {ss : List Symbol} {ts us : List Token} → ((then : List Symbol) → Among (rules p) then → Alike d (then ++ ss) ts us) →
+by_rules : {p : Part} {d : ℕ} {ss : List GrammarSymbol} {ts us : List Token} → ((then : List GrammarSymbol) → Among (rules p) then → Alike d (then ++ ss) ts us) →
     Alike d (A p ∷ ss) ts us
 by_rules go = record { forth = rule_forth go; back = rule_back go }
 
-first_rule : {s : List Symbol} {d : ℕ} (ss : List Symbol) {ts us : List Token} → Alike d (s ++ ss) ts us → (then : List Symbol) →
+first_rule : {s : List GrammarSymbol} {d : ℕ} (ss : List GrammarSymbol) {ts us : List Token} → Alike d (s ++ ss) ts us → (then : List GrammarSymbol) →
     Among (Otherwise s ∷ []) then → Alike d (then ++ ss) ts us
 first_rule ss a then untested = a
 first_rule ss a then (below x) = elim x [ ]
 
-first_rules : {p : Part} {s : List Symbol} {d : ℕ} {ss : List Symbol} {ts us : List Token} → rules p ≡ Otherwise s ∷ [] → Alike d (s ++ ss) ts us →
+first_rules : {p : Part} {s : List GrammarSymbol} {d : ℕ} {ss : List GrammarSymbol} {ts us : List Token} → rules p ≡ Otherwise s ∷ [] → Alike d (s ++ ss) ts us →
     Alike d (A p ∷ ss) ts us
 first_rules {ss = ss} is a = by_rules (λ then among. first_rule ss a then (subst (λ (rs : List Rule). Among rs then) is among))
 
-two : {c : Kind → Bool} {s r : List Symbol} {d : ℕ} (ss : List Symbol) {ts us : List Token} → Alike d (s ++ ss) ts us → Alike d (r ++ ss) ts us →
-    (then : List Symbol) → Among (Begins c s ∷ Otherwise r ∷ []) then → Alike d (then ++ ss) ts us
+two : {c : Kind → Bool} {s r : List GrammarSymbol} {d : ℕ} (ss : List GrammarSymbol) {ts us : List Token} → Alike d (s ++ ss) ts us → Alike d (r ++ ss) ts us →
+    (then : List GrammarSymbol) → Among (Begins c s ∷ Otherwise r ∷ []) then → Alike d (then ++ ss) ts us
 two ss a b then tested = a
 two ss a b then (below untested) = b
 two ss a b then (below (below x)) = elim x [ ]
 
-two_rules : {p : Part} {c : Kind → Bool} {s r : List Symbol} {d : ℕ} {ss : List Symbol} {ts us : List Token} →
+two_rules : {p : Part} {c : Kind → Bool} {s r : List GrammarSymbol} {d : ℕ} {ss : List GrammarSymbol} {ts us : List Token} →
     rules p ≡ Begins c s ∷ Otherwise r ∷ [] → Alike d (s ++ ss) ts us → Alike d (r ++ ss) ts us → Alike d (A p ∷ ss) ts us
 two_rules {ss = ss} is a b = by_rules (λ then among. two ss a b then (subst (λ (rs : List Rule). Among rs then) is among))
 
-along : {d : ℕ} {ss : List Symbol} {ts us vs ws : List Token} → ts ≡ vs → us ≡ ws → Alike d ss vs ws → Alike d ss ts us
+along : {d : ℕ} {ss : List GrammarSymbol} {ts us vs ws : List Token} → ts ≡ vs → us ≡ ws → Alike d ss vs ws → Alike d ss ts us
 along {d = d} {ss = ss} {us = us} {vs = vs} p q a = subst (λ l. Alike d ss l us) (sym p) (subst (λ l. Alike d ss vs l) (sym q) a)
 
 -- the same kinds
@@ -134,7 +134,7 @@ SameKinds [] (u ∷ us) = ⊥
 SameKinds (t ∷ ts) [] = ⊥
 SameKinds (t ∷ ts) (u ∷ us) = (t.kind ≡ u.kind) × SameKinds ts us
 
-kinds_back : {ss : List Symbol} {us : List Token} (d : ℕ) (ts : List Token) → SameKinds ts us → (x : Derives ss us) → Back d ss ts (levels d x)
+kinds_back : {ss : List GrammarSymbol} {us : List Token} (d : ℕ) (ts : List Token) → SameKinds ts us → (x : Derives ss us) → Back d ss ts (levels d x)
 kinds_back d [] k ends = record { old = ends; bounds = λ all. all }
 kinds_back d (t ∷ ts) k ends = absurd k
 kinds_back d [] k (token e x) = absurd k
@@ -156,7 +156,7 @@ later_kinds : (ts : List Token) → SameKinds ts (map later ts)
 later_kinds [] = tt
 later_kinds (t ∷ ts) = (refl, later_kinds ts)
 
-renamed : {d : ℕ} {ss : List Symbol} (ts : List Token) → Alike d ss ts (map later ts)
+renamed : {d : ℕ} {ss : List GrammarSymbol} (ts : List Token) → Alike d ss ts (map later ts)
 renamed {d = d} ts = record {
   forth = λ x. (kinds_back 0 (map later ts) (turned ts (map later ts) (later_kinds ts)) x).old;
   back = λ x. kinds_back d ts (later_kinds ts) x;
@@ -164,7 +164,7 @@ renamed {d = d} ts = record {
 
 -- imports that stay
 
-no_import : {c : Kind → Bool} {d : ℕ} {ss : List Symbol} (i : ImportTree) (ts us : List Token) → c kind.Name ≡ false → c kind.Text ≡ false →
+no_import : {c : Kind → Bool} {d : ℕ} {ss : List GrammarSymbol} (i : ImportTree) (ts us : List Token) → c kind.Name ≡ false → c kind.Text ≡ false →
     Alike d (One c ∷ ss) (import_tokens i ++ ts) (import_tokens i ++ us)
 unfolding import_tokens
 no_import {c = c} {d = d} {ss = ss} i ts us name text = by_name i.name
@@ -174,7 +174,7 @@ no_import {c = c} {d = d} {ss = ss} i ts us name text = by_name i.name
     by_name None = refused text text
     by_name (Some n) = refused name name
 
-single_kept : {d : ℕ} {ss : List Symbol} {ts us : List Token} (i : ImportTree) → Alike d ss ts us →
+single_kept : {d : ℕ} {ss : List GrammarSymbol} {ts us : List Token} (i : ImportTree) → Alike d ss ts us →
     Alike d (A (Single ImportItem) ∷ ss) (import_tokens i ++ ts) (import_tokens i ++ us)
 unfolding import_tokens
 single_kept {d = d} {ss = ss} {ts = ts} {us = us} i a = by_name i.name
@@ -184,7 +184,7 @@ single_kept {d = d} {ss = ss} {ts = ts} {us = us} i a = by_name i.name
     by_name None = two_rules refl (refused refl refl) (one refl a)
     by_name (Some n) = two_rules refl (one refl (one refl a)) (refused refl refl)
 
-no_group : {d : ℕ} {ss : List Symbol} {ts us : List Token} (i : ImportTree) → Alike d ss ts us →
+no_group : {d : ℕ} {ss : List GrammarSymbol} {ts us : List Token} (i : ImportTree) → Alike d ss ts us →
     Alike d (A (GroupOf ImportItem) ∷ ss) (import_tokens i ++ ts) (import_tokens i ++ us)
 unfolding import_tokens
 no_group {d = d} {ss = ss} {ts = ts} {us = us} i a = two_rules refl (by_name i.name) (single_kept i a)
@@ -204,7 +204,7 @@ unfolding all_tokens
 list_more y ys ts = append_assoc (import_tokens y.value ++ sign_if kind.Semicolon y.separator) (list ys) ts
     ∙ append_assoc (import_tokens y.value) (sign_if kind.Semicolon y.separator) (list ys ++ ts)
 
-behind : {d : ℕ} {ss : List Symbol} {ts us : List Token} (o : Option ℕ) (ys : List (Item ImportTree)) →
+behind : {d : ℕ} {ss : List GrammarSymbol} {ts us : List Token} (o : Option ℕ) (ys : List (Item ImportTree)) →
     Alike d (A (Items ImportItem) ∷ ss) (list ys ++ ts) (list ys ++ us) → Alike d (A (MoreItems ImportItem) ∷ ss) ts us →
     Alike d (A (MoreItems ImportItem) ∷ ss) (sign_if kind.Semicolon o ++ (list ys ++ ts)) (sign_if kind.Semicolon o ++ (list ys ++ us))
 unfolding all_tokens
@@ -216,7 +216,7 @@ behind {ts = ts} {us = us} None (y ∷ ys) rest next =
     (two_rules refl (no_import y.value (mark ++ (list ys ++ ts)) (mark ++ (list ys ++ us)) refl refl)
     (no_import y.value (mark ++ (list ys ++ ts)) (mark ++ (list ys ++ us)) refl refl))
 
-items : {d : ℕ} {ss : List Symbol} {ts us : List Token} (ys : List (Item ImportTree)) → Alike d (A (Items ImportItem) ∷ ss) ts us →
+items : {d : ℕ} {ss : List GrammarSymbol} {ts us : List Token} (ys : List (Item ImportTree)) → Alike d (A (Items ImportItem) ∷ ss) ts us →
     Alike d (A (MoreItems ImportItem) ∷ ss) ts us → Alike d (A (Items ImportItem) ∷ ss) (list ys ++ ts) (list ys ++ us)
 unfolding all_tokens
 items [] first next = first
@@ -226,7 +226,7 @@ items {ts = ts} {us = us} (y ∷ ys) first next =
     (two_rules refl (no_import y.value (mark ++ (list ys ++ ts)) (mark ++ (list ys ++ us)) refl refl)
     (single_kept y.value (behind y.separator ys (items ys first next) next)))
 
-group_kept : {ss : List Symbol} {ts us : List Token} (x : Group ImportTree) → Alike 0 ss ts us →
+group_kept : {ss : List GrammarSymbol} {ts us : List Token} (x : Group ImportTree) → Alike 0 ss ts us →
     Alike 0 (A (GroupOf ImportItem) ∷ ss) (group_tokens import_tokens x ++ ts) (group_tokens import_tokens x ++ us)
 unfolding group_tokens
 group_kept (single i) a = no_group i a
@@ -241,7 +241,7 @@ group_kept {ts = ts} {us = us} (several o xs c) a =
 nothing : {t u : Token} {ts us : List Token} → Alike 0 [] (t ∷ ts) (u ∷ us)
 nothing = record { forth = λ x. absurd (no_end x); back = λ x. absurd (no_end x) }
 
-tops : (n : ℕ) (ts us : List Token) (then : List Symbol) → Among (rules Tops) then →
+tops : (n : ℕ) (ts us : List Token) (then : List GrammarSymbol) → Among (rules Tops) then →
     Alike 0 (then ++ []) (sign kind.Import n ∷ ts) (sign kind.Import n ∷ us)
 tops n ts us then tested = refused refl refl
 tops n ts us then (below tested) = refused refl refl
@@ -266,40 +266,40 @@ imports_kept {ts = ts} {us = us} (x ∷ xs) a =
 
 -- the import that gains the name
 
-after_one : {c : Kind → Bool} {t : Token} {ss : List Symbol} {ts : List Token} → Derives (One c ∷ ss) (t ∷ ts) → Derives ss ts
+after_one : {c : Kind → Bool} {t : Token} {ss : List GrammarSymbol} {ts : List Token} → Derives (One c ∷ ss) (t ∷ ts) → Derives ss ts
 after_one (token e x) = x
 
-bare_rest : {then ss : List Symbol} {n : ℕ} {ts : List Token} → Among (rules (Single ImportItem)) then → Derives (then ++ ss) (sign kind.Text n ∷ ts) →
+bare_rest : {then ss : List GrammarSymbol} {n : ℕ} {ts : List Token} → Among (rules (Single ImportItem)) then → Derives (then ++ ss) (sign kind.Text n ∷ ts) →
     Derives ss ts
 bare_rest tested x = absurd (no_token refl x)
 bare_rest (below untested) x = after_one x
 bare_rest (below (below q)) x = elim q [ ]
 
-named_forth : {ss : List Symbol} {n m : ℕ} {ts us : List Token} → (Derives ss ts → Derives ss us) →
+named_forth : {ss : List GrammarSymbol} {n m : ℕ} {ts us : List Token} → (Derives ss ts → Derives ss us) →
     Derives (A (Single ImportItem) ∷ ss) (sign kind.Text n ∷ ts) → Derives (A (Single ImportItem) ∷ ss) (sign kind.Name n ∷ sign kind.Text m ∷ us)
 named_forth go (by_rule a x) = by_rule tested (token refl (token refl (go (bare_rest a x))))
 
-both_back : {c b : Kind → Bool} {d : ℕ} {t u v : Token} {ss : List Symbol} {ts us : List Token} → b t.kind ≡ true →
+both_back : {c b : Kind → Bool} {d : ℕ} {t u v : Token} {ss : List GrammarSymbol} {ts us : List Token} → b t.kind ≡ true →
     ((x : Derives ss us) → Back d ss ts (levels d x)) → (x : Derives (One c ∷ One b ∷ ss) (u ∷ v ∷ us)) → Back d (One b ∷ ss) (t ∷ ts) (levels d x)
 both_back fits go (token e (token f x)) = let k = go x in record { old = token fits k.old; bounds = λ all. (all.0, (all.0, k.bounds all.1)) }
 
-named_rest : {d : ℕ} {then ss : List Symbol} {n m : ℕ} {ts us : List Token} → ((x : Derives ss us) → Back d ss ts (levels d x)) →
+named_rest : {d : ℕ} {then ss : List GrammarSymbol} {n m : ℕ} {ts us : List Token} → ((x : Derives ss us) → Back d ss ts (levels d x)) →
     Among (rules (Single ImportItem)) then → (x : Derives (then ++ ss) (sign kind.Name n ∷ sign kind.Text m ∷ us)) →
     Back d (A (Single ImportItem) ∷ ss) (sign kind.Text n ∷ ts) (levels d x)
 named_rest go tested x = let k = both_back refl go x in record { old = by_rule (below untested) k.old; bounds = k.bounds }
 named_rest go (below untested) x = absurd (no_token refl x)
 named_rest go (below (below q)) x = elim q [ ]
 
-named_back : {d : ℕ} {ss : List Symbol} {n m : ℕ} {ts us : List Token} → ((x : Derives ss us) → Back d ss ts (levels d x)) →
+named_back : {d : ℕ} {ss : List GrammarSymbol} {n m : ℕ} {ts us : List Token} → ((x : Derives ss us) → Back d ss ts (levels d x)) →
     (x : Derives (A (Single ImportItem) ∷ ss) (sign kind.Name n ∷ sign kind.Text m ∷ us)) →
     Back d (A (Single ImportItem) ∷ ss) (sign kind.Text n ∷ ts) (levels d x)
 named_back go (by_rule a x) = named_rest go a x
 
-single_named : {d : ℕ} {ss : List Symbol} {n m : ℕ} {ts us : List Token} → Alike d ss ts us →
+single_named : {d : ℕ} {ss : List GrammarSymbol} {n m : ℕ} {ts us : List Token} → Alike d ss ts us →
     Alike d (A (Single ImportItem) ∷ ss) (sign kind.Text n ∷ ts) (sign kind.Name n ∷ sign kind.Text m ∷ us)
 single_named a = record { forth = named_forth a.forth; back = named_back a.back }
 
-group_named : {ss : List Symbol} (n m : ℕ) (rest : List Token) (x : AroundItem) →
+group_named : {ss : List GrammarSymbol} (n m : ℕ) (rest : List Token) (x : AroundItem) →
     Alike 0 (A (GroupOf ImportItem) ∷ ss) (left_item x ++ (sign kind.Text n ∷ rest)) (left_item x ++ (sign kind.Name n ∷ sign kind.Text m ∷ map later rest))
 group_named n m rest alone = two_rules refl (refused_opening refl refl) (single_named (renamed rest))
 group_named n m rest (among o before separator after c) =

@@ -18,8 +18,8 @@ pub record Renames (l : Layout) (before : Names) (d : ℕ) (y : List ℕ) (after
   pub renaming : IsRenaming l before d y after
 
 -- Each identifier that is bound stays bound to its declaration.
-abbrev pub KeepsBindings : Layout → Names → Names → Type 0
-KeepsBindings l before after = (u e : ℕ) → IsBoundTo l before u e → IsBoundTo l after u e
+abbrev pub KeepsScopeBindings : Layout → Names → Names → Type 0
+KeepsScopeBindings l before after = (u e : ℕ) → IsBoundTo l before u e → IsBoundTo l after u e
 
 -- Each identifier that is bound stays bound to its declaration, except for those that declare imports.
 abbrev pub KeepsOtherBindings : Layout → Names → Names → Type 0

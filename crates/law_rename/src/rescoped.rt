@@ -2,14 +2,14 @@
 ghost use Rattle.std.specs.Prelude.{◌≡◌, ◌↔◌, ℕ, List};
 ghost use Rattle.go_scope.specs.Bindings.{Layout, Names, Declares, AllCount, IsUse, IsBoundTo, IsPackageLevel};
 ghost use Rattle.types_declared.specs.Laid.{is_exported};
-ghost use Rattle.law_rename.specs.Renaming.{Renames, KeepsBindings, KeepsOtherBindings, HasSameBindings, IsLost, IsCaptured, IsBoundAnew};
+ghost use Rattle.law_rename.specs.Renaming.{Renames, KeepsScopeBindings, KeepsOtherBindings, HasSameBindings, IsLost, IsCaptured, IsBoundAnew};
 ghost use Rattle.law_rename.specs.Renaming.{WouldAssign, WouldCapture, WouldLose, WouldBind, HasNoConflict, HasNoConflictAt, AreImportsUsed, AreUsesBound};
 ghost use Rattle.law_rename.specs.Seen.{IsExportedAs};
 
 /// Each bound identifier stays bound to its declaration exactly if the old names show no conflict.
 pub fn bindings_are_kept_without_conflicts()
     ensures { (l : Layout) → (before : Names) → (d : ℕ) → (y : List ℕ) → (after : Names) → Renames l before d y after →
-        KeepsBindings l before after ↔ HasNoConflict l before d y }
+        KeepsScopeBindings l before after ↔ HasNoConflict l before d y }
 {}
 
 /// One identifier stays bound to its declaration exactly if the old names show no conflict at it.
@@ -55,22 +55,22 @@ pub fn declarations_stay_unless_they_assign()
 /// becomes unbound, and no import becomes unused.
 pub fn kept_bindings_bring_no_fault()
     ensures declarations { (l : Layout) → (before : Names) → (d : ℕ) → (y : List ℕ) → (after : Names) → Renames l before d y after →
-        KeepsBindings l before after → (x : ℕ) → Declares l before x ↔ Declares l after x }
+        KeepsScopeBindings l before after → (x : ℕ) → Declares l before x ↔ Declares l after x }
     ensures uses { (l : Layout) → (before : Names) → (d : ℕ) → (y : List ℕ) → (after : Names) → Renames l before d y after →
-        KeepsBindings l before after → (u : ℕ) → IsUse l before u ↔ IsUse l after u }
+        KeepsScopeBindings l before after → (u : ℕ) → IsUse l before u ↔ IsUse l after u }
     ensures none_repeated { (l : Layout) → (before : Names) → (d : ℕ) → (y : List ℕ) → (after : Names) → Renames l before d y after →
-        KeepsBindings l before after → AllCount l after }
+        KeepsScopeBindings l before after → AllCount l after }
     ensures uses_bound { (l : Layout) → (before : Names) → (d : ℕ) → (y : List ℕ) → (after : Names) → Renames l before d y after →
-        AreUsesBound l before → KeepsBindings l before after → AreUsesBound l after }
+        AreUsesBound l before → KeepsScopeBindings l before after → AreUsesBound l after }
     ensures imports_used { (l : Layout) → (before : Names) → (d : ℕ) → (y : List ℕ) → (after : Names) → Renames l before d y after →
-        AreImportsUsed l before → KeepsBindings l before after → AreImportsUsed l after }
+        AreImportsUsed l before → KeepsScopeBindings l before after → AreImportsUsed l after }
 {}
 
 /// If no import is unused and all other identifiers stay bound, imports stay bound to themselves. An import that no longer counts has a use
 /// that is captured: it gives way to a declaration of the package or to another import.
 pub fn imports_are_kept_where_all_else_is()
     ensures { (l : Layout) → (before : Names) → (d : ℕ) → (y : List ℕ) → (after : Names) → Renames l before d y after →
-        AreImportsUsed l before → KeepsOtherBindings l before after → KeepsBindings l before after }
+        AreImportsUsed l before → KeepsOtherBindings l before after → KeepsScopeBindings l before after }
 {}
 
 /// Where all bindings stay the same, renaming back is a rename too.
@@ -84,13 +84,13 @@ pub fn a_rename_can_be_renamed_back()
 /// one. Under all other names they see what they saw.
 pub fn exports_follow_the_name()
     ensures renamed { (l : Layout) → (before : Names) → (d : ℕ) → (y : List ℕ) → (after : Names) → Renames l before d y after →
-        KeepsBindings l before after → IsPackageLevel l d →
+        KeepsScopeBindings l before after → IsPackageLevel l d →
         ((e : ℕ) → IsExportedAs l before (before d) e ↔ IsExportedAs l after y e) ↔ (is_exported (before d) ≡ is_exported y) }
     ensures new_was_free { (l : Layout) → (before : Names) → (d : ℕ) → (y : List ℕ) → (after : Names) → Renames l before d y after →
-        KeepsBindings l before after → IsPackageLevel l d → (e : ℕ) → IsExportedAs l before y e → ⊥ }
+        KeepsScopeBindings l before after → IsPackageLevel l d → (e : ℕ) → IsExportedAs l before y e → ⊥ }
     ensures old_is_free { (l : Layout) → (before : Names) → (d : ℕ) → (y : List ℕ) → (after : Names) → Renames l before d y after →
-        KeepsBindings l before after → IsPackageLevel l d → (e : ℕ) → IsExportedAs l after (before d) e → ⊥ }
+        KeepsScopeBindings l before after → IsPackageLevel l d → (e : ℕ) → IsExportedAs l after (before d) e → ⊥ }
     ensures others { (l : Layout) → (before : Names) → (d : ℕ) → (y : List ℕ) → (after : Names) → Renames l before d y after →
-        KeepsBindings l before after → (name : List ℕ) → (name ≡ before d → ⊥) → (name ≡ y → ⊥) → (e : ℕ) →
+        KeepsScopeBindings l before after → (name : List ℕ) → (name ≡ before d → ⊥) → (name ≡ y → ⊥) → (e : ℕ) →
         IsExportedAs l before name e ↔ IsExportedAs l after name e }
 {}

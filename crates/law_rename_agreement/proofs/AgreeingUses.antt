@@ -12,7 +12,7 @@ use Rattle.types_expr.specs.World.{World}
 use Rattle.types_stmt.specs.Declarations.{check_file}
 use Rattle.law_typing.proofs.IdenticalTypes.{types_same, same_types}
 use Rattle.law_typing.proofs.Tests.{and_first, and_second, and_both}
-use Rattle.law_member_uses.specs.MemberUses.{KeepsInit}
+use Rattle.law_member_uses.specs.MemberUses.{AgreesOnInit}
 use Rattle.law_member_uses.proofs.Agreement.{Members, with_members}
 use Rattle.law_member_uses.proofs.FileUses.{files_ask}
 
@@ -60,7 +60,7 @@ asks (x ∷ xs) u h = elim (first_or_later x xs u h) [
   | inr later ↦ ap (λ b. is_that x u.place u.before || b) (asks xs u later) ∙ or_true (is_that x u.place u.before)
 ]
 
-keeps_itself : (is_init : ℕ → Bool) (d : DeclTree) → KeepsInit is_init is_init d
+keeps_itself : (is_init : ℕ → Bool) (d : DeclTree) → AgreesOnInit is_init is_init d
 keeps_itself is_init (VarDecl k g s) = tt
 keeps_itself is_init (TypeDecl k g s) = tt
 keeps_itself is_init (FuncDecl k f s) = λ e. refl
@@ -70,7 +70,7 @@ abbrev pub AgreeAtCommonUses : World → World → List MemberUse → List Membe
 AgreeAtCommonUses v w a b = (u x : MemberUse) → Contains a u → Contains b x → x.place ≡ u.place → x.before ≡ u.before →
     w.member u.place u.before ≡ v.member u.place u.before
 
-module _ (v w : World) (old new : ℕ → Bool) (f : FileTree) (keeps : (d : DeclTree) → Contains f.decls d → KeepsInit old new d)
+module _ (v w : World) (old new : ℕ → Bool) (f : FileTree) (keeps : (d : DeclTree) → Contains f.decls d → AgreesOnInit old new d)
     (bound : (token : ℕ) → w.bound token ≡ v.bound token) (definition : (s : Symbol) → w.definition s ≡ v.definition s)
     (agree : AgreeAtCommonUses v w (check_file v old f).uses (check_file w new f).uses) where
   abbrev uses : List MemberUse

@@ -10,7 +10,7 @@ use Rattle.base_edits.specs.RevisionsOfEdits.{revision_of}
 use Rattle.go_ast.specs.SourceFile.{spelling_of}
 use Rattle.go_scope.specs.declared.model.Position.{Position}
 use Rattle.go_respelled.specs.Trees.{renamed_file}
-use Rattle.types_stmt.specs.Checked.{Checked}
+use Rattle.types_stmt.specs.Checked.{FoundSoFar}
 use Rattle.types_stmt.specs.Declarations.{check_file}
 use Rattle.types_declared.specs.Package.{Package, spelled, spelled_at}
 use Rattle.types_info.specs.Worlds.{is_init}
@@ -20,7 +20,7 @@ use Rattle.refs_binding.specs.declared.declaration.Declaration.TheVariants.{Pred
 use Rattle.refs_binding.specs.Binding.{declaration_of}
 use Rattle.refs_binding.specs.DeclaringPlaces.{TokenBegins}
 use Rattle.refs_binding.specs.Identifiers.{BeginsAt, NameBegins, file_of}
-use Rattle.refs_binding.specs.Uses.{IsPackage}
+use Rattle.refs_binding.specs.Uses.{IsCheckedPackage}
 use Rattle.refs_binding.proofs.Folders.{some_file}
 use Rattle.refactor_after.specs.MembersAfter.{IsMemberAfter}
 use Rattle.refactor_conflict.specs.Staying.{StaysByMember, StaysByName}
@@ -35,7 +35,7 @@ use Rattle.law_rename_agrees.proofs.UnboundStay.{field_counts, method_counts}
 use Rattle.law_rename_agreement.proofs.KeptUses.{q, is, relaid, stays, finds_same, same_members, use_selects}
 
 module _ (w : Workspace) (known : Verdicts) (d : Declaration) (name : List ℕ) (s : FileChanges) (after : Verdicts)
-    (kept : IsKeptRename w known d name s after) (p : Package) (was : IsPackage w known p) (u : ℕ) (place : Place)
+    (kept : IsKeptRename w known d name s after) (p : Package) (was : IsCheckedPackage w known p) (u : ℕ) (place : Place)
     (begins : BeginsAt p place.path place.offset u) where
   abbrev r : Revision
   r = revision_of w s
@@ -44,7 +44,7 @@ module _ (w : Workspace) (known : Verdicts) (d : Declaration) (name : List ℕ) 
   x = edited s w
 
   abbrev Known : Package → Type 0
-  Known = IsPackage w known
+  Known = IsCheckedPackage w known
 
   abbrev new : Package
   new = q w known d name s after kept p was
@@ -75,7 +75,7 @@ module _ (w : Workspace) (known : Verdicts) (d : Declaration) (name : List ℕ) 
       let z = have_worlds x kept.sound after kept.right new is_new at.file g to in
       let found = finds_same w known d name s after kept p was at.file f g v z.0 b.judged.in_file to b.judged.judged_by z.1 in
       let among : Contains (check_file v (is_init f) f.tree).uses b.found = subst (λ us. Contains us b.found) b.judged.found b.is_use in
-      let among_now : Contains (check_file z.0 (is_init g) g.tree).uses b.found = subst (λ (c : Checked). Contains c.uses b.found) (sym found) among in
+      let among_now : Contains (check_file z.0 (is_init g) g.tree).uses b.found = subst (λ (c : FoundSoFar). Contains c.uses b.found) (sym found) among in
       let same = same_members w known d name s after kept p was at.file f g v z.0 b.judged.in_file to b.judged.judged_by z.1 b.found b.found among among_now
       refl refl in
       let now : z.0.member b.found.place b.found.before ≡ Some b.member = same ∙ ap (λ i. v.member i b.found.before) b.at ∙ b.is_member in

@@ -19,7 +19,7 @@ use Rattle.refs_binding.specs.declared.declaration.Declaration.TheVariants.{Pred
 use Rattle.refs_binding.specs.Binding.{BindsByMember, DeclaresMember, by_member}
 use Rattle.refs_binding.specs.DeclaringPlaces.{TokenAt}
 use Rattle.refs_binding.specs.Identifiers.{BeginsAt, IsInFiles}
-use Rattle.refs_binding.specs.Uses.{IsPackage, IsBoundTo, IsUseOf}
+use Rattle.refs_binding.specs.Uses.{IsCheckedPackage, IsBoundToDeclaration, IsUseOf}
 use Rattle.refs_binding.proofs.Folders.{begins_in_folder}
 use Rattle.refs_binding.proofs.Units.{one_package}
 use Rattle.refs_lookup.proofs.BoundNamedMembers.{one_by_name}
@@ -50,17 +50,17 @@ module _ (w : Workspace) (known : Verdicts) (d : Declaration) (name : List ℕ) 
   x = edited s w
 
   -- each package is there afterwards, relaid
-  pub there : (p : Package) → IsPackage w known p → (q : Package) × (IsPackage x after q × IsRelaid r p q)
+  pub there : (p : Package) → IsCheckedPackage w known p → (q : Package) × (IsCheckedPackage x after q × IsRelaid r p q)
   there p is = packages_are w known after d name s kept.rename kept.right p is (kept_below w known d name s after kept p.path)
 
-  pub begins_moved : (p : Package) (is : IsPackage w known p) (u : ℕ) (place : Place) → BeginsAt p place.path place.offset u →
+  pub begins_moved : (p : Package) (is : IsCheckedPackage w known p) (u : ℕ) (place : Place) → BeginsAt p place.path place.offset u →
       BeginsAt (there p is).0 (r.moved place).path (r.moved place).offset u
   begins_moved p is u place b =
       let q = there p is in (moved_tokens w known after d name s kept.rename p q.0 is q.1.0 q.1.1).names u place b
 
   -- an identifier and what it is bound to afterwards
-  pub bound_after : (p : Package) (is : IsPackage w known p) (u : ℕ) (place : Place) → BeginsAt p place.path place.offset u → (e : Declaration) →
-      IsUseOf x after e (r.moved place) → IsBoundTo x after (there p is).0 u e
+  pub bound_after : (p : Package) (is : IsCheckedPackage w known p) (u : ℕ) (place : Place) → BeginsAt p place.path place.offset u → (e : Declaration) →
+      IsUseOf x after e (r.moved place) → IsBoundToDeclaration x after (there p is).0 u e
   bound_after p is u place b e now =
       let q = there p is in
       let to = r.moved place in
@@ -68,16 +68,16 @@ module _ (w : Workspace) (known : Verdicts) (d : Declaration) (name : List ℕ) 
       let same : now.used_in ≡ q.0 = same_package x after to now.used_in q.0 now.is_package q.1.0 now.user u now.begins begins in
       let own : BeginsAt q.0 to.path to.offset now.user = subst (λ (z : Package). BeginsAt z to.path to.offset now.user) same now.begins in
       let user : now.user ≡ u = one_begins x after q.0.path q.0 q.1.0.is_checked to.path to.offset now.user u own begins in
-      subst (λ v. IsBoundTo x after q.0 v e) user (subst (λ (z : Package). IsBoundTo x after z now.user e) same now.bound)
+      subst (λ v. IsBoundToDeclaration x after q.0 v e) user (subst (λ (z : Package). IsBoundToDeclaration x after z now.user e) same now.bound)
 
   abbrev Goes : Declaration → Declaration → Type 0
-  Goes old e = Corresponds (IsPackage w known) (IsPackage x after) r.moved old e
+  Goes old e = Corresponds (IsCheckedPackage w known) (IsCheckedPackage x after) r.moved old e
 
   predeclared_no_member : (old : Declaration) (n : ℕ) → old ≡ Predeclared n → IsMember old → ⊥
   predeclared_no_member old n same m = subst IsMember same m
 
   -- members that correspond are one
-  members_stand : (old e : Declaration) → IsMember old → IsMember e → StandBoth (IsPackage w known) (IsPackage x after) r.moved old e → e ≡ old
+  members_stand : (old e : Declaration) → IsMember old → IsMember e → StandBoth (IsCheckedPackage w known) (IsCheckedPackage x after) r.moved old e → e ≡ old
   members_stand old e m n t =
       let to = r.moved t.place in
       let a = named_there w known old m t.place t.old in
@@ -95,14 +95,14 @@ module _ (w : Workspace) (known : Verdicts) (d : Declaration) (name : List ℕ) 
       one_by_name p (files_in_order w known p.path p a.is_package.is_checked) a.user e old was a.declares
 
   pub same_member : (old e : Declaration) → IsMember old → IsMember e → Goes old e → e ≡ old
-  same_member old e m n h = elim (by_cases (IsPackage w known) (IsPackage x after) r.moved old e h) [
+  same_member old e m n h = elim (by_cases (IsCheckedPackage w known) (IsCheckedPackage x after) r.moved old e h) [
     | inl names ↦ absurd (predeclared_no_member old names.number names.one m)
     | inr t ↦ members_stand old e m n t
   ]
 
   -- what scopes declare corresponds to no member
   scopes_apart : (path : List ℕ) (n : ℕ) (e : Declaration) → IsMember e →
-      StandBoth (IsPackage w known) (IsPackage x after) r.moved (Declared path n) e → ⊥
+      StandBoth (IsCheckedPackage w known) (IsCheckedPackage x after) r.moved (Declared path n) e → ⊥
   scopes_apart path n e m t =
       let to = r.moved t.place in
       let c = t.old.inside in
@@ -133,7 +133,7 @@ module _ (w : Workspace) (known : Verdicts) (d : Declaration) (name : List ℕ) 
       (ap (λ (k : Layout). k.role l) (sym q.1.1.layout) ∙ ap q.0.layout.role one ∙ role)
 
   pub declared_no_member : (path : List ℕ) (n : ℕ) (e : Declaration) → Goes (Declared path n) e → IsMember e → ⊥
-  declared_no_member path n e h m = elim (by_cases (IsPackage w known) (IsPackage x after) r.moved (Declared path n) e h) [
+  declared_no_member path n e h m = elim (by_cases (IsCheckedPackage w known) (IsCheckedPackage x after) r.moved (Declared path n) e h) [
     | inl names ↦ (let z : Declared path n ≡ Predeclared names.number = names.one in let no : ⊥ = cc in no)
     | inr t ↦ scopes_apart path n e m t
   ]

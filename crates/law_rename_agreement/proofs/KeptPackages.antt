@@ -17,7 +17,7 @@ use Rattle.workspace_check.proofs.Closed.{to_package}
 use Rattle.workspace_check.proofs.OnePackage.{one_checked, layout_formed, files_in_order}
 use Rattle.workspace_check.proofs.SameImports.{imports_back, builds_by}
 use Rattle.refs_binding.specs.declared.declaration.Declaration.{Declaration}
-use Rattle.refs_binding.specs.Uses.{IsPackage}
+use Rattle.refs_binding.specs.Uses.{IsCheckedPackage}
 use Rattle.law_same_bindings.specs.SameBindings.{IsBoundAlike}
 use Rattle.law_same_bindings.proofs.Alike.{of_bound}
 use Rattle.law_renamed_packages.specs.Layouts.{IsRelaid}
@@ -44,15 +44,15 @@ use Rattle.law_rename_agreement.proofs.MembersThere.{HasNewMembers, exported_mem
 -- The verdict on a package has moved, and the definitions of its export data have the new members.
 pub record IsKeptVerdict (w : Workspace) (known after : Verdicts) (r : Revision) (path : List ℕ) : Type 0 where
   pub moved : IsMovedVerdict w known after r path
-  pub members : (definition : ℕ) → HasNewMembers (IsPackage w known) r path definition ((after path).export_data.definition definition)
+  pub members : (definition : ℕ) → HasNewMembers (IsCheckedPackage w known) r path definition ((after path).export_data.definition definition)
 
 -- The package `q` is `p` after the change. It sees of other packages what `p` saw, with all fields under their new names.
 pub record IsKeptPackage (w : Workspace) (known after : Verdicts) (s : FileChanges) (p q : Package) : Type 0 where
   pub stays : IsPackageAfter w known after s p q
-  pub fields : AreFieldsSeenAfter (IsPackage w known) (revision_of w s) p q
+  pub fields : AreFieldsSeenAfter (IsCheckedPackage w known) (revision_of w s) p q
 
 -- the export data of a package of a workspace without faults
-data_for : (x : Workspace) → ListsFaults x [] → (known : Verdicts) → AreVerdicts x known → (p : Package) → IsPackage x known p →
+data_for : (x : Workspace) → ListsFaults x [] → (known : Verdicts) → AreVerdicts x known → (p : Package) → IsCheckedPackage x known p →
     IsExportData p (known p.path).export_data
 data_for x sound known right p is =
     let h = data_of x known right sound p.path is.of_workspace in
@@ -67,7 +67,7 @@ module _ (w : Workspace) (known : Verdicts) (d : Declaration) (name : List ℕ) 
   x = edited s w
 
   abbrev Known : Package → Type 0
-  Known = IsPackage w known
+  Known = IsCheckedPackage w known
 
   abbrev sound : ListsFaults w []
   sound = kept.rename.rename.sound
@@ -81,11 +81,11 @@ module _ (w : Workspace) (known : Verdicts) (d : Declaration) (name : List ℕ) 
   same_back : HaveSameImports x w
   same_back = imports_back w x same
 
-  module _ (p : Package) (was : IsPackage w known p) (below : (o : List ℕ) → BuildsOn w p.path o → IsKeptVerdict w known after r o) where
+  module _ (p : Package) (was : IsCheckedPackage w known p) (below : (o : List ℕ) → BuildsOn w p.path o → IsKeptVerdict w known after r o) where
     abbrev q : Package
     q = (there w known d name s after kept p was).0
 
-    is : IsPackage x after q
+    is : IsCheckedPackage x after q
     is = (there w known d name s after kept p was).1.0
 
     relaid : IsRelaid r p q

@@ -9,7 +9,7 @@ use Rattle.workspace_check.specs.Verdicts.{Verdicts}
 use Rattle.refs_binding.specs.declared.declaration.Declaration.{Declaration}
 use Rattle.refs_binding.specs.Binding as binds
 use Rattle.refs_binding.specs.Identifiers.{BeginsAt}
-use Rattle.refs_binding.specs.Uses.{IsPackage, IsBoundTo, IsUseOf}
+use Rattle.refs_binding.specs.Uses.{IsCheckedPackage, IsBoundToDeclaration, IsUseOf}
 use Rattle.law_renamed_scopes.specs.Scopes.{ScopedNamesStay}
 use Rattle.law_rename_agrees.proofs.Followed.{kept_relaid}
 use Rattle.law_rename_agrees.proofs.Moving.{kept_below}
@@ -20,8 +20,8 @@ use Rattle.law_rename_agreement.proofs.KeptNames.{selectors_stay}
 
 module _ (w : Workspace) (known : Verdicts) (d : Declaration) (name : List ℕ) (s : FileChanges) (after : Verdicts)
     (kept : IsKeptRename w known d name s after) where
-  used : (place : Place) (p : Package) → IsPackage w known p → (u : ℕ) → BeginsAt p place.path place.offset u → (old : Declaration) →
-      IsBoundTo w known p u old → IsUseOf w known old place
+  used : (place : Place) (p : Package) → IsCheckedPackage w known p → (u : ℕ) → BeginsAt p place.path place.offset u → (old : Declaration) →
+      IsBoundToDeclaration w known p u old → IsUseOf w known old place
   used place p is u begins old bound = record { used_in = p; is_package = is; user = u; begins = begins; bound = bound }
 
   pub names_stay : ScopedNamesStay w known (revision_of w s)

@@ -25,7 +25,7 @@ use Rattle.refs_binding.specs.declared.declaration.Declaration.{Declaration}
 use Rattle.refs_binding.specs.Binding.{BindsByMember, by_member, declaration_of}
 use Rattle.refs_binding.specs.DeclaringPlaces.{TokenAt}
 use Rattle.refs_binding.specs.Identifiers.{BeginsAt}
-use Rattle.refs_binding.specs.Uses.{IsPackage}
+use Rattle.refs_binding.specs.Uses.{IsCheckedPackage}
 use Rattle.refs_lookup.proofs.OneDeclaration.{one_declaration}
 use Rattle.refs_lookup.proofs.OnePlace.{one_begins}
 use Rattle.refs_places.proofs.Starts.{token_once}
@@ -37,7 +37,7 @@ use Rattle.law_renamed_packages.specs.Layouts.{IsRelaid}
 use Rattle.law_renamed_packages.proofs.Packages.{same_imports}
 use Rattle.law_renamed_scopes.proofs.Apart.{name_token}
 use Rattle.law_renamed_scopes.proofs.FilesAfter.{token_moves}
-use Rattle.law_kept_members.specs.Reaching.{Reaches}
+use Rattle.law_kept_members.specs.Reaching.{ReachesPath}
 use Rattle.law_kept_members.proofs.UsersReach.{owner_reached}
 use Rattle.law_renamed_members.specs.MembersMoved.{IsDefinitionAfter}
 use Rattle.law_renamed_members.proofs.DefinitionsAfter.{definition_after}
@@ -75,7 +75,7 @@ member_used p file f v at judged u has n stands m is = record {
 }
 
 module _ (w : Workspace) (known : Verdicts) (d : Declaration) (name : List ℕ) (s : FileChanges) (after : Verdicts)
-    (kept : IsKeptRename w known d name s after) (p : Package) (was : IsPackage w known p) where
+    (kept : IsKeptRename w known d name s after) (p : Package) (was : IsCheckedPackage w known p) where
   abbrev r : Revision
   r = revision_of w s
 
@@ -83,7 +83,7 @@ module _ (w : Workspace) (known : Verdicts) (d : Declaration) (name : List ℕ) 
   x = edited s w
 
   abbrev Known : Package → Type 0
-  Known = IsPackage w known
+  Known = IsCheckedPackage w known
 
   abbrev sound : ListsFaults w []
   sound = kept.rename.rename.sound
@@ -94,7 +94,7 @@ module _ (w : Workspace) (known : Verdicts) (d : Declaration) (name : List ℕ) 
   abbrev pub q : Package
   q = (there w known d name s after kept p was).0
 
-  pub is : IsPackage x after q
+  pub is : IsCheckedPackage x after q
   is = (there w known d name s after kept p was).1.0
 
   pub relaid : IsRelaid r p q
@@ -108,13 +108,13 @@ module _ (w : Workspace) (known : Verdicts) (d : Declaration) (name : List ℕ) 
 
   -- the definitions of the package afterwards
   module _ (es : Symbol → Definition) (are : AreDefinitions q es) where
-    builds_there : (t : Symbol) → Reaches x q.path t.package → (t.package ≡ p.path → ⊥) → BuildsOn w p.path t.package
+    builds_there : (t : Symbol) → ReachesPath x q.path t.package → (t.package ≡ p.path → ⊥) → BuildsOn w p.path t.package
     builds_there t (inl own) other = absurd (other (own ∙ relaid.path))
     builds_there t (inr on) other =
         builds_by x w (imports_back w x (same_imports w known d name s kept.rename)) p.path t.package
         (subst (λ path. BuildsOn x path t.package) relaid.path on)
 
-    members_at : (t : Symbol) → Reaches x q.path t.package → HasNewMembers Known r t.package t.rank (es t)
+    members_at : (t : Symbol) → ReachesPath x q.path t.package → HasNewMembers Known r t.package t.rank (es t)
     members_at t near =
         members_by_symbol w known r p q was relaid alike stays.fields x kept.sound after kept.right is es are t
         (λ other. members_below w known d name s after kept p was (kept_under w known d name s after kept p) t.package (builds_there t near other) t.rank)
@@ -123,7 +123,7 @@ module _ (w : Workspace) (known : Verdicts) (d : Declaration) (name : List ℕ) 
         IsMemberAfter Known r p.path new (λ z. (es z).underlying) t (declaration_of m)
     selected ds were new t m e =
         selects Known r ds es (definition_after w known r p q was relaid alike stays.stays.seen ds es were are) p.path
-        (λ t. Reaches x q.path t.package) members_at
+        (λ t. ReachesPath x q.path t.package) members_at
         (λ t n k owns. owner_reached x kept.sound after kept.right q is es are n t k owns)
         (struct_near x kept.sound after kept.right q is es are)
         new t m e
@@ -203,7 +203,7 @@ module _ (w : Workspace) (known : Verdicts) (d : Declaration) (name : List ℕ) 
           one_declaration x after q is a.number moved_begins.0 one.declaration (declaration_of b.member) bound (by_member used_now) in
           same_member w known d name s after kept (declaration_of a.member) (declaration_of b.member)
           (used_member p a.number (declaration_of a.member) used_before) (used_member q a.number (declaration_of b.member) used_now)
-          (subst (λ e. Corresponds Known (IsPackage x after) r.moved (declaration_of a.member) e) e_is one.holds)
+          (subst (λ e. Corresponds Known (IsCheckedPackage x after) r.moved (declaration_of a.member) e) e_is one.holds)
 
       pub same_members : z.member u.place u.before ≡ v.member u.place u.before
       same_members =

@@ -23,7 +23,7 @@ use Rattle.refs_binding.specs.declared.declaration.Declaration.TheVariants.{Pred
 use Rattle.refs_binding.specs.Binding.{BindsByMember, DeclaresMember, declaration_of}
 use Rattle.refs_binding.specs.DeclaringPlaces.{TokenAt, TokenBegins, IsDeclaredAt}
 use Rattle.refs_binding.specs.Identifiers.{BeginsAt, NameBegins}
-use Rattle.refs_binding.specs.Uses.{IsPackage}
+use Rattle.refs_binding.specs.Uses.{IsCheckedPackage}
 use Rattle.refs_binding.proofs.Folders.{file_in_folder}
 use Rattle.refs_binding.proofs.Tokens.{Begins}
 use Rattle.refs_lookup.proofs.OnePlace.{same_size}
@@ -50,19 +50,19 @@ used_member p u e b = subst IsMember b.declares (member_declared b.member)
 -- The name of the member begins at the place.
 pub record IsNamedAt (w : Workspace) (known : Verdicts) (d : Declaration) (place : Place) : Type 0 where
   pub inside : Package
-  pub is_package : IsPackage w known inside
+  pub is_package : IsCheckedPackage w known inside
   pub user : ℕ
   pub begins : BeginsAt inside place.path place.offset user
   pub declares : DeclaresMember inside user d
 
 module _ (w : Workspace) (known : Verdicts) where
-  name_begins : (p : Package) → IsPackage w known p → (at : Position) → IsNamedIn p at.file at.index → (place : Place) → TokenAt p at place → Begins p at place
+  name_begins : (p : Package) → IsCheckedPackage w known p → (at : Position) → IsNamedIn p at.file at.index → (place : Place) → TokenAt p at place → Begins p at place
   name_begins p is at named place token =
       let t = (name_stands w known p is at named).stands in
       let b : TokenBegins (Some t.file) at.index place = subst (λ o. TokenBegins o at.index place) t.of_rank token in
       subst (λ o. NameBegins o at.index place.path place.offset) (sym t.of_rank) (t.is_name, b.0, b.1)
 
-  pub named_there : (d : Declaration) → IsMember d → (place : Place) → IsDeclaredAt (IsPackage w known) d place → IsNamedAt w known d place
+  pub named_there : (d : Declaration) → IsMember d → (place : Place) → IsDeclaredAt (IsCheckedPackage w known) d place → IsNamedAt w known d place
   named_there (Predeclared n) m place h = absurd m
   named_there (Declared path n) m place h = absurd m
   named_there (Field s) m place h =
@@ -99,7 +99,7 @@ module _ (w : Workspace) (known : Verdicts) where
   token_file None token place h = absurd h
   token_file (Some f) token place h = (f, (refl, h.0))
 
-  pub token_folder : (p : Package) → IsPackage w known p → (at : Position) (place : Place) → TokenAt p at place → folder place.path ≡ p.path
+  pub token_folder : (p : Package) → IsCheckedPackage w known p → (at : Position) (place : Place) → TokenAt p at place → folder place.path ≡ p.path
   token_folder p is at place h =
       let f = token_file (slice_get p.files at.file) at.index place h in
       ap folder (sym f.1.1) ∙ file_in_folder w known p is at.file f.0 f.1.0

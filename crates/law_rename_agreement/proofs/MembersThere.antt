@@ -14,7 +14,7 @@ use Rattle.types_declared.specs.Package.{Package, ExportData, PlacedType, packag
 use Rattle.types_check.specs.Exports.{IsExportData}
 use Rattle.workspace_check.specs.FaultLists.{ListsFaults}
 use Rattle.workspace_check.specs.Verdicts.{Verdicts, AreVerdicts}
-use Rattle.refs_binding.specs.Uses.{IsPackage}
+use Rattle.refs_binding.specs.Uses.{IsCheckedPackage}
 use Rattle.refactor_after.specs.MembersAfter.{IsFirstField}
 use Rattle.refactor_after.proofs.FieldsAfter.{of_one}
 use Rattle.law_same_bindings.proofs.Alike.{Alike}
@@ -30,7 +30,7 @@ pub record IsThere (name : List ℕ) (o : Option Field) : Type 0 where
   pub exported : field.exported ≡ is_exported name
 
 -- So is a field that counts, in a package of a workspace without faults.
-field_there : (x : Workspace) → ListsFaults x [] → (after : Verdicts) → AreVerdicts x after → (q : Package) → IsPackage x after q → (definition : ℕ)
+field_there : (x : Workspace) → ListsFaults x [] → (after : Verdicts) → AreVerdicts x after → (q : Package) → IsCheckedPackage x after q → (definition : ℕ)
     (d : Definition) → IsDefinition q definition d → (name : List ℕ) (rank : ℕ) (f : PlacedField) → IsCountingField q definition name rank f →
     IsThere name (d.field name)
 field_there x sound after right q also definition d is name rank f counts = by_field (d.field name) refl (is.fields name)
@@ -51,11 +51,11 @@ pub record HasNewMembers (Known : Package → Type 0) (r : Revision) (path : Lis
   pub fields : (name : List ℕ) (rank : ℕ) → HasFirstField Known r path definition name rank → IsThere name (b.field name)
   pub methods : (name : List ℕ) (m : Method) → b.method name ≡ Some m → IsNewMethod Known r path definition name m
 
-module _ (w : Workspace) (known : Verdicts) (r : Revision) (p q : Package) (is : IsPackage w known p) (relaid : IsRelaid r p q) (alike : Alike p q)
-    (fields : AreFieldsSeenAfter (IsPackage w known) r p q)
-    (x : Workspace) (sound : ListsFaults x []) (after : Verdicts) (right : AreVerdicts x after) (also : IsPackage x after q) where
+module _ (w : Workspace) (known : Verdicts) (r : Revision) (p q : Package) (is : IsCheckedPackage w known p) (relaid : IsRelaid r p q) (alike : Alike p q)
+    (fields : AreFieldsSeenAfter (IsCheckedPackage w known) r p q)
+    (x : Workspace) (sound : ListsFaults x []) (after : Verdicts) (right : AreVerdicts x after) (also : IsCheckedPackage x after q) where
   -- a definition of the package
-  own_members : (definition : ℕ) (b : Definition) → IsDefinition q definition b → HasNewMembers (IsPackage w known) r p.path definition b
+  own_members : (definition : ℕ) (b : Definition) → IsDefinition q definition b → HasNewMembers (IsCheckedPackage w known) r p.path definition b
   own_members definition b h = record {
     fields = λ name rank first.
         let c = (counting.counting_field w known r p q is relaid definition name rank).0
@@ -77,7 +77,7 @@ module _ (w : Workspace) (known : Verdicts) (r : Revision) (p q : Package) (is :
 
   -- what is no definition of the package has no member
   none_beyond : (definition : ℕ) (s : Symbol) → slice_get (package_types q) definition ≡ None →
-      HasNewMembers (IsPackage w known) r p.path definition (no_definition s)
+      HasNewMembers (IsCheckedPackage w known) r p.path definition (no_definition s)
   none_beyond definition s at = record {
     fields = λ name rank first.
         let c = (counting.counting_field w known r p q is relaid definition name rank).0
@@ -89,31 +89,31 @@ module _ (w : Workspace) (known : Verdicts) (r : Revision) (p q : Package) (is :
 
   -- in its export data
   pub exported_members : (j : ExportData) → IsExportData q j → (definition : ℕ) →
-      HasNewMembers (IsPackage w known) r p.path definition (j.definition definition)
+      HasNewMembers (IsCheckedPackage w known) r p.path definition (j.definition definition)
   exported_members j h definition = by_rank (slice_get (package_types q) definition) refl
     where
       by_rank : (o : Option PlacedType) → slice_get (package_types q) definition ≡ o →
-          HasNewMembers (IsPackage w known) r p.path definition (j.definition definition)
+          HasNewMembers (IsCheckedPackage w known) r p.path definition (j.definition definition)
       by_rank None at =
-          subst (HasNewMembers (IsPackage w known) r p.path definition) (sym (h.beyond definition at)) (none_beyond definition (symbol_in q definition) at)
+          subst (HasNewMembers (IsCheckedPackage w known) r p.path definition) (sym (h.beyond definition at)) (none_beyond definition (symbol_in q definition) at)
       by_rank (Some d) at = own_members definition (j.definition definition) (h.definitions definition d at)
 
   -- by symbol
   own_symbol_members : (es : Symbol → Definition) → AreDefinitions q es → (rank : ℕ) (o : Option PlacedType) → slice_get (package_types q) rank ≡ o →
-      HasNewMembers (IsPackage w known) r p.path rank (es (symbol_in q rank))
+      HasNewMembers (IsCheckedPackage w known) r p.path rank (es (symbol_in q rank))
   own_symbol_members es are rank None at =
-      subst (HasNewMembers (IsPackage w known) r p.path rank) (sym (are.beyond rank at)) (none_beyond rank (symbol_in q rank) at)
+      subst (HasNewMembers (IsCheckedPackage w known) r p.path rank) (sym (are.beyond rank at)) (none_beyond rank (symbol_in q rank) at)
   own_symbol_members es are rank (Some d) at = own_members rank (es (symbol_in q rank)) (are.own rank d at)
 
   pub members_by_symbol : (es : Symbol → Definition) → AreDefinitions q es → (s : Symbol) →
-      ((s.package ≡ p.path → ⊥) → HasNewMembers (IsPackage w known) r s.package s.rank ((q.export_data_of s.package).definition s.rank)) →
-      HasNewMembers (IsPackage w known) r s.package s.rank (es s)
+      ((s.package ≡ p.path → ⊥) → HasNewMembers (IsCheckedPackage w known) r s.package s.rank ((q.export_data_of s.package).definition s.rank)) →
+      HasNewMembers (IsCheckedPackage w known) r s.package s.rank (es s)
   members_by_symbol es are s seen = elim (cases_bytes s.package p.path) [
     | inl own ↦
         let here : symbol_in q s.rank ≡ s = ap (λ (path : List ℕ). record { «package» = path; rank = s.rank }) (relaid.path ∙ sym own) in
-        subst (λ (z : Symbol). HasNewMembers (IsPackage w known) r s.package s.rank (es z)) here
-        (subst (λ path. HasNewMembers (IsPackage w known) r path s.rank (es (symbol_in q s.rank))) (sym own)
+        subst (λ (z : Symbol). HasNewMembers (IsCheckedPackage w known) r s.package s.rank (es z)) here
+        (subst (λ path. HasNewMembers (IsCheckedPackage w known) r path s.rank (es (symbol_in q s.rank))) (sym own)
         (own_symbol_members es are s.rank (slice_get (package_types q) s.rank) refl))
     | inr other ↦
-        subst (HasNewMembers (IsPackage w known) r s.package s.rank) (sym (are.imported s.package s.rank (λ e. other (e ∙ relaid.path)))) (seen other)
+        subst (HasNewMembers (IsCheckedPackage w known) r s.package s.rank) (sym (are.imported s.package s.rank (λ e. other (e ∙ relaid.path)))) (seen other)
   ]

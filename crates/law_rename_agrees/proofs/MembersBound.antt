@@ -19,7 +19,7 @@ use Rattle.refs_binding.specs.Binding as binds
 use Rattle.refs_binding.specs.Binding.{BindsByMember, DeclaresMember}
 use Rattle.refs_binding.specs.DeclaringPlaces.{TokenAt, IsDeclaredAt}
 use Rattle.refs_binding.specs.Identifiers.{BeginsAt}
-use Rattle.refs_binding.specs.Uses.{IsPackage}
+use Rattle.refs_binding.specs.Uses.{IsCheckedPackage}
 use Rattle.refs_binding.proofs.NamedPlaces.{stands_once}
 use Rattle.refs_index.specs.Corresponding.{Corresponds, stands}
 use Rattle.refactor_preserve.specs.BoundToOne.{IsBoundToOne}
@@ -39,8 +39,8 @@ use Rattle.law_rename_agrees.proofs.ScopedFaultless.{faultless}
 token_there : (p : Package) (u : ℕ) (place : Place) → BeginsAt p place.path place.offset u → TokenAt p (p.layout.place u) place
 token_there p u place b = name_token (slice_get p.files (p.layout.place u).file) (p.layout.place u).index place b.1
 
-declared_here : (w : Workspace) (known : Verdicts) (p : Package) → IsPackage w known p → (u : ℕ) (place : Place) → BeginsAt p place.path place.offset u →
-    (d : Declaration) → DeclaresMember p u d → IsDeclaredAt (IsPackage w known) d place
+declared_here : (w : Workspace) (known : Verdicts) (p : Package) → IsCheckedPackage w known p → (u : ℕ) (place : Place) → BeginsAt p place.path place.offset u →
+    (d : Declaration) → DeclaresMember p u d → IsDeclaredAt (IsCheckedPackage w known) d place
 declared_here w known p is u place b (Predeclared n) h = absurd h
 declared_here w known p is u place b (Declared path n) h = absurd h
 declared_here w known p is u place b (Field s) h = record {
@@ -70,13 +70,13 @@ module _ (below : ExportsMoveBelow) (w : Workspace) (known : Verdicts) (d : Decl
   x = edited s w
 
   abbrev Goes : Declaration → Declaration → Type 0
-  Goes = Corresponds (IsPackage w known) (IsPackage x after) (revision_of w s).moved
+  Goes = Corresponds (IsCheckedPackage w known) (IsCheckedPackage x after) (revision_of w s).moved
 
-  module _ (p : Package) (is : IsPackage w known p) where
-    abbrev stay : (q : Package) × (IsPackage x after q × (IsRelaid (revision_of w s) p q × (IsBoundAlike p q × HasMovedTokens (revision_of w s) p q)))
+  module _ (p : Package) (is : IsCheckedPackage w known p) where
+    abbrev stay : (q : Package) × (IsCheckedPackage x after q × (IsRelaid (revision_of w s) p q × (IsBoundAlike p q × HasMovedTokens (revision_of w s) p q)))
     stay = packages_stay below w known d name s after free p is
 
-    seen_there : AreSeenAfter (IsPackage w known) (revision_of w s) p stay.0
+    seen_there : AreSeenAfter (IsCheckedPackage w known) (revision_of w s) p stay.0
     seen_there =
         let same = same_imports w known d name s free.rename in
         let known_sound = free.rename.rename in

@@ -11,7 +11,7 @@ use Rattle.workspace_check.specs.Verdicts.{Verdicts, BuildsOn}
 use Rattle.workspace_check.proofs.Closed.{to_package}
 use Rattle.workspace_check.proofs.OnePackage.{one_checked, one_sources}
 use Rattle.refs_binding.specs.declared.declaration.Declaration.{Declaration}
-use Rattle.refs_binding.specs.Uses.{IsPackage}
+use Rattle.refs_binding.specs.Uses.{IsCheckedPackage}
 use Rattle.refs_lookup.proofs.OnePlace.{same_files}
 use Rattle.law_renamed_packages.proofs.Packages.{package_there, new_paths, new_trees}
 use Rattle.law_renamed_verdicts.specs.VerdictsStay.{IsMovedVerdict}
@@ -58,7 +58,7 @@ module _ (w : Workspace) (known : Verdicts) (d : Declaration) (name : List ℕ) 
   there : (path : List ℕ) → Contains (package_paths w) path → Contains (package_paths (edited s w)) path
   there path has = subst (λ ps. Contains ps path) (sym (new_paths w known d name s kept.rename)) has
 
-  pub named_at : (p : Package) → IsPackage w known p → (after p.path).export_data.name ≡ (known p.path).export_data.name
+  pub named_at : (p : Package) → IsCheckedPackage w known p → (after p.path).export_data.name ≡ (known p.path).export_data.name
   named_at p is =
       let new = data_of (edited s w) after kept.right kept.sound p.path (there p.path is.of_workspace) in
       let old = data_of w known kept.rename.rename.right kept.rename.rename.sound p.path is.of_workspace in

@@ -22,7 +22,7 @@ use Rattle.refs_binding.specs.Binding as binds
 use Rattle.refs_binding.specs.Binding.{BindsByScope, BindsQualified}
 use Rattle.refs_binding.specs.DeclaringPlaces.{IsDeclaredAt}
 use Rattle.refs_binding.specs.Identifiers.{BeginsAt}
-use Rattle.refs_binding.specs.Uses.{IsPackage, IsUseOf}
+use Rattle.refs_binding.specs.Uses.{IsCheckedPackage, IsUseOf}
 use Rattle.refs_binding.specs.Uses as uses
 use Rattle.refs_lookup.proofs.OneDeclaration.{one_used}
 use Rattle.refs_index.specs.Corresponding.{Corresponds, predeclared, stands}
@@ -73,28 +73,28 @@ module _ (checked : ScopedPackagesAreChecked) (stay_alike : PackagesStayAlike) (
   x = edited s w
 
   abbrev Becomes : Declaration → Declaration → Type 0
-  Becomes old e = Corresponds (IsPackage w known) (IsPackage x after) r.moved old e
+  Becomes old e = Corresponds (IsCheckedPackage w known) (IsCheckedPackage x after) r.moved old e
 
   abbrev Kept : Place → Declaration → Type 0
   Kept place old = IsBoundToOne x after (r.moved place) (Becomes old)
 
-  check_of : (o : Package) → IsScopedIn x o → (q : Package) × (IsPackage x after q × HasSameScopes o q)
+  check_of : (o : Package) → IsScopedIn x o → (q : Package) × (IsCheckedPackage x after q × HasSameScopes o q)
   check_of o is = checked w known d name s after free o is
 
   declared_checked : (path : List ℕ) (n : ℕ) (place : Place) → IsDeclaredAt (IsScopedIn x) (Declared path n) place →
-      IsDeclaredAt (IsPackage x after) (Declared path n) place
+      IsDeclaredAt (IsCheckedPackage x after) (Declared path n) place
   declared_checked path n place h =
       let q = check_of h.inside h.is_package in
       record { inside = q.0; is_package = q.1.0; of_path = q.1.1.path ∙ h.of_path; holds = declares_same h.inside q.0 q.1.1 path n place h.holds }
 
   -- what has become another by scopes corresponds to it among checked packages
   become_checked : (old e : Declaration) → HasBecome w known r old e → ((place : Place) → IsDeclaredAt (IsScopedIn x) e place →
-      IsDeclaredAt (IsPackage x after) e place) → Becomes old e
+      IsDeclaredAt (IsCheckedPackage x after) e place) → Becomes old e
   become_checked old e predeclared to = predeclared
   become_checked old e (stands place h k) to = stands place h (to (r.moved place) k)
 
   bound_checked : (o : Package) (u : ℕ) (e : Declaration) → BindsByScope o u e → (place : Place) → IsDeclaredAt (IsScopedIn x) e place →
-      IsDeclaredAt (IsPackage x after) e place
+      IsDeclaredAt (IsCheckedPackage x after) e place
   bound_checked o u (Predeclared n) b place h = h
   bound_checked o u (Declared path n) b place h = declared_checked path n place h
   bound_checked o u (Field t) b place h = absurd b
@@ -118,7 +118,7 @@ module _ (checked : ScopedPackagesAreChecked) (stay_alike : PackagesStayAlike) (
         holds = become_checked old e stay.become (bound_checked b.used_in b.user e b.bound);
       }
 
-  kept_by_package : (p : Package) → IsPackage w known p → (u : ℕ) (place : Place) → BeginsAt p place.path place.offset u → (old : Declaration) →
+  kept_by_package : (p : Package) → IsCheckedPackage w known p → (u : ℕ) (place : Place) → BeginsAt p place.path place.offset u → (old : Declaration) →
       StaysBound (HasBecome w known r) (IsBoundByPackage w r place p u) old → Kept place old
   kept_by_package p is u place begins old stay =
       let b = stay.bound in
@@ -131,7 +131,7 @@ module _ (checked : ScopedPackagesAreChecked) (stay_alike : PackagesStayAlike) (
       let path : other.path ≡ b.path = moves_nowhere w known d name s free.rename.rename b.path other.path b.exports.goes in
       let behind : IsQualifiedByPath q u other.path =
       subst (IsQualifiedByPath q u) (sym path) (qualified_after p q there.1.1.1.0 u b.path b.behind) in
-      let bound : BindsQualified (IsPackage x after) q u (Declared other.path n) =
+      let bound : BindsQualified (IsCheckedPackage x after) q u (Declared other.path n) =
       record {
         behind = behind;
         other = o.0;
@@ -147,14 +147,14 @@ module _ (checked : ScopedPackagesAreChecked) (stay_alike : PackagesStayAlike) (
           is_package = there.1.0;
           user = u;
           begins = there.1.1.1.1.names u place begins;
-          bound = binds.by_package (subst (BindsQualified (IsPackage x after) q u) (sym b.exports.exported) bound);
+          bound = binds.by_package (subst (BindsQualified (IsCheckedPackage x after) q u) (sym b.exports.exported) bound);
         };
         holds = become_checked old e stay.become
-            (subst (λ z. (to : Place) → IsDeclaredAt (IsScopedIn x) z to → IsDeclaredAt (IsPackage x after) z to) (sym b.exports.exported)
+            (subst (λ z. (to : Place) → IsDeclaredAt (IsScopedIn x) z to → IsDeclaredAt (IsCheckedPackage x after) z to) (sym b.exports.exported)
             (declared_checked other.path n));
       }
 
-  kept_at : (place : Place) (old : Declaration) (used : IsUseOf w known old place) → uses.IsBoundTo w known used.used_in used.user old → Kept place old
+  kept_at : (place : Place) (old : Declaration) (used : IsUseOf w known old place) → uses.IsBoundToDeclaration w known used.used_in used.user old → Kept place old
   kept_at place old used (binds.by_scope b) =
       kept_by_scope place old ((free.none place used.used_in used.is_package used.user used.begins).by_scope old b)
   kept_at place old used (binds.by_package b) =

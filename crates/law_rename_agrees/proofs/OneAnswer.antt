@@ -14,7 +14,7 @@ use Rattle.refs_binding.specs.declared.declaration.Declaration.TheVariants.{Pred
 use Rattle.refs_binding.specs.Binding as binds
 use Rattle.refs_binding.specs.Identifiers.{IsInFiles}
 use Rattle.refs_binding.specs.DeclaringPlaces.{IsDeclaredAt}
-use Rattle.refs_binding.specs.Uses.{IsPackage, IsBoundTo}
+use Rattle.refs_binding.specs.Uses.{IsCheckedPackage, IsBoundToDeclaration}
 use Rattle.refs_binding.proofs.Folders.{begins_in_folder}
 use Rattle.refs_binding.proofs.PlaceOrder.{neither_before}
 use Rattle.refs_binding.proofs.Units.{one_package}
@@ -48,7 +48,7 @@ use Rattle.law_scoped_packages.proofs.MovedApart.{move_apart}
 
 module _ (w : Workspace) (known : Verdicts) where
   abbrev Known : Package → Type 0
-  Known = IsPackage w known
+  Known = IsCheckedPackage w known
 
   -- what has no place is told as predeclared, and what has one by its place
   placeless : (n : ℕ) (x : Capturer) → IsCapturer Known (Predeclared n) x → x ≡ Universe
@@ -116,11 +116,11 @@ module _ (w : Workspace) (known : Verdicts) where
       told = h.told;
     }
 
-    module _ (p : Package) (is : IsPackage w known p) (u : ℕ) (stands : IsInFiles p u) (place : Place) where
+    module _ (p : Package) (is : IsCheckedPackage w known p) (u : ℕ) (stands : IsInFiles p u) (place : Place) where
       abbrev Turns : Option Capturer → Type 0
       Turns by = ChangesBinding w known r p u (record { used = place; by = by })
 
-      one_old : (d e : Declaration) → IsBoundTo w known p u d → IsBoundTo w known p u e → e ≡ d
+      one_old : (d e : Declaration) → IsBoundToDeclaration w known p u d → IsBoundToDeclaration w known p u e → e ≡ d
       one_old d e h k = one_declaration w known p is u stands e d k h
 
       exports_once : (d e : Declaration) → IsBoundByPackage w r place p u d → IsBoundByPackage w r place p u e → d ≡ e
@@ -168,7 +168,7 @@ module _ (w : Workspace) (known : Verdicts) where
       abbrev At_place : Option Capturer → Conflict
       At_place by = record { used = place; by = by }
 
-      in_one_package : (p : Package) → IsPackage w known p → (x y : Option Capturer) → IsConflictIn w known r p (At_place x) →
+      in_one_package : (p : Package) → IsCheckedPackage w known p → (x y : Option Capturer) → IsConflictIn w known r p (At_place x) →
           IsConflictIn w known r p (At_place y) → x ≡ y
       in_one_package p is x y h k =
           let user : k.user ≡ h.user = one_begins w known p.path p is.is_checked place.path place.offset k.user h.user k.begins h.begins in

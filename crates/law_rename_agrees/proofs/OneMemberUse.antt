@@ -19,14 +19,14 @@ use Rattle.base_files.specs.declared.place.Place.{Place}
 use Rattle.base_edits.specs.Revisions.{Revision}
 use Rattle.refs_binding.specs.declared.declaration.Declaration.{Declaration}
 use Rattle.refs_binding.specs.Binding.{BindsByMember, UsesMemberAt}
-use Rattle.refs_binding.specs.Uses.{IsPackage}
+use Rattle.refs_binding.specs.Uses.{IsCheckedPackage}
 use Rattle.refs_binding.proofs.MemberParts.{one_list}
 use Rattle.refs_lookup.proofs.LinkPlaces.{one_at_token}
 use Rattle.refs_lookup.proofs.OnePlace.{same_files}
 use Rattle.refactor_after.specs.MembersAfter.{IsMemberAfter}
 use Rattle.refactor_conflict.specs.BoundAfter.{IsBoundByMember}
 
-module _ (w : Workspace) (known : Verdicts) (p : Package) (is : IsPackage w known p) where
+module _ (w : Workspace) (known : Verdicts) (p : Package) (is : IsCheckedPackage w known p) where
   is_source : (file : ℕ) (s : SourceFile) → slice_get p.files file ≡ Some s → IsSourceFile s
   is_source file s at =
       let h = is.is_checked in
@@ -54,11 +54,11 @@ module _ (w : Workspace) (known : Verdicts) (p : Package) (is : IsPackage w know
 
   -- so what a new name selects doesn't depend on how it is found that the name was a member
   pub selects_alike : (r : Revision) (place : Place) (u : ℕ) (d e : Declaration) (a : BindsByMember p u d) (b : BindsByMember p u e) (x : Declaration) →
-      IsBoundByMember (IsPackage w known) r place p u d a x → IsBoundByMember (IsPackage w known) r place p u e b x
+      IsBoundByMember (IsCheckedPackage w known) r place p u d a x → IsBoundByMember (IsCheckedPackage w known) r place p u e b x
   selects_alike r place u d e a b x h =
       let at = p.layout.place u in
       let name = r.called place (spelled p at.file at.index) in
-      subst (λ (v : World). IsMemberAfter (IsPackage w known) r p.path name v.definition b.found.before x)
+      subst (λ (v : World). IsMemberAfter (IsCheckedPackage w known) r p.path name v.definition b.found.before x)
       (sym (one_world at.file at.index d e a b))
-      (subst (λ (f : MemberUse). IsMemberAfter (IsPackage w known) r p.path name a.judged.world.definition f.before x)
+      (subst (λ (f : MemberUse). IsMemberAfter (IsCheckedPackage w known) r p.path name a.judged.world.definition f.before x)
       (one_found at.file at.index d e a b) h)

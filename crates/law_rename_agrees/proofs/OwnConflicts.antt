@@ -19,10 +19,10 @@ use Rattle.types_declared.specs.Package.{Package}
 use Rattle.workspace_check.specs.Verdicts.{Verdicts}
 use Rattle.refs_binding.specs.declared.declaration.Declaration.{Declaration}
 use Rattle.refs_binding.specs.declared.declaration.Declaration.TheVariants.{Predeclared, Declared, Field, Method}
-use Rattle.refs_binding.specs.Binding.{IsPredeclared, BindsByScope}
+use Rattle.refs_binding.specs.Binding.{IsPredeclaredNumber, BindsByScope}
 use Rattle.refs_binding.specs.DeclaringPlaces.{IsDeclaredAt}
 use Rattle.refs_binding.specs.Identifiers.{BeginsAt}
-use Rattle.refs_binding.specs.Uses.{IsPackage}
+use Rattle.refs_binding.specs.Uses.{IsCheckedPackage}
 use Rattle.refs_index.specs.Becoming.{IsSamePredeclared}
 use Rattle.refs_index.specs.Corresponding.{predeclared}
 use Rattle.refs_index.proofs.Becoming.{StandBoth, by_cases}
@@ -36,7 +36,7 @@ use Rattle.refactor_conflict.proofs.BoundAfter.{counted_use}
 use Rattle.refactor_conflict.proofs.OnePlace.{only_place}
 use Rattle.law_renamed_packages.specs.Layouts.{IsRelaid}
 use Rattle.law_renamed_scopes.proofs.OwnNames.{own_renames}
-use Rattle.law_rename_agrees.specs.ConflictsByTables.{IsNumbered, WouldTurn, OwnConflictsAreTold}
+use Rattle.law_rename_agrees.specs.ConflictsByTables.{IsOwnNumber, WouldTurn, OwnConflictsAreTold}
 use Rattle.law_scoped_packages.specs.Apart.{MoveApart, DeclarationsMoveApart}
 use Rattle.law_scoped_packages.specs.ScopedPackages.{HasMovedTokens, ScopedPackagesAreRelaid}
 use Rattle.law_scoped_packages.proofs.MovedApart.{move_apart}
@@ -46,19 +46,19 @@ use Rattle.law_rename_agrees.proofs.ScopedPlaces.{bound_there}
 
 -- The declaration that has a number in the scopes of a package.
 module _ (p : Package) where
-  pub numbered : (n : ℕ) → (d : Declaration) × IsNumbered p n d
+  pub numbered : (n : ℕ) → (d : Declaration) × IsOwnNumber p n d
   numbered n = elim (cases_lt n (length universe)) [
     | inl lt ↦ (Predeclared n, (refl, lt))
     | inr ge ↦ (Declared p.path n, (refl, refl, (λ (lt : n < length universe). absurd (omega (arith, lt, ge)))))
   ]
 
-  pub number_of : (u : ℕ) (d : Declaration) → BindsByScope p u d → (n : ℕ) × (IsNumbered p n d × IsBoundTo p.layout p.names u n)
+  pub number_of : (u : ℕ) (d : Declaration) → BindsByScope p u d → (n : ℕ) × (IsOwnNumber p n d × IsBoundTo p.layout p.names u n)
   number_of u (Predeclared n) h = (n, ((refl, h.0), h.1))
   number_of u (Declared path n) h = (n, ((h.0, refl, h.1), h.2))
   number_of u (Field s) h = absurd h
   number_of u (Method s) h = absurd h
 
-  pub one_numbered : (n : ℕ) (d e : Declaration) → IsNumbered p n d → IsNumbered p n e → d ≡ e
+  pub one_numbered : (n : ℕ) (d e : Declaration) → IsOwnNumber p n d → IsOwnNumber p n e → d ≡ e
   one_numbered n (Predeclared m) (Predeclared k) h x = ap Predeclared (h.0 ∙ sym x.0)
   one_numbered n (Predeclared m) (Declared path k) h x = absurd (x.2 h.1)
   one_numbered n (Declared path m) (Predeclared k) h x = absurd (h.2 x.1)
@@ -71,7 +71,7 @@ module _ (p : Package) where
   one_numbered n (Method s) e h x = absurd h
 
   -- a declaration has one number
-  pub one_number : (m n : ℕ) (d : Declaration) → IsNumbered p m d → IsNumbered p n d → m ≡ n
+  pub one_number : (m n : ℕ) (d : Declaration) → IsOwnNumber p m d → IsOwnNumber p n d → m ≡ n
   one_number m n (Predeclared k) h x = sym h.0 ∙ x.0
   one_number m n (Declared path k) h x = sym h.1 ∙ x.1
   one_number m n (Field s) h x = absurd h
@@ -82,31 +82,31 @@ counts_of l names u d (use_bound used b) = b.counts
 counts_of l names u d (own e c) = c
 
 -- A package of the workspace before the change, and that package after it.
-module _ (w : Workspace) (known : Verdicts) (r : Revision) (apart : MoveApart w known r) (p q : Package) (is : IsPackage w known p)
+module _ (w : Workspace) (known : Verdicts) (r : Revision) (apart : MoveApart w known r) (p q : Package) (is : IsCheckedPackage w known p)
     (scoped : IsScopedIn r.after q) (relaid : IsRelaid r p q) (moved : HasMovedTokens r p q) where
   abbrev B : Declaration → Declaration → Type 0
   B = HasBecome w known r
 
-  pub bound_as : (u n : ℕ) (d : Declaration) → IsNumbered p n d → IsBoundTo p.layout q.names u n → BindsByScope q u d
+  pub bound_as : (u n : ℕ) (d : Declaration) → IsOwnNumber p n d → IsBoundTo p.layout q.names u n → BindsByScope q u d
   bound_as u n (Predeclared m) h b =
       let here : IsBoundTo q.layout q.names u n = subst (λ l. IsBoundTo l q.names u n) (sym relaid.layout) b in
-      subst (λ k. IsPredeclared k × IsBoundTo q.layout q.names u k) (sym h.0) (h.1, here)
+      subst (λ k. IsPredeclaredNumber k × IsBoundTo q.layout q.names u k) (sym h.0) (h.1, here)
   bound_as u n (Declared path m) h b =
       let here : IsBoundTo q.layout q.names u n = subst (λ l. IsBoundTo l q.names u n) (sym relaid.layout) b in
-      let other : (IsPredeclared m → ⊥) × IsBoundTo q.layout q.names u m =
-      subst (λ k. (IsPredeclared k → ⊥) × IsBoundTo q.layout q.names u k) (sym h.1) (h.2, here) in
+      let other : (IsPredeclaredNumber m → ⊥) × IsBoundTo q.layout q.names u m =
+      subst (λ k. (IsPredeclaredNumber k → ⊥) × IsBoundTo q.layout q.names u k) (sym h.1) (h.2, here) in
       (h.0 ∙ sym relaid.path, other.0, other.1)
   bound_as u n (Field s) h b = absurd h
   bound_as u n (Method s) h b = absurd h
 
-  pub number_after : (u : ℕ) (d : Declaration) → BindsByScope q u d → (n : ℕ) × (IsNumbered p n d × IsBoundTo p.layout q.names u n)
+  pub number_after : (u : ℕ) (d : Declaration) → BindsByScope q u d → (n : ℕ) × (IsOwnNumber p n d × IsBoundTo p.layout q.names u n)
   number_after u (Predeclared n) h = (n, ((refl, h.0), subst (λ l. IsBoundTo l q.names u n) relaid.layout h.1))
   number_after u (Declared path n) h = (n, ((h.0 ∙ relaid.path, refl, h.1), subst (λ l. IsBoundTo l q.names u n) relaid.layout h.2))
   number_after u (Field s) h = absurd h
   number_after u (Method s) h = absurd h
 
   -- what counts before and after the change has become what has its number
-  pub becomes_itself : (n : ℕ) (d : Declaration) → IsNumbered p n d → Counts p.layout p.names n → Counts p.layout q.names n → B d d
+  pub becomes_itself : (n : ℕ) (d : Declaration) → IsOwnNumber p n d → Counts p.layout p.names n → Counts p.layout q.names n → B d d
   becomes_itself n (Predeclared m) h before after = predeclared
   becomes_itself n (Declared path m) h before after =
       let counted : Counts q.layout q.names n = subst (λ (k : Layout). Counts k q.names n) (sym relaid.layout) after in
@@ -122,10 +122,10 @@ module _ (w : Workspace) (known : Verdicts) (r : Revision) (apart : MoveApart w 
 
   pub only_itself : (c d e : Declaration) (u : ℕ) (place : Place) → IsScopeUse r.after e place → B c e → B d e → c ≡ d
   only_itself c d e u place used h k =
-      by_ways (by_cases (IsPackage w known) (IsScopedIn r.after) r.moved c e h) (by_cases (IsPackage w known) (IsScopedIn r.after) r.moved d e k)
+      by_ways (by_cases (IsCheckedPackage w known) (IsScopedIn r.after) r.moved c e h) (by_cases (IsCheckedPackage w known) (IsScopedIn r.after) r.moved d e k)
     where
-      by_ways : IsSamePredeclared c e ⊎ StandBoth (IsPackage w known) (IsScopedIn r.after) r.moved c e →
-          IsSamePredeclared d e ⊎ StandBoth (IsPackage w known) (IsScopedIn r.after) r.moved d e → c ≡ d
+      by_ways : IsSamePredeclared c e ⊎ StandBoth (IsCheckedPackage w known) (IsScopedIn r.after) r.moved c e →
+          IsSamePredeclared d e ⊎ StandBoth (IsCheckedPackage w known) (IsScopedIn r.after) r.moved d e → c ≡ d
       by_ways (inl m) (inl n) = m.one ∙ (sym m.other ∙ n.other) ∙ sym n.one
       by_ways (inl m) (inr s) = absurd (nowhere e m.number m.other (r.moved s.place) s.new)
       by_ways (inr s) (inl n) = absurd (nowhere e n.number n.other (r.moved s.place) s.new)
@@ -135,7 +135,7 @@ module _ (w : Workspace) (known : Verdicts) (r : Revision) (apart : MoveApart w 
 
 -- the conflicts of one identifier
 module _ (w : Workspace) (known : Verdicts) (r : Revision) (apart : MoveApart w known r) (p q : Package)
-    (is : IsPackage w known p) (scoped : IsScopedIn r.after q) (relaid : IsRelaid r p q) (moved : HasMovedTokens r p q)
+    (is : IsCheckedPackage w known p) (scoped : IsScopedIn r.after q) (relaid : IsRelaid r p q) (moved : HasMovedTokens r p q)
     (n : ℕ) (name : List ℕ) (renames : Renames p.layout p.names n name q.names) (place : Place) (u : ℕ)
     (begins : BeginsAt p place.path place.offset u) (old : Declaration) (was : BindsByScope p u old) where
   abbrev E : Declaration → Type 0
@@ -151,7 +151,7 @@ module _ (w : Workspace) (known : Verdicts) (r : Revision) (apart : MoveApart w 
   abbrev m : ℕ
   m = (number_of p u old was).0
 
-  is_old : IsNumbered p m old
+  is_old : IsOwnNumber p m old
   is_old = (number_of p u old was).1.0
 
   was_bound : IsBoundTo p.layout p.names u m
@@ -163,15 +163,15 @@ module _ (w : Workspace) (known : Verdicts) (r : Revision) (apart : MoveApart w 
       (declared_before p.layout (nests p.layout renames.well_formed) p.names q.names n name renames.all_count renames.declared renames.renaming c
       (counts_of p.layout q.names u c b).declares)
 
-  now_used : (c : ℕ) (d : Declaration) → IsNumbered p c d → IsBoundTo p.layout q.names u c → E d
+  now_used : (c : ℕ) (d : Declaration) → IsOwnNumber p c d → IsBoundTo p.layout q.names u c → E d
   now_used c d h b =
       record { used_in = q; is_package = scoped; user = u; begins = after_begins; bound = bound_as w known r apart p q is scoped relaid moved u c d h b }
 
-  now_is : (c : ℕ) (d : Declaration) → IsNumbered p c d → IsBoundTo p.layout q.names u c → Bec d d
+  now_is : (c : ℕ) (d : Declaration) → IsOwnNumber p c d → IsBoundTo p.layout q.names u c → Bec d d
   now_is c d h b =
       becomes_itself w known r apart p q is scoped relaid moved c d h (counts_before c b) (counts_of p.layout q.names u c b)
 
-  found : (e : Declaration) → E e → (c : ℕ) × (IsNumbered p c e × IsBoundTo p.layout q.names u c)
+  found : (e : Declaration) → E e → (c : ℕ) × (IsOwnNumber p c e × IsBoundTo p.layout q.names u c)
   found e h = number_after w known r apart p q is scoped relaid moved u e (bound_there r.after q scoped (r.moved place) u after_begins e h)
 
   only : (c d e : Declaration) → E e → Bec c e → Bec d e → c ≡ d
@@ -190,7 +190,7 @@ module _ (w : Workspace) (known : Verdicts) (r : Revision) (apart : MoveApart w 
       exact_at p.layout (nests p.layout renames.well_formed) p.names q.names n name renames.all_count renames.declared renames.other_name renames.renaming u m
       was_bound
 
-  pub to_turn : (by : Option Capturer) → LostOrCaptured Bec (IsPackage w known) E old by → WouldTurn w known p n name u by
+  pub to_turn : (by : Option Capturer) → LostOrCaptured Bec (IsCheckedPackage w known) E old by → WouldTurn w known p n name u by
   to_turn by (is_lost none) =
       let unbound : (c : ℕ) → IsBoundTo p.layout q.names u c → ⊥ =
       (λ c b. let d = numbered p c in none d.0 d.0 (now_used c d.0 d.1 b) (now_is c d.0 d.1 b)) in
@@ -199,16 +199,16 @@ module _ (w : Workspace) (known : Verdicts) (r : Revision) (apart : MoveApart w 
       let f = found e used in
       let itself : Bec e e = now_is f.0 e f.1.0 f.1.1 in
       let other : f.0 ≡ m → ⊥ =
-      (λ same. let here : old ≡ e = one_numbered p m old e is_old (subst (λ k. IsNumbered p k e) same f.1.0) in
+      (λ same. let here : old ≡ e = one_numbered p m old e is_old (subst (λ k. IsOwnNumber p k e) same f.1.0) in
       not e used (subst (λ d. Bec d e) (sym here) itself)) in (
         f.0,
         (
           is_told f.0 (record { old = m; was = was_bound; other = other; now_bound = f.1.1 }),
-          (e, (f.1.0, subst (λ d. IsCapturer (IsPackage w known) d x) (only c e e used become itself) tells)),
+          (e, (f.1.0, subst (λ d. IsCapturer (IsCheckedPackage w known) d x) (only c e e used become itself) tells)),
         ),
       )
 
-  pub from_turn : (by : Option Capturer) → WouldTurn w known p n name u by → LostOrCaptured Bec (IsPackage w known) E old by
+  pub from_turn : (by : Option Capturer) → WouldTurn w known p n name u by → LostOrCaptured Bec (IsCheckedPackage w known) E old by
   from_turn None h =
       is_lost (λ e c used become.
       let f = found e used in
@@ -220,13 +220,13 @@ module _ (w : Workspace) (known : Verdicts) (r : Revision) (apart : MoveApart w 
       let c = h.0 in
       let taken = is_taken c h.1.0 in
       let d = h.1.1.0 in
-      let is_d : IsNumbered p c d = h.1.1.1.0 in
+      let is_d : IsOwnNumber p c d = h.1.1.1.0 in
       let used : E d = now_used c d is_d taken.now_bound in
       let itself : Bec d d = now_is c d is_d taken.now_bound in
       is_captured d d used itself h.1.1.1.1 (λ e now become.
       let same : d ≡ e = one_scope_use r.after (r.moved place) d e used now in
       let olds : old ≡ d = only old d d used (subst (λ z. Bec old z) (sym same) become) itself in
-      let number : m ≡ c = one_number p m c d (subst (IsNumbered p m) olds is_old) is_d in
+      let number : m ≡ c = one_number p m c d (subst (IsOwnNumber p m) olds is_old) is_d in
       let before : m ≡ taken.old = bound_once p.layout (nests p.layout renames.well_formed) p.names u m taken.old was_bound taken.was in
       taken.other (sym number ∙ before))
 

@@ -9,7 +9,7 @@ use Rattle.workspace_check.specs.Verdicts.{Verdicts, AreVerdicts}
 use Rattle.refs_binding.specs.declared.declaration.Declaration.{Declaration}
 use Rattle.refs_binding.specs.Binding.{BindsByMember, DeclaresMember}
 use Rattle.refs_binding.specs.Identifiers.{BeginsAt}
-use Rattle.refs_binding.specs.Uses.{IsPackage, IsUseOf}
+use Rattle.refs_binding.specs.Uses.{IsCheckedPackage, IsUseOf}
 use Rattle.refs_places.specs.Identified.{IsIdentifierAt}
 use Rattle.refs_index.specs.Corresponding.{Corresponds}
 use Rattle.refactor_preserve.specs.BoundToOne.{IsBoundToOne}
@@ -41,19 +41,19 @@ KeptAreSoundBelow = (w : Workspace) (known : Verdicts) (d : Declaration) (name :
 -- By scopes each package is there, relaid, with its tokens moved.
 abbrev pub KeptPackagesAreRelaid : Type 0
 KeptPackagesAreRelaid = (w : Workspace) (known : Verdicts) (d : Declaration) (name : List ℕ) (s : FileChanges) (after : Verdicts) →
-    IsKeptRename w known d name s after → (p : Package) → IsPackage w known p →
+    IsKeptRename w known d name s after → (p : Package) → IsCheckedPackage w known p →
     (q : Package) × (IsScopedIn (edited s w) q × (IsRelaid (revision_of w s) p q × HasMovedTokens (revision_of w s) p q))
 
 -- The selector of a qualified identifier does not become a use of a member.
 abbrev pub SelectorsStayQualified : Type 0
 SelectorsStayQualified = (w : Workspace) (known : Verdicts) (d : Declaration) (name : List ℕ) (s : FileChanges) (after : Verdicts) →
-    IsKeptRename w known d name s after → (p q : Package) → IsPackage w known p → IsPackage (edited s w) after q → q.path ≡ p.path →
+    IsKeptRename w known d name s after → (p q : Package) → IsCheckedPackage w known p → IsCheckedPackage (edited s w) after q → q.path ≡ p.path →
     (u : ℕ) (path : List ℕ) → IsQualifiedByPath p u path → (e : Declaration) → BindsByMember q u e → ⊥
 
 -- Uses of members, and the names by which members are declared, stay bound, by the types of before and the new names.
 abbrev pub KeptMembersStay : Type 0
 KeptMembersStay = (w : Workspace) (known : Verdicts) (d : Declaration) (name : List ℕ) (s : FileChanges) (after : Verdicts) →
-    IsKeptRename w known d name s after → (p : Package) → IsPackage w known p → (u : ℕ) (place : Place) → BeginsAt p place.path place.offset u →
+    IsKeptRename w known d name s after → (p : Package) → IsCheckedPackage w known p → (u : ℕ) (place : Place) → BeginsAt p place.path place.offset u →
     StaysByMember w known (revision_of w s) p u place × StaysByName w known (revision_of w s) p u place
 
 -- A plain rename that loses and captures no identifier brings no fault.
@@ -77,20 +77,20 @@ ExportsMoveBelow = (w : Workspace) (known : Verdicts) (d : Declaration) (name : 
 abbrev pub ScopedPackagesAreChecked : Type 0
 ScopedPackagesAreChecked = (w : Workspace) (known : Verdicts) (d : Declaration) (name : List ℕ) (s : FileChanges) (after : Verdicts) →
     IsFreeRename w known d name s after → (o : Package) → IsScopedIn (edited s w) o →
-    (q : Package) × (IsPackage (edited s w) after q × HasSameScopes o q)
+    (q : Package) × (IsCheckedPackage (edited s w) after q × HasSameScopes o q)
 
 -- Each package is there after the change, relaid and bound alike, with its tokens moved.
 abbrev pub PackagesStayAlike : Type 0
 PackagesStayAlike = (w : Workspace) (known : Verdicts) (d : Declaration) (name : List ℕ) (s : FileChanges) (after : Verdicts) →
-    IsFreeRename w known d name s after → (p : Package) → IsPackage w known p →
-    (q : Package) × (IsPackage (edited s w) after q × (IsRelaid (revision_of w s) p q × (IsBoundAlike p q × HasMovedTokens (revision_of w s) p q)))
+    IsFreeRename w known d name s after → (p : Package) → IsCheckedPackage w known p →
+    (q : Package) × (IsCheckedPackage (edited s w) after q × (IsRelaid (revision_of w s) p q × (IsBoundAlike p q × HasMovedTokens (revision_of w s) p q)))
 
 -- A use of a member, and the name by which a member is declared, stays bound to what its declaration has become.
 abbrev pub MembersStayBound : Type 0
 MembersStayBound = (w : Workspace) (known : Verdicts) (d : Declaration) (name : List ℕ) (s : FileChanges) (after : Verdicts) →
-    IsFreeRename w known d name s after → (p : Package) → IsPackage w known p → (u : ℕ) (place : Place) → BeginsAt p place.path place.offset u →
+    IsFreeRename w known d name s after → (p : Package) → IsCheckedPackage w known p → (u : ℕ) (place : Place) → BeginsAt p place.path place.offset u →
     (old : Declaration) → BindsByMember p u old ⊎ DeclaresMember p u old → IsBoundToOne (edited s w) after ((revision_of w s).moved place)
-    (λ e. Corresponds (IsPackage w known) (IsPackage (edited s w) after) (revision_of w s).moved old e)
+    (λ e. Corresponds (IsCheckedPackage w known) (IsCheckedPackage (edited s w) after) (revision_of w s).moved old e)
 
 -- What is bound afterwards was bound.
 abbrev pub UnboundStayUnbound : Type 0
@@ -105,7 +105,7 @@ WorkspacesHaveVerdicts = (x : Workspace) → (known : Verdicts) × AreVerdicts x
 -- The name by which a member is declared begins at a place of some package.
 pub record IsDeclaredByName (w : Workspace) (known : Verdicts) (d : Declaration) : Type 0 where
   pub inside : Package
-  pub is_package : IsPackage w known inside
+  pub is_package : IsCheckedPackage w known inside
   pub user : ℕ
   pub place : Place
   pub begins : BeginsAt inside place.path place.offset user
@@ -113,5 +113,5 @@ pub record IsDeclaredByName (w : Workspace) (known : Verdicts) (d : Declaration)
 
 -- In a workspace without faults a member that is used is declared by a name.
 abbrev pub UsedMembersAreDeclared : Type 0
-UsedMembersAreDeclared = (w : Workspace) → ListsFaults w [] → (known : Verdicts) → AreVerdicts w known → (p : Package) → IsPackage w known p →
+UsedMembersAreDeclared = (w : Workspace) → ListsFaults w [] → (known : Verdicts) → AreVerdicts w known → (p : Package) → IsCheckedPackage w known p →
     (u : ℕ) (d : Declaration) → BindsByMember p u d → IsDeclaredByName w known d

@@ -26,9 +26,9 @@ use Rattle.refs_binding.specs.declared.declaration.Declaration.{Declaration}
 use Rattle.refs_binding.specs.declared.declaration.Declaration.TheVariants.{Predeclared, Declared, Field, Method}
 use Rattle.refs_binding.specs.Binding as binds
 use Rattle.refs_binding.specs.Binding.{BindsByScope, BindsQualified, IsQualifiedUse, BindsByMember, DeclaresMember}
-use Rattle.refs_binding.specs.DeclaringPlaces.{InPackage, TokenBegins, DeclaresAt, IsDeclaredAt}
+use Rattle.refs_binding.specs.DeclaringPlaces.{InPackage, TokenBegins, HasDeclarationAt, IsDeclaredAt}
 use Rattle.refs_binding.specs.Identifiers.{BeginsAt}
-use Rattle.refs_binding.specs.Uses.{IsPackage, IsUseOf}
+use Rattle.refs_binding.specs.Uses.{IsCheckedPackage, IsUseOf}
 use Rattle.refs_binding.specs.Uses as uses
 use Rattle.refs_binding.proofs.Alike.{package_for, use_for}
 use Rattle.refs_binding.proofs.Excluding.{number_bound, exported_as}
@@ -54,17 +54,17 @@ use Rattle.law_rename_agrees.proofs.ScopedPlaces.{same_use}
 
 -- Bindings are kept whichever right verdicts they are found with.
 module _ (w : Workspace) (a b : Verdicts) (right : AreVerdicts w a) (also : AreVerdicts w b) where
-  in_package_for : (path : List ℕ) (P : Package → Type 0) → InPackage (IsPackage w a) path P → InPackage (IsPackage w b) path P
+  in_package_for : (path : List ℕ) (P : Package → Type 0) → InPackage (IsCheckedPackage w a) path P → InPackage (IsCheckedPackage w b) path P
   in_package_for path P h = record { inside = h.inside; is_package = package_for w a b right also h.inside h.is_package; of_path = h.of_path; holds = h.holds }
 
-  declared_for : (d : Declaration) (place : Place) → IsDeclaredAt (IsPackage w a) d place → IsDeclaredAt (IsPackage w b) d place
+  declared_for : (d : Declaration) (place : Place) → IsDeclaredAt (IsCheckedPackage w a) d place → IsDeclaredAt (IsCheckedPackage w b) d place
   declared_for (Predeclared n) place h = h
-  declared_for (Declared path n) place h = in_package_for path (λ p. DeclaresAt p (Declared path n) place) h
-  declared_for (Field s) place h = in_package_for s.package (λ p. DeclaresAt p (Field s) place) h
-  declared_for (Method s) place h = in_package_for s.package (λ p. DeclaresAt p (Method s) place) h
+  declared_for (Declared path n) place h = in_package_for path (λ p. HasDeclarationAt p (Declared path n) place) h
+  declared_for (Field s) place h = in_package_for s.package (λ p. HasDeclarationAt p (Field s) place) h
+  declared_for (Method s) place h = in_package_for s.package (λ p. HasDeclarationAt p (Method s) place) h
 
-  corresponds_for : (After : Package → Type 0) (moved : Place → Place) (d e : Declaration) → Corresponds (IsPackage w a) After moved d e →
-      Corresponds (IsPackage w b) After moved d e
+  corresponds_for : (After : Package → Type 0) (moved : Place → Place) (d e : Declaration) → Corresponds (IsCheckedPackage w a) After moved d e →
+      Corresponds (IsCheckedPackage w b) After moved d e
   corresponds_for After moved d e predeclared = predeclared
   corresponds_for After moved d e (stands place h k) = stands place (declared_for d place h) k
 
@@ -74,7 +74,7 @@ module _ (w : Workspace) (a b : Verdicts) (right : AreVerdicts w a) (also : AreV
 pub kept_for : (w : Workspace) (a b : Verdicts) → AreVerdicts w a → AreVerdicts w b → (r : Revision) (after : Verdicts) → KeepsBindings w a r after →
     KeepsBindings w b r after
 kept_for w a b right also r after k =
-    let After = IsPackage r.after after in
+    let After = IsCheckedPackage r.after after in
     record {
       keeps = λ place d used. let h = k.keeps place d (use_for w b a also right d place used) in
           record { declaration = h.declaration; is_use = h.is_use; holds = corresponds_for w a b right also After r.moved d h.declaration h.holds };
@@ -120,7 +120,7 @@ module _ (q o : Package) (same : HasSameScopes q o) where
       (subst (λ l. DoesExport (record { path = o.path; files = o.files; layout = l; names = q.names; size = o.size; export_data_of = o.export_data_of }) d)
       (sym same.layout) (record { package_level = h.package_level; counts = h.counts; exported = h.exported }))
 
-  pub declares_same : (path : List ℕ) (n : ℕ) (place : Place) → DeclaresAt q (Declared path n) place → DeclaresAt o (Declared path n) place
+  pub declares_same : (path : List ℕ) (n : ℕ) (place : Place) → HasDeclarationAt q (Declared path n) place → HasDeclarationAt o (Declared path n) place
   declares_same path n place h = record {
     at = h.at;
     is_at = record {
@@ -136,7 +136,7 @@ token_file : (o : Option SourceFile) (token : ℕ) (place : Place) → TokenBegi
 token_file None token place h = absurd h
 token_file (Some f) token place h = (f, (refl, h.0))
 
-declared_folder : (w : Workspace) (known : Verdicts) (path : List ℕ) (n : ℕ) (place : Place) → IsDeclaredAt (IsPackage w known) (Declared path n) place →
+declared_folder : (w : Workspace) (known : Verdicts) (path : List ℕ) (n : ℕ) (place : Place) → IsDeclaredAt (IsCheckedPackage w known) (Declared path n) place →
     folder place.path ≡ path
 declared_folder w known path n place h =
     let p = h.inside in
@@ -148,7 +148,7 @@ declared_folder w known path n place h =
 no_files : (files : List FileParts) → AreParsed [] files [] → files ≡ []
 no_files files none = refl
 
-first_file : (w : Workspace) (known : Verdicts) (path : List ℕ) (n : ℕ) (place : Place) → IsDeclaredAt (IsPackage w known) (Declared path n) place →
+first_file : (w : Workspace) (known : Verdicts) (path : List ℕ) (n : ℕ) (place : Place) → IsDeclaredAt (IsCheckedPackage w known) (Declared path n) place →
     (es : List (List ℕ × List ℕ)) → package_files w path ≡ es → (e : List ℕ × List ℕ) × ((rest : List (List ℕ × List ℕ)) × (package_files w path ≡ e ∷ rest))
 first_file w known path n place h [] is =
     let p = h.inside in
@@ -171,29 +171,29 @@ module _ (scoped_relaid : KeptPackagesAreRelaid) (are_scoped : FaultlessPackages
   x = edited s w
 
   -- the package without checking
-  scopes_of : (q : Package) → IsPackage x after q → (o : Package) × (IsScopedIn x o × HasSameScopes q o)
+  scopes_of : (q : Package) → IsCheckedPackage x after q → (o : Package) × (IsScopedIn x o × HasSameScopes q o)
   scopes_of q is = are_scoped x after kept.right kept.sound q is
 
   -- what corresponds among checked packages corresponds by scopes
-  declared_scoped : (path : List ℕ) (n : ℕ) (place : Place) → IsDeclaredAt (IsPackage x after) (Declared path n) place →
+  declared_scoped : (path : List ℕ) (n : ℕ) (place : Place) → IsDeclaredAt (IsCheckedPackage x after) (Declared path n) place →
       IsDeclaredAt (IsScopedIn x) (Declared path n) place
   declared_scoped path n place h =
       let o = scopes_of h.inside h.is_package in
       record { inside = o.0; is_package = o.1.0; of_path = o.1.1.path ∙ h.of_path; holds = declares_same h.inside o.0 o.1.1 path n place h.holds }
 
-  become_declared : (old : Declaration) (path : List ℕ) (n : ℕ) → Corresponds (IsPackage w known) (IsPackage x after) r.moved old (Declared path n) →
+  become_declared : (old : Declaration) (path : List ℕ) (n : ℕ) → Corresponds (IsCheckedPackage w known) (IsCheckedPackage x after) r.moved old (Declared path n) →
       HasBecome w known r old (Declared path n)
-  become_declared old path n h = elim (by_cases (IsPackage w known) (IsPackage x after) r.moved old (Declared path n) h) [
+  become_declared old path n h = elim (by_cases (IsCheckedPackage w known) (IsCheckedPackage x after) r.moved old (Declared path n) h) [
     | inl m ↦ absurd (not_predeclared (Declared path n) (Declared path n) refl tt m.number m.other)
     | inr t ↦ stands t.place t.old (declared_scoped path n (r.moved t.place) t.new)
   ]
 
-  become_predeclared : (old : Declaration) (n : ℕ) → Corresponds (IsPackage w known) (IsPackage x after) r.moved old (Predeclared n) →
+  become_predeclared : (old : Declaration) (n : ℕ) → Corresponds (IsCheckedPackage w known) (IsCheckedPackage x after) r.moved old (Predeclared n) →
       HasBecome w known r old (Predeclared n)
   become_predeclared old n predeclared = predeclared
   become_predeclared old n (stands place h k) = absurd k
 
-  become_scoped : (o : Package) (u : ℕ) (old e : Declaration) → BindsByScope o u e → Corresponds (IsPackage w known) (IsPackage x after) r.moved old e →
+  become_scoped : (o : Package) (u : ℕ) (old e : Declaration) → BindsByScope o u e → Corresponds (IsCheckedPackage w known) (IsCheckedPackage x after) r.moved old e →
       HasBecome w known r old e
   become_scoped o u old (Predeclared n) b h = become_predeclared old n h
   become_scoped o u old (Declared path n) b h = become_declared old path n h
@@ -201,8 +201,8 @@ module _ (scoped_relaid : KeptPackagesAreRelaid) (are_scoped : FaultlessPackages
   become_scoped o u old (Method t) b h = absurd b
 
   -- An identifier, and what it is bound to after the change. `q` is the package that has it after the change, and `o` the same by scopes.
-  module _ (p : Package) (is : IsPackage w known p) (u : ℕ) (place : Place) (begins : BeginsAt p place.path place.offset u) (old e : Declaration)
-      (now : IsUseOf x after e (r.moved place)) (same : Corresponds (IsPackage w known) (IsPackage x after) r.moved old e) where
+  module _ (p : Package) (is : IsCheckedPackage w known p) (u : ℕ) (place : Place) (begins : BeginsAt p place.path place.offset u) (old e : Declaration)
+      (now : IsUseOf x after e (r.moved place)) (same : Corresponds (IsCheckedPackage w known) (IsCheckedPackage x after) r.moved old e) where
     abbrev q : Package
     q = now.used_in
 
@@ -247,9 +247,9 @@ module _ (scoped_relaid : KeptPackagesAreRelaid) (are_scoped : FaultlessPackages
     pub stays_by_scope : BindsByScope p u old → StaysBound (HasBecome w known r) (IsBoundByScopes r place) old
     stays_by_scope was = by_way now.bound
       where
-        by_way : uses.IsBoundTo x after q now.user e → StaysBound (HasBecome w known r) (IsBoundByScopes r place) old
+        by_way : uses.IsBoundToDeclaration x after q now.user e → StaysBound (HasBecome w known r) (IsBoundByScopes r place) old
         by_way (binds.by_scope b) = by_scopes b
-        by_way (binds.by_package b) = absurd (never was purpose.Selected (exported_as (IsPackage x after) q now.user e b).1.1.1.behind.selected)
+        by_way (binds.by_package b) = absurd (never was purpose.Selected (exported_as (IsCheckedPackage x after) q now.user e b).1.1.1.behind.selected)
         by_way (binds.by_member b) = elim (link_role x after q.path q now.is_package.is_checked now.user e now.begins.0 b) [
           | inl key ↦ absurd (never was purpose.Key key)
           | inr selected ↦ absurd (never was purpose.Selected selected)
@@ -257,9 +257,9 @@ module _ (scoped_relaid : KeptPackagesAreRelaid) (are_scoped : FaultlessPackages
         by_way (binds.by_name b) = absurd (never was purpose.Member (name_member x after q.path q now.is_package.is_checked now.user e now.begins.0.0 b))
 
     -- After the change the package of the selector exports what it is bound to, under the new name.
-    exports : (path : List ℕ) (n : ℕ) (before : IsQualifiedUse (IsPackage w known) p u path n) → old ≡ Declared path n →
-        (to : List ℕ) (m : ℕ) → e ≡ Declared to m → IsQualifiedUse (IsPackage x after) q now.user to m →
-        (a : Place) → IsDeclaredAt (IsPackage w known) (Declared path n) a → IsDeclaredAt (IsPackage x after) (Declared to m) (r.moved a) →
+    exports : (path : List ℕ) (n : ℕ) (before : IsQualifiedUse (IsCheckedPackage w known) p u path n) → old ≡ Declared path n →
+        (to : List ℕ) (m : ℕ) → e ≡ Declared to m → IsQualifiedUse (IsCheckedPackage x after) q now.user to m →
+        (a : Place) → IsDeclaredAt (IsCheckedPackage w known) (Declared path n) a → IsDeclaredAt (IsCheckedPackage x after) (Declared to m) (r.moved a) →
         IsBoundByPackage w r place p u e
     exports path n before is_old to m is_e behind a at goes =
         let other = behind.other in
@@ -291,25 +291,25 @@ module _ (scoped_relaid : KeptPackagesAreRelaid) (are_scoped : FaultlessPackages
           };
         }
 
-    selected : (path : List ℕ) (n : ℕ) → IsQualifiedUse (IsPackage w known) p u path n → q.layout.role now.user ≡ NotLexical purpose.Selected
+    selected : (path : List ℕ) (n : ℕ) → IsQualifiedUse (IsCheckedPackage w known) p u path n → q.layout.role now.user ≡ NotLexical purpose.Selected
     selected path n h = role ∙ h.behind.selected
 
-    by_exports : BindsQualified (IsPackage w known) p u old → BindsQualified (IsPackage x after) q now.user e →
+    by_exports : BindsQualified (IsCheckedPackage w known) p u old → BindsQualified (IsCheckedPackage x after) q now.user e →
         StaysBound (HasBecome w known r) (IsBoundByPackage w r place p u) old
     by_exports was b =
-        let f = exported_as (IsPackage w known) p u old was in
-        let g = exported_as (IsPackage x after) q now.user e b in
-        let places : StandBoth (IsPackage w known) (IsPackage x after) r.moved old e =
-        (elim (by_cases (IsPackage w known) (IsPackage x after) r.moved old e same) [
+        let f = exported_as (IsCheckedPackage w known) p u old was in
+        let g = exported_as (IsCheckedPackage x after) q now.user e b in
+        let places : StandBoth (IsCheckedPackage w known) (IsCheckedPackage x after) r.moved old e =
+        (elim (by_cases (IsCheckedPackage w known) (IsCheckedPackage x after) r.moved old e same) [
           | inl names ↦ absurd (not_predeclared old (Declared f.0 f.1.0) f.1.1.0 tt names.number names.one)
           | inr t ↦ t
         ]) in
-        let before : IsDeclaredAt (IsPackage w known) (Declared f.0 f.1.0) places.place =
-        subst (λ z. IsDeclaredAt (IsPackage w known) z places.place) f.1.1.0 places.old in
-        let goes : IsDeclaredAt (IsPackage x after) (Declared g.0 g.1.0) (r.moved places.place) =
-        subst (λ z. IsDeclaredAt (IsPackage x after) z (r.moved places.place)) g.1.1.0 places.new in
+        let before : IsDeclaredAt (IsCheckedPackage w known) (Declared f.0 f.1.0) places.place =
+        subst (λ z. IsDeclaredAt (IsCheckedPackage w known) z places.place) f.1.1.0 places.old in
+        let goes : IsDeclaredAt (IsCheckedPackage x after) (Declared g.0 g.1.0) (r.moved places.place) =
+        subst (λ z. IsDeclaredAt (IsCheckedPackage x after) z (r.moved places.place)) g.1.1.0 places.new in
         let become : HasBecome w known r old (Declared g.0 g.1.0) =
-        become_declared old g.0 g.1.0 (subst (λ z. Corresponds (IsPackage w known) (IsPackage x after) r.moved old z) g.1.1.0 same) in
+        become_declared old g.0 g.1.0 (subst (λ z. Corresponds (IsCheckedPackage w known) (IsCheckedPackage x after) r.moved old z) g.1.1.0 same) in
         record {
           declaration = e;
           bound = exports f.0 f.1.0 f.1.1.1 f.1.1.0 g.0 g.1.0 g.1.1.0 g.1.1.1 places.place before goes;
@@ -319,16 +319,16 @@ module _ (scoped_relaid : KeptPackagesAreRelaid) (are_scoped : FaultlessPackages
     path_same : q.path ≡ p.path
     path_same = sym alike.path ∙ ap (λ (t : Package). t.path) one.0 ∙ relaid.1.1.0.path
 
-    pub stays_by_package : BindsQualified (IsPackage w known) p u old → StaysBound (HasBecome w known r) (IsBoundByPackage w r place p u) old
+    pub stays_by_package : BindsQualified (IsCheckedPackage w known) p u old → StaysBound (HasBecome w known r) (IsBoundByPackage w r place p u) old
     stays_by_package was = by_way now.bound
       where
-        f : (path : List ℕ) × ((n : ℕ) × ((old ≡ Declared path n) × IsQualifiedUse (IsPackage w known) p u path n))
-        f = exported_as (IsPackage w known) p u old was
+        f : (path : List ℕ) × ((n : ℕ) × ((old ≡ Declared path n) × IsQualifiedUse (IsCheckedPackage w known) p u path n))
+        f = exported_as (IsCheckedPackage w known) p u old was
 
         at : q.layout.role now.user ≡ NotLexical purpose.Selected
         at = selected f.0 f.1.0 f.1.1.1
 
-        by_way : uses.IsBoundTo x after q now.user e → StaysBound (HasBecome w known r) (IsBoundByPackage w r place p u) old
+        by_way : uses.IsBoundToDeclaration x after q now.user e → StaysBound (HasBecome w known r) (IsBoundByPackage w r place p u) old
         by_way (binds.by_scope b) =
             let n = number_bound q now.user e b in
             absurd (never_bound q.layout q.names now.user n.0 purpose.Selected at n.1)
@@ -343,8 +343,8 @@ module _ (scoped_relaid : KeptPackagesAreRelaid) (are_scoped : FaultlessPackages
 
   pub none_lost : KeptMembersStay → NoneIsLost w known r
   none_lost members place p is u begins =
-      let kept_at : (old : Declaration) → uses.IsBoundTo w known p u old →
-      IsBoundToOne x after (r.moved place) (λ e. Corresponds (IsPackage w known) (IsPackage x after) r.moved old e) =
+      let kept_at : (old : Declaration) → uses.IsBoundToDeclaration w known p u old →
+      IsBoundToOne x after (r.moved place) (λ e. Corresponds (IsCheckedPackage w known) (IsCheckedPackage x after) r.moved old e) =
       (λ old b. kept.kept.keeps place old (record { used_in = p; is_package = is; user = u; begins = begins; bound = b })) in
       let stay = members w known d name s after kept p is u place begins in
       record {

@@ -25,7 +25,7 @@ use Rattle.refs_binding.specs.declared.declaration.Declaration.{Declaration}
 use Rattle.refs_binding.specs.declared.declaration.Declaration.TheVariants.{Predeclared, Declared, Field, Method}
 use Rattle.refs_binding.specs.Binding.{DeclaresMember, by_scope, by_package, by_member, by_name}
 use Rattle.refs_binding.specs.Identifiers.{BeginsAt, IsInFiles}
-use Rattle.refs_binding.specs.Uses.{IsPackage, IsBoundTo}
+use Rattle.refs_binding.specs.Uses.{IsCheckedPackage, IsBoundToDeclaration}
 use Rattle.refs_binding.proofs.Excluding.{number_bound, exported_as}
 use Rattle.refs_binding.proofs.Folders.{begins_in_folder}
 use Rattle.refs_binding.proofs.Units.{one_package}
@@ -42,7 +42,7 @@ use Rattle.law_rename_agrees.proofs.Followed.{packages_stay}
 use Rattle.law_rename_agrees.proofs.Premises.{ExportsMoveBelow, UnboundStayUnbound}
 
 -- In a workspace without faults each field counts, and so does each method.
-module _ (w : Workspace) (sound : ListsFaults w []) (known : Verdicts) (right : AreVerdicts w known) (p : Package) (is : IsPackage w known p) where
+module _ (w : Workspace) (sound : ListsFaults w []) (known : Verdicts) (right : AreVerdicts w known) (p : Package) (is : IsCheckedPackage w known p) where
   no_member_fault : (f : Fault) → IsMemberFault p f → ⊥
   no_member_fault f h =
       no_fault_later w sound known right p is f (inr ((λ g inner. no_fault_later w sound known right p is g (inl inner)), inl h))
@@ -137,8 +137,8 @@ module _ (w : Workspace) (sound : ListsFaults w []) (known : Verdicts) (right : 
     role_there : (k : Role) → q.layout.role u ≡ k → p.layout.role u ≡ k
     role_there k e = ap (λ (l : Layout). l.role u) (sym relaid.layout) ∙ e
 
-    bound_before : IsInFiles p u → (x : Workspace) (after : Verdicts) → IsPackage x after q → (e : Declaration) → IsBoundTo x after q u e →
-        (old : Declaration) × IsBoundTo w known p u old
+    bound_before : IsInFiles p u → (x : Workspace) (after : Verdicts) → IsCheckedPackage x after q → (e : Declaration) → IsBoundToDeclaration x after q u e →
+        (old : Declaration) × IsBoundToDeclaration w known p u old
     bound_before stands x after also e b = elim (cases_Bool (is_bound_role (p.layout.role u))) [
       | inl bound ↦ identifier_bound w sound known right p is u stands bound
       | inr other ↦ by_way other b
@@ -153,21 +153,21 @@ module _ (w : Workspace) (sound : ListsFaults w []) (known : Verdicts) (right : 
           subst (λ (l : Layout). IsIdentifier l u) (sym relaid.layout) stands.1,
         )
 
-        by_lexical : (k : Role) → p.layout.role u ≡ k → is_bound_role k ≡ false → (n : ℕ) → scopes.IsBoundTo q.layout q.names u n → ⊥
+        by_lexical : (k : Role) → p.layout.role u ≡ k → is_bound_role k ≡ false → (n : ℕ) → scopes.IsBoundToDeclaration q.layout q.names u n → ⊥
         by_lexical k role unbound n b = unlexical k (ap (λ (l : Layout). l.role u) relaid.layout ∙ role) unbound n b
           where
-            unlexical : (k : Role) → q.layout.role u ≡ k → is_bound_role k ≡ false → (n : ℕ) → scopes.IsBoundTo q.layout q.names u n → ⊥
+            unlexical : (k : Role) → q.layout.role u ≡ k → is_bound_role k ≡ false → (n : ℕ) → scopes.IsBoundToDeclaration q.layout q.names u n → ⊥
             unlexical (NotLexical z) same unbound n b = never_bound q.layout q.names u n z same b
             unlexical Use same unbound n b = true≢false unbound
             unlexical (Declaring block start) same unbound n b = true≢false unbound
             unlexical (LeftName block start) same unbound n b = true≢false unbound
             unlexical (Implied block start) same unbound n b = true≢false unbound
 
-        by_way : is_bound_role (p.layout.role u) ≡ false → IsBoundTo x after q u e → (old : Declaration) × IsBoundTo w known p u old
+        by_way : is_bound_role (p.layout.role u) ≡ false → IsBoundToDeclaration x after q u e → (old : Declaration) × IsBoundToDeclaration w known p u old
         by_way unbound (by_scope h) =
             let n = number_bound q u e h in absurd (by_lexical (p.layout.role u) refl unbound n.0 n.1)
         by_way unbound (by_package h) =
-            let n = exported_as (IsPackage x after) q u e h in absurd (no_role (NotLexical purpose.Selected) n.1.1.1.behind.selected refl unbound)
+            let n = exported_as (IsCheckedPackage x after) q u e h in absurd (no_role (NotLexical purpose.Selected) n.1.1.1.behind.selected refl unbound)
         by_way unbound (by_member h) = elim (link_role x after q.path q also.is_checked u e there h) [
           | inl key ↦ absurd (no_role (NotLexical purpose.Key) key refl unbound)
           | inr selected ↦ absurd (no_role (NotLexical purpose.Selected) selected refl unbound)
@@ -190,10 +190,10 @@ unbound_stay below w known d name s after free place e at now =
     ∙ sym (begins_in_folder x after q stay.1.0 to.path to.offset u begins)) in
     let there : BeginsAt q to.path to.offset now.user = subst (λ (z : Package). BeginsAt z to.path to.offset now.user) same now.begins in
     let user : now.user ≡ u = one_begins x after q.path q stay.1.0.is_checked to.path to.offset now.user u there begins in
-    let bound : IsBoundTo x after q now.user e = subst (λ (z : Package). IsBoundTo x after z now.user e) same now.bound in
+    let bound : IsBoundToDeclaration x after q now.user e = subst (λ (z : Package). IsBoundToDeclaration x after z now.user e) same now.bound in
     let known_sound = free.rename.rename in
     let was = bound_before w known_sound.sound known known_sound.right p at.is_package r q stay.1.1.0 u at.begins.0 x after stay.1.0 e
-    (subst (λ v. IsBoundTo x after q v e) user bound) in (
+    (subst (λ v. IsBoundToDeclaration x after q v e) user bound) in (
       was.0,
       record { used_in = p; is_package = at.is_package; user = u; begins = at.begins; bound = was.1 },
     )

@@ -9,13 +9,13 @@ use Rattle.types_declared.specs.Package.{Package}
 use Rattle.workspace_check.specs.Verdicts.{Verdicts, AreVerdicts}
 use Rattle.refs_binding.specs.declared.declaration.Declaration.{Declaration}
 use Rattle.refs_binding.specs.declared.declaration.Declaration.TheVariants.{Predeclared, Declared, Field, Method}
-use Rattle.refs_binding.specs.Uses.{IsPackage}
+use Rattle.refs_binding.specs.Uses.{IsCheckedPackage}
 use Rattle.refs_lookup.proofs.OwnedMembers.{IsOwned, member_owned}
 use Rattle.law_renamed_verdicts.proofs.NamedMembers.{members_named}
 use Rattle.law_rename_agrees.proofs.Premises.{IsDeclaredByName, UsedMembersAreDeclared}
 
 -- what a package of the closure owns has a name there
-owned_named : (w : Workspace) (known : Verdicts) (right : AreVerdicts w known) (p : Package) (is : IsPackage w known p) (definitions : Symbol → Definition)
+owned_named : (w : Workspace) (known : Verdicts) (right : AreVerdicts w known) (p : Package) (is : IsCheckedPackage w known p) (definitions : Symbol → Definition)
     (are : AreDefinitions p definitions) (d : Declaration) → IsOwned w known right p is definitions are d → IsDeclaredByName w known d
 owned_named w known right p is definitions are (Predeclared n) o = absurd o
 owned_named w known right p is definitions are (Declared path n) o = absurd o

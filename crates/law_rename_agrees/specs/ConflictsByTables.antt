@@ -8,15 +8,15 @@ use Rattle.types_expr.specs.Types.{PlainType, Underlying}
 use Rattle.types_expr.specs.Judge.{MemberUse}
 use Rattle.law_rename.specs.Renaming.{WouldCapture, HasNoConflictAt}
 use Rattle.types_declared.specs.Package.{Package, PlacedFunction}
-use Rattle.types_declared.specs.Written.{ImportsPath}
+use Rattle.types_declared.specs.Written.{DeclaresImport}
 use Rattle.types_declared.specs.Definitions.{HasUnderlying, PlacedField, IsFieldOf, IsMethodOf}
 use Rattle.types_info.specs.MemberUses.{AreMemberUses}
 use Rattle.workspace_check.specs.Verdicts.{Verdicts}
 use Rattle.refs_binding.specs.declared.declaration.Declaration.{Declaration}
 use Rattle.refs_binding.specs.declared.declaration.Declaration.TheVariants.{Predeclared, Declared}
 use Rattle.refs_binding.specs.Identifiers.{BeginsAt}
-use Rattle.refs_binding.specs.Binding.{BindsByScope, IsPredeclared}
-use Rattle.refs_binding.specs.Uses.{IsPackage}
+use Rattle.refs_binding.specs.Binding.{BindsByScope, IsPredeclaredNumber}
+use Rattle.refs_binding.specs.Uses.{IsCheckedPackage}
 use Rattle.refs_binding.specs.DeclaringPlaces.{IsDeclaredAt}
 use Rattle.base_edits.specs.Revisions.{Revision}
 use Rattle.base_edits.specs.RevisionsOfEdits.{revision_of}
@@ -42,7 +42,7 @@ pub record HasSameTable (p q : Package) : Type 0 where
   pub names : q.names ≡ p.names
   pub places : (u : ℕ) (place : Place) → BeginsAt p place.path place.offset u ↔ BeginsAt q place.path place.offset u
   pub declared : (d : Declaration) (place : Place) → IsDeclaredAt (λ x. x ≡ p) d place ↔ IsDeclaredAt (λ x. x ≡ q) d place
-  pub imports : (d : ℕ) (path : List ℕ) → ImportsPath p d path ↔ ImportsPath q d path
+  pub imports : (d : ℕ) (path : List ℕ) → DeclaresImport p d path ↔ DeclaresImport q d path
   pub members : (lists : List (List MemberUse)) → AreMemberUses p lists ↔ AreMemberUses q lists
   pub underlying : (t : PlainType) (u : Underlying) → HasUnderlying p t u ↔ HasUnderlying q t u
   pub fields : (definition : ℕ) (name : List ℕ) (rank : ℕ) → HasField p definition name rank ↔ HasField q definition name rank
@@ -50,8 +50,8 @@ pub record HasSameTable (p q : Package) : Type 0 where
 
 -- the same is kept of two workspaces
 pub record HaveSameTables (v : Workspace) (a : Verdicts) (w : Workspace) (b : Verdicts) : Type 0 where
-  pub there : (p : Package) → IsPackage v a p → (q : Package) × (IsPackage w b q × HasSameTable p q)
-  pub here : (q : Package) → IsPackage w b q → (p : Package) × (IsPackage v a p × HasSameTable p q)
+  pub there : (p : Package) → IsCheckedPackage v a p → (q : Package) × (IsCheckedPackage w b q × HasSameTable p q)
+  pub here : (q : Package) → IsCheckedPackage w b q → (p : Package) × (IsCheckedPackage v a p × HasSameTable p q)
 
 -- What is kept tells all conflicts: workspaces of which the same is kept have the same.
 abbrev pub ConflictsAreKept : Type 0
@@ -75,10 +75,10 @@ HasOneAnswer = (w : Workspace) (known : Verdicts) (d : Declaration) (name : List
 -- By the tables alone
 
 -- the declaration that has a number in the scopes of a package
-abbrev pub IsNumbered : Package → ℕ → Declaration → Type 0
-IsNumbered p n (Predeclared m) = (m ≡ n) × IsPredeclared n
-IsNumbered p n (Declared path m) = (path ≡ p.path) × (m ≡ n) × (IsPredeclared n → ⊥)
-IsNumbered p n d = ⊥
+abbrev pub IsOwnNumber : Package → ℕ → Declaration → Type 0
+IsOwnNumber p n (Predeclared m) = (m ≡ n) × IsPredeclaredNumber n
+IsOwnNumber p n (Declared path m) = (path ≡ p.path) × (m ≡ n) × (IsPredeclaredNumber n → ⊥)
+IsOwnNumber p n d = ⊥
 
 -- What captures the identifier `u` in the declaring package, once the declaration has the name. Where it is lost, it doesn't stay bound, and
 -- nothing captures it.
@@ -86,12 +86,12 @@ abbrev pub WouldTurn : Workspace → Verdicts → Package → (n : ℕ) → (nam
 WouldTurn w known p n name u None =
     (HasNoConflictAt p.layout p.names n name u → ⊥) × ((c : ℕ) → WouldCapture p.layout p.names n name u c → ⊥)
 WouldTurn w known p n name u (Some by) =
-    (c : ℕ) × (WouldCapture p.layout p.names n name u c × ((d : Declaration) × (IsNumbered p c d × IsCapturer (IsPackage w known) d by)))
+    (c : ℕ) × (WouldCapture p.layout p.names n name u c × ((d : Declaration) × (IsOwnNumber p c d × IsCapturer (IsCheckedPackage w known) d by)))
 
 -- what scopes bind in that package is told as its tables tell it
 abbrev pub OwnConflictsAreTold : Type 0
 OwnConflictsAreTold = (w : Workspace) (known : Verdicts) (p : Package) (n : ℕ) (name : List ℕ) (s : FileChanges) →
-    IsPlainRename w known (Declared p.path n) name s → IsPackage w known p → (place : Place) (u : ℕ) → BeginsAt p place.path place.offset u →
+    IsPlainRename w known (Declared p.path n) name s → IsCheckedPackage w known p → (place : Place) (u : ℕ) → BeginsAt p place.path place.offset u →
     (old : Declaration) → BindsByScope p u old → (by : Option Capturer) →
-    LostOrCaptured (HasBecome w known (revision_of w s)) (IsPackage w known) (IsBoundByScopes (revision_of w s) place) old by ↔
+    LostOrCaptured (HasBecome w known (revision_of w s)) (IsCheckedPackage w known) (IsBoundByScopes (revision_of w s) place) old by ↔
     WouldTurn w known p n name u by

@@ -27,7 +27,7 @@ use Rattle.refs_binding.specs.declared.declaration.Declaration.{Declaration}
 use Rattle.refs_binding.specs.declared.declaration.Declaration.TheVariants.{Predeclared, Declared, Field, Method}
 use Rattle.refs_binding.specs.Binding.{by_scope, by_package, by_member, by_name, field_place}
 use Rattle.refs_binding.specs.Identifiers.{IsInFiles}
-use Rattle.refs_binding.specs.Uses.{IsPackage, IsBoundTo}
+use Rattle.refs_binding.specs.Uses.{IsCheckedPackage, IsBoundToDeclaration}
 use Rattle.refs_binding.proofs.Excluding.{number_bound}
 use Rattle.refs_lookup.proofs.Faultless.{no_fault_later}
 use Rattle.refs_lookup.proofs.NamedMembers.{name_member}
@@ -111,7 +111,7 @@ is_member_role (NotLexical purpose.Key) = true
 is_member_role (NotLexical purpose.Member) = true
 is_member_role r = false
 
-module _ (w : Workspace) (sound : ListsFaults w []) (known : Verdicts) (right : AreVerdicts w known) (p : Package) (is : IsPackage w known p) where
+module _ (w : Workspace) (sound : ListsFaults w []) (known : Verdicts) (right : AreVerdicts w known) (p : Package) (is : IsCheckedPackage w known p) where
   lies : (at : Position) (u : ℕ) → Decided (LiesAt p.layout at u)
   lies at u =
       let File = (p.layout.place u).file ≡ at.file in
@@ -128,7 +128,7 @@ module _ (w : Workspace) (sound : ListsFaults w []) (known : Verdicts) (right : 
       no_fault_later w sound known right p is f (inr ((λ g inner. no_fault_later w sound known right p is g (inl inner)), inl h))
 
   field_here : (u rank : ℕ) (f : PlacedField) → slice_get (package_fields p) rank ≡ Some f → LiesAt p.layout (field_place f) u →
-      IsBoundTo w known p u (Field (symbol_in p rank))
+      IsBoundToDeclaration w known p u (Field (symbol_in p rank))
   field_here u rank f has stands =
       let name = spelled p f.file f.name in
       let own : IsFieldOf p f.definition name rank f = record { has_rank = has; of_struct = refl; named = refl } in
@@ -154,7 +154,7 @@ module _ (w : Workspace) (sound : ListsFaults w []) (known : Verdicts) (right : 
       )
 
   method_here : (u definition rank : ℕ) (name : List ℕ) (f : PlacedFunction) → IsMethodOf p definition name rank f → LiesAt p.layout (function_place f) u →
-      IsBoundTo w known p u (Method (symbol_in p rank))
+      IsBoundToDeclaration w known p u (Method (symbol_in p rank))
   method_here u definition rank name f own stands =
       let fault : Fault = record { file = f.file; token = f.function.name; kind = kind.Repeated } in
       let not_displaced : ((IsCountingMethod p definition name rank f → ⊥) → ⊥) = λ displaced. no_member_fault fault (inr (inl (record {
@@ -223,7 +223,7 @@ module _ (w : Workspace) (sound : ListsFaults w []) (known : Verdicts) (right : 
 
   -- what names no member there is bound to nothing
   unbound_member : (u : ℕ) → IsInFiles p u → p.layout.role u ≡ NotLexical purpose.Member → ((rank : ℕ) → IsFieldThere u rank → ⊥) →
-      ((rank : ℕ) → IsMethodThere u rank → ⊥) → (d : Declaration) → IsBoundTo w known p u d → ⊥
+      ((rank : ℕ) → IsMethodThere u rank → ⊥) → (d : Declaration) → IsBoundToDeclaration w known p u d → ⊥
   unfolding IsFieldThere IsMethodThere
   unbound_member u stands role no_field no_method d (by_scope k) =
       let n = number_bound p u d k in never_bound p.layout p.names u n.0 purpose.Member role n.1
@@ -249,7 +249,7 @@ module _ (w : Workspace) (sound : ListsFaults w []) (known : Verdicts) (right : 
       no_method s.rank
       (c.method, (m.has_rank, (m.receiver, (m.received, subst (λ at. LiesAt p.layout at u) (sym x.is_at.named_at) x.stands))))
 
-  member_here : (u : ℕ) → IsInFiles p u → p.layout.role u ≡ NotLexical purpose.Member → (d : Declaration) × IsBoundTo w known p u d
+  member_here : (u : ℕ) → IsInFiles p u → p.layout.role u ≡ NotLexical purpose.Member → (d : Declaration) × IsBoundToDeclaration w known p u d
   unfolding IsFieldThere IsMethodThere
   member_here u stands role =
       elim (some (IsFieldThere u) (field_there u) _ (λ k h. slice_get_within (package_fields p) k h.0 h.1.0)) [
@@ -267,7 +267,7 @@ module _ (w : Workspace) (sound : ListsFaults w []) (known : Verdicts) (right : 
   -- an identifier that names no member, is no lexical use, and declares nothing
 
   bound_to_nothing : (u : ℕ) (q : Purpose) → IsInFiles p u → p.layout.role u ≡ NotLexical q → is_member_role (NotLexical q) ≡ false → (d : Declaration) →
-      IsBoundTo w known p u d → ⊥
+      IsBoundToDeclaration w known p u d → ⊥
   bound_to_nothing u q stands role none d (by_scope k) = let n = number_bound p u d k in never_bound p.layout p.names u n.0 q role n.1
   bound_to_nothing u q stands role none (Declared path n) (by_package k) =
       true≢false (sym (ap is_member_role (sym role ∙ k.behind.selected)) ∙ none)
@@ -284,7 +284,7 @@ module _ (w : Workspace) (sound : ListsFaults w []) (known : Verdicts) (right : 
   -- to which declaration an identifier is bound, if to any
 
   by_role : (u : ℕ) → IsInFiles p u → (r : Role) → p.layout.role u ≡ r →
-      ((d : Declaration) × IsBoundTo w known p u d) ⊎ ((d : Declaration) → IsBoundTo w known p u d → ⊥)
+      ((d : Declaration) × IsBoundToDeclaration w known p u d) ⊎ ((d : Declaration) → IsBoundToDeclaration w known p u d → ⊥)
   by_role u stands Use role = inl (identifier_bound w sound known right p is u stands (ap is_bound_role role))
   by_role u stands (Declaring block start) role = inl (identifier_bound w sound known right p is u stands (ap is_bound_role role))
   by_role u stands (LeftName block start) role = inl (identifier_bound w sound known right p is u stands (ap is_bound_role role))
@@ -298,11 +298,11 @@ module _ (w : Workspace) (sound : ListsFaults w []) (known : Verdicts) (right : 
   by_role u stands (NotLexical purpose.InitFunction) role = inr (bound_to_nothing u purpose.InitFunction stands role refl)
   by_role u stands (NotLexical purpose.Blank) role = inr (bound_to_nothing u purpose.Blank stands role refl)
 
-  pub bound_decided : (u : ℕ) → IsInFiles p u → (d : Declaration) → Decided (IsBoundTo w known p u d)
+  pub bound_decided : (u : ℕ) → IsInFiles p u → (d : Declaration) → Decided (IsBoundToDeclaration w known p u d)
   bound_decided u stands d = elim (by_role u stands (p.layout.role u) refl) [
     | inr none ↦ inr (none d)
     | inl e ↦ elim (same_declaration e.0 d) [
-      | inl same ↦ inl (subst (IsBoundTo w known p u) same e.1)
+      | inl same ↦ inl (subst (IsBoundToDeclaration w known p u) same e.1)
       | inr other ↦ inr (λ b. other (one_declaration w known p is u stands e.0 d e.1 b))
     ]
   ]

@@ -17,7 +17,7 @@ use Rattle.refs_binding.specs.Bindings.{AddsAll}
 use Rattle.refs_binding.proofs.AddingAll.{all_none, all_then}
 use Rattle.refactor_rename.specs.declared.renamed.Literal.{Literal}
 use Rattle.refactor_rename.specs.declared.renamed.Renamed.{Renamed}
-use Rattle.refactor_rename.specs.FileEdits.{IsLiteralAt, ReplacesName, InsertsName, IsEditAt, EndBy, AreFileEdits}
+use Rattle.refactor_rename.specs.FileEdits.{IsLiteralAt, RenamesToken, InsertsName, IsEditAt, EndBy, AreFileEdits}
 use Rattle.refactor_rename.specs.Replacements.{EndsImport, FollowsImportWord, IsNameBefore, apart, joined}
 use Rattle.refactor_rename.proofs.Editing.{Going, going_first, going_next, follow_at, end_more, end_push, all_one, all_edits, one_insertion}
 use Rattle.law_faultless.proofs.Deciding.{Decided, both, turned}
@@ -92,12 +92,12 @@ module _ (f : SourceFile) (r : Renamed) (i : ℕ) (token : Piece) (at : slice_ge
         ))
   ]
 
-  one_replacement : (d e : Edit) → ReplacesName f r i d → ReplacesName f r i e → d ≡ e
+  one_replacement : (d e : Edit) → RenamesToken f r i d → RenamesToken f r i e → d ≡ e
   one_replacement d e h k =
       let same : h.token ≡ k.token = same_Some h.token k.token (sym h.at ∙ k.at) in
       h.is_edit ∙ ap (λ (t : Piece). record { span = t.span; text = r.name }) same ∙ sym k.is_edit
 
-  replaced : (old : List Edit) → EndBy old token.span.start → Adds (ReplacesName f r i) old token.span.end
+  replaced : (old : List Edit) → EndBy old token.span.start → Adds (RenamesToken f r i) old token.span.end
   unfolding Adds
   replaced old ends = elim (both (token.class ≡ class.Name) (Contains r.places (record { path = f.path; offset = token.span.start })) (name_class token.class)
       (listed r.places (record { path = f.path; offset = token.span.start }))) [
@@ -105,7 +105,7 @@ module _ (f : SourceFile) (r : Renamed) (i : ℕ) (token : Piece) (at : slice_ge
           old,
           (
             end_more old token.span.start token.span.end span ends,
-            all_none old (ReplacesName f r i)
+            all_none old (RenamesToken f r i)
                 (λ e h. let same : h.token ≡ token = same_Some h.token token (sym h.at ∙ at) in
                 other (subst (λ (t : Piece). (t.class ≡ class.Name) × Contains r.places (record { path = f.path; offset = t.span.start })) same
                 (h.is_name, h.among))),
@@ -113,11 +113,11 @@ module _ (f : SourceFile) (r : Renamed) (i : ℕ) (token : Piece) (at : slice_ge
         )
         | inl is_use ↦ (
             let e : Edit = record { span = token.span; text = r.name } in
-            let is : ReplacesName f r i e = record { token = token; at = at; is_name = is_use.0; among = is_use.1; is_edit = refl } in (
+            let is : RenamesToken f r i e = record { token = token; at = at; is_name = is_use.0; among = is_use.1; is_edit = refl } in (
               old ++ e ∷ [],
               (
                 end_push old (old ++ e ∷ []) e token.span.start token.span.end refl ends (omega arith) span (omega arith),
-                all_one old (old ++ e ∷ []) e (ReplacesName f r i) refl is (λ d h. one_replacement e d is h),
+                all_one old (old ++ e ∷ []) e (RenamesToken f r i) refl is (λ d h. one_replacement e d is h),
               ),
             ))
       ]
@@ -127,7 +127,7 @@ module _ (f : SourceFile) (r : Renamed) (i : ℕ) (token : Piece) (at : slice_ge
   token_edits old ends =
       let one = inserted old ends in
       let two = replaced one.0 one.1.0 in
-      (two.0, (two.1.0, all_then old one.0 two.0 (InsertsName f r i) (ReplacesName f r i) one.1.1 two.1.1))
+      (two.0, (two.1.0, all_then old one.0 two.0 (InsertsName f r i) (RenamesToken f r i) one.1.1 two.1.1))
 
 -- all tokens
 

@@ -23,9 +23,9 @@ use Rattle.workspace_check.specs.declared.findings.Findings.{Findings}
 use Rattle.workspace_check.specs.Verdicts.{Verdicts}
 use Rattle.refs_binding.specs.declared.declaration.Declaration.{Declaration}
 use Rattle.refs_binding.specs.Bindings.{AddsAll}
-use Rattle.refs_binding.specs.Identifiers.{BeginsAt, IsName, NameBegins, file_of}
+use Rattle.refs_binding.specs.Identifiers.{BeginsAt, IsNameToken, NameBegins, file_of}
 use Rattle.refs_binding.specs.Places.{place_cmp}
-use Rattle.refs_binding.specs.Uses.{IsPackage, IsBoundTo, IsUseOf}
+use Rattle.refs_binding.specs.Uses.{IsCheckedPackage, IsBoundToDeclaration, IsUseOf}
 use Rattle.refs_binding.specs.Workspaces.{IsFaultless, IsPackageAt, ListsFound, known_in}
 use Rattle.refs_binding.proofs.AddingAll.{BelowAll, all_none, all_as, none_below, next_below}
 use Rattle.refs_binding.proofs.PlaceOrder.{place_cmp_exact, place_cmp_total}
@@ -172,7 +172,7 @@ pub name_class : (c : Class) → Decided (c ≡ class.Name)
 name_class class.Name = inl refl
 name_class _ = inr (λ e. cc)
 
-is_name : (o : Option Piece) → Decided (IsName o)
+is_name : (o : Option Piece) → Decided (IsNameToken o)
 is_name None = inr (λ h. h)
 is_name (Some t) = name_class t.class
 
@@ -197,9 +197,9 @@ module _ (w : Workspace) (found : Findings) (faultless : IsFaultless w found) (d
   -- in a package
 
   IsUseHere : Package → ℕ → Place → Type 0
-  IsUseHere p u place = BeginsAt p place.path place.offset u × IsBoundTo w known p u d
+  IsUseHere p u place = BeginsAt p place.path place.offset u × IsBoundToDeclaration w known p u d
 
-  use_here : (p : Package) → IsPackage w known p → (u : ℕ) →
+  use_here : (p : Package) → IsCheckedPackage w known p → (u : ℕ) →
       ((x : Place) × (IsUseHere p u x × ((y : Place) → IsUseHere p u y → x ≡ y))) ⊎ ((x : Place) → IsUseHere p u x → ⊥)
   unfolding IsUseHere Begins
   use_here p is u = elim (both (u < p.size) (is_implied (p.layout.role u) ≡ false) (less u p.size) (is_false (is_implied (p.layout.role u)))) [

@@ -14,12 +14,12 @@ use Rattle.workspace_check.proofs.Members.{cases_contains}
 use Rattle.workspace_graph.proofs.ByPath.{number}
 use Rattle.refs_binding.specs.declared.declaration.Declaration.{Declaration}
 use Rattle.refs_binding.specs.declared.declaration.Declaration.TheVariants.{Predeclared, Declared, Field, Method}
-use Rattle.refs_binding.specs.Uses.{IsPackage}
+use Rattle.refs_binding.specs.Uses.{IsCheckedPackage}
 use Rattle.refs_binding.specs.Workspaces.{IsFaultless, known_in}
 use Rattle.refs_binding.proofs.PackageNumbers.{package_there, no_package}
 use Rattle.refactor_rename.specs.declared.renamed.Literal.{Literal}
 use Rattle.refactor_rename.proofs.Literals.{found_in}
-use Rattle.refactor_rename.specs.Literals.{IsTokenOf, IsUnnamedImport, IsLiteralIn, IsLiteralOf, IsLiteralFound}
+use Rattle.refactor_rename.specs.Literals.{IsTokenOf, IsUnnamedImport, IsPathLiteralIn, IsPathLiteralOf, IsLiteralFound}
 use Rattle.law_faultless.proofs.Deciding.{Decided, both, less}
 use Rattle.law_faultless.proofs.Lexical.{file_block}
 
@@ -51,20 +51,20 @@ unnamed p n =
     both (n < p.size) (IsImport p.layout n × Is) (less n p.size)
     (both (IsImport p.layout n) Is (file_block (block_of (p.layout.role n))) (same_or_not (literal_of p.layout n) n))
 
-literal_in : (p : Package) (n : ℕ) → FindsLiteral (IsLiteralIn p n)
+literal_in : (p : Package) (n : ℕ) → FindsLiteral (IsPathLiteralIn p n)
 literal_in p n = elim (unnamed p n) [
-  | inr other ↦ none_found (IsLiteralIn p n) (λ l h. other (h.0, h.1))
-  | inl is ↦ found_as (IsTokenOf (slice_get p.files (p.layout.place n).file) (p.layout.place n).index) (IsLiteralIn p n) (λ l h. (is.0, is.1, h)) (λ l h. h.2)
+  | inr other ↦ none_found (IsPathLiteralIn p n) (λ l h. other (h.0, h.1))
+  | inl is ↦ found_as (IsTokenOf (slice_get p.files (p.layout.place n).file) (p.layout.place n).index) (IsPathLiteralIn p n) (λ l h. (is.0, is.1, h)) (λ l h. h.2)
       (token_found (slice_get p.files (p.layout.place n).file) (p.layout.place n).index)
 ]
 
 module _ (w : Workspace) (found : Findings) (faultless : IsFaultless w found) where
   abbrev Known : Package → Type 0
-  Known = IsPackage w (known_in found)
+  Known = IsCheckedPackage w (known_in found)
 
-  literal_of_path : (path : List ℕ) (n : ℕ) → FindsLiteral (IsLiteralOf Known (Declared path n))
+  literal_of_path : (path : List ℕ) (n : ℕ) → FindsLiteral (IsPathLiteralOf Known (Declared path n))
   literal_of_path path n = elim (cases_contains (package_paths w) path) [
-    | inr other ↦ none_found (IsLiteralOf Known (Declared path n)) (λ l h. no_package w (known_in found) path (λ p. IsLiteralIn p n l) other h)
+    | inr other ↦ none_found (IsPathLiteralOf Known (Declared path n)) (λ l h. no_package w (known_in found) path (λ p. IsPathLiteralIn p n l) other h)
     | inl there ↦ (
         let k = number w path there in
         let p = package_there w found faultless k.0 (slice_get_within (package_paths w) k.0 path k.1) in
@@ -72,8 +72,8 @@ module _ (w : Workspace) (found : Findings) (faultless : IsFaultless w found) wh
         (o.0, found_in w (known_in found) k.0 p.0 path n p.1 k.1 o.0 o.1))
   ]
 
-  pub literal_decided : (d : Declaration) → FindsLiteral (IsLiteralOf Known d)
-  literal_decided (Predeclared n) = none_found (IsLiteralOf Known (Predeclared n)) (λ l h. h)
+  pub literal_decided : (d : Declaration) → FindsLiteral (IsPathLiteralOf Known d)
+  literal_decided (Predeclared n) = none_found (IsPathLiteralOf Known (Predeclared n)) (λ l h. h)
   literal_decided (Declared path n) = literal_of_path path n
-  literal_decided (Field s) = none_found (IsLiteralOf Known (Field s)) (λ l h. h)
-  literal_decided (Method s) = none_found (IsLiteralOf Known (Method s)) (λ l h. h)
+  literal_decided (Field s) = none_found (IsPathLiteralOf Known (Field s)) (λ l h. h)
+  literal_decided (Method s) = none_found (IsPathLiteralOf Known (Method s)) (λ l h. h)

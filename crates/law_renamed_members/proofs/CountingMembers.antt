@@ -16,7 +16,7 @@ use Rattle.types_declared.specs.Definitions.{HasUnderlying, PlacedField, fields_
 use Rattle.types_declared.specs.Definitions.{HasFieldNamed, of_own, of_imported}
 use Rattle.types_info.proofs.WorldParts.{is_other}
 use Rattle.workspace_check.specs.Verdicts.{Verdicts}
-use Rattle.refs_binding.specs.Uses.{IsPackage}
+use Rattle.refs_binding.specs.Uses.{IsCheckedPackage}
 use Rattle.refactor_after.specs.NamesAfter.{IsFieldAfter, IsMethodAfter}
 use Rattle.refactor_after.specs.MembersAfter.{IsFirst, IsFirstField, IsFirstMethod, HasFieldAfter}
 use Rattle.refactor_after.proofs.FieldsAfter.{of_one}
@@ -28,7 +28,7 @@ use Rattle.law_renamed_members.specs.MembersMoved.{AreSeenAfter, AreFieldsSeenAf
 use Rattle.law_renamed_members.proofs.FirstOf.{first_of_some}
 use Rattle.law_renamed_members.proofs.NewNames.{field_called_after, function_called_after}
 
-module _ (w : Workspace) (known : Verdicts) (r : Revision) (p q : Package) (is : IsPackage w known p) (relaid : IsRelaid r p q) where
+module _ (w : Workspace) (known : Verdicts) (r : Revision) (p q : Package) (is : IsCheckedPackage w known p) (relaid : IsRelaid r p q) where
   -- the same types, fields and functions are listed
 
   pub types_listed : package_types q ≡ package_types p
@@ -151,9 +151,9 @@ module _ (w : Workspace) (known : Verdicts) (r : Revision) (p q : Package) (is :
 
     -- where no field of the values has the name
 
-    module _ (seen : AreSeenAfter (IsPackage w known) r p q) where
+    module _ (seen : AreSeenAfter (IsCheckedPackage w known) r p q) where
       Known : Package → Type 0
-      Known = IsPackage w known
+      Known = IsCheckedPackage w known
 
       own_symbol : (rank : ℕ) → symbol_in q rank ≡ symbol_in p rank
       own_symbol rank = ap (λ (path : List ℕ). record { «package» = path; rank = rank }) relaid.path
@@ -191,7 +191,7 @@ module _ (w : Workspace) (known : Verdicts) (r : Revision) (p q : Package) (is :
             };
           }
 
-      pub counting_method : (d : ℕ) (name : List ℕ) (rank : ℕ) → IsFirstMethod (IsPackage w known) r p d name rank →
+      pub counting_method : (d : ℕ) (name : List ℕ) (rank : ℕ) → IsFirstMethod (IsCheckedPackage w known) r p d name rank →
           (f : PlacedFunction) × IsCountingMethod q d name rank f
       unfolding Known
       counting_method d name rank h =
@@ -206,7 +206,7 @@ module _ (w : Workspace) (known : Verdicts) (r : Revision) (p q : Package) (is :
 
     -- a field of the values is seen under its new name
 
-    module _ (fields : AreFieldsSeenAfter (IsPackage w known) r p q) where
+    module _ (fields : AreFieldsSeenAfter (IsCheckedPackage w known) r p q) where
       after_symbol : (rank : ℕ) → symbol_in p rank ≡ symbol_in q rank
       after_symbol rank = ap (λ (path : List ℕ). record { «package» = path; rank = rank }) (sym relaid.path)
 
@@ -218,7 +218,7 @@ module _ (w : Workspace) (known : Verdicts) (r : Revision) (p q : Package) (is :
       only_exported true c e f = refl
       only_exported false c e f = absurd (true≢false (sym e ∙ f))
 
-      named_behind : (d : ℕ) (name : List ℕ) → HasFieldAfter (IsPackage w known) r p d name → HasFieldNamed q d name
+      named_behind : (d : ℕ) (name : List ℕ) → HasFieldAfter (IsCheckedPackage w known) r p d name → HasFieldNamed q d name
       named_behind d name h = elim (cases_bytes h.struct.package p.path) [
         | inl own ↦
             let first = of_one w known p is h.struct.package (sym own) (λ o. IsFirstField r o h.struct.rank name h.rank) h.has.has in
@@ -236,5 +236,5 @@ module _ (w : Workspace) (known : Verdicts) (r : Revision) (p q : Package) (is :
       ]
 
       pub counts_before : (d : ℕ) (name : List ℕ) (rank : ℕ) (f : PlacedFunction) → IsCountingMethod q d name rank f →
-          IsFirstMethod (IsPackage w known) r p d name rank
+          IsFirstMethod (IsCheckedPackage w known) r p d name rank
       counts_before d name rank f h = record { no_field = λ k. h.no_field (named_behind d name k); has = first_of_methods d name rank f h }

@@ -27,7 +27,7 @@ use Rattle.types_info.proofs.DeclKinds.{Holds, holds_got, holds_append, holds_fl
 use Rattle.types_info.proofs.OneMeaning.{one_type, one_signature_found}
 use Rattle.workspace_check.specs.Verdicts.{Verdicts}
 use Rattle.workspace_check.proofs.OnePackage.{layout_formed}
-use Rattle.refs_binding.specs.Uses.{IsPackage}
+use Rattle.refs_binding.specs.Uses.{IsCheckedPackage}
 use Rattle.refactor_after.specs.NamesAfter.{IsFieldAfter, IsMethodAfter}
 use Rattle.refactor_after.specs.MembersAfter.{IsFirstField, IsFirstMethod}
 use Rattle.refactor_after.proofs.FieldsAfter.{one_first, of_one}
@@ -116,10 +116,10 @@ signature p q a rank f at s h =
           (all_got R (package_functions p) rank f (recursion_from_All R (package_functions p) a.dotted.results) at);
     }
 
-module _ (w : Workspace) (known : Verdicts) (r : Revision) (p q : Package) (is : IsPackage w known p) (relaid : IsRelaid r p q)
-    (alike : Alike p q) (seen : AreSeenAfter (IsPackage w known) r p q) where
+module _ (w : Workspace) (known : Verdicts) (r : Revision) (p q : Package) (is : IsCheckedPackage w known p) (relaid : IsRelaid r p q)
+    (alike : Alike p q) (seen : AreSeenAfter (IsCheckedPackage w known) r p q) where
   Known : Package → Type 0
-  Known = IsPackage w known
+  Known = IsCheckedPackage w known
 
   formed : WellFormed p.layout
   formed = layout_formed w known p.path p is.is_checked
@@ -203,7 +203,7 @@ module _ (w : Workspace) (known : Verdicts) (r : Revision) (p q : Package) (is :
 
   -- a definition of the package
 
-  own_under_name : (rank : ℕ) (name : List ℕ) (f : Field) → IsFoundField q rank name (Some f) → IsUnderNewName (IsPackage w known) r p.path rank name f
+  own_under_name : (rank : ℕ) (name : List ℕ) (f : Field) → IsFoundField q rank name (Some f) → IsUnderNewName (IsCheckedPackage w known) r p.path rank name f
   own_under_name rank name f h = record {
     of_package = ap (λ (s : Symbol). s.package) h.1.2 ∙ relaid.path;
     exported = h.1.3;
@@ -215,7 +215,7 @@ module _ (w : Workspace) (known : Verdicts) (r : Revision) (p q : Package) (is :
     };
   }
 
-  pub own_definition : (rank : ℕ) (a b : Definition) → IsDefinition p rank a → IsDefinition q rank b → IsDefinitionAfter (IsPackage w known) r p.path rank a b
+  pub own_definition : (rank : ℕ) (a b : Definition) → IsDefinition p rank a → IsDefinition q rank b → IsDefinitionAfter (IsCheckedPackage w known) r p.path rank a b
   unfolding Known
   own_definition rank a b h k = record {
     underlying = same_underlying rank a.underlying b.underlying h.underlying k.underlying;
@@ -224,7 +224,7 @@ module _ (w : Workspace) (known : Verdicts) (r : Revision) (p q : Package) (is :
         (of_one w known p is p.path refl (λ o. IsFirstField r o rank new f.symbol.rank) first) (b.field new) (k.fields new);
     methods = λ old new m e first.
         method_there rank old new m (subst (IsFoundMethod p rank old) e (h.methods old))
-        (of_one w known p is p.path refl (λ o. IsFirstMethod (IsPackage w known) r o rank new m.symbol.rank) first) (b.method new) (k.methods new);
+        (of_one w known p is p.path refl (λ o. IsFirstMethod (IsCheckedPackage w known) r o rank new m.symbol.rank) first) (b.method new) (k.methods new);
     no_others = λ name f e. own_under_name rank name f (subst (IsFoundField q rank name) e (k.fields name));
   }
 
@@ -233,40 +233,40 @@ module _ (w : Workspace) (known : Verdicts) (r : Revision) (p q : Package) (is :
 
   -- in its export data
   pub exported_definition : (i j : ExportData) → IsExportData p i → IsExportData q j → (rank : ℕ) →
-      IsDefinitionAfter (IsPackage w known) r p.path rank (i.definition rank) (j.definition rank)
+      IsDefinitionAfter (IsCheckedPackage w known) r p.path rank (i.definition rank) (j.definition rank)
   exported_definition i j h k rank = by_rank (slice_get (package_types p) rank) refl
     where
       by_rank : (o : Option PlacedType) → slice_get (package_types p) rank ≡ o →
-          IsDefinitionAfter (IsPackage w known) r p.path rank (i.definition rank) (j.definition rank)
+          IsDefinitionAfter (IsCheckedPackage w known) r p.path rank (i.definition rank) (j.definition rank)
       by_rank None e =
-          subst (λ d. IsDefinitionAfter (IsPackage w known) r p.path rank d (j.definition rank)) (sym (h.beyond rank e))
-          (subst (λ d. IsDefinitionAfter (IsPackage w known) r p.path rank (no_definition (symbol_in p rank)) d) (sym (k.beyond rank (type_behind rank None e)))
-          (nothing_after (IsPackage w known) r p.path rank (symbol_in p rank) (symbol_in q rank) (own_symbol rank)))
+          subst (λ d. IsDefinitionAfter (IsCheckedPackage w known) r p.path rank d (j.definition rank)) (sym (h.beyond rank e))
+          (subst (λ d. IsDefinitionAfter (IsCheckedPackage w known) r p.path rank (no_definition (symbol_in p rank)) d) (sym (k.beyond rank (type_behind rank None e)))
+          (nothing_after (IsCheckedPackage w known) r p.path rank (symbol_in p rank) (symbol_in q rank) (own_symbol rank)))
       by_rank (Some d) e =
           own_definition rank (i.definition rank) (j.definition rank) (h.definitions rank d e) (k.definitions rank d (type_behind rank (Some d) e))
 
   -- by the symbols of definitions, of this package and of others
   pub definition_after : (ds es : Symbol → Definition) → AreDefinitions p ds → AreDefinitions q es → (s : Symbol) →
-      IsDefinitionAfter (IsPackage w known) r s.package s.rank (ds s) (es s)
+      IsDefinitionAfter (IsCheckedPackage w known) r s.package s.rank (ds s) (es s)
   definition_after ds es a b s = elim (cases_bytes s.package p.path) [
     | inl own ↦ (
         let same : symbol_in p s.rank ≡ s = ap (λ (path : List ℕ). record { «package» = path; rank = s.rank }) (sym own) in
-        subst (λ (x : Symbol). IsDefinitionAfter (IsPackage w known) r x.package x.rank (ds x) (es x)) same (by_rank (slice_get (package_types p) s.rank) refl))
+        subst (λ (x : Symbol). IsDefinitionAfter (IsCheckedPackage w known) r x.package x.rank (ds x) (es x)) same (by_rank (slice_get (package_types p) s.rank) refl))
     | inr other ↦ (
         let after : es s ≡ (q.export_data_of s.package).definition s.rank = b.imported s.package s.rank (λ e. other (e ∙ relaid.path)) in
-        subst (λ d. IsDefinitionAfter (IsPackage w known) r s.package s.rank d (es s)) (sym (a.imported s.package s.rank other))
-        (subst (λ d. IsDefinitionAfter (IsPackage w known) r s.package s.rank ((p.export_data_of s.package).definition s.rank) d) (sym after)
+        subst (λ d. IsDefinitionAfter (IsCheckedPackage w known) r s.package s.rank d (es s)) (sym (a.imported s.package s.rank other))
+        (subst (λ d. IsDefinitionAfter (IsCheckedPackage w known) r s.package s.rank ((p.export_data_of s.package).definition s.rank) d) (sym after)
         (seen s.package s.rank other)))
   ]
     where
       by_rank : (o : Option PlacedType) → slice_get (package_types p) s.rank ≡ o →
-          IsDefinitionAfter (IsPackage w known) r p.path s.rank (ds (symbol_in p s.rank)) (es (symbol_in p s.rank))
+          IsDefinitionAfter (IsCheckedPackage w known) r p.path s.rank (ds (symbol_in p s.rank)) (es (symbol_in p s.rank))
       by_rank None e =
           let after : es (symbol_in p s.rank) ≡ no_definition (symbol_in p s.rank) =
           subst (λ x. es x ≡ no_definition x) (own_symbol s.rank) (b.beyond s.rank (type_behind s.rank None e)) in
-          subst (λ d. IsDefinitionAfter (IsPackage w known) r p.path s.rank d (es (symbol_in p s.rank))) (sym (a.beyond s.rank e))
-          (subst (λ d. IsDefinitionAfter (IsPackage w known) r p.path s.rank (no_definition (symbol_in p s.rank)) d) (sym after)
-          (nothing_after (IsPackage w known) r p.path s.rank (symbol_in p s.rank) (symbol_in p s.rank) refl))
+          subst (λ d. IsDefinitionAfter (IsCheckedPackage w known) r p.path s.rank d (es (symbol_in p s.rank))) (sym (a.beyond s.rank e))
+          (subst (λ d. IsDefinitionAfter (IsCheckedPackage w known) r p.path s.rank (no_definition (symbol_in p s.rank)) d) (sym after)
+          (nothing_after (IsCheckedPackage w known) r p.path s.rank (symbol_in p s.rank) (symbol_in p s.rank) refl))
       by_rank (Some d) e =
           own_definition s.rank (ds (symbol_in p s.rank)) (es (symbol_in p s.rank)) (a.own s.rank d e)
           (subst (λ x. IsDefinition q s.rank (es x)) (own_symbol s.rank) (b.own s.rank d (type_behind s.rank (Some d) e)))

@@ -23,7 +23,7 @@ use Rattle.go_ast.specs.Kinds.{kind_of_keyword, kind_of_operator, kind_of, kinds
 use Rattle.go_ast.specs.SourceFile.{SourceFile, IsSourceFile}
 use Rattle.go_ast.specs.Tree.{Item, Group, single, several, FieldTree, BodyTree, Other, Struct, FuncTree, DeclTree, VarDecl, TypeDecl}
 use Rattle.go_ast.specs.Tree.{FuncDecl, FileTree, ImportTree, ImportsTree}
-use Rattle.go_scope.specs.Site.{Site, Source}
+use Rattle.go_scope.specs.Site.{Site, TokenSpellings}
 use Rattle.go_scope.specs.FileSites.{decl_sites}
 use Rattle.law_tokens.specs.Roles.{IsOfKind, FollowsDot}
 use Rattle.law_tokens.specs.Tokens.{is_ident_token}
@@ -36,7 +36,7 @@ use Rattle.types_declared.specs.Definitions.{PlacedField, body_fields, fields_fr
 use Rattle.types_declared.specs.Package.{Package, PlacedType, PlacedFunction, placed_type, decl_types, decl_functions, types_in, functions_in, package_types}
 use Rattle.types_declared.specs.Package.{package_functions}
 use Rattle.types_info.proofs.DeclKinds.{Holds, holds_got, holds_append, holds_flat, holds_map, holds_ranked}
-use Rattle.refs_binding.specs.Identifiers.{IsName}
+use Rattle.refs_binding.specs.Identifiers.{IsNameToken}
 
 -- A token of that index is a name or `_`.
 abbrev pub IsNameAt : ℕ → List Token → Type 0
@@ -182,7 +182,7 @@ function_name p rank f is =
 
 -- the names behind dots and before colons
 
-abbrev Named : Source → List Site → List Token → Type 0
+abbrev Named : TokenSpellings → List Site → List Token → Type 0
 Named s xs ts = Covers is_ident_token s xs ts
 
 no_link_taken : (k : Kind) → IsTaken is_ident_token k → is_link k ≡ true → ⊥
@@ -206,7 +206,7 @@ dot_links k e = ap is_link e
 colon_links : (k : Kind) → k ≡ kind.Colon → is_link k ≡ true
 colon_links k e = ap is_link e
 
-behind_dot : (s : Source) (n : ℕ) (xs : List Site) (ts : List Token) → Named s xs ts → AreConsecutive n ts → (i : ℕ) → HasKind kind.Dot i ts →
+behind_dot : (s : TokenSpellings) (n : ℕ) (xs : List Site) (ts : List Token) → Named s xs ts → AreConsecutive n ts → (i : ℕ) → HasKind kind.Dot i ts →
     IsNameAt (suc i) ts
 behind_dot s n _ _ ends w i h = absurd h
 behind_dot s n xs _ (skips {t = t} {ts = ts} k a) w i h = elim h [
@@ -236,7 +236,7 @@ behind_dot s n _ _ (keys {xs = xs} {t = t} {c = c} {ts = ts} colon out k e a) w 
   ]
 ]
 
-before_colon : (s : Source) (n : ℕ) (xs : List Site) (ts : List Token) → Named s xs ts → AreConsecutive n ts → (i : ℕ) → HasKind kind.Colon (suc i) ts →
+before_colon : (s : TokenSpellings) (n : ℕ) (xs : List Site) (ts : List Token) → Named s xs ts → AreConsecutive n ts → (i : ℕ) → HasKind kind.Colon (suc i) ts →
     IsNameAt i ts
 before_colon s n _ _ ends w i h = absurd h
 before_colon s n xs _ (skips {t = t} {ts = ts} k a) w i h = elim h [
@@ -332,7 +332,7 @@ unfolding header flatten
 header_then f = refl
 
 -- a source by which the identifiers of a tree may be laid out
-some_source : Source
+some_source : TokenSpellings
 some_source = record { rank = 0; spell = λ token. [] }
 
 module _ (f : FileTree) (w : AreConsecutive 0 (flatten f)) where
@@ -408,18 +408,18 @@ name_piece i n text (p ∷ ps) h = elim h [
   }
 ]
 
-is_name_token : (c : CutText) (i : ℕ) → IsNameAt i (kinds_of c) → IsName (slice_get (tokens_in c) i)
+is_name_token : (c : CutText) (i : ℕ) → IsNameAt i (kinds_of c) → IsNameToken (slice_get (tokens_in c) i)
 is_name_token c i h =
     let t = name_piece i 0 c.text (tokens_in c) h in
     let index : t.index ≡ i = let e : i ≡ t.index + 0 = t.number in omega (arith, e) in
-    subst IsName (sym (sym (ap (slice_get (tokens_in c)) index) ∙ t.there)) t.is_name
+    subst IsNameToken (sym (sym (ap (slice_get (tokens_in c)) index) ∙ t.there)) t.is_name
 
 -- A token that is a name by a file's tree is one of the file.
-pub named_token : (s : SourceFile) → IsSourceFile s → (i : ℕ) → IsNameAt i (flatten s.tree) → IsName (slice_get (tokens_in s.cut) i)
+pub named_token : (s : SourceFile) → IsSourceFile s → (i : ℕ) → IsNameAt i (flatten s.tree) → IsNameToken (slice_get (tokens_in s.cut) i)
 named_token s is i h = is_name_token s.cut i (subst (IsNameAt i) is.is_tree.written h)
 
 -- A token behind a dot, or before a colon, is a name.
-pub linked_token : (s : SourceFile) → IsSourceFile s → (i : ℕ) → FollowsDot s.cut i ⊎ IsOfKind s.cut (suc i) kind.Colon → IsName (slice_get (tokens_in s.cut) i)
+pub linked_token : (s : SourceFile) → IsSourceFile s → (i : ℕ) → FollowsDot s.cut i ⊎ IsOfKind s.cut (suc i) kind.Colon → IsNameToken (slice_get (tokens_in s.cut) i)
 linked_token s is i h =
     let written = is.is_tree.written in
     let w : AreConsecutive 0 (flatten s.tree) = subst (AreConsecutive 0) (sym written) (consecutive 0 s.cut.text (tokens_in s.cut)) in

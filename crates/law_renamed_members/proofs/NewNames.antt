@@ -11,7 +11,7 @@ use Rattle.types_declared.specs.Definitions.{PlacedField, package_fields}
 use Rattle.workspace_check.specs.Verdicts.{Verdicts}
 use Rattle.refs_binding.specs.Binding.{field_place}
 use Rattle.refs_binding.specs.DeclaringPlaces.{TokenBegins}
-use Rattle.refs_binding.specs.Uses.{IsPackage}
+use Rattle.refs_binding.specs.Uses.{IsCheckedPackage}
 use Rattle.refactor_after.specs.NamesAfter.{HasNameAfter}
 use Rattle.law_faultless.proofs.LinksBound.{source_is}
 use Rattle.law_renamed_packages.specs.Layouts.{IsToken, IsRelaid}
@@ -22,7 +22,7 @@ pub record StandsSomewhere (p : Package) (at : Position) : Type 0 where
   pub place : Place
   pub stands : IsToken p at place
 
-module _ (w : Workspace) (known : Verdicts) (p : Package) (is : IsPackage w known p) where
+module _ (w : Workspace) (known : Verdicts) (p : Package) (is : IsCheckedPackage w known p) where
   pub name_stands : (at : Position) → IsNamedIn p at.file at.index → StandsSomewhere p at
   name_stands at h =
       let place : Place = record { path = h.source.path; offset = offset_of h.source at.index } in

@@ -6,12 +6,12 @@ use Rattle.base_files.specs.Workspace.{Workspace}
 use Rattle.base_edits.specs.Revisions.{Revision}
 use Rattle.types_declared.specs.Package.{Package, ExportData}
 use Rattle.workspace_check.specs.Verdicts.{Verdicts, BuildsOn, IsSeenAs, seen, unseen}
-use Rattle.refs_binding.specs.Uses.{IsPackage}
+use Rattle.refs_binding.specs.Uses.{IsCheckedPackage}
 use Rattle.law_renamed_members.specs.MembersMoved.{IsDefinitionAfter, AreDefinitionsAfterBelow, BuildsOnTheSame, SeenDefinitionsFollow}
 use Rattle.law_renamed_members.proofs.DefinitionsAfter.{nothing_after}
 
 -- what a package sees of a path
-pub see : (w : Workspace) (known : Verdicts) (p : Package) → IsPackage w known p → (path : List ℕ) →
+pub see : (w : Workspace) (known : Verdicts) (p : Package) → IsCheckedPackage w known p → (path : List ℕ) →
     (n : Option (List ℕ)) × IsSeenAs w known p.path path n (p.export_data_of path)
 see w known p is path =
     let h = is.is_checked in
@@ -21,13 +21,13 @@ see w known p is path =
 module _ (w x : Workspace) (before after : Verdicts) (r : Revision) (path : List ℕ) (sound : (o : List ℕ) → BuildsOn w path o → (before o).faulty ≡ false)
     (same : BuildsOnTheSame w x after path) (below : AreDefinitionsAfterBelow w before after r path) (o : List ℕ) (rank : ℕ) where
   by_sight : (n m : Option (List ℕ)) (i j : ExportData) → IsSeenAs w before path o n i → IsSeenAs x after path o m j →
-      IsDefinitionAfter (IsPackage w before) r o rank (i.definition rank) (j.definition rank)
+      IsDefinitionAfter (IsCheckedPackage w before) r o rank (i.definition rank) (j.definition rank)
   by_sight _ _ _ _ (seen on fine) (seen also well) = below o on rank
   by_sight _ _ _ _ (seen on fine) (unseen away) = absurd (true≢false (sym (away ((same.same o).0 on)) ∙ same.sound o on))
   by_sight _ _ _ _ (unseen away) (seen also well) =
       let on = (same.same o).1 also in absurd (true≢false (sym (away on) ∙ sound o on))
   by_sight _ _ _ _ (unseen away) (unseen too) =
-      nothing_after (IsPackage w before) r o rank (record { «package» = o; rank = rank }) (record { «package» = o; rank = rank }) refl
+      nothing_after (IsCheckedPackage w before) r o rank (record { «package» = o; rank = rank }) (record { «package» = o; rank = rank }) refl
 
 pub seen_follow : SeenDefinitionsFollow
 seen_follow w x before after r p q is also path sound same below o rank other =

@@ -23,7 +23,7 @@ use Rattle.refs_binding.specs.declared.declaration.Declaration.{Declaration}
 use Rattle.refs_binding.specs.declared.declaration.Declaration.TheVariants.{Predeclared, Declared, Field, Method}
 use Rattle.refs_binding.specs.Binding.{DeclaresMember, field_place}
 use Rattle.refs_binding.specs.Identifiers.{BeginsAt}
-use Rattle.refs_binding.specs.Uses.{IsPackage}
+use Rattle.refs_binding.specs.Uses.{IsCheckedPackage}
 use Rattle.refs_binding.proofs.MemberParts.{one_list}
 use Rattle.refactor_after.specs.MembersAfter.{FieldCounts, MethodCounts}
 use Rattle.refactor_after.proofs.FieldsAfter.{of_one}
@@ -35,8 +35,8 @@ use Rattle.law_renamed_members.specs.StayingMembers.{DeclaredMembersStay, UsedMe
 use Rattle.law_renamed_members.proofs.CountingMembers as counting
 use Rattle.law_renamed_members.proofs.WorldsAlike.{same_member}
 
-module _ (w : Workspace) (known : Verdicts) (r : Revision) (kept : NoneIsLost w known r) (p q : Package) (is : IsPackage w known p) (relaid : IsRelaid r p q)
-    (alike : Alike p q) (seen : AreSeenAfter (IsPackage w known) r p q) (u : ℕ) (place : Place) (begins : BeginsAt p place.path place.offset u) where
+module _ (w : Workspace) (known : Verdicts) (r : Revision) (kept : NoneIsLost w known r) (p q : Package) (is : IsCheckedPackage w known p) (relaid : IsRelaid r p q)
+    (alike : Alike p q) (seen : AreSeenAfter (IsCheckedPackage w known) r p q) (u : ℕ) (place : Place) (begins : BeginsAt p place.path place.offset u) where
   lies : (at : Position) → LiesAt p.layout at u → LiesAt q.layout at u
   lies at h = subst (λ (l : Layout). LiesAt l at u) (sym relaid.layout) h
 
@@ -63,7 +63,7 @@ module _ (w : Workspace) (known : Verdicts) (r : Revision) (kept : NoneIsLost w 
   method_declared s h =
       let n = h.1 in
       let c = n.is_at.counts in
-      let k = of_one w known p is s.package (sym h.0) (λ o. MethodCounts (IsPackage w known) r o s.rank) ((kept place p is u begins).by_name (Method s) h) in
+      let k = of_one w known p is s.package (sym h.0) (λ o. MethodCounts (IsCheckedPackage w known) r o s.rank) ((kept place p is u begins).by_name (Method s) h) in
       let f = counting.counting_method w known r p q is relaid alike seen k.definition k.name s.rank k.first in
       let before = counting.function_before w known r p q is relaid s.rank f.0 f.1.is_method.has_rank in
       let same : f.0 ≡ c.method = same_Some f.0 c.method (sym before ∙ c.counting.is_method.has_rank) in (

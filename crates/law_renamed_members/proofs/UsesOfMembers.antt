@@ -29,11 +29,11 @@ use Rattle.workspace_check.specs.FaultLists.{ListsFaults}
 use Rattle.workspace_check.specs.Verdicts.{Verdicts, AreVerdicts, IsPackageIn}
 use Rattle.workspace_check.proofs.OnePackage.{layout_formed, files_in_order}
 use Rattle.refs_binding.specs.Binding.{BindsByMember}
-use Rattle.refs_binding.specs.Identifiers.{IsName, NameBegins, BeginsAt}
-use Rattle.refs_binding.specs.Uses.{IsPackage}
+use Rattle.refs_binding.specs.Identifiers.{IsNameToken, NameBegins, BeginsAt}
+use Rattle.refs_binding.specs.Uses.{IsCheckedPackage}
 use Rattle.refs_binding.proofs.MemberParts.{one_list}
 use Rattle.refs_binding.proofs.Tokens.{Begins}
-use Rattle.refs_lookup.specs.Places.{IsPackageName, IsMemberToken, as_key, as_selected}
+use Rattle.refs_lookup.specs.Places.{IsBoundToPackage, IsMemberToken, as_key, as_selected}
 use Rattle.refs_lookup.proofs.BoundUsedMembers.{marks_at, told_at}
 use Rattle.refs_lookup.proofs.Headers.{name_before_dot}
 use Rattle.refs_lookup.proofs.LinkPlaces.{one_at_token, stands_at_link}
@@ -54,7 +54,7 @@ pub record IsUseAt (p : Package) (file : ℕ) (v : World) (u : MemberUse) : Type
   pub member : Member
   pub is_member : v.member u.place u.before ≡ Some member
 
-module _ (w : Workspace) (sound : ListsFaults w []) (known : Verdicts) (right : AreVerdicts w known) (p : Package) (is : IsPackage w known p) (file : ℕ)
+module _ (w : Workspace) (sound : ListsFaults w []) (known : Verdicts) (right : AreVerdicts w known) (p : Package) (is : IsCheckedPackage w known p) (file : ℕ)
     (f : SourceFile) (at_file : slice_get p.files file ≡ Some f) (v : World) (judged : IsWorldOf p file f v) (u : MemberUse)
     (has : Contains (check_file v (is_init f) f.tree).uses u) where
   h : IsPackageIn w known p.path p
@@ -70,7 +70,7 @@ module _ (w : Workspace) (sound : ListsFaults w []) (known : Verdicts) (right : 
   link : IsMemberToken v f.cut u.place
   link = stands_at_link v (is_init f) f source u has
 
-  by_link : IsMemberToken v f.cut u.place → IsName (slice_get (tokens_in f.cut) u.place)
+  by_link : IsMemberToken v f.cut u.place → IsNameToken (slice_get (tokens_in f.cut) u.place)
   by_link (as_key colon) = linked_token f source u.place (inr colon)
   by_link (as_selected dot other) = linked_token f source u.place (inl dot)
 
@@ -103,7 +103,7 @@ module _ (w : Workspace) (sound : ListsFaults w []) (known : Verdicts) (right : 
 
   -- what stands before a dot and names a package is the name of one to the world
 
-  package_named : (before : ℕ) (path : List ℕ) → NamesPackage p file before path → IsOfKind f.cut (suc before) kind.Dot → IsPackageName v f.cut before
+  package_named : (before : ℕ) (path : List ℕ) → NamesPackage p file before path → IsOfKind f.cut (suc before) kind.Dot → IsBoundToPackage v f.cut before
   package_named before path n dot =
       let b : Position = record { file = file; index = before } in
       let k = n.binds.identifier in
@@ -112,7 +112,7 @@ module _ (w : Workspace) (sound : ListsFaults w []) (known : Verdicts) (right : 
       let dotted : IsOfKind t.cut (suc before) kind.Dot = subst (λ (z : SourceFile). IsOfKind z.cut (suc before) kind.Dot) (sym part.1.1) dot in
       let name = name_before_dot (source_of t) (subst IsSourceFile (sym part.1.1) source) before
       (marks_at w known p.path p is.is_checked b k found.within found.holds t part.1.0) dotted in
-      subst (λ (z : SourceFile). IsPackageName v z.cut before) part.1.1 (record {
+      subst (λ (z : SourceFile). IsBoundToPackage v z.cut before) part.1.1 (record {
         kind = name.0;
         of_kind = name.1.0;
         named = name.1.1;

@@ -19,7 +19,7 @@ use Rattle.workspace_check.specs.Verdicts.{Verdicts, AreVerdicts}
 use Rattle.refs_binding.specs.Binding.{BindsByMember, declaration_of}
 use Rattle.refs_binding.specs.DeclaringPlaces.{TokenBegins}
 use Rattle.refs_binding.specs.Identifiers.{NameBegins}
-use Rattle.refs_binding.specs.Uses.{IsPackage}
+use Rattle.refs_binding.specs.Uses.{IsCheckedPackage}
 use Rattle.refactor_after.specs.MembersAfter.{IsMemberAfter}
 use Rattle.refactor_conflict.specs.Staying.{NoneIsLost}
 use Rattle.law_same_bindings.proofs.Alike.{Alike, of_bound}
@@ -32,8 +32,8 @@ use Rattle.law_renamed_members.proofs.MembersAfterwards.{member_stays}
 use Rattle.law_renamed_members.proofs.UsesOfMembers.{IsUseAt, is_use_at}
 
 module _ (w : Workspace) (sound : ListsFaults w []) (known : Verdicts) (right : AreVerdicts w known) (r : Revision)
-    (kept : NoneIsLost w known r) (p q : Package) (is : IsPackage w known p) (relaid : IsRelaid r p q) (alike : Alike p q)
-    (seen : AreSeenAfter (IsPackage w known) r p q) (file : ℕ) (f g : SourceFile) (v x : World) (in_p : slice_get p.files file ≡ Some f)
+    (kept : NoneIsLost w known r) (p q : Package) (is : IsCheckedPackage w known p) (relaid : IsRelaid r p q) (alike : Alike p q)
+    (seen : AreSeenAfter (IsCheckedPackage w known) r p q) (file : ℕ) (f g : SourceFile) (v x : World) (in_p : slice_get p.files file ≡ Some f)
     (in_q : slice_get q.files file ≡ Some g) (judged : IsWorldOf p file f v) (after : IsWorldOf q file g x) where
   -- the new name of a use
   spelled_after : (u : MemberUse) (a : IsUseAt p file v u) → spelling_of g u.place ≡ r.called a.place (spelled p file u.place)
@@ -50,7 +50,7 @@ module _ (w : Workspace) (sound : ListsFaults w []) (known : Verdicts) (right : 
 
   -- what it selects by the old types and the new names
   selected : (u : MemberUse) → Contains (check_file v (is_init f) f.tree).uses u → (a : IsUseAt p file v u) →
-      IsMemberAfter (IsPackage w known) r p.path (r.called a.place (spelled p file u.place)) v.definition u.before (declaration_of a.member)
+      IsMemberAfter (IsCheckedPackage w known) r p.path (r.called a.place (spelled p file u.place)) v.definition u.before (declaration_of a.member)
   selected u has a =
       let n = a.number in
       let was : BindsByMember p n (declaration_of a.member) = record {
@@ -70,9 +70,9 @@ module _ (w : Workspace) (sound : ListsFaults w []) (known : Verdicts) (right : 
         declares = refl;
       } in
       let now = (kept a.place p is n a.begins).by_member (declaration_of a.member) was in
-      subst (λ k. IsMemberAfter (IsPackage w known) r p.path (r.called a.place (spelled p k u.place)) v.definition u.before
+      subst (λ k. IsMemberAfter (IsCheckedPackage w known) r p.path (r.called a.place (spelled p k u.place)) v.definition u.before
       (declaration_of a.member)) a.stands.1
-      (subst (λ i. IsMemberAfter (IsPackage w known) r p.path (r.called a.place (spelled p (p.layout.place n).file i)) v.definition u.before
+      (subst (λ i. IsMemberAfter (IsCheckedPackage w known) r p.path (r.called a.place (spelled p (p.layout.place n).file i)) v.definition u.before
       (declaration_of a.member)) a.stands.2 now)
 
   -- it selects the same afterwards
@@ -85,10 +85,10 @@ module _ (w : Workspace) (sound : ListsFaults w []) (known : Verdicts) (right : 
       let moved = definition_after w known r p q is relaid alike seen ds es judged.are_definitions after.are_definitions in
       let types : v.definition ≡ (λ s. (ds s).underlying) = fun_ext judged.definition in
       let before : member_by ds p.path (spelling_of f u.place) u.before ≡ Some a.member = sym (judged.member u.place u.before) ∙ a.is_member in
-      let selects = subst (λ (d : Symbol → Underlying). IsMemberAfter (IsPackage w known) r p.path new d u.before (declaration_of a.member)) types
+      let selects = subst (λ (d : Symbol → Underlying). IsMemberAfter (IsCheckedPackage w known) r p.path new d u.before (declaration_of a.member)) types
       (selected u has a) in
       let there : member_by es p.path new u.before ≡ Some a.member =
-      member_stays (IsPackage w known) r ds es moved p.path (spelling_of f u.place) new u.before a.member before selects in
+      member_stays (IsCheckedPackage w known) r ds es moved p.path (spelling_of f u.place) new u.before a.member before selects in
       after.member u.place u.before ∙ ap (λ path. member_by es path (spelling_of g u.place) u.before) relaid.path
       ∙ ap (λ name. member_by es p.path name u.before) (spelled_after u a) ∙ there ∙ sym a.is_member
 

@@ -12,7 +12,7 @@ use Rattle.types_declared.specs.Package.{Package, ExportData, PlacedFunction, sy
 use Rattle.types_check.specs.Exports.{IsExportData}
 use Rattle.workspace_check.specs.Verdicts.{Verdicts, BuildsOn}
 use Rattle.refs_binding.specs.DeclaringPlaces.{InPackage}
-use Rattle.refs_binding.specs.Uses.{IsPackage}
+use Rattle.refs_binding.specs.Uses.{IsCheckedPackage}
 use Rattle.refactor_after.specs.MembersAfter.{IsFirstField, IsFirstMethod}
 use Rattle.law_same_bindings.specs.SameBindings.{IsBoundAlike}
 use Rattle.law_renamed_packages.specs.Layouts.{IsRelaid}
@@ -51,7 +51,7 @@ AreSeenAfter Known r p q = (path : List ℕ) (rank : ℕ) → (path ≡ p.path �
 -- Of each package that the package at the path builds on, the definitions are those of before, with new names of members.
 abbrev pub AreDefinitionsAfterBelow : Workspace → (before after : Verdicts) → Revision → List ℕ → Type 0
 AreDefinitionsAfterBelow w before after r path = (q : List ℕ) → BuildsOn w path q → (rank : ℕ) →
-    IsDefinitionAfter (IsPackage w before) r q rank ((before q).export_data.definition rank) ((after q).export_data.definition rank)
+    IsDefinitionAfter (IsCheckedPackage w before) r q rank ((before q).export_data.definition rank) ((after q).export_data.definition rank)
 
 -- A package after the change builds on the same packages as before, and these have no faults.
 pub record BuildsOnTheSame (w x : Workspace) (after : Verdicts) (path : List ℕ) : Type 0 where
@@ -60,20 +60,20 @@ pub record BuildsOnTheSame (w x : Workspace) (after : Verdicts) (path : List ℕ
 
 -- So a package sees of the definitions of others what it saw, with new names of members.
 abbrev pub SeenDefinitionsFollow : Type 0
-SeenDefinitionsFollow = (w x : Workspace) (before after : Verdicts) (r : Revision) (p q : Package) → IsPackage w before p → IsPackage x after q →
+SeenDefinitionsFollow = (w x : Workspace) (before after : Verdicts) (r : Revision) (p q : Package) → IsCheckedPackage w before p → IsCheckedPackage x after q →
     q.path ≡ p.path → ((o : List ℕ) → BuildsOn w p.path o → (before o).faulty ≡ false) → BuildsOnTheSame w x after p.path →
-    AreDefinitionsAfterBelow w before after r p.path → AreSeenAfter (IsPackage w before) r p q
+    AreDefinitionsAfterBelow w before after r p.path → AreSeenAfter (IsCheckedPackage w before) r p q
 
 -- The fields that count in the package after the change are those that count by the new names.
 abbrev pub FieldsFollow : Type 0
-FieldsFollow = (w : Workspace) (known : Verdicts) (r : Revision) (p q : Package) → IsPackage w known p → IsRelaid r p q →
+FieldsFollow = (w : Workspace) (known : Verdicts) (r : Revision) (p q : Package) → IsCheckedPackage w known p → IsRelaid r p q →
     (definition : ℕ) (name : List ℕ) (rank : ℕ) →
     IsFirstField r p definition name rank ↔ ((f : PlacedField) × IsCountingField q definition name rank f)
 
 -- A method that counts by the new names counts in the package after the change.
 abbrev pub MethodsFollow : Type 0
-MethodsFollow = (w : Workspace) (known : Verdicts) (r : Revision) (p q : Package) → IsPackage w known p → IsRelaid r p q → IsBoundAlike p q →
-    AreSeenAfter (IsPackage w known) r p q → (definition : ℕ) (name : List ℕ) (rank : ℕ) → IsFirstMethod (IsPackage w known) r p definition name rank →
+MethodsFollow = (w : Workspace) (known : Verdicts) (r : Revision) (p q : Package) → IsCheckedPackage w known p → IsRelaid r p q → IsBoundAlike p q →
+    AreSeenAfter (IsCheckedPackage w known) r p q → (definition : ℕ) (name : List ℕ) (rank : ℕ) → IsFirstMethod (IsCheckedPackage w known) r p definition name rank →
     (f : PlacedFunction) × IsCountingMethod q definition name rank f
 
 -- Where the underlying type of a type definition of `p` is a struct of another package, `q` sees its exported fields by their new names.
@@ -84,12 +84,12 @@ AreFieldsSeenAfter Known r p q = (definition : ℕ) (s : Symbol) → HasUnderlyi
 
 -- A method that counts in the package after the change counts by the new names.
 abbrev pub CountingMethodsFollow : Type 0
-CountingMethodsFollow = (w : Workspace) (known : Verdicts) (r : Revision) (p q : Package) → IsPackage w known p → IsRelaid r p q → IsBoundAlike p q →
-    AreFieldsSeenAfter (IsPackage w known) r p q → (definition : ℕ) (name : List ℕ) (rank : ℕ) (f : PlacedFunction) →
-    IsCountingMethod q definition name rank f → IsFirstMethod (IsPackage w known) r p definition name rank
+CountingMethodsFollow = (w : Workspace) (known : Verdicts) (r : Revision) (p q : Package) → IsCheckedPackage w known p → IsRelaid r p q → IsBoundAlike p q →
+    AreFieldsSeenAfter (IsCheckedPackage w known) r p q → (definition : ℕ) (name : List ℕ) (rank : ℕ) (f : PlacedFunction) →
+    IsCountingMethod q definition name rank f → IsFirstMethod (IsCheckedPackage w known) r p definition name rank
 
 -- The definitions that a package exports are those of before, with new names of members.
 abbrev pub ExportedDefinitionsFollow : Type 0
-ExportedDefinitionsFollow = (w : Workspace) (known : Verdicts) (r : Revision) (p q : Package) → IsPackage w known p → IsRelaid r p q → IsBoundAlike p q →
-    AreSeenAfter (IsPackage w known) r p q → (i j : ExportData) → IsExportData p i → IsExportData q j → (rank : ℕ) →
-    IsDefinitionAfter (IsPackage w known) r p.path rank (i.definition rank) (j.definition rank)
+ExportedDefinitionsFollow = (w : Workspace) (known : Verdicts) (r : Revision) (p q : Package) → IsCheckedPackage w known p → IsRelaid r p q → IsBoundAlike p q →
+    AreSeenAfter (IsCheckedPackage w known) r p q → (i j : ExportData) → IsExportData p i → IsExportData q j → (rank : ℕ) →
+    IsDefinitionAfter (IsCheckedPackage w known) r p.path rank (i.definition rank) (j.definition rank)

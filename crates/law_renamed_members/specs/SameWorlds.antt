@@ -10,7 +10,7 @@ use Rattle.types_declared.specs.Package.{Package}
 use Rattle.types_info.specs.Worlds.{IsWorldOf, is_init}
 use Rattle.workspace_check.specs.Verdicts.{Verdicts}
 use Rattle.refs_binding.specs.declared.declaration.Declaration.{Declaration}
-use Rattle.refs_binding.specs.Uses.{IsPackage}
+use Rattle.refs_binding.specs.Uses.{IsCheckedPackage}
 use Rattle.refactor_conflict.specs.Staying.{NoneIsLost}
 use Rattle.law_member_uses.specs.MemberUses.{IsAlike}
 use Rattle.law_same_bindings.specs.SameBindings.{IsBoundAlike}
@@ -22,6 +22,6 @@ use Rattle.law_renamed_members.specs.MembersMoved.{AreSeenAfter}
 -- other packages what `p` saw, with new names of members. Then the world of each file answers as before whatever judging the file asks.
 abbrev pub WorldsStay : Type 0
 WorldsStay = (w : Workspace) (before : Verdicts) (d : Declaration) (name : List ℕ) (s : FileChanges) → IsPlainRename w before d name s →
-    NoneIsLost w before (revision_of w s) → (p q : Package) → IsPackage w before p → IsRelaid (revision_of w s) p q → IsBoundAlike p q →
-    AreSeenAfter (IsPackage w before) (revision_of w s) p q → (file : ℕ) (f g : SourceFile) (v x : World) → slice_get p.files file ≡ Some f →
+    NoneIsLost w before (revision_of w s) → (p q : Package) → IsCheckedPackage w before p → IsRelaid (revision_of w s) p q → IsBoundAlike p q →
+    AreSeenAfter (IsCheckedPackage w before) (revision_of w s) p q → (file : ℕ) (f g : SourceFile) (v x : World) → slice_get p.files file ≡ Some f →
     slice_get q.files file ≡ Some g → IsWorldOf p file f v → IsWorldOf q file g x → IsAlike (check_file v (is_init f) f.tree).uses v x

@@ -14,7 +14,7 @@ use Rattle.workspace_check.specs.Verdicts.{Verdicts}
 use Rattle.refs_binding.specs.declared.declaration.Declaration.{Declaration}
 use Rattle.refs_binding.specs.Binding.{BindsByMember, DeclaresMember}
 use Rattle.refs_binding.specs.Identifiers.{BeginsAt}
-use Rattle.refs_binding.specs.Uses.{IsPackage}
+use Rattle.refs_binding.specs.Uses.{IsCheckedPackage}
 use Rattle.refactor_conflict.specs.Staying.{NoneIsLost}
 use Rattle.law_same_bindings.specs.SameBindings.{IsBoundAlike}
 use Rattle.law_renamed_packages.specs.Layouts.{IsRelaid}
@@ -23,15 +23,15 @@ use Rattle.law_renamed_members.specs.MembersMoved.{AreSeenAfter}
 
 -- An identifier that declares a field or method declares it after the change.
 abbrev pub DeclaredMembersStay : Type 0
-DeclaredMembersStay = (w : Workspace) (before : Verdicts) (r : Revision) → NoneIsLost w before r → (p q : Package) → IsPackage w before p →
-    IsRelaid r p q → IsBoundAlike p q → AreSeenAfter (IsPackage w before) r p q → (u : ℕ) (place : Place) → BeginsAt p place.path place.offset u →
+DeclaredMembersStay = (w : Workspace) (before : Verdicts) (r : Revision) → NoneIsLost w before r → (p q : Package) → IsCheckedPackage w before p →
+    IsRelaid r p q → IsBoundAlike p q → AreSeenAfter (IsCheckedPackage w before) r p q → (u : ℕ) (place : Place) → BeginsAt p place.path place.offset u →
     (d : Declaration) → DeclaresMember p u d → DeclaresMember q u d
 
 -- Where the same is found of a file after a plain rename, each use of a member in it names the same member.
 abbrev pub UsedMembersStay : Type 0
 UsedMembersStay = (w : Workspace) (before : Verdicts) (d : Declaration) (name : List ℕ) (s : FileChanges) → IsPlainRename w before d name s →
-    NoneIsLost w before (revision_of w s) → (p q : Package) → IsPackage w before p → IsRelaid (revision_of w s) p q → IsBoundAlike p q →
-    AreSeenAfter (IsPackage w before) (revision_of w s) p q → (file : ℕ) (f g : SourceFile) (v x : World) → slice_get p.files file ≡ Some f →
+    NoneIsLost w before (revision_of w s) → (p q : Package) → IsCheckedPackage w before p → IsRelaid (revision_of w s) p q → IsBoundAlike p q →
+    AreSeenAfter (IsCheckedPackage w before) (revision_of w s) p q → (file : ℕ) (f g : SourceFile) (v x : World) → slice_get p.files file ≡ Some f →
     slice_get q.files file ≡ Some g → IsWorldOf p file f v → IsWorldOf q file g x →
     check_file x (is_init g) g.tree ≡ check_file v (is_init f) f.tree → (u : ℕ) → (p.layout.place u).file ≡ file → (e : Declaration) →
     BindsByMember p u e → BindsByMember q u e

@@ -17,7 +17,7 @@ use Rattle.workspace_check.specs.Verdicts.{Verdicts, AreVerdicts}
 use Rattle.workspace_check.proofs.OnePackage.{layout_formed}
 use Rattle.refs_binding.specs.declared.declaration.Declaration.{Declaration}
 use Rattle.refs_binding.specs.declared.declaration.Declaration.TheVariants.{Declared, Method}
-use Rattle.refs_binding.specs.Uses.{IsPackage}
+use Rattle.refs_binding.specs.Uses.{IsCheckedPackage}
 use Rattle.refs_binding.proofs.Units.{one_package}
 use Rattle.refactor_conflict.specs.Staying.{NoneIsLost}
 use Rattle.build_object.specs.Lines.{GlobalName}
@@ -73,10 +73,10 @@ declared_number p q m n e = cc
 
 module _ (w : Workspace) (before after : Verdicts) (d : Declaration) (name : List ℕ) (s : FileChanges) (plain : IsPlainRename w before d name s)
     (right : AreVerdicts (edited s w) after) (none : NoneIsLost w before (revision_of w s)) where
-  abbrev pub now : (p : Package) → IsPackage w before p → Package
+  abbrev pub now : (p : Package) → IsCheckedPackage w before p → Package
   now p was = next w before after d name s plain right none p was
 
-  abbrev pub here : (p : Package) (was : IsPackage w before p) → IsPackageAfter w before after s p (now p was)
+  abbrev pub here : (p : Package) (was : IsCheckedPackage w before p) → IsPackageAfter w before after s p (now p was)
   here p was = is_after w before after d name s plain right none p was
 
   abbrev sound : ListsFaults w []
@@ -86,15 +86,15 @@ module _ (w : Workspace) (before after : Verdicts) (d : Declaration) (name : Lis
   old_right = plain.rename.right
 
   -- the names of packages move where package-level names and methods do
-  pub replaced_by : (r : Replaced) → AreNames r → ((p : Package) (was : IsPackage w before p) → LevelsMove r p (now p was)) →
-      ((p : Package) (was : IsPackage w before p) → MethodsMove r p (now p was)) → ReplacesNames w before (edited s w) after r
+  pub replaced_by : (r : Replaced) → AreNames r → ((p : Package) (was : IsCheckedPackage w before p) → LevelsMove r p (now p was)) →
+      ((p : Package) (was : IsCheckedPackage w before p) → MethodsMove r p (now p was)) → ReplacesNames w before (edited s w) after r
   replaced_by r names levels methods =
       replaces_names w before after d name s plain right none r names
       (λ p was. moves w before after sound old_right s p (now p was) (here p was) r names (levels p was) (methods p was)
       (qualified w before after d name s plain right none p was r levels))
 
   -- the name of a method stays, if it is not the renamed one
-  pub method_stays : (p : Package) (was : IsPackage w before p) (rank : ℕ) (f : PlacedFunction) (t : ReceiverTree) →
+  pub method_stays : (p : Package) (was : IsCheckedPackage w before p) (rank : ℕ) (f : PlacedFunction) (t : ReceiverTree) →
       slice_get (package_functions p) rank ≡ Some f → f.function.receiver ≡ Some t → (d ≡ Method (symbol_in p rank) → ⊥) →
       spelled (now p was) f.file f.function.name ≡ spelled p f.file f.function.name
   method_stays p was rank f t at e other =
@@ -104,22 +104,22 @@ module _ (w : Workspace) (before after : Verdicts) (d : Declaration) (name : Lis
 
   -- nothing is printed
 
-  module _ (unprinted : IsUnprinted (IsPackage w before) d) where
-    not_level : (p : Package) (was : IsPackage w before p) (m : ℕ) → d ≡ Declared p.path m → IsPackageLevel p.layout m → ⊥
+  module _ (unprinted : IsUnprinted (IsCheckedPackage w before) d) where
+    not_level : (p : Package) (was : IsCheckedPackage w before p) (m : ℕ) → d ≡ Declared p.path m → IsPackageLevel p.layout m → ⊥
     not_level p was m e level =
-        let i = subst (IsUnprinted (IsPackage w before)) e unprinted in
+        let i = subst (IsUnprinted (IsCheckedPackage w before)) e unprinted in
         let same : i.inside ≡ p = one_package w before i.inside p i.is_package was i.of_path in
         i.holds (subst (λ (x : Package). IsPackageLevel x.layout m) (sym same) level)
 
     not_method : (p : Package) (rank : ℕ) → d ≡ Method (symbol_in p rank) → ⊥
-    not_method p rank e = subst (IsUnprinted (IsPackage w before)) e unprinted
+    not_method p rank e = subst (IsUnprinted (IsCheckedPackage w before)) e unprinted
 
-    none_levels : (p : Package) (was : IsPackage w before p) → LevelsMove of_none p (now p was)
+    none_levels : (p : Package) (was : IsCheckedPackage w before p) → LevelsMove of_none p (now p was)
     none_levels p was u level counts =
         ap (λ n. record { path = p.path; name = n })
         (sym (keeps_levels own_renames others_stay w before d name s plain p (now p was) was (here p was).relaid (not_level p was) u level counts))
 
-    none_methods : (p : Package) (was : IsPackage w before p) → MethodsMove of_none p (now p was)
+    none_methods : (p : Package) (was : IsCheckedPackage w before p) → MethodsMove of_none p (now p was)
     none_methods p was rank f t at e =
         ap₂ line.Method
         (receiver_moves w before after sound old_right s p (now p was) (here p was) of_none none_names (none_levels p was) rank f t at e)
@@ -132,14 +132,14 @@ module _ (w : Workspace) (before after : Verdicts) (d : Declaration) (name : Lis
 
   -- a package-level declaration is renamed
 
-  module _ (own : Package) (n : ℕ) (is : d ≡ Declared own.path n) (was_own : IsPackage w before own) (own_level : IsPackageLevel own.layout n) where
+  module _ (own : Package) (n : ℕ) (is : d ≡ Declared own.path n) (was_own : IsCheckedPackage w before own) (own_level : IsPackageLevel own.layout n) where
     abbrev r : Replaced
     r = of_global own.path (own.names n) name
 
     global_names : AreNames r
     global_names = record { plain = λ g. refl; initial = λ path k. refl }
 
-    module _ (p : Package) (was : IsPackage w before p) (u : ℕ) (level : IsPackageLevel p.layout u) (counts : Counts p.layout p.names u) where
+    module _ (p : Package) (was : IsCheckedPackage w before p) (u : ℕ) (level : IsPackageLevel p.layout u) (counts : Counts p.layout p.names u) where
       abbrev q : Package
       q = now p was
 
@@ -177,10 +177,10 @@ module _ (w : Workspace) (before after : Verdicts) (d : Declaration) (name : Lis
             ]
       ]
 
-    global_levels : (p : Package) (was : IsPackage w before p) → LevelsMove r p (now p was)
+    global_levels : (p : Package) (was : IsCheckedPackage w before p) → LevelsMove r p (now p was)
     global_levels p was u level counts = level_moves p was u level counts
 
-    global_methods : (p : Package) (was : IsPackage w before p) → MethodsMove r p (now p was)
+    global_methods : (p : Package) (was : IsCheckedPackage w before p) → MethodsMove r p (now p was)
     global_methods p was rank f t at e =
         ap₂ line.Method
         (receiver_moves w before after sound old_right s p (now p was) (here p was) r global_names (global_levels p was) rank f t at e)

@@ -13,7 +13,7 @@ use Rattle.go_scope.specs.Bindings.{Layout, IsPackageLevel, use_bound, own, bloc
 use Rattle.go_scope.specs.Bindings as scopes
 use Rattle.go_scope.specs.FileSites.{imports_sites, decl_sites, file_sites, spec_sites, type_spec_sites, func_role}
 use Rattle.go_scope.specs.StatementSites.{group_sites, separated_sites}
-use Rattle.go_scope.specs.Site.{Site, Source, site}
+use Rattle.go_scope.specs.Site.{Site, TokenSpellings, site}
 use Rattle.go_scope.specs.Table.{LiesAt}
 use Rattle.types_info.proofs.DeclKinds.{Holds, holds_flat, holds_map, holds_ranked}
 use Rattle.types_declared.specs.Files.{ranked_files, group_items}
@@ -23,7 +23,7 @@ use Rattle.types_declared.specs.Written.{BindsToken}
 use Rattle.workspace_check.specs.Verdicts.{Verdicts, IsPackageIn}
 use Rattle.workspace_check.proofs.OnePackage.{layout_formed}
 use Rattle.refs_binding.proofs.Bound.{bound_named}
-use Rattle.refs_binding.specs.Uses.{IsPackage}
+use Rattle.refs_binding.specs.Uses.{IsCheckedPackage}
 use Rattle.law_faultless.proofs.FunctionsSettled.{function_name_kept, function_kept, no_import_role, IsInFile}
 use Rattle.law_faultless.proofs.Lists.{all_flat}
 use Rattle.law_faultless.proofs.TypesBound.{Stands, Kept, all_kept}
@@ -43,7 +43,7 @@ group_kept {X} K f (several o is c) x held h =
     let i = holds_map (λ (z : Item X). z.value) is x held in
     subst (λ z. AllByRecursion K (f z)) i.1.1 (all_flat K (λ (z : Item X). f z.value) is i.0 h i.1.0)
 
-type_kept : (K : Site → Type 0) (s : Source) (tree : FileTree) (d : DeclTree) → AllByRecursion K (file_sites s tree) → Holds tree.decls d →
+type_kept : (K : Site → Type 0) (s : TokenSpellings) (tree : FileTree) (d : DeclTree) → AllByRecursion K (file_sites s tree) → Holds tree.decls d →
     (file : ℕ) (t : PlacedType) → Holds (decl_types file d) t → (file ≡ t.file) × K (site s t.spec.name (Declaring PackageBlock 0))
 unfolding file_sites decl_sites type_spec_sites
 type_kept K s tree (VarDecl k g c) h held file t of = absurd of
@@ -57,7 +57,7 @@ type_kept K s tree (TypeDecl k g c) h held file t of =
       subst (λ (z : PlacedType). K (site s z.spec.name (Declaring PackageBlock 0))) x.1.1 own_sites.0,
     )
 
-module _ (w : Workspace) (known : Verdicts) (p : Package) (is : IsPackage w known p) where
+module _ (w : Workspace) (known : Verdicts) (p : Package) (is : IsCheckedPackage w known p) where
   abbrev checked : IsPackageIn w known p.path p
   checked = is.is_checked
 
@@ -112,14 +112,14 @@ module _ (w : Workspace) (known : Verdicts) (p : Package) (is : IsPackage w know
       let i = holds_ranked 0 p.files r.0 r.1.0 in
       let file : i.0 ≡ r.0.0 = let z : r.0.0 ≡ 0 + i.0 = i.1.0 in omega (arith, z) in
       let at : slice_get p.files r.0.0 ≡ Some r.0.1 = subst (λ k. slice_get p.files k ≡ Some r.0.1) file i.1.1 in
-      let source : Source = record { rank = r.0.0; spell = spelling_of r.0.1 } in
+      let source : TokenSpellings = record { rank = r.0.0; spell = spelling_of r.0.1 } in
       let own_kept = type_kept (Kept p r.0.0) source r.0.1.tree d.0 (all_kept w known p.path p checked r.0.0 r.0.1 at) d.1.0 r.0.0 t d.1.1 in
       subst (λ k. Stands p k t.spec.name (Declaring PackageBlock 0)) own_kept.0 (own_kept.1 refl)
 
   pub function_stands : (f : PlacedFunction) (there : IsInFile p f) →
       Stands p f.file f.function.name (func_role f.function.receiver (spelling_of there.source f.function.name))
   function_stands f there =
-      let source : Source = record { rank = f.file; spell = spelling_of there.source } in
+      let source : TokenSpellings = record { rank = f.file; spell = spelling_of there.source } in
       let all = function_kept (Kept p f.file) source there.source.tree there.keyword f.function there.semicolon
       (all_kept w known p.path p checked f.file there.source there.in_file) there.in_tree in
       function_name_kept (Kept p f.file) source f.function all (no_import_role f.function.receiver (spelling_of there.source f.function.name))

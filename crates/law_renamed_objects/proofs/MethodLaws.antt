@@ -28,7 +28,7 @@ use Rattle.refs_binding.specs.declared.declaration.Declaration.{Declaration}
 use Rattle.refs_binding.specs.declared.declaration.Declaration.TheVariants.{Method}
 use Rattle.refs_binding.specs.DeclaredNames.{HasDeclaredName, HasMemberName}
 use Rattle.refs_binding.specs.Binding.{IsMethodAt}
-use Rattle.refs_binding.specs.Uses.{IsPackage}
+use Rattle.refs_binding.specs.Uses.{IsCheckedPackage}
 use Rattle.refs_binding.proofs.Units.{one_package}
 use Rattle.refactor_conflict.specs.Staying.{NoneIsLost}
 use Rattle.build_object.specs.Lines.{GlobalName}
@@ -94,7 +94,7 @@ record IsOwnerIn (p : Package) (rank : ℕ) (name : List ℕ) : Type 0 where
 
 -- the type of a method by its name
 
-module _ (w : Workspace) (sound : ListsFaults w []) (before : Verdicts) (right : AreVerdicts w before) (p : Package) (was : IsPackage w before p) where
+module _ (w : Workspace) (sound : ListsFaults w []) (before : Verdicts) (right : AreVerdicts w before) (p : Package) (was : IsCheckedPackage w before p) where
   -- what a token names that is bound to the declaration of a type
   record NamesType (file token definition : ℕ) : Type 0 where
     declaration : ℕ
@@ -145,7 +145,7 @@ module _ (w : Workspace) (sound : ListsFaults w []) (before : Verdicts) (right :
 
 module _ (w : Workspace) (before after : Verdicts) (method : Symbol) (called type_named name : List ℕ) (s : FileChanges)
     (plain : IsPlainRename w before (Method method) name s) (right : AreVerdicts (edited s w) after) (none : NoneIsLost w before (revision_of w s))
-    (has_name : HasDeclaredName (IsPackage w before) (Method method) called) (owner : IsOwnerCalled w before method type_named) where
+    (has_name : HasDeclaredName (IsCheckedPackage w before) (Method method) called) (owner : IsOwnerCalled w before method type_named) where
   abbrev d : Declaration
   d = Method method
 
@@ -161,16 +161,16 @@ module _ (w : Workspace) (before after : Verdicts) (method : Symbol) (called typ
   names : AreNames r
   names = record { plain = λ g. refl; initial = λ path k. refl }
 
-  abbrev after_of : (p : Package) → IsPackage w before p → Package
+  abbrev after_of : (p : Package) → IsCheckedPackage w before p → Package
   after_of p was = now w before after d name s plain right none p was
 
-  levels : (p : Package) (was : IsPackage w before p) → LevelsMove r p (after_of p was)
+  levels : (p : Package) (was : IsCheckedPackage w before p) → LevelsMove r p (after_of p was)
   levels p was u level counts =
       ap (λ n. record { path = p.path; name = n })
       (sym (keeps_levels own_renames others_stay w before d name s plain p (after_of p was) was (here w before after d name s plain right none p was).relaid
       (λ m e. let z : ⊥ = cc in absurd z) u level counts))
 
-  module _ (p : Package) (was : IsPackage w before p) (rank : ℕ) (f : PlacedFunction) (t : ReceiverTree)
+  module _ (p : Package) (was : IsCheckedPackage w before p) (rank : ℕ) (f : PlacedFunction) (t : ReceiverTree)
       (at : slice_get (package_functions p) rank ≡ Some f) (e : f.function.receiver ≡ Some t) where
     abbrev q : Package
     q = after_of p was
@@ -198,7 +198,7 @@ module _ (w : Workspace) (before after : Verdicts) (method : Symbol) (called typ
 
   -- in the package of the method
 
-  module _ (p : Package) (was : IsPackage w before p) (path : p.path ≡ method.package) where
+  module _ (p : Package) (was : IsCheckedPackage w before p) (path : p.path ≡ method.package) where
     abbrev moved : Package
     moved = after_of p was
 
@@ -249,7 +249,7 @@ module _ (w : Workspace) (before after : Verdicts) (method : Symbol) (called typ
         ∙ has.called
 
     apart : spelled p owned.function.file owned.function.function.name ≡ name → ⊥
-    apart e = plain.rename.other (subst (HasDeclaredName (IsPackage w before) (Method method)) (sym name_is ∙ e) has_name)
+    apart e = plain.rename.other (subst (HasDeclaredName (IsCheckedPackage w before) (Method method)) (sym name_is ∙ e) has_name)
 
     symbol_is : Method method ≡ Method (symbol_in p method.rank)
     symbol_is = ap (λ k. Method (record { «package» = k; rank = method.rank })) (sym path)
@@ -309,7 +309,7 @@ module _ (w : Workspace) (before after : Verdicts) (method : Symbol) (called typ
       other_rank other =
           stays p was rank f t at e (λ z. other (sym (method_rank method (symbol_in p rank) z))) (λ a type_so named_so. other (one_rank_of type_so named_so))
 
-  methods : (p : Package) (was : IsPackage w before p) → MethodsMove r p (after_of p was)
+  methods : (p : Package) (was : IsCheckedPackage w before p) → MethodsMove r p (after_of p was)
   methods p was rank f t at e = elim (cases_bytes p.path method.package) [
     | inr apart ↦ stays p was rank f t at e (λ z. apart (sym (method_path method (symbol_in p rank) z))) (λ a b c. apart a)
     | inl path ↦ elim (cases_eq rank method.rank) [

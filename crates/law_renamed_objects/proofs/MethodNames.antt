@@ -12,7 +12,7 @@ use Rattle.types_declared.specs.Written.{DeclaresType}
 use Rattle.types_info.proofs.DeclKinds.{holds_got}
 use Rattle.workspace_check.specs.FaultLists.{ListsFaults}
 use Rattle.workspace_check.specs.Verdicts.{Verdicts, AreVerdicts}
-use Rattle.refs_binding.specs.Uses.{IsPackage}
+use Rattle.refs_binding.specs.Uses.{IsCheckedPackage}
 use Rattle.law_faultless.proofs.Declared.{may_within}
 use Rattle.law_faultless.proofs.PackageWorlds.{have_all_worlds}
 use Rattle.law_faultless.proofs.Scoped.{in_order}
@@ -25,7 +25,7 @@ use Rattle.law_renamed_objects.proofs.LevelNames.{type_stands}
 use Rattle.law_renamed_objects.proofs.MovesFrom.{LevelsMove, bound}
 use Rattle.law_renamed_objects.proofs.NamesMoved.{named_at, AreNames}
 
-module _ (w : Workspace) (sound : ListsFaults w []) (before : Verdicts) (right : AreVerdicts w before) (p : Package) (was : IsPackage w before p) where
+module _ (w : Workspace) (sound : ListsFaults w []) (before : Verdicts) (right : AreVerdicts w before) (p : Package) (was : IsCheckedPackage w before p) where
   -- a function with a receiver is a method
   pub is_method : (rank : ℕ) (f : PlacedFunction) → slice_get (package_functions p) rank ≡ Some f → (t : ReceiverTree) → f.function.receiver ≡ Some t →
       (definition : ℕ) × IsMethodOf p definition (spelled p f.file f.function.name) rank f

@@ -23,7 +23,7 @@ use Rattle.types_resolve.specs.Scoping.{fault_at}
 use Rattle.workspace_check.specs.FaultLists.{ListsFaults}
 use Rattle.workspace_check.specs.Verdicts.{Verdicts, AreVerdicts}
 use Rattle.workspace_check.proofs.OnePackage.{layout_formed}
-use Rattle.refs_binding.specs.Uses.{IsPackage}
+use Rattle.refs_binding.specs.Uses.{IsCheckedPackage}
 use Rattle.refs_lookup.proofs.Faultless.{no_fault_later}
 use Rattle.build_object.specs.Lines.{Plain, Method}
 use Rattle.build_object.specs.Names.{is_named_init, is_initializer, function_named, function_called}
@@ -63,7 +63,7 @@ held_in [] x h = absurd h
 held_in (y ∷ ys) x h = elim h [ inl same ↦ subst (Contains (y ∷ ys)) same (first_in y ys) | inr later ↦ later_in y ys x (held_in ys x later) ]
 
 -- in a package without faults each package-level declaration counts
-pub level_counts : (w : Workspace) → ListsFaults w [] → (known : Verdicts) → AreVerdicts w known → (p : Package) → IsPackage w known p → (u : ℕ) →
+pub level_counts : (w : Workspace) → ListsFaults w [] → (known : Verdicts) → AreVerdicts w known → (p : Package) → IsCheckedPackage w known p → (u : ℕ) →
     IsPackageLevel p.layout u → Counts p.layout p.names u
 level_counts w sound known right p is u level =
     let declares = level_declares p.layout (layout_formed w known p.path p is.is_checked) p.names u level in
@@ -87,7 +87,7 @@ module _ (w : Workspace) (before after : Verdicts) (sound : ListsFaults w []) (r
   abbrev a : Alike p q
   a = of_bound p q here.bound
 
-  abbrev was : IsPackage w before p
+  abbrev was : IsCheckedPackage w before p
   was = here.was
 
   level_now : (u : ℕ) → IsPackageLevel p.layout u → IsPackageLevel q.layout u

@@ -29,7 +29,7 @@ use Rattle.workspace_check.proofs.OnePackage.{all_read, one_sources}
 use Rattle.workspace_check.proofs.OneVerdict.{right_below}
 use Rattle.workspace_check.proofs.SameImports.{imports_back}
 use Rattle.refs_binding.specs.declared.declaration.Declaration.{Declaration}
-use Rattle.refs_binding.specs.Uses.{IsPackage}
+use Rattle.refs_binding.specs.Uses.{IsCheckedPackage}
 use Rattle.refs_lookup.proofs.OnePlace.{same_files}
 use Rattle.refactor_conflict.specs.Staying.{NoneIsLost}
 use Rattle.build_object.specs.Lines.{FunctionName, Initializer}
@@ -156,7 +156,7 @@ module _ (w : Workspace) (before after : Verdicts) (d : Declaration) (name : Lis
 
   -- the package after the rename
 
-  module _ (p : Package) (was : IsPackage w before p) where
+  module _ (p : Package) (was : IsCheckedPackage w before p) where
     pub right_p : AreVerdictsBelow x p.path after
     right_p = right_below x after right p.path
 
@@ -234,8 +234,8 @@ module _ (w : Workspace) (before after : Verdicts) (d : Declaration) (name : Lis
       sorted = h.sorted;
     }
 
-  module _ (r : Replaced) (names : AreNames r) (moves : (p : Package) (was : IsPackage w before p) → MovesNames r p (next p was)) where
-    files_move : (p : Package) (was : IsPackage w before p) → FilesMove r p.path p.files (next p was).files
+  module _ (r : Replaced) (names : AreNames r) (moves : (p : Package) (was : IsCheckedPackage w before p) → MovesNames r p (next p was)) where
+    files_move : (p : Package) (was : IsCheckedPackage w before p) → FilesMove r p.path p.files (next p was).files
     files_move p was =
         let q = next p was in
         let m = moves p was in
@@ -266,7 +266,7 @@ module _ (w : Workspace) (before after : Verdicts) (d : Declaration) (name : Lis
     next_files path o files (within c of) =
         let has = to_package w path o c in
         let p = package_there w plain.rename.sound before plain.rename.right o has in
-        let was : IsPackage w before p.0 = p.1.0 in
+        let was : IsCheckedPackage w before p.0 = p.1.0 in
         let q = next p.0 was in
         let parsed : AreParsed (package_files w o) was.is_checked.files [] =
         subst (λ k. AreParsed (package_files w k) was.is_checked.files []) p.1.1 was.is_checked.parsed in
@@ -290,7 +290,7 @@ module _ (w : Workspace) (before after : Verdicts) (d : Declaration) (name : Lis
       abbrev p : Package
       p = has.checked
 
-      abbrev was : IsPackage w before p
+      abbrev was : IsCheckedPackage w before p
       was = has.is_package
 
       abbrev q : Package

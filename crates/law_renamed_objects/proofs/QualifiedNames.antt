@@ -14,7 +14,7 @@ use Rattle.refs_binding.specs.declared.declaration.Declaration.{Declaration}
 use Rattle.refs_binding.specs.declared.declaration.Declaration.TheVariants.{Declared}
 use Rattle.refs_binding.specs.Binding.{IsQualifiedUse, by_scope, by_package, by_member, by_name}
 use Rattle.refs_binding.specs.Identifiers.{IsInFiles}
-use Rattle.refs_binding.specs.Uses.{IsPackage, IsBoundTo}
+use Rattle.refs_binding.specs.Uses.{IsCheckedPackage, IsBoundToDeclaration}
 use Rattle.refs_binding.proofs.Spelled.{selected_spelled}
 use Rattle.refs_lookup.proofs.ExportedNames.{bound_behind}
 use Rattle.refs_lookup.proofs.OneDeclaration.{one_declaration}
@@ -37,24 +37,24 @@ same_declared path m n e = cc
 
 module _ (w : Workspace) (before after : Verdicts) (d : Declaration) (name : List ℕ) (s : FileChanges) (plain : IsPlainRename w before d name s)
     (right : AreVerdicts (edited s w) after) (none : NoneIsLost w before (revision_of w s)) where
-  abbrev now : (p : Package) → IsPackage w before p → Package
+  abbrev now : (p : Package) → IsCheckedPackage w before p → Package
   now p was = next w before after d name s plain right none p was
 
-  abbrev here : (p : Package) (was : IsPackage w before p) → IsPackageAfter w before after s p (now p was)
+  abbrev here : (p : Package) (was : IsCheckedPackage w before p) → IsPackageAfter w before after s p (now p was)
   here p was = is_after w before after d name s plain right none p was
 
-  module _ (p : Package) (was : IsPackage w before p) where
+  module _ (p : Package) (was : IsCheckedPackage w before p) where
     abbrev q : Package
     q = now p was
 
     module _ (u : ℕ) (inside : IsInFiles p u) (path : List ℕ) (b : IsQualifiedByPath p u path) where
-      use_of : (e : ℕ) → IsBoundTo w before p u (Declared path e) → IsQualifiedUse (IsPackage w before) p u path e
+      use_of : (e : ℕ) → IsBoundToDeclaration w before p u (Declared path e) → IsQualifiedUse (IsCheckedPackage w before) p u path e
       use_of e (by_scope x) = absurd (never_bound p.layout p.names u e purpose.Selected b.selected x.2)
       use_of e (by_package x) = x
       use_of e (by_member x) = absurd (member_is_none x.member path e x.declares)
       use_of e (by_name x) = absurd x
 
-      module _ (e : ℕ) (bound : IsBoundTo w before p u (Declared path e)) (o : Package) (is : IsPackage w before o) (same : o.path ≡ path)
+      module _ (e : ℕ) (bound : IsBoundToDeclaration w before p u (Declared path e)) (o : Package) (is : IsCheckedPackage w before o) (same : o.path ≡ path)
           (seen : DoesExport o e) (called : o.names e ≡ p.names u) where
         -- it is called afterwards as the declaration is
         kept : (d ≡ Declared path e → ⊥) → q.names u ≡ p.names u
@@ -76,7 +76,7 @@ module _ (w : Workspace) (before after : Verdicts) (d : Declaration) (name : Lis
                     let place = begins_there p u inside.0 inside.1
                     (named_stands w before p.path p was.is_checked u inside.0 (ap is_named b.selected)) in
                     bound_is_called w before d name s plain p q was (here p was).relaid u place.0 place.1
-                    (subst (λ z. IsBoundTo w before p u z) (sym it) bound)
+                    (subst (λ z. IsBoundToDeclaration w before p u z) (sym it) bound)
                     ∙ sym m.now
                     ∙ ap (now o is).names (sym here_too)
                 | inr apart ↦
@@ -105,10 +105,10 @@ module _ (w : Workspace) (before after : Verdicts) (d : Declaration) (name : Lis
         };
       }
 
-      declared : (e : ℕ) × IsBoundTo w before p number (Declared path e)
+      declared : (e : ℕ) × IsBoundToDeclaration w before p number (Declared path e)
       declared = bound_behind w plain.rename.sound before plain.rename.right p was number stands path behind
 
-      use_here : IsQualifiedUse (IsPackage w before) p number path declared.0
+      use_here : IsQualifiedUse (IsCheckedPackage w before) p number path declared.0
       use_here = use_of number stands path behind declared.0 declared.1
 
       old_named : spelled p file token ≡ use_here.other.names declared.0
@@ -127,7 +127,7 @@ module _ (w : Workspace) (before after : Verdicts) (d : Declaration) (name : Lis
           (ap (λ l. l.role number) (here p was).relaid.layout ∙ h.selected))
           ∙ called_now number stands path behind declared.0 declared.1 use_here.other use_here.is_package use_here.of_path use_here.seen use_here.named
 
-    module _ (r : Replaced) (levels : (o : Package) (is : IsPackage w before o) → LevelsMove r o (now o is)) where
+    module _ (r : Replaced) (levels : (o : Package) (is : IsCheckedPackage w before o) → LevelsMove r o (now o is)) where
       pub qualified : QualifiedMove r p q
       qualified file token path h =
           let e = declared file token path h in

@@ -40,7 +40,7 @@ use Rattle.build_object.specs.Lines.{GlobalName}
 use Rattle.build_object.specs.Literals.{literal_number}
 use Rattle.build_object.specs.Names.{function_name, position_of_field}
 use Rattle.build_object.specs.Source.{Source}
-use Rattle.build_object.specs.Sources.{type_before, HasQualifier, IsGlobalAt, IsGlobal, IsTrueAt, IsTextAt, IsSourceOf}
+use Rattle.build_object.specs.Sources.{type_before, HasQualifier, IsGlobalAt, DenotesGlobal, IsTrueAt, IsTextAt, IsSourceOf}
 use Rattle.build_object.specs.Sources as source
 use Rattle.law_tokens.specs.Roles.{IsOfKind}
 use Rattle.law_tokens.proofs.OwnPaths.{part_at}
@@ -252,7 +252,7 @@ module _ (w : Workspace) (before after : Verdicts) (d : Declaration) (name : Lis
       alike =
           worlds_stay w before d name s plain none p q here.was here.relaid here.bound here.seen file f g old.world v at there is.world judged
 
-      global_now : (token : ℕ) (o : Option GlobalName) → IsGlobal p file token o → IsGlobal q file token (option_map r.global o)
+      global_now : (token : ℕ) (o : Option GlobalName) → DenotesGlobal p file token o → DenotesGlobal q file token (option_map r.global o)
       global_now token None h = λ g k. (let was = global_was p q a file token g k in h was.0 was.1)
       global_now token (Some g) h = global_stays r p q a moves file token g h
 

@@ -13,7 +13,7 @@ use Rattle.refs_binding.specs.declared.declaration.Declaration.{Declaration}
 use Rattle.refs_binding.specs.declared.declaration.Declaration.TheVariants.{Predeclared, Declared, Field, Method}
 use Rattle.refs_binding.specs.DeclaredNames.{HasDeclaredName}
 use Rattle.refs_binding.specs.DeclaringPlaces.{InPackage}
-use Rattle.refs_binding.specs.Uses.{IsPackage}
+use Rattle.refs_binding.specs.Uses.{IsCheckedPackage}
 use Rattle.refactor_preserve.specs.Preserved.{Preserves}
 use Rattle.build_object.specs.Names.{type_name}
 use Rattle.build_object.specs.Objects.{Object}
@@ -26,7 +26,7 @@ use Rattle.law_replaced_names.specs.Replaced.{Replaced, text_by, of_global, of_m
 -- `o` is the object of the package at the path. `files_of` gives the files in which its code looks up names.
 pub record HasObject (w : Workspace) (known : Verdicts) (path : List ℕ) (files_of : List ℕ → List SourceFile) (o : Object) : Type 0 where
   pub checked : Package
-  pub is_package : IsPackage w known checked
+  pub is_package : IsCheckedPackage w known checked
   pub of_path : checked.path ≡ path
   pub are_files : AreFilesBelow w path files_of
   pub is_object : IsObjectOf checked files_of o
@@ -54,19 +54,19 @@ IsUnprinted Known (Method s) = ⊥
 -- of an import, or a field.
 abbrev pub UnprintedRenamesKeepObjects : Type 0
 UnprintedRenamesKeepObjects = (w : Workspace) (before after : Verdicts) (d : Declaration) (name : List ℕ) (s : FileChanges) →
-    IsPlainRename w before d name s → AreVerdicts (edited s w) after → Preserves w (revision_of w s) → IsUnprinted (IsPackage w before) d →
+    IsPlainRename w before d name s → AreVerdicts (edited s w) after → Preserves w (revision_of w s) → IsUnprinted (IsCheckedPackage w before) d →
     (path text : List ℕ) → HasObjectText w before path text → HasObjectText (edited s w) after path text
 
 -- Where a package-level declaration is renamed, its name alone is replaced, also in the names of the methods of a type.
 abbrev pub GlobalRenamesReplaceNames : Type 0
 GlobalRenamesReplaceNames = (w : Workspace) (before after : Verdicts) (own : Package) (n : ℕ) (name : List ℕ) (s : FileChanges) →
-    IsPlainRename w before (Declared own.path n) name s → AreVerdicts (edited s w) after → Preserves w (revision_of w s) → IsPackage w before own →
+    IsPlainRename w before (Declared own.path n) name s → AreVerdicts (edited s w) after → Preserves w (revision_of w s) → IsCheckedPackage w before own →
     IsPackageLevel own.layout n → ReplacesNames w before (edited s w) after (of_global own.path (own.names n) name)
 
 -- `name` is the name of the type of the method.
 pub record IsOwnerCalled (w : Workspace) (known : Verdicts) (method : Symbol) (name : List ℕ) : Type 0 where
   pub own : Package
-  pub is_package : IsPackage w known own
+  pub is_package : IsCheckedPackage w known own
   pub of_path : own.path ≡ method.package
   pub function : PlacedFunction
   pub has_rank : slice_get (package_functions own) method.rank ≡ Some function
@@ -80,5 +80,5 @@ pub record IsOwnerCalled (w : Workspace) (known : Verdicts) (method : Symbol) (n
 abbrev pub MethodRenamesReplaceNames : Type 0
 MethodRenamesReplaceNames = (w : Workspace) (before after : Verdicts) (method : Symbol) (called type_called name : List ℕ) (s : FileChanges) →
     IsPlainRename w before (Method method) name s → AreVerdicts (edited s w) after → Preserves w (revision_of w s) →
-    HasDeclaredName (IsPackage w before) (Method method) called → IsOwnerCalled w before method type_called →
+    HasDeclaredName (IsCheckedPackage w before) (Method method) called → IsOwnerCalled w before method type_called →
     ReplacesNames w before (edited s w) after (of_method method.package type_called called name)

@@ -18,9 +18,9 @@ use Rattle.workspace_check.specs.FaultLists.{ListsFaults}
 use Rattle.workspace_check.specs.Verdicts.{Verdicts, AreVerdicts}
 use Rattle.refs_binding.specs.declared.declaration.Declaration.{Declaration}
 use Rattle.refs_binding.specs.declared.declaration.Declaration.TheVariants.{Predeclared, Declared, Field, Method}
-use Rattle.refs_binding.specs.Binding.{IsPredeclared, BindsByScope, by_scope, by_package, by_member, by_name}
-use Rattle.refs_binding.specs.Identifiers.{IsInFiles, IsName}
-use Rattle.refs_binding.specs.Uses.{IsPackage, IsBoundTo}
+use Rattle.refs_binding.specs.Binding.{IsPredeclaredNumber, BindsByScope, by_scope, by_package, by_member, by_name}
+use Rattle.refs_binding.specs.Identifiers.{IsInFiles, IsNameToken}
+use Rattle.refs_binding.specs.Uses.{IsCheckedPackage, IsBoundToDeclaration}
 use Rattle.refs_binding.proofs.Bound.{bound_named}
 use Rattle.refs_binding.proofs.Excluding.{number_bound, exported_as}
 use Rattle.refs_lookup.proofs.ImportSites.{predeclared_block}
@@ -38,21 +38,21 @@ counts_of : (l : Layout) (names : Names) (u n : ℕ) → IsBoundByScope l names 
 counts_of l names u n (use_bound i x) = x.counts
 counts_of l names u n (own e c) = c
 
-module _ (w : Workspace) (sound : ListsFaults w []) (known : Verdicts) (right : AreVerdicts w known) (p : Package) (is : IsPackage w known p) where
-  declared_not_blank : (q : Package) → IsPackage w known q → (n : ℕ) → Counts q.layout q.names n → q.names n ≡ 95 ∷ [] → ⊥
+module _ (w : Workspace) (sound : ListsFaults w []) (known : Verdicts) (right : AreVerdicts w known) (p : Package) (is : IsCheckedPackage w known p) where
+  declared_not_blank : (q : Package) → IsCheckedPackage w known q → (n : ℕ) → Counts q.layout q.names n → q.names n ≡ 95 ∷ [] → ⊥
   declared_not_blank q there n c e =
       not_blank w sound q.path q (own_package w sound known right q there).is_checked n c.declares.may e
 
   -- a bound identifier at a name is no `_`
-  pub bound_not_blank : (u : ℕ) (d : Declaration) → IsInFiles p u → IsBoundTo w known p u d → (s : SourceFile) →
-      slice_get p.files (p.layout.place u).file ≡ Some s → IsName (slice_get (tokens_in s.cut) (p.layout.place u).index) →
+  pub bound_not_blank : (u : ℕ) (d : Declaration) → IsInFiles p u → IsBoundToDeclaration w known p u d → (s : SourceFile) →
+      slice_get p.files (p.layout.place u).file ≡ Some s → IsNameToken (slice_get (tokens_in s.cut) (p.layout.place u).index) →
       spelling_of s (p.layout.place u).index ≡ 95 ∷ [] → ⊥
   bound_not_blank u d stands (by_scope b) s at name blank =
       let n = number_bound p u d b in
       let spelled : p.names u ≡ 95 ∷ [] = named_as_spelled w known p.path p is.is_checked u stands s at name ∙ blank in
       declared_not_blank p is n.0 (counts_of p.layout p.names u n.0 n.1) (sym (bound_named p.layout p.names u n.0 n.1) ∙ spelled)
   bound_not_blank u d stands (by_package b) s at name blank =
-      let e = exported_as (IsPackage w known) p u d b in
+      let e = exported_as (IsCheckedPackage w known) p u d b in
       let qualified = e.1.1.1 in
       let spelled : p.names u ≡ 95 ∷ [] = named_as_spelled w known p.path p is.is_checked u stands s at name ∙ blank in
       declared_not_blank qualified.other qualified.is_package e.1.0 qualified.seen.counts (qualified.named ∙ spelled)
@@ -63,10 +63,10 @@ module _ (w : Workspace) (sound : ListsFaults w []) (known : Verdicts) (right : 
       linked_not_blank w known p.path p is.is_checked u stands s at (inr (inr (name_member w known p.path p is.is_checked u d stands.0 b))) blank
 
   -- the name of a function `init` is bound to nothing
-  pub init_unbound : (u : ℕ) (d : Declaration) → IsInFiles p u → IsBoundTo w known p u d → p.layout.role u ≡ NotLexical purpose.InitFunction → ⊥
+  pub init_unbound : (u : ℕ) (d : Declaration) → IsInFiles p u → IsBoundToDeclaration w known p u d → p.layout.role u ≡ NotLexical purpose.InitFunction → ⊥
   init_unbound u d stands (by_scope b) role = let n = number_bound p u d b in never_bound p.layout p.names u n.0 purpose.InitFunction role n.1
   init_unbound u d stands (by_package b) role =
-      let e = exported_as (IsPackage w known) p u d b in
+      let e = exported_as (IsCheckedPackage w known) p u d b in
       let same : NotLexical purpose.InitFunction ≡ NotLexical purpose.Selected = sym role ∙ e.1.1.1.behind.selected in
       cc
   init_unbound u d stands (by_member b) role = elim (link_role w known p.path p is.is_checked u d stands b) [
@@ -83,7 +83,7 @@ module _ (w : Workspace) (sound : ListsFaults w []) (known : Verdicts) (right : 
   own_number u n role (use_bound (inl i) x) = absurd (true≢false (sym (sym (ap is_use role) ∙ i)))
   own_number u n role (use_bound (inr i) x) = absurd (true≢false (sym (sym (ap is_left_name role) ∙ i.0)))
 
-  not_predeclared : (n : ℕ) → p.layout.role n ≡ Declaring PackageBlock 0 → IsPredeclared n → ⊥
+  not_predeclared : (n : ℕ) → p.layout.role n ≡ Declaring PackageBlock 0 → IsPredeclaredNumber n → ⊥
   unfolding package_sites
   not_predeclared n role lt =
       let h = is.is_checked in
@@ -93,10 +93,10 @@ module _ (w : Workspace) (sound : ListsFaults w []) (known : Verdicts) (right : 
       cc
 
   by_scope_level : (u : ℕ) (d : Declaration) → u < p.size → p.layout.role u ≡ Declaring PackageBlock 0 → BindsByScope p u d →
-      InHomePackage (IsPackage w known) d (λ q. IsTopLevelIn q d)
+      InHomePackage (IsCheckedPackage w known) d (λ q. IsTopLevelIn q d)
   by_scope_level u (Predeclared n) lt role b =
       let same = own_number u n role b.1 in
-      absurd (not_predeclared u role (subst IsPredeclared (sym same) b.0))
+      absurd (not_predeclared u role (subst IsPredeclaredNumber (sym same) b.0))
   by_scope_level u (Declared path n) lt role b =
       let same = own_number u n role b.2 in
       record {
@@ -109,11 +109,11 @@ module _ (w : Workspace) (sound : ListsFaults w []) (known : Verdicts) (right : 
   by_scope_level u (Method s) lt role b = absurd b
 
   -- what it is bound to is declared in the package's block
-  pub level_bound : (u : ℕ) (d : Declaration) → IsInFiles p u → IsBoundTo w known p u d → p.layout.role u ≡ Declaring PackageBlock 0 →
-      InHomePackage (IsPackage w known) d (λ q. IsTopLevelIn q d)
+  pub level_bound : (u : ℕ) (d : Declaration) → IsInFiles p u → IsBoundToDeclaration w known p u d → p.layout.role u ≡ Declaring PackageBlock 0 →
+      InHomePackage (IsCheckedPackage w known) d (λ q. IsTopLevelIn q d)
   level_bound u d stands (by_scope b) role = by_scope_level u d stands.0 role b
   level_bound u d stands (by_package b) role =
-      let e = exported_as (IsPackage w known) p u d b in
+      let e = exported_as (IsCheckedPackage w known) p u d b in
       let same : Declaring PackageBlock 0 ≡ NotLexical purpose.Selected = sym role ∙ e.1.1.1.behind.selected in
       let z : ⊥ = cc in absurd z
   level_bound u d stands (by_member b) role = elim (link_role w known p.path p is.is_checked u d stands b) [

@@ -27,15 +27,15 @@ use Rattle.go_respelled.proofs.ByTokens.{edits_of_tokens}
 use Rattle.types_declared.specs.Package.{Package}
 use Rattle.workspace_check.specs.Verdicts.{Verdicts}
 use Rattle.refs_binding.specs.declared.declaration.Declaration.{Declaration}
-use Rattle.refs_binding.specs.Identifiers.{IsInFiles, IsName, NameBegins, BeginsAt}
-use Rattle.refs_binding.specs.Uses.{IsPackage, IsBoundTo, IsUseOf}
+use Rattle.refs_binding.specs.Identifiers.{IsInFiles, IsNameToken, NameBegins, BeginsAt}
+use Rattle.refs_binding.specs.Uses.{IsCheckedPackage, IsBoundToDeclaration, IsUseOf}
 use Rattle.refs_binding.proofs.Folders.{begins_in_folder}
 use Rattle.refs_binding.proofs.Tokens.{Begins}
 use Rattle.refs_binding.proofs.Units.{one_package}
 use Rattle.refs_lookup.proofs.OnePlace.{one_begins}
 use Rattle.refs_uses.proofs.NameTokens.{name_at_token}
 use Rattle.refactor_rename.specs.declared.renamed.Renamed.{Renamed}
-use Rattle.refactor_rename.specs.FileEdits.{IsLiteralAt, ReplacesName, IsEditAt}
+use Rattle.refactor_rename.specs.FileEdits.{IsLiteralAt, RenamesToken, IsEditAt}
 use Rattle.refactor_rename.specs.RenameEdits.{IsSourceIn}
 use Rattle.law_renamed_packages.specs.Layouts.{RenamesAreNameEdits}
 use Rattle.law_renamed_packages.specs.Renames.{IsPlainRename}
@@ -46,7 +46,7 @@ pub record IsBoundToken (w : Workspace) (known : Verdicts) (d : Declaration) (p 
   pub identifier : ℕ
   pub inside : IsInFiles p identifier
   pub stands : LiesAt p.layout (record { file = rank; index = i }) identifier
-  pub bound : IsBoundTo w known p identifier d
+  pub bound : IsBoundToDeclaration w known p identifier d
 
 name_kind : (bytes : List ℕ) → (bytes ≡ 95 ∷ [] → ⊥) → kind_of_name bytes ≡ kind.Name
 name_kind bytes other =
@@ -63,29 +63,29 @@ module _ (w : Workspace) (known : Verdicts) (d : Declaration) (name : List ℕ) 
   abbrev pub edits_of : SourceFile → List Edit
   edits_of f = edits_by (change_of s f.path)
 
-  by_kind : (f : SourceFile) (i : ℕ) (e : Edit) → IsEditAt f renamed i e → ReplacesName f renamed i e
+  by_kind : (f : SourceFile) (i : ℕ) (e : Edit) → IsEditAt f renamed i e → RenamesToken f renamed i e
   by_kind f i e a = elim a [ inl put ↦ absurd (subst (λ o. IsLiteralAt o f.path i) h.plain put.is_literal) | inr r ↦ r ]
 
   -- each edit replaces a name by the new one
-  pub replaces : (f : SourceFile) → IsSourceIn w known f → (e : Edit) → Contains (edits_of f) e → (i : ℕ) × ReplacesName f renamed i e
+  pub replaces : (f : SourceFile) → IsSourceIn w known f → (e : Edit) → Contains (edits_of f) e → (i : ℕ) × RenamesToken f renamed i e
   replaces f is e has = let a = ((h.rename.edits.edits.each f is).each e).0 has in (a.0, by_kind f a.0 e a.1)
 
-  pub new_text : (f : SourceFile) (i : ℕ) (e : Edit) → ReplacesName f renamed i e → e.text ≡ name
+  pub new_text : (f : SourceFile) (i : ℕ) (e : Edit) → RenamesToken f renamed i e → e.text ≡ name
   new_text f i e r = ap (λ (x : Edit). x.text) r.is_edit ∙ h.rename.edits.is_renamed.named
 
   -- the token that it replaces
-  pub replaced_token : (f : SourceFile) (i : ℕ) (e : Edit) → ReplacesName f renamed i e → slice_get (tokens_in f.cut) i ≡ Some (replaced_piece e)
+  pub replaced_token : (f : SourceFile) (i : ℕ) (e : Edit) → RenamesToken f renamed i e → slice_get (tokens_in f.cut) i ≡ Some (replaced_piece e)
   replaced_token f i e r =
       let span : e.span ≡ r.token.span = ap (λ (x : Edit). x.span) r.is_edit in
       let same : Some r.token ≡ Some (replaced_piece e) = (λ j. Some (record { class = r.is_name j; span = sym span j })) in
       r.at ∙ same
 
-  module _ (p : Package) (is : IsPackage w known p) (rank : ℕ) (f : SourceFile) (at : slice_get p.files rank ≡ Some f) where
+  module _ (p : Package) (is : IsCheckedPackage w known p) (rank : ℕ) (f : SourceFile) (at : slice_get p.files rank ≡ Some f) where
     -- a name's token begins at its place
     pub begins_there : (i : ℕ) (token : Piece) → slice_get (tokens_in f.cut) i ≡ Some token → token.class ≡ Name →
         Begins p (record { file = rank; index = i }) (record { path = f.path; offset = token.span.start })
     begins_there i token has name =
-        subst (λ o. NameBegins o i f.path token.span.start) (sym at) (subst IsName (sym has) name, refl, ap (offset_at f.cut.text) has)
+        subst (λ o. NameBegins o i f.path token.span.start) (sym at) (subst IsNameToken (sym has) name, refl, ap (offset_at f.cut.text) has)
 
     -- two names that begin at one place are one
     pub same_token : (i j : ℕ) (one other : Piece) → slice_get (tokens_in f.cut) i ≡ Some one → one.class ≡ Name →
@@ -99,7 +99,7 @@ module _ (w : Workspace) (known : Verdicts) (d : Declaration) (name : List ℕ) 
         let same : a.0 ≡ b.0 = one_begins w known p.path p is.is_checked place.path place.offset a.0 b.0 a.1.0 b.1.0 in
         sym a.1.1.2 ∙ ap (λ u. (p.layout.place u).index) same ∙ b.1.1.2
 
-    pub bound_token : (i : ℕ) (e : Edit) → ReplacesName f renamed i e → IsBoundToken w known d p rank i
+    pub bound_token : (i : ℕ) (e : Edit) → RenamesToken f renamed i e → IsBoundToken w known d p rank i
     bound_token i e r =
         let place : Place = record { path = f.path; offset = r.token.span.start } in
         let one = name_at_token w known p.path p is.is_checked (record { file = rank; index = i }) place (begins_there i r.token r.at r.is_name) in
@@ -110,23 +110,23 @@ module _ (w : Workspace) (known : Verdicts) (d : Declaration) (name : List ℕ) 
         let begins : BeginsAt p place.path place.offset one_use.user =
         subst (λ (x : Package). BeginsAt x place.path place.offset one_use.user) same one_use.begins in
         let user : one_use.user ≡ one.0 = one_begins w known p.path p is.is_checked place.path place.offset one_use.user one.0 begins one.1.0 in
-        let bound : IsBoundTo w known p one_use.user d = subst (λ (x : Package). IsBoundTo w known x one_use.user d) same one_use.bound in
+        let bound : IsBoundToDeclaration w known p one_use.user d = subst (λ (x : Package). IsBoundToDeclaration w known x one_use.user d) same one_use.bound in
         record {
           identifier = one.0;
           inside = one.1.0.0;
           stands = one.1.1;
-          bound = subst (λ u. IsBoundTo w known p u d) user bound;
+          bound = subst (λ u. IsBoundToDeclaration w known p u d) user bound;
         }
 
     -- and it is no `_`
-    pub old_not_blank : (i : ℕ) (e : Edit) → ReplacesName f renamed i e → spelling_of f i ≡ 95 ∷ [] → ⊥
+    pub old_not_blank : (i : ℕ) (e : Edit) → RenamesToken f renamed i e → spelling_of f i ≡ 95 ∷ [] → ⊥
     old_not_blank i e r blank =
         let b = bound_token i e r in
         let u = b.identifier in
         let file : slice_get p.files (p.layout.place u).file ≡ Some f = ap (slice_get p.files) b.stands.1 ∙ at in
         let index : (p.layout.place u).index ≡ i = b.stands.2 in
         bound_not_blank w h.rename.sound known h.rename.right p is u d b.inside b.bound f file
-        (subst (λ n. IsName (slice_get (tokens_in f.cut) n)) (sym index) (subst IsName (sym r.at) r.is_name)) (ap (spelling_of f) index ∙ blank)
+        (subst (λ n. IsNameToken (slice_get (tokens_in f.cut) n)) (sym index) (subst IsNameToken (sym r.at) r.is_name)) (ap (spelling_of f) index ∙ blank)
 
   -- in each file names take the place of names
 

@@ -20,14 +20,14 @@ use Rattle.go_scope.specs.FileSites.{SpelledFile, file_sites, files_sites, unive
 use Rattle.go_scope.specs.Named.{is_unnamed_import}
 use Rattle.go_scope.specs.Packages.{scoped, layout_in}
 use Rattle.go_scope.specs.SpelledFiles.{spelled_file}
-use Rattle.go_scope.specs.Site.{Site, Source, or_blank}
+use Rattle.go_scope.specs.Site.{Site, TokenSpellings, or_blank}
 use Rattle.go_scope.specs.Table.{LiesAt}
 use Rattle.law_tokens.specs.Roles.{IsOfKind}
 use Rattle.law_tokens.proofs.OwnPaths.{part_at}
 use Rattle.law_tokens.proofs.Places.{plainly_stands}
 use Rattle.types_declared.specs.Package.{Package}
 use Rattle.workspace_check.specs.Verdicts.{Verdicts, IsPackageIn}
-use Rattle.refs_binding.specs.Identifiers.{IsInFiles, IsName}
+use Rattle.refs_binding.specs.Identifiers.{IsInFiles, IsNameToken}
 use Rattle.refs_lookup.proofs.OnePlace.{names_of, laid_of, same_layout, same_files}
 use Rattle.law_faultless.proofs.Declared.{given, old_site, new_site, kept, name_is, role_is, place_is, file_of_told}
 use Rattle.law_faultless.proofs.LinksBound.{at_number, source_is}
@@ -39,13 +39,13 @@ use Rattle.law_renamed_packages.proofs.TokenKinds.{Fits, file_fits}
 
 -- a string is no name
 
-by_token : (c : CutText) (i : ℕ) (o : Option Piece) → slice_get (tokens_in c) i ≡ o → IsStringClass (token_at c i).class → IsName o → ⊥
+by_token : (c : CutText) (i : ℕ) (o : Option Piece) → slice_get (tokens_in c) i ≡ o → IsStringClass (token_at c i).class → IsNameToken o → ⊥
 by_token c i None is string h = h
 by_token c i (Some x) is string h =
     let same : token_at c i ≡ x = get_or_from_slice_get (tokens_in c) i x (semicolon 0) is in
     no_name x.class (subst (λ (y : Piece). IsStringClass y.class) same string) h
 
-string_is_no_name : (c : CutText) (i : ℕ) → IsOfKind c i kind.Text → IsName (slice_get (tokens_in c) i) → ⊥
+string_is_no_name : (c : CutText) (i : ℕ) → IsOfKind c i kind.Text → IsNameToken (slice_get (tokens_in c) i) → ⊥
 string_is_no_name c i text h = by_token c i (slice_get (tokens_in c) i) refl (text_is_string c i text) h
 
 unnamed_role : (r : Role) → is_unnamed_import r ≡ true → r ≡ NotLexical purpose.UnnamedImport
@@ -53,7 +53,7 @@ unnamed_role (NotLexical purpose.UnnamedImport) e = refl
 unnamed_role r e = absurd (true≢false (sym e))
 
 module _ (w : Workspace) (known : Verdicts) (path : List ℕ) (p : Package) (h : IsPackageIn w known path p) where
-  all_fit : (s : SourceFile) → IsSourceFile s → (source : Source) → AllByRecursion (λ x. Fits (OfKind s.cut) x.place.index x.role) (file_sites source s.tree)
+  all_fit : (s : SourceFile) → IsSourceFile s → (source : TokenSpellings) → AllByRecursion (λ x. Fits (OfKind s.cut) x.place.index x.role) (file_sites source s.tree)
   all_fit s is source = file_fits (OfKind s.cut) source s.tree (file_kinds s is)
 
   -- what is selected, a key or a member's name is called otherwise than `_`
@@ -101,7 +101,7 @@ module _ (w : Workspace) (known : Verdicts) (path : List ℕ) (p : Package) (h :
 
   -- an identifier at a name is spelled as its token
   pub named_as_spelled : (u : ℕ) → IsInFiles p u → (s : SourceFile) → slice_get p.files (p.layout.place u).file ≡ Some s →
-      IsName (slice_get (tokens_in s.cut) (p.layout.place u).index) → p.names u ≡ spelling_of s (p.layout.place u).index
+      IsNameToken (slice_get (tokens_in s.cut) (p.layout.place u).index) → p.names u ≡ spelling_of s (p.layout.place u).index
   named_as_spelled u stands s is name = by_kind (kept w known path p h u stands.0)
     where
       by_kind : IsKept (IsTold 0 h.files) universe (given w known path p h u) (old_site w known path p h u) (new_site w known path p h u) →

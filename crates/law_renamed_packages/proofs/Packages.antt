@@ -25,7 +25,7 @@ use Rattle.workspace_check.specs.FaultLists.{ListsFaults}
 use Rattle.workspace_check.specs.Verdicts.{Verdicts, AreVerdicts, IsPackageIn}
 use Rattle.workspace_check.proofs.OneList.{checked_package}
 use Rattle.refs_binding.specs.declared.declaration.Declaration.{Declaration}
-use Rattle.refs_binding.specs.Uses.{IsPackage}
+use Rattle.refs_binding.specs.Uses.{IsCheckedPackage}
 use Rattle.refs_binding.proofs.Alike.{package_for}
 use Rattle.refs_lookup.proofs.OnePlace.{same_files}
 use Rattle.refactor_rename.specs.RenameEdits.{IsSourceIn}
@@ -36,7 +36,7 @@ use Rattle.law_renamed_packages.proofs.NameEdits.{name_edits, keep_kinds}
 
 -- in a workspace without faults there is a package at each path
 pub package_there : (w : Workspace) → ListsFaults w [] → (known : Verdicts) → AreVerdicts w known → (path : List ℕ) → Contains (package_paths w) path →
-    (p : Package) × (IsPackage w known p × (p.path ≡ path))
+    (p : Package) × (IsCheckedPackage w known p × (p.path ≡ path))
 package_there w sound known right path has =
     let x = checked_package w sound path has in
     let same : x.checked.path ≡ path = ap (λ (c : Package). c.path) x.is_package.is_package.is_package in (
@@ -93,7 +93,7 @@ module _ (w : Workspace) (known : Verdicts) (d : Declaration) (name : List ℕ) 
   new_paths = paths_edited s h.rename.edits.edits.none_added stays w
 
   -- the files of a package
-  module _ (p : Package) (is : IsPackage w known p) where
+  module _ (p : Package) (is : IsCheckedPackage w known p) where
     abbrev pub trees : List FileParts
     trees = is.is_checked.files
 

@@ -43,8 +43,8 @@ use Rattle.workspace_check.proofs.OneVerdict.{one_verdict}
 use Rattle.workspace_check.proofs.SameImports.{builds_by, imports_back}
 use Rattle.refs_binding.specs.declared.declaration.Declaration.{Declaration}
 use Rattle.refs_binding.specs.DeclaringPlaces.{TokenBegins}
-use Rattle.refs_binding.specs.Identifiers.{BeginsAt, IsInFiles, IsName, NameBegins}
-use Rattle.refs_binding.specs.Uses.{IsPackage}
+use Rattle.refs_binding.specs.Identifiers.{BeginsAt, IsInFiles, IsNameToken, NameBegins}
+use Rattle.refs_binding.specs.Uses.{IsCheckedPackage}
 use Rattle.refs_lookup.proofs.Apart.{all_as}
 use Rattle.refs_lookup.proofs.OnePlace.{same_files, same_layout as same_layout_in, same_size as same_size_in}
 use Rattle.law_faultless.proofs.Declared.{name_is, new_site, place_is, role_is, told_identifies}
@@ -104,13 +104,13 @@ file_at s ts k (Some t) e =
     slice_get-map source_of (map (new_parts s) ts) k ∙ ap (option_map source_of) (slice_get-map (new_parts s) ts k ∙ ap (option_map (new_parts s)) e)
 
 -- a name stays a name
-name_there : (f : SourceFile) (edits : List Edit) → IsSourceFile f → AreNameEdits f.cut.pieces edits → (i : ℕ) → IsName (slice_get (tokens_in f.cut) i) →
-    IsName (slice_get (tokens_in (renamed_file edits f).cut) i)
+name_there : (f : SourceFile) (edits : List Edit) → IsSourceFile f → AreNameEdits f.cut.pieces edits → (i : ℕ) → IsNameToken (slice_get (tokens_in f.cut) i) →
+    IsNameToken (slice_get (tokens_in (renamed_file edits f).cut) i)
 name_there f edits is are i named =
-    subst IsName (sym (ap (λ ts. slice_get ts i) (tokens_moved f.cut edits is.is_cut are) ∙ slice_get-map (moved_piece edits) (tokens_in f.cut) i))
+    subst IsNameToken (sym (ap (λ ts. slice_get ts i) (tokens_moved f.cut edits is.is_cut are) ∙ slice_get-map (moved_piece edits) (tokens_in f.cut) i))
     (by_token (slice_get (tokens_in f.cut) i) named)
   where
-    by_token : (o : Option Piece) → IsName o → IsName (option_map (moved_piece edits) o)
+    by_token : (o : Option Piece) → IsNameToken o → IsNameToken (option_map (moved_piece edits) o)
     by_token None h = h
     by_token (Some x) h = h
 
@@ -158,7 +158,7 @@ module _ (s : FileChanges) (ts : List FileParts) (each : (k : ℕ) (t : FilePart
   }
 
 module _ (w : Workspace) (before after : Verdicts) (d : Declaration) (name : List ℕ) (s : FileChanges) (h : IsPlainRename w before d name s)
-    (p : Package) (is : IsPackage w before p) (sound : AreSoundBelow w before after p.path) where
+    (p : Package) (is : IsCheckedPackage w before p) (sound : AreSoundBelow w before after p.path) where
   abbrev ts : List FileParts
   ts = is.is_checked.files
 
@@ -284,7 +284,7 @@ module _ (w : Workspace) (before after : Verdicts) (d : Declaration) (name : Lis
     is_package = record { laid = laid; is_laid = record { names = names; are_names = are_names; is_named = refl }; is_package = refl };
   }
 
-  pub new_package : IsPackage (edited s w) after new
+  pub new_package : IsCheckedPackage (edited s w) after new
   new_package = record {
     of_workspace = subst (λ ps. Contains ps p.path) (sym (new_paths w before d name s h)) is.of_workspace;
     is_checked = new_checked;
@@ -313,7 +313,7 @@ module _ (w : Workspace) (before after : Verdicts) (d : Declaration) (name : Lis
 
   -- a name at a place is called afterwards as the change has it
 
-  token_called : (k i : ℕ) (t : FileParts) → slice_get ts k ≡ Some t → (place : Place) → IsName (slice_get (tokens_in t.cut) i) → t.path ≡ place.path →
+  token_called : (k i : ℕ) (t : FileParts) → slice_get ts k ≡ Some t → (place : Place) → IsNameToken (slice_get (tokens_in t.cut) i) → t.path ≡ place.path →
       offset_of (source_of t) i ≡ place.offset → spelled new k i ≡ new_name_at s place (spelled p k i)
   token_called k i t e place named path offset =
       let f = source_of t in
@@ -325,7 +325,7 @@ module _ (w : Workspace) (before after : Verdicts) (d : Declaration) (name : Lis
   tokens_are at place token =
       let t = tree_at at.file token.file token.of_rank in
       let begins = subst (λ o. TokenBegins o at.index place) token.of_rank token.begins in
-      token_called at.file at.index t.0 t.1.0 place (subst (λ (x : SourceFile). IsName (slice_get (tokens_in x.cut) at.index)) (sym t.1.1) token.is_name)
+      token_called at.file at.index t.0 t.1.0 place (subst (λ (x : SourceFile). IsNameToken (slice_get (tokens_in x.cut) at.index)) (sym t.1.1) token.is_name)
       (ap (λ (x : SourceFile). x.path) t.1.1 ∙ begins.0) (ap (λ x. offset_of x at.index) t.1.1 ∙ begins.1)
 
   other_token : (at : Position) → ((place : Place) → IsToken p at place → ⊥) → (o : Option FileParts) → slice_get ts at.file ≡ o →
@@ -357,7 +357,7 @@ module _ (w : Workspace) (before after : Verdicts) (d : Declaration) (name : Lis
       (subst (λ n. u < n) (sym size_is) i.0, subst (λ (l : Layout). is_implied (l.role u) ≡ false) (sym layout_is) i.1)
 
   new_named : (u : ℕ) → IsInFiles p u → (t : FileParts) → slice_get ts (p.layout.place u).file ≡ Some t →
-      IsName (slice_get (tokens_in t.cut) (p.layout.place u).index) → new.names u ≡ spelled new (p.layout.place u).file (p.layout.place u).index
+      IsNameToken (slice_get (tokens_in t.cut) (p.layout.place u).index) → new.names u ≡ spelled new (p.layout.place u).file (p.layout.place u).index
   new_named u i t e named =
       let at = p.layout.place u in
       let x = source_of (new_parts s t) in
@@ -367,7 +367,7 @@ module _ (w : Workspace) (before after : Verdicts) (d : Declaration) (name : Lis
       let there = name_there (source_of t) (edits_by (change_of s t.path)) (is_file w before d name s h p is at.file (source_of t) (source_at at.file t e))
       (are w before d name s h p is at.file (source_of t) (source_at at.file t e)) at.index named in
       named_as_spelled (edited s w) after p.path new new_checked u (inside_new u i) x file
-      (subst (λ (q : Position). IsName (slice_get (tokens_in x.cut) q.index)) (sym place) there)
+      (subst (λ (q : Position). IsNameToken (slice_get (tokens_in x.cut) q.index)) (sym place) there)
       ∙ ap (λ (q : Position). spelling_of x q.index) place ∙ sym (new_at at.file t e at.index)
 
   name_called : (u : ℕ) (place : Place) → IsInFiles p u → (o : Option SourceFile) → slice_get p.files (p.layout.place u).file ≡ o →
@@ -376,8 +376,8 @@ module _ (w : Workspace) (before after : Verdicts) (d : Declaration) (name : Lis
   name_called u place i (Some f) e b =
       let at = p.layout.place u in
       let t = tree_at at.file f e in
-      let named : IsName (slice_get (tokens_in t.0.cut) at.index) =
-      subst (λ (x : SourceFile). IsName (slice_get (tokens_in x.cut) at.index)) (sym t.1.1) b.0 in
+      let named : IsNameToken (slice_get (tokens_in t.0.cut) at.index) =
+      subst (λ (x : SourceFile). IsNameToken (slice_get (tokens_in x.cut) at.index)) (sym t.1.1) b.0 in
       new_named u i t.0 t.1.0 named
       ∙ token_called at.file at.index t.0 t.1.0 place named (ap (λ (x : SourceFile). x.path) t.1.1 ∙ b.1) (ap (λ x. offset_of x at.index) t.1.1 ∙ b.2)
       ∙ ap (new_name_at s place) (ap (λ o. spelled_at o at.index) e ∙ sym (named_as_spelled w before p.path p is.is_checked u i f e b.0))
@@ -427,7 +427,7 @@ module _ (w : Workspace) (before after : Verdicts) (d : Declaration) (name : Lis
       b.now ∙ ap (λ (q : Position). spelled new q.file q.index) (sym place) ∙ others_are at untold
       ∙ ap (λ (q : Position). spelled p q.file q.index) place ∙ sym b.was ∙ sym (name_is w before p.path p is.is_checked u)
     where
-      begins_at : (f : SourceFile) (i : ℕ) (q : Place) → slice_get p.files (p.layout.place u).file ≡ Some f → IsName (slice_get (tokens_in f.cut) i) →
+      begins_at : (f : SourceFile) (i : ℕ) (q : Place) → slice_get p.files (p.layout.place u).file ≡ Some f → IsNameToken (slice_get (tokens_in f.cut) i) →
           TokenBegins (slice_get p.files (p.layout.place u).file) i q → NameBegins (slice_get p.files (p.layout.place u).file) i q.path q.offset
       begins_at f i q e named begins =
           let there = subst (λ o. TokenBegins o i q) e begins in
@@ -454,8 +454,8 @@ module _ (w : Workspace) (before after : Verdicts) (d : Declaration) (name : Lis
 
 -- The verdicts of afterwards need not be right: of them only names, and that there are no faults, count.
 pub relaid_by : (w : Workspace) (before after : Verdicts) (d : Declaration) (name : List ℕ) (s : FileChanges) → IsPlainRename w before d name s →
-    (p : Package) → IsPackage w before p → AreSoundBelow w before after p.path →
-    (q : Package) × (IsPackage (edited s w) after q × IsRelaid (revision_of w s) p q)
+    (p : Package) → IsCheckedPackage w before p → AreSoundBelow w before after p.path →
+    (q : Package) × (IsCheckedPackage (edited s w) after q × IsRelaid (revision_of w s) p q)
 relaid_by w before after d name s h p is sound =
     (new w before after d name s h p is sound, (new_package w before after d name s h p is sound, relaid w before after d name s h p is sound))
 

@@ -25,8 +25,8 @@ use Rattle.types_declared.specs.Package.{Package}
 use Rattle.workspace_check.specs.Verdicts.{Verdicts}
 use Rattle.workspace_check.proofs.PackageFiles.{at_rank}
 use Rattle.refs_binding.specs.declared.declaration.Declaration.{Declaration}
-use Rattle.refs_binding.specs.Identifiers.{IsName}
-use Rattle.refs_binding.specs.Uses.{IsPackage}
+use Rattle.refs_binding.specs.Identifiers.{IsNameToken}
+use Rattle.refs_binding.specs.Uses.{IsCheckedPackage}
 use Rattle.refactor_rename.specs.RenameEdits.{IsSourceIn}
 use Rattle.law_faultless.proofs.LinksBound.{source_is}
 use Rattle.law_renamed_packages.specs.Renames.{IsPlainRename}
@@ -58,7 +58,7 @@ starts_there : (offset start end : ℕ) → ((start == offset) && nat_lt start e
 starts_there offset start end e = grind (arith, nat_tests)
 
 module _ (w : Workspace) (known : Verdicts) (d : Declaration) (name : List ℕ) (s : FileChanges) (h : IsPlainRename w known d name s) (p : Package)
-    (is : IsPackage w known p) (rank : ℕ) (f : SourceFile) (at : slice_get p.files rank ≡ Some f) where
+    (is : IsCheckedPackage w known p) (rank : ℕ) (f : SourceFile) (at : slice_get p.files rank ≡ Some f) where
   pub source : IsSourceIn w known f
   source = record { inside = p; is_package = is; has = at_rank p.files rank f at }
 
@@ -152,7 +152,7 @@ module _ (w : Workspace) (known : Verdicts) (d : Declaration) (name : List ℕ) 
       let same : r.0 ≡ i = same_token w known d name s h p is rank f at r.0 i (replaced_piece x) token there refl has named start in
       absurd (none (record { edit = x; among = found.0; token = subst (λ n. IsAt n x) same there }))
 
-  by_token : (i : ℕ) (o : Option Piece) → slice_get (tokens_in f.cut) i ≡ o → IsName o →
+  by_token : (i : ℕ) (o : Option Piece) → slice_get (tokens_in f.cut) i ≡ o → IsNameToken o →
       spelling_of (renamed_file edits f) i ≡ text_or (spelling_of f i) (find (replaces_at (offset_of f i)) edits)
   by_token i None has named = absurd named
   by_token i (Some token) has named = elim (replaced_or_not i) [
@@ -161,10 +161,10 @@ module _ (w : Workspace) (known : Verdicts) (d : Declaration) (name : List ℕ) 
   ]
 
   -- a name is spelled afterwards as the change calls it
-  pub called : (i : ℕ) → IsName (slice_get (tokens_in f.cut) i) →
+  pub called : (i : ℕ) → IsNameToken (slice_get (tokens_in f.cut) i) →
       spelling_of (renamed_file edits f) i ≡ text_or (spelling_of f i) (find (replaces_at (offset_of f i)) edits)
   called i named = by_token i (slice_get (tokens_in f.cut) i) refl named
 
   -- what is no name stays as it is
-  pub other_kept : (i : ℕ) → (IsName (slice_get (tokens_in f.cut) i) → ⊥) → spelling_of (renamed_file edits f) i ≡ spelling_of f i
-  other_kept i none = old_spelled i (λ r. none (subst IsName (sym r.token) refl))
+  pub other_kept : (i : ℕ) → (IsNameToken (slice_get (tokens_in f.cut) i) → ⊥) → spelling_of (renamed_file edits f) i ≡ spelling_of f i
+  other_kept i none = old_spelled i (λ r. none (subst IsNameToken (sym r.token) refl))

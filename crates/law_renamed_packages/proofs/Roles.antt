@@ -14,7 +14,7 @@ use Rattle.go_scope.specs.declared.model.Position.{Position}
 use Rattle.go_scope.specs.declared.model.Purpose.TheVariants as purpose
 use Rattle.go_scope.specs.declared.model.Role.TheVariants.{Declaring, NotLexical}
 use Rattle.go_scope.specs.FileSites.{func_role}
-use Rattle.go_scope.specs.Site.{Source}
+use Rattle.go_scope.specs.Site.{TokenSpellings}
 use Rattle.law_tokens.proofs.Ordered.{one_stands}
 use Rattle.law_rename.specs.Respelled.{KeepsRole, KeepsRoles}
 use Rattle.go_respelled.specs.Trees.{renamed_file}
@@ -22,7 +22,7 @@ use Rattle.types_declared.specs.Package.{Package}
 use Rattle.types_info.proofs.DeclKinds.{Holds}
 use Rattle.workspace_check.specs.Verdicts.{Verdicts}
 use Rattle.refs_binding.specs.declared.declaration.Declaration.{Declaration}
-use Rattle.refs_binding.specs.Uses.{IsPackage}
+use Rattle.refs_binding.specs.Uses.{IsCheckedPackage}
 use Rattle.law_faultless.proofs.FunctionsSettled.{function_kept, function_name_kept, no_import_role}
 use Rattle.law_faultless.proofs.Scoped.{in_order}
 use Rattle.law_faultless.proofs.TypesBound.{Kept, all_kept}
@@ -41,7 +41,7 @@ by_receiver None old new f = f refl
 by_receiver (Some r) old new f = refl
 
 module _ (w : Workspace) (known : Verdicts) (d : Declaration) (name : List ℕ) (s : FileChanges) (h : IsPlainRename w known d name s) (p : Package)
-    (is : IsPackage w known p) (rank : ℕ) (f : SourceFile) (at : slice_get p.files rank ≡ Some f) where
+    (is : IsCheckedPackage w known p) (rank : ℕ) (f : SourceFile) (at : slice_get p.files rank ≡ Some f) where
   abbrev old : ℕ → List ℕ
   old = spelling_of f
 
@@ -55,7 +55,7 @@ module _ (w : Workspace) (known : Verdicts) (d : Declaration) (name : List ℕ) 
     -- the identifier of the function's name, and its role
     role_of : (u : ℕ) × ((p.layout.role u ≡ func_role None (old token)) × ((b : IsBoundToken w known d p rank token) → u ≡ b.identifier))
     role_of =
-        let from : Source = record { rank = rank; spell = old } in
+        let from : TokenSpellings = record { rank = rank; spell = old } in
         let position : Position = record { file = rank; index = token } in
         let all = function_kept (Kept p rank) from f.tree k g c (all_kept w known p.path p is.is_checked rank f at) held in
         let u = function_name_kept (Kept p rank) from g all (no_import_role g.receiver (old token)) in (

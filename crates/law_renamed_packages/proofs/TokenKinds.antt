@@ -22,7 +22,7 @@ use Rattle.go_scope.specs.declared.model.Block.TheVariants as blocks
 use Rattle.go_scope.specs.declared.model.Purpose.TheVariants as purpose
 use Rattle.go_scope.specs.declared.model.Role.{Role}
 use Rattle.go_scope.specs.declared.model.Role.TheVariants.{Use, Declaring, LeftName, Implied, NotLexical}
-use Rattle.go_scope.specs.Site.{Site, Source, site}
+use Rattle.go_scope.specs.Site.{Site, TokenSpellings, site}
 use Rattle.go_scope.specs.ExpressionSites.{sites_if, list_sites, type_sites, key_sites, expr_sites, operand_sites, link_sites, argument_sites}
 use Rattle.go_scope.specs.ExpressionSites.{literal_sites, element_sites, exprs_sites}
 use Rattle.go_scope.specs.StatementSites.{ident_sites, left_sites, assigned_sites, simple_sites, value_sites, local_sites, separated_sites, group_sites}
@@ -42,7 +42,7 @@ Fits K i (NotLexical purpose.UnnamedImport) = K kind.Text i
 Fits K i (NotLexical purpose.ImportPath) = K kind.Text i
 Fits K i (NotLexical p) = K kind.Name i
 
-module _ (K : Kind → ℕ → Type 0) (s : Source) where
+module _ (K : Kind → ℕ → Type 0) (s : TokenSpellings) where
   abbrev P : Site → Type 0
   P x = Fits K x.place.index x.role
 

@@ -13,9 +13,9 @@ use Rattle.types_declared.specs.Package.{Package, spelled}
 use Rattle.law_same_bindings.specs.SameBindings.{trees_of, paths_of}
 use Rattle.workspace_check.specs.Verdicts.{Verdicts, AreVerdicts, BuildsOn}
 use Rattle.refs_binding.specs.declared.declaration.Declaration.{Declaration}
-use Rattle.refs_binding.specs.Identifiers.{BeginsAt, IsName}
+use Rattle.refs_binding.specs.Identifiers.{BeginsAt, IsNameToken}
 use Rattle.refs_binding.specs.DeclaringPlaces.{TokenAt}
-use Rattle.refs_binding.specs.Uses.{IsPackage}
+use Rattle.refs_binding.specs.Uses.{IsCheckedPackage}
 use Rattle.refactor_rename.specs.RenameEdits.{IsSourceIn}
 use Rattle.base_edits.specs.Revisions.{Revision}
 use Rattle.base_edits.specs.RevisionsOfEdits.{revision_of}
@@ -31,7 +31,7 @@ RenamesAreNameEdits = (w : Workspace) (known : Verdicts) (d : Declaration) (name
 pub record IsToken (p : Package) (at : Position) (place : Place) : Type 0 where
   pub file : SourceFile
   pub of_rank : slice_get p.files at.file ≡ Some file
-  pub is_name : IsName (slice_get (tokens_in file.cut) at.index)
+  pub is_name : IsNameToken (slice_get (tokens_in file.cut) at.index)
   pub begins : TokenAt p at place
 
 -- q is p with other names: the same path, layout and trees, and each name called as the change has it
@@ -55,5 +55,5 @@ pub record AreSoundBelow (w : Workspace) (before after : Verdicts) (path : List 
 -- By package: where those below have no faults afterwards, each package of the workspace is there afterwards, relaid.
 abbrev pub PackagesAreRelaid : Type 0
 PackagesAreRelaid = (w : Workspace) (before after : Verdicts) (d : Declaration) (name : List ℕ) (s : FileChanges) → IsPlainRename w before d name s →
-    AreVerdicts (edited s w) after → (p : Package) → IsPackage w before p → AreSoundBelow w before after p.path →
-    (q : Package) × (IsPackage (edited s w) after q × IsRelaid (revision_of w s) p q)
+    AreVerdicts (edited s w) after → (p : Package) → IsCheckedPackage w before p → AreSoundBelow w before after p.path →
+    (q : Package) × (IsCheckedPackage (edited s w) after q × IsRelaid (revision_of w s) p q)

@@ -7,7 +7,7 @@ use Rattle.workspace_check.specs.FaultLists.{ListsFaults}
 use Rattle.base_edits.specs.EditSet.{FileChanges}
 use Rattle.base_edits.specs.Fits.{Fits}
 use Rattle.refs_binding.specs.declared.declaration.Declaration.{Declaration}
-use Rattle.refs_binding.specs.Uses.{IsPackage, IsUseOf}
+use Rattle.refs_binding.specs.Uses.{IsCheckedPackage, IsUseOf}
 use Rattle.refs_binding.specs.DeclaredNames.{HasDeclaredName}
 use Rattle.refactor_rename.specs.NewName.{IsNewName}
 use Rattle.refactor_rename.specs.Naming.{IsFixed, IsReservedFor}
@@ -18,9 +18,9 @@ pub record IsRename (w : Workspace) (known : Verdicts) (d : Declaration) (name :
   pub right : AreVerdicts w known
   pub sound : ListsFaults w []
   pub form : IsNewName name
-  pub renamable : IsFixed (IsPackage w known) d → ⊥
-  pub allowed : IsReservedFor (IsPackage w known) d name → ⊥
-  pub other : HasDeclaredName (IsPackage w known) d name → ⊥
+  pub renamable : IsFixed (IsCheckedPackage w known) d → ⊥
+  pub allowed : IsReservedFor (IsCheckedPackage w known) d name → ⊥
+  pub other : HasDeclaredName (IsCheckedPackage w known) d name → ⊥
   pub used : (place : Place) × IsUseOf w known d place
   pub edits : AreRenameEdits w known d name s
   pub fit : Fits s w

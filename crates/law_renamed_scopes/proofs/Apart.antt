@@ -19,7 +19,7 @@ use Rattle.law_tokens.proofs.HeldBytes.{one_named_begins}
 use Rattle.law_tokens.proofs.OwnPaths.{own_paths, package_sources, part_at}
 use Rattle.workspace_check.specs.Verdicts.{Verdicts, IsPackageIn}
 use Rattle.workspace_check.proofs.PackageFiles.{entry_at, in_folder}
-use Rattle.refs_binding.specs.Binding.{IsPredeclared}
+use Rattle.refs_binding.specs.Binding.{IsPredeclaredNumber}
 use Rattle.refs_binding.specs.DeclaringPlaces.{TokenAt, TokenBegins}
 use Rattle.refs_binding.specs.Identifiers.{BeginsAt, NameBegins, file_of}
 use Rattle.refs_binding.proofs.Folders.{some_file}
@@ -78,7 +78,7 @@ module _ (w : Workspace) (known : Verdicts) (path : List ℕ) (p : Package) (h :
 
   -- the literal, or else the name, of a declaration that counts
 
-  by_test : (d : ℕ) → Counts p.layout p.names d → (IsPredeclared d → ⊥) → (b : Bool) → is_literal (p.layout.role (d + 1)) ≡ b →
+  by_test : (d : ℕ) → Counts p.layout p.names d → (IsPredeclaredNumber d → ⊥) → (b : Bool) → is_literal (p.layout.role (d + 1)) ≡ b →
       ((if b then d + 1 else d) < p.size) × IsIdentifier p.layout (if b then d + 1 else d)
   by_test d c other true e =
       let role = literal_role (p.layout.role (d + 1)) e in
@@ -90,7 +90,7 @@ module _ (w : Workspace) (known : Verdicts) (path : List ℕ) (p : Package) (h :
       )
   by_test d c other false e = (may_within w known path p h d c.declares.may, identifies w known path p h d other)
 
-  pub literal_stands : (d : ℕ) → Counts p.layout p.names d → (IsPredeclared d → ⊥) →
+  pub literal_stands : (d : ℕ) → Counts p.layout p.names d → (IsPredeclaredNumber d → ⊥) →
       (literal_of p.layout d < p.size) × IsIdentifier p.layout (literal_of p.layout d)
   literal_stands d c other = by_test d c other (is_literal (p.layout.role (d + 1))) refl
 

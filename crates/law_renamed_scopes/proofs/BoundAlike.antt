@@ -19,7 +19,7 @@ use Rattle.go_scope.specs.WellFormed.{WellFormed}
 use Rattle.go_scope.proofs.Innermost.{one_in_block}
 use Rattle.go_scope.proofs.Nests.{nests}
 use Rattle.go_scope.proofs.Uniqueness.{same_or_not}
-use Rattle.law_same_bindings.specs.SameBindings.{IsBoundAlike, IsParsed, IsSelectedAt}
+use Rattle.law_same_bindings.specs.SameBindings.{IsBoundAlike, IsParsedPackage, IsSelectedAt}
 use Rattle.law_same_bindings.proofs.Alike.{of_bound, turned}
 use Rattle.law_same_bindings.proofs.Meanings.{meaning}
 use Rattle.law_tokens.proofs.Lexical.{never_bound}
@@ -27,7 +27,7 @@ use Rattle.law_tokens.proofs.OwnPaths.{package_sources}
 use Rattle.types_declared.specs.Laid.{is_exported}
 use Rattle.types_declared.specs.MeaningOf.{IsMeaningOf}
 use Rattle.types_declared.specs.Package.{Package, Export, ExportData, spelled, spelled_at}
-use Rattle.types_declared.specs.Written.{BindsToken, ImportsPath}
+use Rattle.types_declared.specs.Written.{BindsToken, DeclaresImport}
 use Rattle.types_declared.specs.ExportTablesView.{no_export_data}
 use Rattle.types_declared.proofs.ByteKeys.{cases_bytes}
 use Rattle.types_check.specs.Check.{exports_in}
@@ -49,7 +49,7 @@ use Rattle.refs_binding.specs.declared.declaration.Declaration.{Declaration}
 use Rattle.refs_binding.specs.declared.declaration.Declaration.TheVariants.{Predeclared, Declared, Field, Method}
 use Rattle.refs_binding.specs.Binding.{IsQualifiedUse, by_scope, by_package, by_member, by_name}
 use Rattle.refs_binding.specs.Identifiers.{BeginsAt, IsInFiles}
-use Rattle.refs_binding.specs.Uses.{IsPackage, IsBoundTo}
+use Rattle.refs_binding.specs.Uses.{IsCheckedPackage, IsBoundToDeclaration}
 use Rattle.refs_lookup.proofs.ExportedNames.{bound_behind, is_found}
 use Rattle.refs_lookup.proofs.OneDeclaration.{one_declaration}
 use Rattle.refactor_conflict.specs.Staying.{NoneIsLost}
@@ -122,7 +122,7 @@ is_declared (Method k) path n = inr (λ e. cc)
 
 -- what is behind the name of a package
 
-spelled_selected : (w : Workspace) (known : Verdicts) (p : Package) → IsPackage w known p → (u : ℕ) → u < p.size →
+spelled_selected : (w : Workspace) (known : Verdicts) (p : Package) → IsCheckedPackage w known p → (u : ℕ) → u < p.size →
     p.layout.role u ≡ NotLexical purpose.Selected → spelled p (p.layout.place u).file (p.layout.place u).index ≡ p.names u
 spelled_selected w known p is u lt role =
     let x = named_stands w known p.path p is.is_checked u lt (ap is_named role) in
@@ -140,14 +140,14 @@ module _ (w : Workspace) (before after : Verdicts) (d : Declaration) (name : Lis
 
   -- the export data of a package
 
-  old_exports : (c : Package) → IsPackage w before c → IsExportData c (before c.path).export_data
+  old_exports : (c : Package) → IsCheckedPackage w before c → IsExportData c (before c.path).export_data
   old_exports c is =
       let has = is.of_workspace in
       let x = (verdict_by w c.path before (before c.path) (right_below w before h.rename.right c.path) (h.rename.right c.path has)).has_export_data
       (before_faultless c.path has) in
       subst (λ y. IsExportData y (before c.path).export_data) (one_checked w before c.path x.checked c x.is_package is.is_checked) x.is_export_data
 
-  new_exports : (b : Package) → IsPackage v after b → AreVerdictsBelow v b.path after → IsVerdict v b.path (after b.path) → (after b.path).faulty ≡ false →
+  new_exports : (b : Package) → IsCheckedPackage v after b → AreVerdictsBelow v b.path after → IsVerdict v b.path (after b.path) → (after b.path).faulty ≡ false →
       IsExportData b (after b.path).export_data
   new_exports b also below right faultless =
       let x = (verdict_by v b.path after (after b.path) below right).has_export_data faultless in
@@ -162,7 +162,7 @@ module _ (w : Workspace) (before after : Verdicts) (d : Declaration) (name : Lis
     moved = λ q more. under.moved q (builds_then w p r q on more);
   }
 
-  module _ (p q : Package) (right : AreVerdictsBelow v p.path after) (is : IsPackage w before p) (also : IsPackage v after q)
+  module _ (p q : Package) (right : AreVerdictsBelow v p.path after) (is : IsCheckedPackage w before p) (also : IsCheckedPackage v after q)
       (relaid : IsRelaid (revision_of w s) p q) (under : AreMovedBelow w before after p.path) where
     right_too : AreVerdictsBelow v q.path after
     right_too = subst (λ path. AreVerdictsBelow v path after) (sym relaid.path) right
@@ -190,9 +190,9 @@ module _ (w : Workspace) (before after : Verdicts) (d : Declaration) (name : Lis
 
     -- a name behind the name of a package
 
-    module _ (lower : (r : List ℕ) → BuildsOn w p.path r → (c b : Package) → IsPackage w before c → IsPackage v after b → c.path ≡ r →
+    module _ (lower : (r : List ℕ) → BuildsOn w p.path r → (c b : Package) → IsCheckedPackage w before c → IsCheckedPackage v after b → c.path ≡ r →
         IsRelaid (revision_of w s) c b → IsBoundAlike c b) (u k : ℕ) (path : List ℕ) (inside : IsInFiles p u)
-        (use_of : IsQualifiedUse (IsPackage w before) p u path k) (on : BuildsOn w p.path path) where
+        (use_of : IsQualifiedUse (IsCheckedPackage w before) p u path k) (on : BuildsOn w p.path path) where
       abbrev c : Package
       c = use_of.other
 
@@ -202,7 +202,7 @@ module _ (w : Workspace) (before after : Verdicts) (d : Declaration) (name : Lis
       there : (place : Place) × BeginsAt p place.path place.offset u
       there = begins_there p u inside.0 (ap is_implied role) (named_stands w before p.path p is.is_checked u inside.0 (ap is_named role))
 
-      bound : IsBoundTo w before p u (Declared path k)
+      bound : IsBoundToDeclaration w before p u (Declared path k)
       bound = by_package use_of
 
       -- afterwards it has an exported name
@@ -214,10 +214,10 @@ module _ (w : Workspace) (before after : Verdicts) (d : Declaration) (name : Lis
       builds_c : BuildsOn w p.path c.path
       builds_c = subst (BuildsOn w p.path) (sym use_of.of_path) on
 
-      relaid_c : (b : Package) × (IsPackage v after b × IsRelaid (revision_of w s) c b)
+      relaid_c : (b : Package) × (IsCheckedPackage v after b × IsRelaid (revision_of w s) c b)
       relaid_c = relaid_by w before after d name s h c use_of.is_package (moved_then p.path c.path builds_c under).sound
 
-      module _ (b : Package) (is_b : IsPackage v after b) (relaid_b : IsRelaid (revision_of w s) c b) where
+      module _ (b : Package) (is_b : IsCheckedPackage v after b) (relaid_b : IsRelaid (revision_of w s) c b) where
         alike : IsBoundAlike c b
         alike = lower path on c b use_of.is_package is_b use_of.of_path relaid_b
 
@@ -231,7 +231,7 @@ module _ (w : Workspace) (before after : Verdicts) (d : Declaration) (name : Lis
               (own_renames w before path k name s (subst (λ x. IsPlainRename w before x name s) e h) c b use_of.is_package use_of.of_path
               relaid_b).renaming.renamed k
               (own refl counts)
-              ∙ sym (bound_is_called w before d name s h p q is relaid u there.0 there.1 (subst (IsBoundTo w before p u) (sym e) bound))
+              ∙ sym (bound_is_called w before d name s h p q is relaid u there.0 there.1 (subst (IsBoundToDeclaration w before p u) (sym e) bound))
           | inr other ↦
               others_are_kept w before d name s h c b use_of.is_package relaid_b k (λ in_c of_d. not_own other in_c of_d)
               ∙ use_of.named
@@ -239,7 +239,7 @@ module _ (w : Workspace) (before after : Verdicts) (d : Declaration) (name : Lis
               (λ in_p of_d. other (one_declaration w before p is u in_p d (Declared path k) of_d bound)))
         ]
           where
-            not_own : (d ≡ Declared path k → ⊥) → IsInFiles c k → IsBoundTo w before c k d → ⊥
+            not_own : (d ≡ Declared path k → ⊥) → IsInFiles c k → IsBoundToDeclaration w before c k d → ⊥
             not_own other in_c of_d = elim (scope_number c k k (own refl counts)) [
               | inl x ↦
                   let z : Universe ≡ PackageBlock = sym (in_universe w before c.path c use_of.is_package.is_checked k x.0) ∙ use_of.seen.package_level in
@@ -316,10 +316,10 @@ module _ (w : Workspace) (before after : Verdicts) (d : Declaration) (name : Lis
 
     -- an export behind the name of a package
 
-    module _ (lower : (r : List ℕ) → BuildsOn w p.path r → (c b : Package) → IsPackage w before c → IsPackage v after b → c.path ≡ r →
+    module _ (lower : (r : List ℕ) → BuildsOn w p.path r → (c b : Package) → IsCheckedPackage w before c → IsCheckedPackage v after b → c.path ≡ r →
         IsRelaid (revision_of w s) c b → IsBoundAlike c b) where
-      qualified : (u : ℕ) (path : List ℕ) → IsInFiles p u → IsQualifiedByPath p u path → (k : ℕ) → IsBoundTo w before p u (Declared path k) →
-          IsQualifiedUse (IsPackage w before) p u path k
+      qualified : (u : ℕ) (path : List ℕ) → IsInFiles p u → IsQualifiedByPath p u path → (k : ℕ) → IsBoundToDeclaration w before p u (Declared path k) →
+          IsQualifiedUse (IsCheckedPackage w before) p u path k
       qualified u path inside behind k (by_package x) = x
       qualified u path inside behind k (by_scope x) = absurd (never_bound p.layout p.names u k purpose.Selected behind.selected x.2)
       qualified u path inside behind k (by_member x) = absurd (member_is_none x.member path k x.declares)
@@ -339,7 +339,7 @@ module _ (w : Workspace) (before after : Verdicts) (d : Declaration) (name : Lis
           let k = bound_behind w h.rename.sound before h.rename.right p is u inside path behind in
           same_exports lower u k.0 path inside (qualified u path inside behind k.0 k.1) (builds u path inside behind) e
 
-      sees : (x file token : ℕ) (path : List ℕ) (e : Export) → BindsToken p file token x → ImportsPath p x path → IsSelectedAt p file (suc (suc token)) →
+      sees : (x file token : ℕ) (path : List ℕ) (e : Export) → BindsToken p file token x → DeclaresImport p x path → IsSelectedAt p file (suc (suc token)) →
           ((p.export_data_of path).exported (spelled p file (suc (suc token))) ≡ Some e)
           ↔ ((q.export_data_of path).exported (spelled q file (suc (suc token))) ≡ Some e)
       sees x file token path e binds imports selected =
@@ -390,7 +390,7 @@ module _ (w : Workspace) (before after : Verdicts) (d : Declaration) (name : Lis
           (λ on. never (builds_before r on)) in
           ap (λ (i : ExportData). (i.definition rank).underlying) (new ∙ sym old)
 
-      parsed : IsParsed p
+      parsed : IsParsedPackage p
       parsed = record {
         path = p.path;
         files = is.is_checked.files;
@@ -420,8 +420,8 @@ module _ (w : Workspace) (before after : Verdicts) (d : Declaration) (name : Lis
       }
 
   -- along the imports
-  alike_by : (path : List ℕ) (x : Verdict) → IsVerdict w path x → (p q : Package) → AreVerdictsBelow v p.path after → IsPackage w before p →
-      IsPackage v after q → p.path ≡ path → IsRelaid (revision_of w s) p q → AreMovedBelow w before after p.path → IsBoundAlike p q
+  alike_by : (path : List ℕ) (x : Verdict) → IsVerdict w path x → (p q : Package) → AreVerdictsBelow v p.path after → IsCheckedPackage w before p →
+      IsCheckedPackage v after q → p.path ≡ path → IsRelaid (revision_of w s) p q → AreMovedBelow w before after p.path → IsBoundAlike p q
   alike_by path x (follows known below by) p q right is also e relaid under =
       bound_alike p q right is also relaid under
       (λ r on c b is_c is_b here relaid_c.
@@ -432,8 +432,8 @@ module _ (w : Workspace) (before after : Verdicts) (d : Declaration) (name : Lis
 
 -- by right verdicts on what the package builds on alone
 named_below : (w : Workspace) (before after : Verdicts) (d : Declaration) (name : List ℕ) (s : FileChanges) → IsPlainRename w before d name s →
-    ScopedNamesStay w before (revision_of w s) → (p q : Package) → AreVerdictsBelow (edited s w) p.path after → IsPackage w before p →
-    IsPackage (edited s w) after q → IsRelaid (revision_of w s) p q → AreMovedBelow w before after p.path → IsBoundAlike p q
+    ScopedNamesStay w before (revision_of w s) → (p q : Package) → AreVerdictsBelow (edited s w) p.path after → IsCheckedPackage w before p →
+    IsCheckedPackage (edited s w) after q → IsRelaid (revision_of w s) p q → AreMovedBelow w before after p.path → IsBoundAlike p q
 named_below w before after d name s h lost p q right is also relaid under =
     alike_by w before after d name s h lost p.path (before p.path) (h.rename.right p.path is.of_workspace) p q right is also refl relaid under
 
@@ -442,8 +442,8 @@ names_stay w before r none place p is u begins =
     let stays = none place p is u begins in record { by_scope = stays.by_scope; by_package = stays.by_package }
 
 pub alike_below : (w : Workspace) (before after : Verdicts) (d : Declaration) (name : List ℕ) (s : FileChanges) → IsPlainRename w before d name s →
-    NoneIsLost w before (revision_of w s) → (p q : Package) → AreVerdictsBelow (edited s w) p.path after → IsPackage w before p →
-    IsPackage (edited s w) after q → IsRelaid (revision_of w s) p q → AreMovedBelow w before after p.path → IsBoundAlike p q
+    NoneIsLost w before (revision_of w s) → (p q : Package) → AreVerdictsBelow (edited s w) p.path after → IsCheckedPackage w before p →
+    IsCheckedPackage (edited s w) after q → IsRelaid (revision_of w s) p q → AreMovedBelow w before after p.path → IsBoundAlike p q
 alike_below w before after d name s h none p q right is also relaid under =
     named_below w before after d name s h (names_stay w before (revision_of w s) none) p q right is also relaid under
 

@@ -21,12 +21,12 @@ use Rattle.law_tokens.proofs.OwnPaths.{part_at}
 use Rattle.types_declared.specs.Files.{HasLiteral}
 use Rattle.types_declared.specs.Laid.{literal_of}
 use Rattle.types_declared.specs.Package.{Package}
-use Rattle.types_declared.specs.Written.{ImportsPath}
+use Rattle.types_declared.specs.Written.{DeclaresImport}
 use Rattle.workspace_check.specs.Verdicts.{Verdicts}
 use Rattle.workspace_check.proofs.OnePackage.{one_sources}
 use Rattle.refs_binding.specs.declared.declaration.Declaration.{Declaration}
 use Rattle.refs_binding.specs.DeclaringPlaces.{TokenAt, TokenBegins}
-use Rattle.refs_binding.specs.Uses.{IsPackage}
+use Rattle.refs_binding.specs.Uses.{IsCheckedPackage}
 use Rattle.refs_lookup.proofs.OnePlace.{same_files}
 use Rattle.law_renamed_packages.specs.Renames.{IsPlainRename}
 use Rattle.law_renamed_packages.proofs.Literals.{from_string, string_stays, string_was, to_string}
@@ -38,7 +38,7 @@ mapped g None y e = absurd (none-some y e)
 mapped g (Some x) y e = (x, (refl, same_Some (g x) y e))
 
 module _ (w : Workspace) (before after : Verdicts) (d : Declaration) (name : List ℕ) (s : FileChanges) (h : IsPlainRename w before d name s)
-    (p q : Package) (is : IsPackage w before p) (also : IsPackage (edited s w) after q) (same : q.path ≡ p.path) where
+    (p q : Package) (is : IsCheckedPackage w before p) (also : IsCheckedPackage (edited s w) after q) (same : q.path ≡ p.path) where
   abbrev ts : List FileParts
   ts = is.is_checked.files
 
@@ -116,7 +116,7 @@ module _ (w : Workspace) (before after : Verdicts) (d : Declaration) (name : Lis
         (string_was f (edits f) (replaced.is_file w before d name s h p is k f at) (replaced.are w before d name s h p is k f at) n value
         (to_string (renamed_file (edits f) f) n value l))
 
-    pub imports_stay : (x : ℕ) (path : List ℕ) → ImportsPath p x path → ImportsPath q x path
+    pub imports_stay : (x : ℕ) (path : List ℕ) → DeclaresImport p x path → DeclaresImport q x path
     imports_stay x path i =
         let k = (p.layout.place x).file in
         let f = i.of_path.source in
@@ -131,7 +131,7 @@ module _ (w : Workspace) (before after : Verdicts) (d : Declaration) (name : Lis
           };
         }
 
-    pub imports_were : (x : ℕ) (path : List ℕ) → ImportsPath q x path → ImportsPath p x path
+    pub imports_were : (x : ℕ) (path : List ℕ) → DeclaresImport q x path → DeclaresImport p x path
     imports_were x path i =
         let k = (p.layout.place x).file in
         let n = (p.layout.place (literal_of p.layout x)).index in

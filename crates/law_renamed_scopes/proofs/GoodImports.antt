@@ -39,7 +39,7 @@ use Rattle.workspace_check.proofs.FaultFiles.{in_outer}
 use Rattle.workspace_check.proofs.Importing.{literals_agree}
 use Rattle.workspace_check.proofs.Members.{cases_contains}
 use Rattle.workspace_check.proofs.OneList.{no_fault}
-use Rattle.refs_binding.specs.Uses.{IsPackage}
+use Rattle.refs_binding.specs.Uses.{IsCheckedPackage}
 use Rattle.refs_binding.proofs.Alike.{package_for}
 use Rattle.types_info.proofs.MeaningLists.{slice_get_some}
 use Rattle.law_renamed_packages.proofs.NameEdits.{ranked}
@@ -179,7 +179,7 @@ module _ (w : Workspace) (sound : ListsFaults w []) (p : Package) (has : Contain
       no_outer_fault state are f.0 f.1)
 
 -- by any right verdicts
-pub imports_are_good : (w : Workspace) → ListsFaults w [] → (known : Verdicts) → AreVerdicts w known → (p : Package) → IsPackage w known p → (q : List ℕ) →
+pub imports_are_good : (w : Workspace) → ListsFaults w [] → (known : Verdicts) → AreVerdicts w known → (p : Package) → IsCheckedPackage w known p → (q : List ℕ) →
     PackageImports w p.path q → (BuildsOn w p.path q → ⊥) → ⊥
 imports_are_good w sound known right p is q imports never =
     let own = package_for w known sound.known right sound.right p is in

@@ -23,9 +23,9 @@ use Rattle.workspace_check.specs.Verdicts.{Verdicts}
 use Rattle.refs_binding.specs.declared.declaration.Declaration.{Declaration}
 use Rattle.refs_binding.specs.declared.declaration.Declaration.TheVariants.{Predeclared, Declared, Field, Method}
 use Rattle.refs_binding.specs.Binding.{BindsByScope}
-use Rattle.refs_binding.specs.DeclaringPlaces.{TokenAt, DeclaresAt, IsDeclaredAt}
+use Rattle.refs_binding.specs.DeclaringPlaces.{TokenAt, HasDeclarationAt, IsDeclaredAt}
 use Rattle.refs_binding.specs.Identifiers.{BeginsAt}
-use Rattle.refs_binding.specs.Uses.{IsPackage}
+use Rattle.refs_binding.specs.Uses.{IsCheckedPackage}
 use Rattle.refs_binding.proofs.Folders.{begins_in_folder}
 use Rattle.refs_binding.proofs.Units.{one_package}
 use Rattle.refs_lookup.proofs.OnePlace.{one_begins}
@@ -71,7 +71,7 @@ pub record IsPlain (l : Layout) (u : ℕ) : Type 0 where
   pub no_import : IsImport l u → ⊥
   pub is_lexical : (is_use (l.role u) ≡ true) ⊎ (may_declare (l.role u) ≡ true)
 
-pub plain_stands : (w : Workspace) (known : Verdicts) (p : Package) → IsPackage w known p → (u : ℕ) → u < p.size → IsPlain p.layout u →
+pub plain_stands : (w : Workspace) (known : Verdicts) (p : Package) → IsCheckedPackage w known p → (u : ℕ) → u < p.size → IsPlain p.layout u →
     (place : Place) × BeginsAt p place.path place.offset u
 plain_stands w known p is u lt x = begins_there p u lt x.identifies (elim x.is_lexical [
   | inl use_of ↦ use_stands w known p.path p is.is_checked u lt use_of
@@ -80,7 +80,7 @@ plain_stands w known p is u lt x = begins_there p u lt x.identifies (elim x.is_l
 
 -- the predeclared names
 
-module _ (w : Workspace) (known : Verdicts) (p : Package) (is : IsPackage w known p) where
+module _ (w : Workspace) (known : Verdicts) (p : Package) (is : IsCheckedPackage w known p) where
   abbrev Kept : ℕ → Type 0
   Kept u = IsKept (IsTold 0 is.is_checked.files) universe (given w known p.path p is.is_checked u) (old_site w known p.path p is.is_checked u)
       (new_site w known p.path p is.is_checked u)
@@ -113,7 +113,7 @@ module _ (w : Workspace) (known : Verdicts) (p : Package) (is : IsPackage w know
           let no : ⊥ = cc in absurd no
 
 module _ (w : Workspace) (before after : Verdicts) (d : Declaration) (name : List ℕ) (s : FileChanges) (h : IsPlainRename w before d name s)
-    (p q : Package) (is : IsPackage w before p) (also : IsPackage (edited s w) after q) (relaid : IsRelaid (revision_of w s) p q) where
+    (p q : Package) (is : IsCheckedPackage w before p) (also : IsCheckedPackage (edited s w) after q) (relaid : IsRelaid (revision_of w s) p q) where
   abbrev l : Layout
   l = p.layout
 
@@ -142,17 +142,17 @@ module _ (w : Workspace) (before after : Verdicts) (d : Declaration) (name : Lis
 
   module _ (scopes_of : (x : Package) → IsScopedIn (edited s w) x → x.path ≡ q.path → x ≡ scoped_of q) where
     abbrev Becomes : Declaration → Declaration → Type 0
-    Becomes = Corresponds (IsPackage w before) (IsScopedIn (edited s w)) (moved s)
+    Becomes = Corresponds (IsCheckedPackage w before) (IsScopedIn (edited s w)) (moved s)
 
     -- a declaration that has become one of the package is that of its number
 
-    one_number : (e f : ℕ) (path : List ℕ) (place : Place) → IsDeclaredAt (IsPackage w before) (Declared p.path e) place → path ≡ q.path →
+    one_number : (e f : ℕ) (path : List ℕ) (place : Place) → IsDeclaredAt (IsCheckedPackage w before) (Declared p.path e) place → path ≡ q.path →
         IsDeclaredAt (IsScopedIn (edited s w)) (Declared path f) (moved s place) → f ≡ e
     one_number e f path place old here new =
-        let was : DeclaresAt p (Declared p.path e) place =
-        subst (λ (x : Package). DeclaresAt x (Declared p.path e) place) (one_package w before old.inside p old.is_package is old.of_path) old.holds in
-        let now : DeclaresAt (scoped_of q) (Declared path f) (moved s place) =
-        subst (λ (x : Package). DeclaresAt x (Declared path f) (moved s place)) (scopes_of new.inside new.is_package (new.of_path ∙ here)) new.holds in
+        let was : HasDeclarationAt p (Declared p.path e) place =
+        subst (λ (x : Package). HasDeclarationAt x (Declared p.path e) place) (one_package w before old.inside p old.is_package is old.of_path) old.holds in
+        let now : HasDeclarationAt (scoped_of q) (Declared path f) (moved s place) =
+        subst (λ (x : Package). HasDeclarationAt x (Declared path f) (moved s place)) (scopes_of new.inside new.is_package (new.of_path ∙ here)) new.holds in
         let old_token : TokenAt p (l.place (literal_of l e)) place = subst (λ a. TokenAt p a place) (sym was.is_at.stands) was.begins in
         let moved_token : TokenAt q (l.place (literal_of l e)) (moved s place) =
         token_moves w before after d name s h p q is also relaid.path (l.place (literal_of l e)) place old_token in
@@ -175,7 +175,7 @@ module _ (w : Workspace) (before after : Verdicts) (d : Declaration) (name : Lis
     -- what is bound afterwards to what a declaration has become is bound to it
 
     from_predeclared : (u e : ℕ) (f : Declaration) → BindsByScope (scoped_of q) u f → Becomes (Predeclared e) f → scopes.IsBoundTo q.layout q.names u e
-    from_predeclared u e f bound become = elim (by_cases (IsPackage w before) (IsScopedIn (edited s w)) (moved s) (Predeclared e) f become) [
+    from_predeclared u e f bound become = elim (by_cases (IsCheckedPackage w before) (IsScopedIn (edited s w)) (moved s) (Predeclared e) f become) [
       | inl x ↦
           let b : BindsByScope (scoped_of q) u (Predeclared x.number) = subst (BindsByScope (scoped_of q) u) x.other bound in
           let same : x.number ≡ e = (let z : Predeclared e ≡ Predeclared x.number = x.one in cc) in
@@ -184,12 +184,12 @@ module _ (w : Workspace) (before after : Verdicts) (d : Declaration) (name : Lis
     ]
 
     from_declared : (u e : ℕ) (f : Declaration) → BindsByScope (scoped_of q) u f → Becomes (Declared p.path e) f → scopes.IsBoundTo q.layout q.names u e
-    from_declared u e f bound become = elim (by_cases (IsPackage w before) (IsScopedIn (edited s w)) (moved s) (Declared p.path e) f become) [
+    from_declared u e f bound become = elim (by_cases (IsCheckedPackage w before) (IsScopedIn (edited s w)) (moved s) (Declared p.path e) f become) [
       | inl x ↦ (let z : Declared p.path e ≡ Predeclared x.number = x.one in let no : ⊥ = cc in absurd no)
       | inr x ↦ by_new f bound x.place x.old x.new
     ]
       where
-        by_new : (f : Declaration) → BindsByScope (scoped_of q) u f → (place : Place) → IsDeclaredAt (IsPackage w before) (Declared p.path e) place →
+        by_new : (f : Declaration) → BindsByScope (scoped_of q) u f → (place : Place) → IsDeclaredAt (IsCheckedPackage w before) (Declared p.path e) place →
             IsDeclaredAt (IsScopedIn (edited s w)) f (moved s place) → scopes.IsBoundTo q.layout q.names u e
         by_new (Predeclared k) b place old new = absurd new
         by_new (Declared path k) b place old new = subst (λ n. scopes.IsBoundTo q.layout q.names u n) (one_number e k path place old b.0 new) b.2

@@ -32,7 +32,7 @@ use Rattle.go_scope.specs.declared.model.Role.{Role}
 use Rattle.go_scope.specs.declared.model.Role.TheVariants.{Use, Declaring, NotLexical}
 use Rattle.go_scope.specs.FileSites.{universe_site, import_name, import_purpose, import_sites, imports_sites, spec_sites, decl_sites, file_sites}
 use Rattle.go_scope.specs.FileSites.{files_sites}
-use Rattle.go_scope.specs.Site.{Site, Source, site, or_blank}
+use Rattle.go_scope.specs.Site.{Site, TokenSpellings, site, or_blank}
 use Rattle.go_scope.specs.SpelledFiles.{spelled_file}
 use Rattle.go_scope.specs.StatementSites.{separated_sites, group_sites}
 use Rattle.law_tokens.specs.Covered.{AreSourceFiles}
@@ -102,16 +102,16 @@ module _ (K : Kind → ℕ → Type 0) where
   IsOf P i = (k : Kind) × (K k i × (P k ≡ true))
 
   -- it stands in the file, at a token of such a kind
-  abbrev StandsAt : (Kind → Bool) → Source → Site → Type 0
+  abbrev StandsAt : (Kind → Bool) → TokenSpellings → Site → Type 0
   StandsAt P s x = (x.place.file ≡ s.rank) × IsOf P x.place.index
 
-  taken : (P : Kind → Bool) (s : Source) (x : Site) (t : Token) (r : Role) → x ≡ site s t.place r → IsTaken P t.kind → K t.kind t.place → StandsAt P s x
+  taken : (P : Kind → Bool) (s : TokenSpellings) (x : Site) (t : Token) (r : Role) → x ≡ site s t.place r → IsTaken P t.kind → K t.kind t.place → StandsAt P s x
   taken P s x t r e k h = (
     ap (λ (y : Site). y.place.file) e,
     (t.kind, (subst (K t.kind) (sym (ap (λ (y : Site). y.place.index) e)) h, (and_parts _ _ k).0)),
   )
 
-  covers_stand : (P : Kind → Bool) (s : Source) (xs : List Site) (ts : List Token) → Covers P s xs ts → AllOf K ts → AllByRecursion (StandsAt P s) xs
+  covers_stand : (P : Kind → Bool) (s : TokenSpellings) (xs : List Site) (ts : List Token) → Covers P s xs ts → AllOf K ts → AllByRecursion (StandsAt P s) xs
   covers_stand P s _ _ ends h = tt
   covers_stand P s xs _ (skips {ts = ts} k a) h = covers_stand P s xs ts a h.1
   covers_stand P s _ _ (takes {x = x} {xs = xs} {t = t} {ts = ts} k i e a) h = (taken P s x t x.role e k h.0, covers_stand P s xs ts a h.1)
@@ -130,7 +130,7 @@ is_named r = false
 abbrev IsUnused : Site → Type 0
 IsUnused x = is_named x.role ≡ false
 
-import_unused : (s : Source) (i : ImportTree) → AllByRecursion IsUnused (import_sites s i)
+import_unused : (s : TokenSpellings) (i : ImportTree) → AllByRecursion IsUnused (import_sites s i)
 unfolding import_sites
 import_unused s i = by_name i.name
   where
@@ -138,23 +138,23 @@ import_unused s i = by_name i.name
     by_name None = (refl, tt)
     by_name (Some n) = (refl, (refl, tt))
 
-items_unused : (s : Source) (xs : List (Item ImportTree)) → AllByRecursion IsUnused (flat_map (λ (x : Item ImportTree). import_sites s x.value) xs)
+items_unused : (s : TokenSpellings) (xs : List (Item ImportTree)) → AllByRecursion IsUnused (flat_map (λ (x : Item ImportTree). import_sites s x.value) xs)
 items_unused s [] = tt
 items_unused s (x ∷ xs) = all_append IsUnused (import_sites s x.value) _ (import_unused s x.value) (items_unused s xs)
 
-group_unused : (s : Source) (g : Group ImportTree) → AllByRecursion IsUnused (spec_sites (import_sites s) g)
+group_unused : (s : TokenSpellings) (g : Group ImportTree) → AllByRecursion IsUnused (spec_sites (import_sites s) g)
 unfolding group_sites separated_sites
 group_unused s (single x) = import_unused s x
 group_unused s (several o xs c) = items_unused s xs
 
-imports_unused : (s : Source) (is : List ImportsTree) → AllByRecursion IsUnused (flat_map (imports_sites s) is)
+imports_unused : (s : TokenSpellings) (is : List ImportsTree) → AllByRecursion IsUnused (flat_map (imports_sites s) is)
 unfolding imports_sites
 imports_unused s [] = tt
 imports_unused s (i ∷ is) = all_append IsUnused (imports_sites s i) (flat_map (imports_sites s) is) (group_unused s i.imports) (imports_unused s is)
 
 -- the identifiers of a file
 
-module _ (K : Kind → ℕ → Type 0) (s : Source) (f : FileTree) (h : AllOf K (flatten f)) where
+module _ (K : Kind → ℕ → Type 0) (s : TokenSpellings) (f : FileTree) (h : AllOf K (flatten f)) where
   decls_stand : AllByRecursion (StandsAt K is_ident_token s) (flat_map (decl_sites s) f.decls)
   unfolding flatten
   decls_stand =
@@ -197,7 +197,7 @@ module _ (T : Position → Type 0) where
   no_strings [] h = tt
   no_strings (x ∷ xs) h = ((λ e t. absurd (h.0 t)), led_more (is_import_name x.role) xs (no_strings xs h.1))
 
-  led_import : (s : Source) (i : ImportTree) → Led false (import_sites s i)
+  led_import : (s : TokenSpellings) (i : ImportTree) → Led false (import_sites s i)
   unfolding import_sites
   led_import s i = by_name i.name
     where
@@ -205,21 +205,21 @@ module _ (T : Position → Type 0) where
       by_name None = ((λ e t. let z : ⊥ = cc in absurd z), tt)
       by_name (Some n) = ((λ e t. let z : ⊥ = cc in absurd z), ((λ e t. refl), tt))
 
-  led_items : (s : Source) (xs : List (Item ImportTree)) → Led false (flat_map (λ (x : Item ImportTree). import_sites s x.value) xs)
+  led_items : (s : TokenSpellings) (xs : List (Item ImportTree)) → Led false (flat_map (λ (x : Item ImportTree). import_sites s x.value) xs)
   led_items s [] = tt
   led_items s (x ∷ xs) = led_append false (import_sites s x.value) _ (led_import s x.value) (led_items s xs)
 
-  led_group : (s : Source) (g : Group ImportTree) → Led false (spec_sites (import_sites s) g)
+  led_group : (s : TokenSpellings) (g : Group ImportTree) → Led false (spec_sites (import_sites s) g)
   unfolding group_sites separated_sites
   led_group s (single x) = led_import s x
   led_group s (several o xs c) = led_items s xs
 
-  led_imports : (s : Source) (is : List ImportsTree) → Led false (flat_map (imports_sites s) is)
+  led_imports : (s : TokenSpellings) (is : List ImportsTree) → Led false (flat_map (imports_sites s) is)
   unfolding imports_sites
   led_imports s [] = tt
   led_imports s (i ∷ is) = led_append false (imports_sites s i) (flat_map (imports_sites s) is) (led_group s i.imports) (led_imports s is)
 
-  led_file : (K : Kind → ℕ → Type 0) (s : Source) (f : FileTree) → AllOf K (flatten f) →
+  led_file : (K : Kind → ℕ → Type 0) (s : TokenSpellings) (f : FileTree) → AllOf K (flatten f) →
       ((x : Site) → StandsAt K is_ident_token s x → T x.place → ⊥) → Led false (file_sites s f)
   unfolding file_sites
   led_file K s f h apart = (
@@ -257,7 +257,7 @@ IsStringAt files at = IsStringIn (slice_get files at.file) at.index
 abbrev pub IsUseTold : List FileParts → Site → Type 0
 IsUseTold files x = is_named x.role ≡ true → (t : FileParts) × ((slice_get files x.place.file ≡ Some t) × IsIdent t.cut x.place.index)
 
-abbrev source_at : ℕ → FileParts → Source
+abbrev source_at : ℕ → FileParts → TokenSpellings
 source_at rank t = record { rank = rank; spell = spelling_of (source_of t) }
 
 module _ (files : List FileParts) where

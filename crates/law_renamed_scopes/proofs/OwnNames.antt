@@ -31,9 +31,9 @@ use Rattle.workspace_check.specs.Verdicts.{Verdicts, BuildsOn, IsPackageIn, IsSe
 use Rattle.workspace_check.proofs.Closed.{not_on_itself}
 use Rattle.workspace_check.proofs.OnePackage.{layout_formed}
 use Rattle.refs_binding.specs.declared.declaration.Declaration.TheVariants.{Declared}
-use Rattle.refs_binding.specs.Binding.{IsPredeclared, declaration_of, by_scope, by_package, by_member, by_name}
+use Rattle.refs_binding.specs.Binding.{IsPredeclaredNumber, declaration_of, by_scope, by_package, by_member, by_name}
 use Rattle.refs_binding.specs.Identifiers.{IsInFiles}
-use Rattle.refs_binding.specs.Uses.{IsPackage, IsBoundTo}
+use Rattle.refs_binding.specs.Uses.{IsCheckedPackage, IsBoundToDeclaration}
 use Rattle.refs_binding.proofs.Units.{one_package}
 use Rattle.refs_lookup.proofs.BoundUsedMembers.{file_at}
 use Rattle.refs_lookup.proofs.ExportedNames.{is_found}
@@ -41,7 +41,7 @@ use Rattle.refs_lookup.proofs.Faultless.{no_fault_later}
 use Rattle.refs_lookup.proofs.ImportSites.{predeclared_block}
 use Rattle.refs_lookup.proofs.OnePlace.{same_size}
 use Rattle.refactor_rename.specs.declared.renamed.Literal.{Literal}
-use Rattle.refactor_rename.specs.Literals.{IsTokenOf, IsLiteralOf, IsLiteralFound}
+use Rattle.refactor_rename.specs.Literals.{IsTokenOf, IsPathLiteralOf, IsLiteralFound}
 use Rattle.law_faultless.proofs.Declared.{given, sites, role_is, may_within}
 use Rattle.law_renamed_packages.specs.Layouts.{IsRelaid}
 use Rattle.law_renamed_packages.specs.Renames.{IsPlainRename}
@@ -71,12 +71,12 @@ role_within xs u k = elim (cases_lt u (length xs)) [
       elim k [ inl e ↦ absurd (true≢false (sym e ∙ ap is_use role)) | inr e ↦ absurd (true≢false (sym e ∙ ap may_declare role)) ]
 ]
 
-pub counted : (l : Layout) (names : Names) (u d : ℕ) → scopes.IsBoundTo l names u d → Counts l names d
+pub counted : (l : Layout) (names : Names) (u d : ℕ) → scopes.IsBoundToDeclaration l names u d → Counts l names d
 counted l names u d (use_bound used b) = b.counts
 counted l names u d (own e c) = c
 
 module _ (w : Workspace) (known_verdicts : Verdicts) (path : List ℕ) (p : Package) (h : IsPackageIn w known_verdicts path p) where
-  pub identifies : (d : ℕ) → (IsPredeclared d → ⊥) → is_implied (p.layout.role d) ≡ false
+  pub identifies : (d : ℕ) → (IsPredeclaredNumber d → ⊥) → is_implied (p.layout.role d) ≡ false
   unfolding package_sites
   identifies d other =
       let le : length universe ≤ d = not_less d (length universe) other in
@@ -86,7 +86,7 @@ module _ (w : Workspace) (known_verdicts : Verdicts) (path : List ℕ) (p : Pack
       not_less : (a b : ℕ) → (a < b → ⊥) → b ≤ a
       not_less a b f = omega (arith, f)
 
-  pub in_universe : (d : ℕ) → IsPredeclared d → block_of (p.layout.role d) ≡ Universe
+  pub in_universe : (d : ℕ) → IsPredeclaredNumber d → block_of (p.layout.role d) ≡ Universe
   unfolding package_sites
   in_universe d known =
       ap block_of (role_is w known_verdicts path p h d)
@@ -101,7 +101,7 @@ module _ (w : Workspace) (known_verdicts : Verdicts) (path : List ℕ) (p : Pack
     | inr e ↦ role_within xs u (inr (sym (ap may_declare (role_is w known_verdicts path p h u)) ∙ e))
   ])
 
-  pub bound_within : (u d : ℕ) → scopes.IsBoundTo p.layout p.names u d → u < p.size
+  pub bound_within : (u d : ℕ) → scopes.IsBoundToDeclaration p.layout p.names u d → u < p.size
   bound_within u d (use_bound used b) = elim used [ inl e ↦ role_inside u (inl e) | inr left ↦ role_inside u (inr (left_roles (p.layout.role u) left.0).0) ]
   bound_within u d (own e c) = role_inside u (inr (ap (λ k. may_declare (p.layout.role k)) e ∙ c.declares.may))
 
@@ -112,7 +112,7 @@ seen_exports w known r q name _ _ (seen on sees) e = on
 seen_exports w known r q name _ _ (unseen none) e = absurd (true≢false (sym e))
 
 module _ (w : Workspace) (before : Verdicts) (path : List ℕ) (n : ℕ) (name : List ℕ) (s : FileChanges) (h : IsPlainRename w before (Declared path n) name s)
-    (p q : Package) (is : IsPackage w before p) (same : p.path ≡ path) (relaid : IsRelaid (revision_of w s) p q) where
+    (p q : Package) (is : IsCheckedPackage w before p) (same : p.path ≡ path) (relaid : IsRelaid (revision_of w s) p q) where
   abbrev l : Layout
   l = p.layout
 
@@ -131,16 +131,16 @@ module _ (w : Workspace) (before : Verdicts) (path : List ℕ) (n : ℕ) (name :
 
   record IsOwn : Type 0 where
     counts : Counts l p.names n
-    other : IsPredeclared n → ⊥
+    other : IsPredeclaredNumber n → ⊥
 
   abbrev checked : IsPackageIn w before p.path p
   checked = is.is_checked
 
-  level_other : IsPackageLevel l n → IsPredeclared n → ⊥
+  level_other : IsPackageLevel l n → IsPredeclaredNumber n → ⊥
   level_other level known =
       let z : Universe ≡ PackageBlock = sym (in_universe w before p.path p checked n known) ∙ level in cc
 
-  by_scopes : (x : Package) → IsPackage w before x → path ≡ x.path → (IsPredeclared n → ⊥) → (u : ℕ) → scopes.IsBoundTo x.layout x.names u n → IsOwn
+  by_scopes : (x : Package) → IsCheckedPackage w before x → path ≡ x.path → (IsPredeclaredNumber n → ⊥) → (u : ℕ) → scopes.IsBoundToDeclaration x.layout x.names u n → IsOwn
   by_scopes x also e other u b =
       let one : x ≡ p = one_package w before x p also is (sym e ∙ sym same) in
       record {
@@ -151,7 +151,7 @@ module _ (w : Workspace) (before : Verdicts) (path : List ℕ) (n : ℕ) (name :
   is_own : IsOwn
   is_own = by_use h.rename.used.1.used_in h.rename.used.1.is_package h.rename.used.1.user h.rename.used.1.bound
     where
-      by_use : (x : Package) → IsPackage w before x → (u : ℕ) → IsBoundTo w before x u (Declared path n) → IsOwn
+      by_use : (x : Package) → IsCheckedPackage w before x → (u : ℕ) → IsBoundToDeclaration w before x u (Declared path n) → IsOwn
       by_use x also u (by_scope b) = by_scopes x also b.0 b.1 u b.2
       by_use x also u (by_package b) =
           let one : b.other ≡ p = one_package w before b.other p b.is_package is (b.of_path ∙ sym same) in
@@ -166,8 +166,8 @@ module _ (w : Workspace) (before : Verdicts) (path : List ℕ) (n : ℕ) (name :
 
   -- it is no import without a name
 
-  no_literal : (l : Literal) → IsLiteralOf (IsPackage w before) (Declared path n) l → ⊥
-  no_literal = subst (λ o. IsLiteralFound (IsLiteralOf (IsPackage w before) (Declared path n)) o) h.plain h.rename.edits.is_renamed.literal
+  no_literal : (l : Literal) → IsPathLiteralOf (IsCheckedPackage w before) (Declared path n) l → ⊥
+  no_literal = subst (λ o. IsLiteralFound (IsPathLiteralOf (IsCheckedPackage w before) (Declared path n)) o) h.plain h.rename.edits.is_renamed.literal
 
   not_laid : n < p.size → IsLaid w before p.path p checked n → IsImport l n → ⊥
   not_laid lt unnamed import =
@@ -185,7 +185,7 @@ module _ (w : Workspace) (before : Verdicts) (path : List ℕ) (n : ℕ) (name :
 
   -- what is bound to it stands at a name
 
-  bound_stands : (u : ℕ) → u < p.size → scopes.IsBoundTo l p.names u n → StandsAtName p u
+  bound_stands : (u : ℕ) → u < p.size → scopes.IsBoundToDeclaration l p.names u n → StandsAtName p u
   bound_stands u lt (use_bound used b) = elim used [
     | inl use_of ↦ use_stands w before p.path p checked u lt use_of
     | inr left ↦
@@ -199,7 +199,7 @@ module _ (w : Workspace) (before : Verdicts) (path : List ℕ) (n : ℕ) (name :
       (declared_stands w before p.path p checked n (subst (λ k. k < p.size) e lt) c.declares.may identifies_it
       (not_laid (subst (λ k. k < p.size) e lt)))
 
-  bound_identifies : (u : ℕ) → scopes.IsBoundTo l p.names u n → is_implied (l.role u) ≡ false
+  bound_identifies : (u : ℕ) → scopes.IsBoundToDeclaration l p.names u n → is_implied (l.role u) ≡ false
   bound_identifies u (use_bound used b) = elim used [
     | inl use_of ↦ use_identifies (l.role u) use_of
     | inr left ↦ (left_roles (l.role u) left.0).1
@@ -213,7 +213,7 @@ module _ (w : Workspace) (before : Verdicts) (path : List ℕ) (n : ℕ) (name :
       use_identifies (Implied b start) e = absurd (true≢false (sym e))
   bound_identifies u (own e c) = ap (λ k. is_implied (l.role k)) e ∙ identifies_it
 
-  renamed_so : (u : ℕ) → scopes.IsBoundTo l p.names u n → q.names u ≡ name
+  renamed_so : (u : ℕ) → scopes.IsBoundToDeclaration l p.names u n → q.names u ≡ name
   renamed_so u b =
       let lt : u < p.size = bound_within w before p.path p checked u n b in
       let there = begins_there p u lt (bound_identifies u b) (bound_stands u lt b) in
@@ -222,7 +222,7 @@ module _ (w : Workspace) (before : Verdicts) (path : List ℕ) (n : ℕ) (name :
 
   -- nothing else is bound to it
 
-  bound_so : (u : ℕ) → IsInFiles p u → IsBoundTo w before p u (Declared path n) → scopes.IsBoundTo l p.names u n
+  bound_so : (u : ℕ) → IsInFiles p u → IsBoundToDeclaration w before p u (Declared path n) → scopes.IsBoundToDeclaration l p.names u n
   bound_so u inside (by_scope b) = b.2
   bound_so u inside (by_package b) =
       let found : exports_in p path (p.names u) ≡ true = is_found w h.rename.sound before h.rename.right p is u inside path b.behind in

@@ -21,13 +21,13 @@ use Rattle.workspace_check.specs.Verdicts.{Verdicts}
 use Rattle.refs_binding.specs.declared.declaration.Declaration.{Declaration}
 use Rattle.refs_binding.specs.declared.declaration.Declaration.TheVariants.{Predeclared, Declared}
 use Rattle.refs_binding.specs.Binding.{BindsByScope, by_scope}
-use Rattle.refs_binding.specs.Identifiers.{BeginsAt, IsInFiles, IsName, NameBegins, file_of}
-use Rattle.refs_binding.specs.Uses.{IsPackage, IsBoundTo, IsUseOf}
+use Rattle.refs_binding.specs.Identifiers.{BeginsAt, IsInFiles, IsNameToken, NameBegins, file_of}
+use Rattle.refs_binding.specs.Uses.{IsCheckedPackage, IsBoundToDeclaration, IsUseOf}
 use Rattle.refs_binding.proofs.Folders.{some_file}
 use Rattle.refs_binding.proofs.PlaceOrder.{place_is}
 use Rattle.refs_lookup.proofs.OneDeclaration.{one_declaration}
 use Rattle.refs_lookup.proofs.OnePlace.{one_begins}
-use Rattle.refactor_rename.specs.FileEdits.{ReplacesName}
+use Rattle.refactor_rename.specs.FileEdits.{RenamesToken}
 use Rattle.refactor_rename.specs.Naming.{IsFixed}
 use Rattle.law_renamed_packages.specs.Layouts.{IsRelaid}
 use Rattle.law_renamed_packages.specs.Renames.{IsPlainRename}
@@ -36,19 +36,19 @@ use Rattle.law_renamed_packages.proofs.NameEdits.{renamed, replaced_token}
 use Rattle.law_renamed_packages.proofs.Replaced as replaced
 use Rattle.law_renamed_scopes.specs.Scopes.{OtherScopesStay}
 
-named_token : (o : Option Piece) → IsName o → (t : Piece) × ((o ≡ Some t) × (t.class ≡ Name))
+named_token : (o : Option Piece) → IsNameToken o → (t : Piece) × ((o ≡ Some t) × (t.class ≡ Name))
 named_token None h = absurd h
 named_token (Some t) h = (t, (refl, h))
 
 -- what scopes bind, by its number
-pub scope_number : (p : Package) (u e : ℕ) → scopes.IsBoundTo p.layout p.names u e → BindsByScope p u (Predeclared e) ⊎ BindsByScope p u (Declared p.path e)
+pub scope_number : (p : Package) (u e : ℕ) → scopes.IsBoundToDeclaration p.layout p.names u e → BindsByScope p u (Predeclared e) ⊎ BindsByScope p u (Declared p.path e)
 scope_number p u e b = elim (cases_lt e (length universe)) [
   | inl below ↦ inl (below, b)
   | inr ge ↦ inr (refl, (λ below. let less : e < length universe = below in absurd (omega arith)), b)
 ]
 
 module _ (w : Workspace) (before : Verdicts) (d : Declaration) (name : List ℕ) (s : FileChanges) (h : IsPlainRename w before d name s) (p q : Package)
-    (is : IsPackage w before p) (relaid : IsRelaid (revision_of w s) p q) where
+    (is : IsCheckedPackage w before p) (relaid : IsRelaid (revision_of w s) p q) where
   -- an identifier that begins at a place
   module _ (u : ℕ) (place : Place) (b : BeginsAt p place.path place.offset u) where
     abbrev rank : ℕ
@@ -92,7 +92,7 @@ module _ (w : Workspace) (before : Verdicts) (d : Declaration) (name : List ℕ)
 
       -- its token is replaced exactly if it is bound to the declaration
 
-      replaced_bound : IsReplaced → IsBoundTo w before p u d
+      replaced_bound : IsReplaced → IsBoundToDeclaration w before p u d
       replaced_bound r =
           let t = replaced.token_bound w before d name s h p is rank f at i r in
           let v = t.identifier in
@@ -100,9 +100,9 @@ module _ (w : Workspace) (before : Verdicts) (d : Declaration) (name : List ℕ)
           subst (λ k. NameBegins (slice_get p.files k) (p.layout.place v).index place.path place.offset) (sym t.stands.1)
           (subst (λ n. NameBegins (slice_get p.files rank) n place.path place.offset) (sym t.stands.2) b.1) in
           let same : v ≡ u = one_begins w before p.path p is.is_checked place.path place.offset v u (t.inside, there) b in
-          subst (λ x. IsBoundTo w before p x d) same t.bound
+          subst (λ x. IsBoundToDeclaration w before p x d) same t.bound
 
-      bound_replaced : IsBoundTo w before p u d → IsReplaced
+      bound_replaced : IsBoundToDeclaration w before p u d → IsReplaced
       bound_replaced bound =
           let t = named_token (slice_get (tokens_in f.cut) i) begins.0 in
           let one : IsUseOf w before d place = record { used_in = p; is_package = is; user = u; begins = b; bound = bound } in
@@ -111,7 +111,7 @@ module _ (w : Workspace) (before : Verdicts) (d : Declaration) (name : List ℕ)
           let here : place ≡ record { path = f.path; offset = t.0.span.start } =
           sym place_here ∙ ap (λ n. record { path = f.path; offset = n }) start in
           let e : Edit = record { span = t.0.span; text = (renamed w before d name s h).name } in
-          let r : ReplacesName f (renamed w before d name s h) i e = record {
+          let r : RenamesToken f (renamed w before d name s h) i e = record {
             token = t.0;
             at = t.1.0;
             is_name = t.1.1;
@@ -124,27 +124,27 @@ module _ (w : Workspace) (before : Verdicts) (d : Declaration) (name : List ℕ)
             token = replaced_token w before d name s h f i e r;
           }
 
-      kept_or_bound : (q.names u ≡ p.names u → ⊥) → IsBoundTo w before p u d
+      kept_or_bound : (q.names u ≡ p.names u → ⊥) → IsBoundToDeclaration w before p u d
       kept_or_bound ne = elim (replaced.replaced_or_not w before d name s h p is rank f at i) [
         | inl r ↦ replaced_bound r
         | inr none ↦ absurd (ne (old_name none))
       ]
 
     -- what is bound to the declaration gets the name
-    pub bound_is_called : IsBoundTo w before p u d → q.names u ≡ name
+    pub bound_is_called : IsBoundToDeclaration w before p u d → q.names u ≡ name
     bound_is_called bound = let f = source in new_name f.0 f.1.0 (bound_replaced f.0 f.1.0 bound)
 
-    bound_if_other : (q.names u ≡ p.names u → ⊥) → IsBoundTo w before p u d
+    bound_if_other : (q.names u ≡ p.names u → ⊥) → IsBoundToDeclaration w before p u d
     bound_if_other ne = let f = source in kept_or_bound f.0 f.1.0 ne
 
   -- and nothing else gets another name
-  pub others_are_kept : (u : ℕ) → (IsInFiles p u → IsBoundTo w before p u d → ⊥) → q.names u ≡ p.names u
+  pub others_are_kept : (u : ℕ) → (IsInFiles p u → IsBoundToDeclaration w before p u d → ⊥) → q.names u ≡ p.names u
   others_are_kept u other =
       same_bytes (q.names u) (p.names u) (λ ne. ne (relaid.other_names u (λ place b. other b.0 (bound_if_other u place b ne))))
 
 not_predeclared : (w : Workspace) (before : Verdicts) (d : Declaration) (name : List ℕ) (s : FileChanges) → IsPlainRename w before d name s → (e : ℕ) →
     d ≡ Predeclared e → ⊥
-not_predeclared w before d name s h e same = h.rename.renamable (subst (IsFixed (IsPackage w before)) (sym same) (inl tt))
+not_predeclared w before d name s h e same = h.rename.renamable (subst (IsFixed (IsCheckedPackage w before)) (sym same) (inl tt))
 
 pub others_stay : OtherScopesStay
 others_stay w before d name s h p q is other relaid u e bound =

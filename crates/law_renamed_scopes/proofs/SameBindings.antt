@@ -19,7 +19,7 @@ use Rattle.workspace_check.specs.FaultLists.{ListsFaults}
 use Rattle.workspace_check.specs.Verdicts.{Verdicts, AreVerdicts}
 use Rattle.refs_binding.specs.declared.declaration.Declaration.{Declaration}
 use Rattle.refs_binding.specs.declared.declaration.Declaration.TheVariants.{Predeclared, Declared, Field, Method}
-use Rattle.refs_binding.specs.Uses.{IsPackage}
+use Rattle.refs_binding.specs.Uses.{IsCheckedPackage}
 use Rattle.refs_lookup.proofs.Faultless.{no_fault_later}
 use Rattle.law_faultless.proofs.Declared.{may_within}
 use Rattle.law_faultless.proofs.Lexical.{declares}
@@ -32,7 +32,7 @@ use Rattle.law_renamed_scopes.proofs.SameNames.{left_roles, same_bindings}
 
 -- in a workspace without faults
 
-module _ (w : Workspace) (sound : ListsFaults w []) (known : Verdicts) (right : AreVerdicts w known) (p : Package) (is : IsPackage w known p) where
+module _ (w : Workspace) (sound : ListsFaults w []) (known : Verdicts) (right : AreVerdicts w known) (p : Package) (is : IsCheckedPackage w known p) where
   abbrev l : Layout
   l = p.layout
 
@@ -77,7 +77,7 @@ module _ (w : Workspace) (sound : ListsFaults w []) (known : Verdicts) (right : 
   ]
 
 module _ (w : Workspace) (before : Verdicts) (d : Declaration) (name : List ℕ) (s : FileChanges) (h : IsPlainRename w before d name s) (p q : Package)
-    (is : IsPackage w before p) (relaid : IsRelaid (revision_of w s) p q) where
+    (is : IsCheckedPackage w before p) (relaid : IsRelaid (revision_of w s) p q) where
   abbrev k : Layout
   k = p.layout
 

@@ -41,7 +41,7 @@ use Rattle.workspace_check.proofs.PackageFiles.{entry_at}
 use Rattle.workspace_check.proofs.SameImports.{builds_by}
 use Rattle.workspace_check.proofs.Underway.{builds_then}
 use Rattle.refs_binding.specs.declared.declaration.Declaration.{Declaration}
-use Rattle.refs_binding.specs.Uses.{IsPackage}
+use Rattle.refs_binding.specs.Uses.{IsCheckedPackage}
 use Rattle.refs_lookup.proofs.HeaderStrings.{is_import_literal}
 use Rattle.refs_lookup.proofs.ImportSites.{literal_within, literal_file}
 use Rattle.refs_lookup.proofs.OnePlace.{same_files}
@@ -114,7 +114,7 @@ module _ (v : Workspace) (path : List ℕ) (files : List FileParts) (parsed : Ar
       record { entry = entry.0; of_package = entry.1.0; file = f; parsed = entry.1.1; imports = literal_path f place.index r found stated }
 
 module _ (w : Workspace) (before after : Verdicts) (d : Declaration) (name : List ℕ) (s : FileChanges) (h : IsPlainRename w before d name s)
-    (p q : Package) (right : AreVerdictsBelow (edited s w) q.path after) (is : IsPackage w before p) (also : IsPackage (edited s w) after q)
+    (p q : Package) (right : AreVerdictsBelow (edited s w) q.path after) (is : IsCheckedPackage w before p) (also : IsCheckedPackage (edited s w) after q)
     (path : q.path ≡ p.path) (sound : AreSoundBelow w before after p.path) where
   abbrev v : Workspace
   v = edited s w
@@ -186,7 +186,7 @@ module _ (w : Workspace) (before after : Verdicts) (d : Declaration) (name : Lis
 
 -- the same by right verdicts on all packages
 pub scopes_again : (w : Workspace) (before after : Verdicts) (d : Declaration) (name : List ℕ) (s : FileChanges) → IsPlainRename w before d name s →
-    AreVerdicts (edited s w) after → (p q : Package) → IsPackage w before p → IsPackage (edited s w) after q → q.path ≡ p.path →
+    AreVerdicts (edited s w) after → (p q : Package) → IsCheckedPackage w before p → IsCheckedPackage (edited s w) after q → q.path ≡ p.path →
     AreSoundBelow w before after p.path → (x : Package) → IsScopedIn (edited s w) x → x.path ≡ q.path → x ≡ scoped_of q
 scopes_again w before after d name s h right p q is also path sound x is_x e =
     scopes_below w before after d name s h p q (right_below (edited s w) after right q.path) is also path sound x is_x e

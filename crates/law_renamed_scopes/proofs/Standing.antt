@@ -30,7 +30,7 @@ use Rattle.law_tokens.proofs.Ordered.{same_length}
 use Rattle.law_tokens.proofs.OwnPaths.{part_at}
 use Rattle.law_tokens.proofs.Roles.{role_keeps}
 use Rattle.workspace_check.specs.Verdicts.{Verdicts, IsPackageIn}
-use Rattle.refs_binding.specs.Identifiers.{IsName, NameBegins, BeginsAt}
+use Rattle.refs_binding.specs.Identifiers.{IsNameToken, NameBegins, BeginsAt}
 use Rattle.refs_lookup.proofs.ImportSites.{literal_file}
 use Rattle.refs_lookup.proofs.OnePlace.{same_size, same_files}
 use Rattle.law_faultless.proofs.Declared.{given, sites, old_site, new_site, sources, role_is, place_is, kept, file_of_told, told_name}
@@ -43,7 +43,7 @@ use Rattle.law_renamed_scopes.proofs.NameTokens.{all_last, led_at, led_universe}
 pub record StandsAtName (p : Package) (u : ℕ) : Type 0 where
   pub source : SourceFile
   pub of_rank : slice_get p.files (p.layout.place u).file ≡ Some source
-  pub is_name : IsName (slice_get (tokens_in source.cut) (p.layout.place u).index)
+  pub is_name : IsNameToken (slice_get (tokens_in source.cut) (p.layout.place u).index)
 
 pub place_of : (p : Package) (u : ℕ) → StandsAtName p u → Place
 place_of p u h = record { path = h.source.path; offset = offset_of h.source (p.layout.place u).index }
@@ -54,10 +54,10 @@ begins_there p u lt identifies h =
     let place : Place = record { path = h.source.path; offset = offset_of h.source (p.layout.place u).index } in
     (place, ((lt, identifies), subst (λ o. NameBegins o (p.layout.place u).index place.path place.offset) (sym h.of_rank) (h.is_name, refl, refl)))
 
-piece_is_name : (o : Option Piece) (x : Piece) → o ≡ Some x → x.class ≡ Name → IsName o
-piece_is_name o x e named = subst IsName (sym e) named
+piece_is_name : (o : Option Piece) (x : Piece) → o ≡ Some x → x.class ≡ Name → IsNameToken o
+piece_is_name o x e named = subst IsNameToken (sym e) named
 
-ident_name : (c : CutText) (i : ℕ) → IsIdent c i → IsName (slice_get (tokens_in c) i)
+ident_name : (c : CutText) (i : ℕ) → IsIdent c i → IsNameToken (slice_get (tokens_in c) i)
 ident_name c i h = let x = ident_piece c i h in piece_is_name (slice_get (tokens_in c) i) x.piece x.at x.is_name
 
 -- the role of the literal of an import with a name
@@ -86,7 +86,7 @@ module _ (w : Workspace) (known : Verdicts) (path : List ℕ) (p : Package) (h :
   at_ident u at e s file ident = record {
     source = s;
     of_rank = ap (λ (a : Position). slice_get p.files a.file) e ∙ file;
-    is_name = subst (λ (a : Position). IsName (slice_get (tokens_in s.cut) a.index)) (sym e) (ident_name s.cut at.index ident);
+    is_name = subst (λ (a : Position). IsNameToken (slice_get (tokens_in s.cut) a.index)) (sym e) (ident_name s.cut at.index ident);
   }
 
   used : (u : ℕ) → u < p.size → IsKept (IsUseTold h.files) universe (given w known path p h u) (old_site w known path p h u) (new_site w known path p h u)

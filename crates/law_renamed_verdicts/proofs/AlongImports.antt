@@ -25,7 +25,7 @@ use Rattle.workspace_check.specs.FaultLists.{IsFaultOfSome, ListsFaults}
 use Rattle.workspace_check.specs.Faults.{fault_cmp, placed_in}
 use Rattle.workspace_check.specs.Verdicts.{Verdicts, AreVerdicts, AreVerdictsBelow, BuildsOn, IsStateOf}
 use Rattle.workspace_check.specs.Verdicts.{is_missing, is_on_cycle, is_faulty, is_good, AreStates, IsReadFault}
-use Rattle.workspace_check.specs.Verdicts.{IsPackageIn, IsInnerFault, IsFaultBy, IsVerdictBy, IsVerdict, follows}
+use Rattle.workspace_check.specs.Verdicts.{IsPackageIn, IsFaultBehindOuter, IsFaultBy, IsVerdictBy, IsVerdict, follows}
 use Rattle.workspace_check.proofs.Closed.{from_package, to_package}
 use Rattle.workspace_check.proofs.FaultFiles.{in_outer, some_source}
 use Rattle.workspace_check.proofs.OneList.{no_fault, is_faultless}
@@ -34,7 +34,7 @@ use Rattle.workspace_check.proofs.OneVerdict.{one_verdict, right_below, verdict_
 use Rattle.workspace_check.proofs.SameImports.{imports_back, builds_by}
 use Rattle.workspace_check.proofs.Unread.{none_unread}
 use Rattle.refs_binding.specs.declared.declaration.Declaration.{Declaration}
-use Rattle.refs_binding.specs.Uses.{IsPackage}
+use Rattle.refs_binding.specs.Uses.{IsCheckedPackage}
 use Rattle.refs_lookup.proofs.OnePlace.{same_files}
 use Rattle.refactor_conflict.specs.Staying.{NoneIsLost}
 use Rattle.law_same_bindings.proofs.Alike.{of_bound}
@@ -75,12 +75,12 @@ module _ (own_renames : OwnRenamesAreRenames) (others_stay : OtherScopesStay) (s
   same_back : HaveSameImports x w
   same_back = imports_back w x same
 
-  module _ (p : Package) (was : IsPackage w before p) (right : AreVerdictsBelow (edited s w) p.path after)
+  module _ (p : Package) (was : IsCheckedPackage w before p) (right : AreVerdictsBelow (edited s w) p.path after)
       (below : HaveMovedBelow w before after (revision_of w s) p.path) where
     sound_below : AreSoundBelow w before after p.path
     sound_below = record { faultless = λ q on. (below q on).sound; named = λ q on. (below q on).name }
 
-    pub relaid : (q : Package) × (IsPackage x after q × IsRelaid (revision_of w s) p q)
+    pub relaid : (q : Package) × (IsCheckedPackage x after q × IsRelaid (revision_of w s) p q)
     relaid = relaid_by w before after d name s plain p was sound_below
 
     abbrev pub q : Package
@@ -98,7 +98,7 @@ module _ (own_renames : OwnRenamesAreRenames) (others_stay : OtherScopesStay) (s
         let has = to_package w p.path o on.imported in
         (one_verdict w o (before o) (sound.known o) (plain.rename.right o has) (sound.right o has)).faulty ∙ is_faultless w sound o has
 
-    seen : AreSeenAfter (IsPackage w before) (revision_of w s) p q
+    seen : AreSeenAfter (IsCheckedPackage w before) (revision_of w s) p q
     seen =
         seen_follow w x before after (revision_of w s) p q was relaid.1.0 relaid.1.1.path known_faultless
         (record {
@@ -155,13 +155,13 @@ module _ (own_renames : OwnRenamesAreRenames) (others_stay : OtherScopesStay) (s
         sources : map source_of r.files ≡ new_sources s was.is_checked.files
         sources = one_sources r.parsed (new_trees w before d name s plain p was)
 
-        by_stage : FirstOf (IsOuterFault r.state (map source_of r.files)) (IsInnerFault x after p.path) r.fault → ⊥
+        by_stage : FirstOf (IsOuterFault r.state (map source_of r.files)) (IsFaultBehindOuter x after p.path) r.fault → ⊥
         by_stage (inl o) =
             no_outer_fault w before d name s plain p was r.state (was_outer_fine r.state r.are_states) r.fault
             (subst (λ fs. IsOuterFault r.state fs r.fault) sources o)
         by_stage (inr later) =
             let inner = later.1 in
-            let checked : IsPackage x after q = relaid.1.0 in
+            let checked : IsCheckedPackage x after q = relaid.1.0 in
             let one : inner.checked ≡ q =
             one_checked x after p.path inner.checked q inner.is_package
             (subst (λ path. IsPackageIn x after path q) relaid.1.1.path checked.is_checked) in

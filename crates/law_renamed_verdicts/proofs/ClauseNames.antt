@@ -7,7 +7,7 @@ use Rattle.go_ast.specs.SourceFile.{SourceFile, spelling_of}
 use Rattle.go_scope.specs.declared.model.Role.TheVariants.{NotLexical}
 use Rattle.go_scope.specs.declared.model.Purpose.TheVariants as purpose
 use Rattle.go_scope.specs.FileSites.{file_sites}
-use Rattle.go_scope.specs.Site.{Source, Site, site}
+use Rattle.go_scope.specs.Site.{TokenSpellings, Site, site}
 use Rattle.std.specs.List.{AllByRecursion}
 use Rattle.law_tokens.proofs.Lexical.{never_bound}
 use Rattle.law_tokens.proofs.Ordered.{one_stands}
@@ -16,7 +16,7 @@ use Rattle.workspace_check.specs.Verdicts.{Verdicts}
 use Rattle.refs_binding.specs.declared.declaration.Declaration.{Declaration}
 use Rattle.refs_binding.specs.Binding.{by_scope, by_package, by_member, by_name}
 use Rattle.refs_binding.specs.Identifiers.{IsInFiles}
-use Rattle.refs_binding.specs.Uses.{IsPackage, IsBoundTo}
+use Rattle.refs_binding.specs.Uses.{IsCheckedPackage, IsBoundToDeclaration}
 use Rattle.refs_binding.proofs.Excluding.{number_bound, exported_as}
 use Rattle.refs_lookup.proofs.NamedMembers.{name_member}
 use Rattle.refs_lookup.proofs.UsedMembers.{link_role}
@@ -27,13 +27,13 @@ use Rattle.law_renamed_packages.specs.Renames.{IsPlainRename}
 use Rattle.law_renamed_packages.proofs.NameEdits.{IsBoundToken}
 use Rattle.law_renamed_packages.proofs.Replaced.{edits, replaced_or_not, old_spelled, token_bound}
 
-module _ (w : Workspace) (known : Verdicts) (p : Package) (is : IsPackage w known p) where
+module _ (w : Workspace) (known : Verdicts) (p : Package) (is : IsCheckedPackage w known p) where
   -- the name in a package clause is bound to nothing
-  clause_unbound : (u : ℕ) (d : Declaration) → IsInFiles p u → IsBoundTo w known p u d → p.layout.role u ≡ NotLexical purpose.PackageClause → ⊥
+  clause_unbound : (u : ℕ) (d : Declaration) → IsInFiles p u → IsBoundToDeclaration w known p u d → p.layout.role u ≡ NotLexical purpose.PackageClause → ⊥
   clause_unbound u d stands (by_scope b) role =
       let n = number_bound p u d b in never_bound p.layout p.names u n.0 purpose.PackageClause role n.1
   clause_unbound u d stands (by_package b) role =
-      let e = exported_as (IsPackage w known) p u d b in
+      let e = exported_as (IsCheckedPackage w known) p u d b in
       let same : NotLexical purpose.PackageClause ≡ NotLexical purpose.Selected = sym role ∙ e.1.1.1.behind.selected in
       cc
   clause_unbound u d stands (by_member b) role = elim (link_role w known p.path p is.is_checked u d stands b) [
@@ -44,7 +44,7 @@ module _ (w : Workspace) (known : Verdicts) (p : Package) (is : IsPackage w know
       let same : NotLexical purpose.PackageClause ≡ NotLexical purpose.Member = sym role ∙ name_member w known p.path p is.is_checked u d stands.0 b in
       cc
 
-  clause_of : (K : Site → Type 0) (s : Source) (f : SourceFile) → AllByRecursion K (file_sites s f.tree) →
+  clause_of : (K : Site → Type 0) (s : TokenSpellings) (f : SourceFile) → AllByRecursion K (file_sites s f.tree) →
       K (site s f.tree.name (NotLexical purpose.PackageClause))
   unfolding file_sites
   clause_of K s f h = h.0
@@ -54,7 +54,7 @@ module _ (w : Workspace) (known : Verdicts) (p : Package) (is : IsPackage w know
       clause_of (Kept p rank) (record { rank = rank; spell = spelling_of f }) f (all_kept w known p.path p is.is_checked rank f at) refl
 
 module _ (w : Workspace) (known : Verdicts) (d : Declaration) (name : List ℕ) (s : FileChanges) (h : IsPlainRename w known d name s) (p : Package)
-    (is : IsPackage w known p) (rank : ℕ) (f : SourceFile) (at : slice_get p.files rank ≡ Some f) where
+    (is : IsCheckedPackage w known p) (rank : ℕ) (f : SourceFile) (at : slice_get p.files rank ≡ Some f) where
   not_replaced : IsBoundToken w known d p rank f.tree.name → ⊥
   not_replaced b =
       let u = clause_stands w known p is rank f at in

@@ -16,7 +16,7 @@ use Rattle.types_declared.proofs.ByteKeys.{cases_bytes}
 use Rattle.workspace_check.specs.Verdicts.{Verdicts}
 use Rattle.refs_binding.specs.declared.declaration.Declaration.{Declaration}
 use Rattle.refs_binding.specs.declared.declaration.Declaration.TheVariants.{Predeclared, Declared, Field, Method}
-use Rattle.refs_binding.specs.Uses.{IsPackage}
+use Rattle.refs_binding.specs.Uses.{IsCheckedPackage}
 use Rattle.refs_binding.specs.DeclaringPlaces.{InHomePackage}
 use Rattle.refactor_rename.specs.Naming.{IsTopLevelIn}
 use Rattle.refactor_rename.specs.NewName.{IsReserved}
@@ -95,7 +95,7 @@ is_level_of d p = elim (declared_here d p.path) [
 ]
 
 module _ (own_renames : OwnRenamesAreRenames) (others_stay : OtherScopesStay) (w : Workspace) (before : Verdicts) (d : Declaration) (name : List ℕ)
-    (s : FileChanges) (plain : IsPlainRename w before d name s) (p q : Package) (was : IsPackage w before p) (relaid : IsRelaid (revision_of w s) p q) where
+    (s : FileChanges) (plain : IsPlainRename w before d name s) (p q : Package) (was : IsCheckedPackage w before p) (relaid : IsRelaid (revision_of w s) p q) where
   renames_here : (m : ℕ) → d ≡ Declared p.path m → Renames p.layout p.names m name q.names
   renames_here m e = own_renames w before p.path m name s (subst (λ x. IsPlainRename w before x name s) e plain) p q was refl relaid
 
@@ -115,7 +115,7 @@ module _ (own_renames : OwnRenamesAreRenames) (others_stay : OtherScopesStay) (w
         other = renames.other_name;
         others = λ u apart l c. kept_here m e u apart c;
         allowed = λ reserved. plain.rename.allowed (
-          subst (λ x. InHomePackage (IsPackage w before) x (λ c. IsTopLevelIn c x)) (sym e)
+          subst (λ x. InHomePackage (IsCheckedPackage w before) x (λ c. IsTopLevelIn c x)) (sym e)
               (record { inside = p; is_package = was; of_path = refl; holds = (within, inl level) }),
           reserved,
         );

@@ -4,7 +4,7 @@ use Rattle.std.specs.Prelude.{Contains}
 use Rattle.base_edits.specs.EditSet.{FileChanges, edited}
 use Rattle.base_edits.specs.RevisionsOfEdits.{revision_of}
 use Rattle.base_files.specs.Workspace.{Workspace}
-use Rattle.types_stmt.specs.Checked.{Checked}
+use Rattle.types_stmt.specs.Checked.{FoundSoFar}
 use Rattle.types_stmt.specs.Declarations.{check_file}
 use Rattle.types_declared.specs.declared.fault.Fault.{Fault}
 use Rattle.types_declared.specs.Package.{Package}
@@ -39,6 +39,6 @@ no_type_fault stays w before after d name s plain none p q here worlds fine faul
       in_file = f.1;
       world = v.0;
       judged_by = v.1;
-      found = subst (λ (c : Checked). Contains c.faults fault.token) same h.found;
+      found = subst (λ (c : FoundSoFar). Contains c.faults fault.token) same h.found;
       kind = h.kind;
     })

@@ -10,7 +10,7 @@ use Rattle.go_scope.specs.declared.model.Role.TheVariants.{Declaring, NotLexical
 use Rattle.go_scope.specs.declared.model.Purpose.TheVariants as purpose
 use Rattle.go_scope.specs.FileSites.{func_role}
 use Rattle.go_scope.specs.Bindings.{Layout}
-use Rattle.go_scope.specs.Site.{Source}
+use Rattle.go_scope.specs.Site.{TokenSpellings}
 use Rattle.go_scope.specs.Table.{LiesAt}
 use Rattle.law_tokens.proofs.Ordered.{one_stands}
 use Rattle.types_declared.specs.Package.{Package}
@@ -21,7 +21,7 @@ use Rattle.law_faultless.proofs.FunctionsSettled.{function_kept, function_name_k
 use Rattle.law_faultless.proofs.Lists.{contained}
 use Rattle.law_faultless.proofs.Scoped.{in_order}
 use Rattle.law_faultless.proofs.TypesBound.{Stands, Kept, all_kept}
-use Rattle.law_member_uses.specs.MemberUses.{KeepsInit}
+use Rattle.law_member_uses.specs.MemberUses.{AgreesOnInit}
 use Rattle.law_same_bindings.specs.SameBindings.{trees_of}
 
 -- files of one rank, by their trees
@@ -62,7 +62,7 @@ module _ (w : Workspace) (known : Verdicts) (path : List ℕ) (p : Package) (h :
   function_stands : (file : ℕ) (s : SourceFile) → slice_get p.files file ≡ Some s → (k : ℕ) (f : FuncTree) (c : ℕ) → Holds s.tree.decls (FuncDecl k f c) →
       Stands p file f.name (func_role f.receiver (spelling_of s f.name))
   function_stands file s at k f c held =
-      let source : Source = record { rank = file; spell = spelling_of s } in
+      let source : TokenSpellings = record { rank = file; spell = spelling_of s } in
       function_name_kept (Kept p file) source f (function_kept (Kept p file) source s.tree k f c (all_kept w known path p h file s at) held)
       (no_import_role f.receiver (spelling_of s f.name))
 
@@ -81,10 +81,10 @@ module _ (w x : Workspace) (before after : Verdicts) (p q : Package) (was : IsPa
       u.1.1.0 in
       sym v.1.1.1 ∙ ap (λ (l : Layout). l.role v.0) layout ∙ ap p.layout.role one ∙ u.1.1.1
 
-  keeps : (d : DeclTree) → Holds f.tree.decls d → KeepsInit (is_init f) (is_init g) d
+  keeps : (d : DeclTree) → Holds f.tree.decls d → AgreesOnInit (is_init f) (is_init g) d
   keeps (VarDecl k t c) held = tt
   keeps (TypeDecl k t c) held = tt
   keeps (FuncDecl k t c) held = λ none. same_name t.receiver none (spelling_of g t.name) (spelling_of f t.name) (same_role k t c held)
 
-  pub keep_inits : (d : DeclTree) → Contains f.tree.decls d → KeepsInit (is_init f) (is_init g) d
+  pub keep_inits : (d : DeclTree) → Contains f.tree.decls d → AgreesOnInit (is_init f) (is_init g) d
   keep_inits d has = keeps d (contained f.tree.decls d has)

@@ -10,7 +10,7 @@ use Rattle.go_scope.specs.Bindings.{Layout}
 use Rattle.types_declared.specs.declared.fault.Fault.{Fault}
 use Rattle.types_declared.specs.Laid.{Laid, IsPathOf, is_exported}
 use Rattle.types_declared.specs.Package.{Package, Export, laid_of, spelled}
-use Rattle.types_declared.specs.Written.{ImportsPath}
+use Rattle.types_declared.specs.Written.{DeclaresImport}
 use Rattle.types_check.specs.Check.{exports_in}
 use Rattle.types_resolve.specs.Scoping.{IsQualified, IsQualifiedFault, IsScopeFault, IsUnknownFault, qualified_fault, fault_at}
 use Rattle.types_resolve.specs.StatementMarks.{IsMarkFault}
@@ -81,7 +81,7 @@ module _ (w x : Workspace) (before after : Verdicts) (p q : Package) (right : Ar
     is_import = h.is_import;
   }
 
-  module _ (b u d : ℕ) (path : List ℕ) (lt : u < p.size) (qualified : IsQualified (laid_of p) b u d) (imports : ImportsPath p d path) where
+  module _ (b u d : ℕ) (path : List ℕ) (lt : u < p.size) (qualified : IsQualified (laid_of p) b u d) (imports : DeclaresImport p d path) where
     at_file : (p.layout.place u).file ≡ (p.layout.place b).file
     at_file = qualified.same_file
 
@@ -126,7 +126,7 @@ module _ (w x : Workspace) (before after : Verdicts) (p q : Package) (right : Ar
   no_unknown_at u lt f h =
       let qualified : IsQualified (laid_of p) h.before u h.import =
       was_qualified h.before u h.import (subst (λ z. IsQualified z h.before u h.import) laid_so h.qualified) in
-      let imports : ImportsPath p h.import h.path =
+      let imports : DeclaresImport p h.import h.path =
       (alike.imports h.import h.path).1 (record { is_import = h.qualified.is_import; of_path = h.of_path }) in
       no_fault_so h.before u h.import h.path lt qualified imports f.kind h.kind
 

@@ -9,14 +9,14 @@ use Rattle.workspace_check.specs.Verdicts.{Verdicts}
 use Rattle.refs_binding.specs.Binding.{field_place}
 use Rattle.refs_binding.specs.DeclaringPlaces.{TokenBegins}
 use Rattle.refs_binding.specs.Identifiers.{NameBegins}
-use Rattle.refs_binding.specs.Uses.{IsPackage}
+use Rattle.refs_binding.specs.Uses.{IsCheckedPackage}
 use Rattle.refs_binding.proofs.Tokens.{Begins}
 use Rattle.refs_uses.proofs.NameTokens.{name_at_token}
 use Rattle.law_renamed_members.proofs.NameTokens.{IsNamedIn, field_name, function_name}
 use Rattle.law_renamed_members.proofs.NewNames.{name_stands}
 use Rattle.law_renamed_verdicts.proofs.MemberFaults.{AreMembersNamed}
 
-module _ (w : Workspace) (known : Verdicts) (p : Package) (is : IsPackage w known p) where
+module _ (w : Workspace) (known : Verdicts) (p : Package) (is : IsCheckedPackage w known p) where
   begins : (at : Position) → IsNamedIn p at.file at.index → (place : Place) × Begins p at place
   begins at h =
       let x = name_stands w known p is at h in

@@ -18,7 +18,7 @@ use Rattle.types_resolve.specs.Imports.{PlacedImport, IsFaultOfImport, placed_im
 use Rattle.types_resolve.specs.Stages.{IsOuterFault}
 use Rattle.workspace_check.specs.Verdicts.{Verdicts}
 use Rattle.refs_binding.specs.declared.declaration.Declaration.{Declaration}
-use Rattle.refs_binding.specs.Uses.{IsPackage}
+use Rattle.refs_binding.specs.Uses.{IsCheckedPackage}
 use Rattle.refs_lookup.proofs.OnePlace.{same_files}
 use Rattle.law_renamed_packages.specs.Renames.{IsPlainRename}
 use Rattle.law_renamed_packages.proofs.Literals.{to_string, from_string, string_was}
@@ -72,7 +72,7 @@ imports_were state s n (t ∷ ts) keep f h =
     (imports_were state s (n + 1) ts (λ k u at. keep (suc k) u at) f) h
 
 module _ (w : Workspace) (known : Verdicts) (d : Declaration) (name : List ℕ) (s : FileChanges) (h : IsPlainRename w known d name s) (p : Package)
-    (is : IsPackage w known p) where
+    (is : IsCheckedPackage w known p) where
   abbrev ts : List FileParts
   ts = is.is_checked.files
 

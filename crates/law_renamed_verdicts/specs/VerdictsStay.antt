@@ -15,7 +15,7 @@ use Rattle.types_check.specs.Check.{IsLaterFault}
 use Rattle.workspace_check.specs.FaultLists.{ListsFaults}
 use Rattle.workspace_check.specs.Verdicts.{Verdicts, AreVerdicts, BuildsOn}
 use Rattle.refs_binding.specs.declared.declaration.Declaration.{Declaration}
-use Rattle.refs_binding.specs.Uses.{IsPackage}
+use Rattle.refs_binding.specs.Uses.{IsCheckedPackage}
 use Rattle.refactor_conflict.specs.Staying.{NoneIsLost}
 use Rattle.law_same_bindings.specs.SameBindings.{IsBoundAlike}
 use Rattle.law_renamed_packages.specs.Layouts.{IsRelaid}
@@ -26,11 +26,11 @@ use Rattle.law_renamed_members.specs.MembersMoved.{IsDefinitionAfter, AreSeenAft
 -- The package `q` of the edited workspace is the package `p` after the change, with other names and the same bindings. It sees of other
 -- packages what `p` saw, with new names of members.
 pub record IsPackageAfter (w : Workspace) (before after : Verdicts) (s : FileChanges) (p q : Package) : Type 0 where
-  pub was : IsPackage w before p
-  pub is : IsPackage (edited s w) after q
+  pub was : IsCheckedPackage w before p
+  pub is : IsCheckedPackage (edited s w) after q
   pub relaid : IsRelaid (revision_of w s) p q
   pub bound : IsBoundAlike p q
-  pub seen : AreSeenAfter (IsPackage w before) (revision_of w s) p q
+  pub seen : AreSeenAfter (IsCheckedPackage w before) (revision_of w s) p q
 
 -- What is found of each file of such a package is what was found before.
 abbrev pub FoundStays : Type 0
@@ -52,7 +52,7 @@ pub record IsMovedVerdict (w : Workspace) (before after : Verdicts) (r : Revisio
   pub name : (after path).export_data.name ≡ (before path).export_data.name
   pub exported : AreMovedExports (before path).export_data.exported (after path).export_data.exported
   pub definitions : (rank : ℕ) →
-      IsDefinitionAfter (IsPackage w before) r path rank ((before path).export_data.definition rank) ((after path).export_data.definition rank)
+      IsDefinitionAfter (IsCheckedPackage w before) r path rank ((before path).export_data.definition rank) ((after path).export_data.definition rank)
 
 -- The verdict on a package moves so where those on the packages that it builds on do.
 abbrev pub VerdictsStayAbove : Type 0

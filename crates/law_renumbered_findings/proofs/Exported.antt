@@ -12,7 +12,7 @@ use Rattle.types_declared.specs.Laid.{is_exported}
 use Rattle.types_declared.specs.Package.{Package, PlacedType, Export, ExportData, package_types}
 use Rattle.types_declared.specs.MeaningOf.{IsMeaningOf}
 use Rattle.types_check.specs.Exports.{IsExportBy, IsExported, IsExportData}
-use Rattle.law_renumbered_types.specs.RenumberedPackage.{Numbers, IsRenumberedPackage}
+use Rattle.law_renumbered_types.specs.RenumberedPackage.{NewNumbers, IsRenumberedPackage}
 use Rattle.law_renumbered_types.proofs.Alike.{Turned, TurnedIdentifiers, symbols}
 use Rattle.law_renumbered_types.proofs.Laws.{meanings_renumber, definitions_renumber}
 use Rattle.law_renumbered_types.proofs.Meanings.{SameBound, same_local, same_meaning, same_variable, same_function, same_type, meaning}
@@ -32,7 +32,7 @@ same_form T file _ _ same_variable m e = e
 same_form T file _ _ same_function m e = e
 same_form T file _ _ same_type m e = e
 
-module _ (n : Numbers) (p q : Package) (a : IsRenumberedPackage n p q) (k : KeepsNames n p q) where
+module _ (n : NewNumbers) (p q : Package) (a : IsRenumberedPackage n p q) (k : KeepsNames n p q) where
   counts_there : (d : ℕ) → Counts p.layout p.names d → Counts q.layout q.names (n.identifier d)
   counts_there d c = bound_counts q.layout q.names (n.identifier d) (n.identifier d) ((a.bound d d).0 (own refl c))
 

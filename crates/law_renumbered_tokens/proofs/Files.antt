@@ -10,7 +10,7 @@ use Rattle.go_ast.specs.Tree as tree
 use Rattle.types_expr.specs.Types.{PlainType}
 use Rattle.types_expr.specs.World.{no_locals}
 use Rattle.types_expr.specs.Judge.{ListValue, JudgedList, TypeJudged, all_whole, good_type, no_type_at, judge_type, named_type}
-use Rattle.types_stmt.specs.Checked.{Checked, fault_if}
+use Rattle.types_stmt.specs.Checked.{FoundSoFar, fault_if}
 use Rattle.types_stmt.specs.Sides.{Target, Wants, rhs, with_locals, named, all_refused}
 use Rattle.types_stmt.specs.Simple.{check_local, written_locals}
 use Rattle.types_stmt.specs.Statements.{returned, check_return, check_init, check_for_header, check_statement, check_block, check_statements}
@@ -43,7 +43,7 @@ returned_found m place vs ts =
     (ap (λ z. fault_if z (m.to place)) (all_whole_stays m vs) ∙ fault_if_found m (all_whole vs) place)
     ∙ if_maps (map m.to) (length vs == length ts) (all_refused m.old vs ts) (fault_if (all_whole vs) place)
 
-return_found : (m : Renumber) (s z : Checked) → Same m s z → (place : ℕ) (results : List Target) (es : List (Item ExprTree)) →
+return_found : (m : Renumber) (s z : FoundSoFar) → Same m s z → (place : ℕ) (results : List Target) (es : List (Item ExprTree)) →
     Same m (check_return m.old s place results es) (check_return (new m) z (m.to place) results (exprs_by m.to es))
 unfolding check_return
 return_found m s z r place results es =
@@ -54,12 +54,12 @@ return_found m s z r place results es =
     ∙ (ap (λ (fs : List ℕ). map m.to v.faults ++ fs) (returned_found m place v.values results)
     ∙ two m.to v.faults (returned m.old place v.values results))) v.uses _ (ap (λ (x : JudgedList). x.uses) same)
 
-init_found : (m : Renumber) (s z : Checked) → Same m s z → (i : Option InitTree) →
+init_found : (m : Renumber) (s z : FoundSoFar) → Same m s z → (i : Option InitTree) →
     Same m (check_init m.old s i) (check_init (new m) z (option_map (init_by m.to) i))
 init_found m s z r None = r
 init_found m s z r (Some i) = optional_simple m s z r i.simple
 
-for_header : (m : Renumber) (s z : Checked) → Same m s z → (h : ForTree) → Same m (check_for_header m.old s h) (check_for_header (new m) z (for_by m.to h))
+for_header : (m : Renumber) (s z : FoundSoFar) → Same m s z → (h : ForTree) → Same m (check_for_header m.old s h) (check_for_header (new m) z (for_by m.to h))
 unfolding check_for_header
 for_header m s z r forever = r
 for_header m s z r (while e) = condition m s z r e
@@ -69,7 +69,7 @@ for_header m s z r (clauses init p test q post) =
 mutual
   unfolding check_statement statement_by
 
-  statement_found : (m : Renumber) (results : List Target) (s z : Checked) → Same m s z → (x : StatementTree) →
+  statement_found : (m : Renumber) (results : List Target) (s z : FoundSoFar) → Same m s z → (x : StatementTree) →
       Same m (check_statement m.old results s x) (check_statement (new m) results z (statement_by m.to x))
   statement_found m results s z r Empty = r
   statement_found m results s z r (Var p g) = group m (local_by m.to) (check_local m.old) (check_local (new m)) (local m) s z r g
@@ -81,21 +81,21 @@ mutual
   statement_found m results s z r (Continue p) = r
   statement_found m results s z r (Return p es) = return_found m s z r p results es
 
-  block_found : (m : Renumber) (results : List Target) (s z : Checked) → Same m s z → (b : BlockTree) →
+  block_found : (m : Renumber) (results : List Target) (s z : FoundSoFar) → Same m s z → (b : BlockTree) →
       Same m (check_block m.old results s b) (check_block (new m) results z (block_by m.to b))
   block_found m results s z r (block o ss c) = statements_found m results s z r ss
 
-  statements_found : (m : Renumber) (results : List Target) (s z : Checked) → Same m s z → (ss : StatementTrees) →
+  statements_found : (m : Renumber) (results : List Target) (s z : FoundSoFar) → Same m s z → (ss : StatementTrees) →
       Same m (check_statements m.old results s ss) (check_statements (new m) results z (statements_by m.to ss))
   statements_found m results s z r no_statement = r
   statements_found m results s z r (statement x p rest) = statements_found m results _ _ (statement_found m results s z r x) rest
 
-  if_found : (m : Renumber) (results : List Target) (s z : Checked) → Same m s z → (i : IfTree) →
+  if_found : (m : Renumber) (results : List Target) (s z : FoundSoFar) → Same m s z → (i : IfTree) →
       Same m (check_if m.old results s i) (check_if (new m) results z (if_by m.to i))
   if_found m results s z r (if_tree p init e b otherwise) =
       else_found m results _ _ (block_found m results _ _ (condition m _ _ (init_found m s z r init) e) b) otherwise
 
-  else_found : (m : Renumber) (results : List Target) (s z : Checked) → Same m s z → (x : ElseTree) →
+  else_found : (m : Renumber) (results : List Target) (s z : FoundSoFar) → Same m s z → (x : ElseTree) →
       Same m (check_else m.old results s x) (check_else (new m) results z (else_by m.to x))
   else_found m results s z r no_else = r
   else_found m results s z r (else_if p i) = if_found m results s z r i
@@ -134,7 +134,7 @@ unfolding judge_receiver
 receiver_judged m r =
     ap (starred (option_map m.to r.star)) (receiver_base_found m r.type_name) ∙ starred_found m r.star (receiver_base m.old r.type_name)
 
-receiver_found : (m : Renumber) (s z : Checked) → Same m s z → (r : Option ReceiverTree) →
+receiver_found : (m : Renumber) (s z : FoundSoFar) → Same m s z → (r : Option ReceiverTree) →
     Same m (check_optional_receiver m.old s r) (check_optional_receiver (new m) z (option_map (receiver_by m.to) r))
 unfolding check_receiver
 receiver_found m s z a None = a
@@ -195,7 +195,7 @@ same_init m before after f wanted e =
     ap3 (λ (a b c : Bool). a && (b && (if c then (if is_empty_list wanted then false else true) else true))) e
     (none_stays (receiver_by m.to) f.receiver) (empty_stays m (param_by m.to) f.params)
 
-signature_found : (m : Renumber) (before after : Bool) (s z : Checked) → Same m s z → (f : FuncTree) → after ≡ before →
+signature_found : (m : Renumber) (before after : Bool) (s z : FoundSoFar) → Same m s z → (f : FuncTree) → after ≡ before →
     Same m (check_signature m.old before s f) (check_signature (new m) after z (func_by m.to f))
 unfolding check_signature
 signature_found m before after s z r f e =
@@ -208,7 +208,7 @@ signature_found m before after s z r f e =
     (ap (λ (b : Bool). fault_if b (m.to f.name)) (same_init m before after f v.wanted e) ∙ fault_if_found m (is_bad_init before f v.wanted) f.name)
     ∙ two m.to v.faults bad))
 
-function_found : (m : Renumber) (before after : Bool) (s z : Checked) → Same m s z → (f : FuncTree) → after ≡ before →
+function_found : (m : Renumber) (before after : Bool) (s z : FoundSoFar) → Same m s z → (f : FuncTree) → after ≡ before →
     Same m (check_function m.old before s f) (check_function (new m) after z (func_by m.to f))
 unfolding check_function
 function_found m before after s z r f e =
@@ -269,7 +269,7 @@ unfolding body_faults
 body_faults_found m (Other t) = ap (λ (x : TypeJudged). x.faults) (written_found m t)
 body_faults_found m (tree.Struct p o fs c) = field_faults_found m fs
 
-decl_found : (m : Renumber) (before after : ℕ → Bool) → ((token : ℕ) → after (m.to token) ≡ before token) → (s z : Checked) → Same m s z → (d : DeclTree) →
+decl_found : (m : Renumber) (before after : ℕ → Bool) → ((token : ℕ) → after (m.to token) ≡ before token) → (s z : FoundSoFar) → Same m s z → (d : DeclTree) →
     Same m (check_decl m.old before s d) (check_decl (new m) after z (decl_by m.to d))
 unfolding check_decl
 decl_found m before after e s z r (VarDecl p g c) =
@@ -279,7 +279,7 @@ decl_found m before after e s z r (TypeDecl p g c) =
     (λ y w q x. faulty m y w q (body_faults m.old x.body) _ (body_faults_found m x.body)) s z r g
 decl_found m before after e s z r (FuncDecl p f c) = function_found m (before f.name) (after (m.to f.name)) s z r f (e f.name)
 
-decls_found : (m : Renumber) (before after : ℕ → Bool) → ((token : ℕ) → after (m.to token) ≡ before token) → (s z : Checked) → Same m s z →
+decls_found : (m : Renumber) (before after : ℕ → Bool) → ((token : ℕ) → after (m.to token) ≡ before token) → (s z : FoundSoFar) → Same m s z →
     (ds : List DeclTree) → Same m (check_decls m.old before s ds) (check_decls (new m) after z (map (decl_by m.to) ds))
 unfolding check_decls
 decls_found m before after e s z r [] = r
@@ -289,6 +289,6 @@ decls_found m before after e s z r (d ∷ ds) =
 pub files_renumber : FilesRenumber
 unfolding check_file
 files_renumber t n v w h before after e f =
-    let nothing : Checked = record { locals = no_locals; faults = []; uses = [] } in
+    let nothing : FoundSoFar = record { locals = no_locals; faults = []; uses = [] } in
     subst (λ y. IsRenumberedCheck t (check_file v before f) (check_file y after (renumbered t f))) (new_is t n v w h)
     (decls_found (the_renumber t n v w h) before after e nothing nothing (record { locals = λ token. refl; faults = refl; uses = refl }) f.decls)

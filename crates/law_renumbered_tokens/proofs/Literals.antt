@@ -2,11 +2,11 @@
 use Rattle.std.proofs.Common.{ℕ, ◌≡◌, Bool, ◌&&◌, ◌||◌, true, false, List, [], ◌∷◌, ◌++◌, map, Option, Some, None, refl, ap, ◌∙◌}
 use Rattle.go_ast.specs.Tree.{TypeTree}
 use Rattle.go_ast.specs.Tree as tree
-use Rattle.types_expr.specs.Types.{PlainType, Pointer, Slice, Underlying, Plain, PointerTo, SliceOf, Struct, Kind, Typed, Untyped, Nil, Meaning, Value}
+use Rattle.types_expr.specs.Types.{PlainType, Pointer, Slice, Underlying, Plain, PointerTo, SliceOf, Struct, ValueKind, Typed, Untyped, Nil, Meaning, Value}
 use Rattle.types_expr.specs.Types.{TypeName, Function, BuiltinName, Package, Results, Broken}
 use Rattle.types_expr.specs.World.{Bound, Local, Means, BrokenVariable, BrokenFunction, BrokenType, Member, underlying}
 use Rattle.types_expr.specs.Judge.{MemberUse, Judged, also, value_kind, is_whole, TypeJudged, named_meaning, named_type, imported_meaning}
-use Rattle.types_expr.specs.Judge.{imported_type, under, judge_type, address_of, Key, FieldKey, BrokenKey, WrongKey, Seen, key_in, symbol_of_key}
+use Rattle.types_expr.specs.Judge.{imported_type, under, judge_type, address_of, KeyMeaning, FieldKey, BrokenKey, WrongKey, Seen, key_in, symbol_of_key}
 use Rattle.types_expr.specs.Judge.{key_faults, is_whole_key, seen_with, wanted_after_key, JudgedElements, misfit_if, is_empty, JudgedKey, element_key}
 use Rattle.types_expr.specs.Judge.{seen_after, with_element, literal_result, literal_meaning, literal_of}
 use Rattle.law_rename.specs.Renumbered.{type_by, key_by}
@@ -81,7 +81,7 @@ written_found m (tree.Slice o c t) = ap (under Slice) (written_found m t)
 
 -- keys
 
-key_faults_found : (m : Renumber) (k : Key) (place : ℕ) → key_faults k (m.to place) ≡ map m.to (key_faults k place)
+key_faults_found : (m : Renumber) (k : KeyMeaning) (place : ℕ) → key_faults k (m.to place) ≡ map m.to (key_faults k place)
 key_faults_found m (FieldKey rank t) place = refl
 key_faults_found m BrokenKey place = refl
 key_faults_found m WrongKey place = refl
@@ -124,7 +124,7 @@ seen_after_stays m (Some t) seen (Some k) = ap (λ y. seen_with (key_in (underly
 
 -- elements and literals
 
-misfit_if_found : (m : Renumber) (place : ℕ) (k : Option Kind) (t : Option PlainType) →
+misfit_if_found : (m : Renumber) (place : ℕ) (k : Option ValueKind) (t : Option PlainType) →
     misfit_if (new m) (m.to place) k t ≡ map m.to (misfit_if m.old place k t)
 misfit_if_found m place k None = refl
 misfit_if_found m place k (Some t) = misfit_found m place k t

@@ -7,7 +7,7 @@ use Rattle.go_ast.specs.declared.syntax.PrefixOp.{PrefixOp}
 use Rattle.types_expr.specs.declared.types.Basic.TheVariants as basic
 use Rattle.types_expr.specs.declared.types.Builtin.{Builtin}
 use Rattle.types_expr.specs.declared.types.Builtin.TheVariants as builtin
-use Rattle.types_expr.specs.Types.{PlainType, BasicType, Kind, Typed, Untyped, Nil, Signature, Meaning, Value, TypeName, Function, BuiltinName}
+use Rattle.types_expr.specs.Types.{PlainType, BasicType, ValueKind, Typed, Untyped, Nil, Signature, Meaning, Value, TypeName, Function, BuiltinName}
 use Rattle.types_expr.specs.Types.{Package, Results, Broken}
 use Rattle.types_expr.specs.World.{Locals, Bound, Local, Means, BrokenVariable, BrokenFunction, BrokenType, Member, member_symbol}
 use Rattle.types_expr.specs.World.{World, variable, meaning_of_bound, name_meaning}
@@ -54,7 +54,7 @@ means_or_wrong_found : (m : Renumber) (x : Option Meaning) (place : ℕ) → mea
 means_or_wrong_found m None place = refl
 means_or_wrong_found m (Some x) place = refl
 
-value_or_wrong_found : (m : Renumber) (k : Option Kind) (place : ℕ) → value_or_wrong k (m.to place) ≡ renumbered_found m.to (value_or_wrong k place)
+value_or_wrong_found : (m : Renumber) (k : Option ValueKind) (place : ℕ) → value_or_wrong k (m.to place) ≡ renumbered_found m.to (value_or_wrong k place)
 value_or_wrong_found m None place = refl
 value_or_wrong_found m (Some k) place = refl
 
@@ -111,7 +111,7 @@ unfolding all_whole
 all_whole_stays m [] = refl
 all_whole_stays m (v ∷ vs) = ap2 (λ x y. x && y) refl (all_whole_stays m vs)
 
-pub misfit_found : (m : Renumber) (place : ℕ) (k : Option Kind) (t : PlainType) → misfit (new m) (m.to place) k t ≡ map m.to (misfit m.old place k t)
+pub misfit_found : (m : Renumber) (place : ℕ) (k : Option ValueKind) (t : PlainType) → misfit (new m) (m.to place) k t ≡ map m.to (misfit m.old place k t)
 unfolding misfit fits
 misfit_found m place None t = refl
 misfit_found m place (Some k) t = if_maps (map m.to) (fits m.old k t) [] (place ∷ [])
@@ -176,7 +176,7 @@ call_function_found m start s vs =
     ∙ called_found m (length vs == length s.parameters) (misfits m.old vs s.parameters) (all_whole vs) (result_meaning s.results)
     (wrong_if_whole (all_whole vs) start))
 
-convert_one_found : (m : Renumber) (start : ℕ) (t : PlainType) (k : Option Kind) →
+convert_one_found : (m : Renumber) (start : ℕ) (t : PlainType) (k : Option ValueKind) →
     convert_one (new m) (m.to start) t k ≡ renumbered_found m.to (convert_one m.old start t k)
 unfolding fits
 convert_one_found m start t None = refl
@@ -189,14 +189,14 @@ convert_found m start t [] = wrong_if_whole_found m [] start
 convert_found m start t (v ∷ []) = convert_one_found m start t v.kind
 convert_found m start t (v ∷ u ∷ vs) = wrong_if_whole_found m (v ∷ u ∷ vs) start
 
-append_to_found : (m : Renumber) (start : ℕ) (k : Kind) (t : Option PlainType) (vs : List ListValue) →
+append_to_found : (m : Renumber) (start : ℕ) (k : ValueKind) (t : Option PlainType) (vs : List ListValue) →
     append_to (new m) (m.to start) k t (list_values m vs) ≡ renumbered_found m.to (append_to m.old start k t vs)
 append_to_found m start k None vs = wrong_if_whole_found m vs start
 append_to_found m start k (Some t) vs =
     ap2 (λ x y. unless_faults x y (Value k false)) (all_misfits_found m vs t) (all_whole_stays m vs)
     ∙ unless_faults_found m (all_misfits m.old vs t) (all_whole vs) (Value k false)
 
-append_first_found : (m : Renumber) (start : ℕ) (k : Option Kind) (vs : List ListValue) →
+append_first_found : (m : Renumber) (start : ℕ) (k : Option ValueKind) (vs : List ListValue) →
     append_first (new m) (m.to start) k (list_values m vs) ≡ renumbered_found m.to (append_first m.old start k vs)
 append_first_found m start None vs = refl
 append_first_found m start (Some k) vs = append_to_found m start k (element_of_kind m.old k) vs
@@ -266,7 +266,7 @@ call_found m start place args x =
 
 -- indexes and operators
 
-bad_index_found : (m : Renumber) (place : ℕ) (k : Option Kind) → bad_index (new m) (m.to place) k ≡ map m.to (bad_index m.old place k)
+bad_index_found : (m : Renumber) (place : ℕ) (k : Option ValueKind) → bad_index (new m) (m.to place) k ≡ map m.to (bad_index m.old place k)
 unfolding bad_index class_of
 bad_index_found m place None = refl
 bad_index_found m place (Some k) = if_maps (map m.to) (is_int (class_of m.old k)) [] (place ∷ [])
@@ -307,7 +307,7 @@ index_found m start place at i x =
     (followed_found m i (index_of m.old start at s.meaning) (index_of (new m) (m.to start) (m.to at) s.meaning)
     (index_of_found m start at s.meaning i.meaning))
 
-operation_on_found : (m : Renumber) (o : BinaryOp) (start : ℕ) (a b : Option Kind) →
+operation_on_found : (m : Renumber) (o : BinaryOp) (start : ℕ) (a b : Option ValueKind) →
     operation_on (new m) o (m.to start) a b ≡ renumbered_found m.to (operation_on m.old o start a b)
 unfolding operate joined class_of fits
 operation_on_found m o start (Some a) (Some b) = value_or_wrong_found m (operate m.old o a b) start

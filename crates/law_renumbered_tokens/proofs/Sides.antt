@@ -4,7 +4,7 @@ use Rattle.std.proofs.Common.{refl, ap, ◌∙◌}
 use Rattle.std.proofs.lemmas.List.{length-map}
 use Rattle.go_ast.specs.Tree.{Item, IdentTree, Named, Underscore, ExprTree, Name, Blank}
 use Rattle.types_expr.specs.Places.{place_of}
-use Rattle.types_expr.specs.Types.{PlainType, Kind, Typed, Untyped, Nil, Meaning, Value, TypeName, Function, BuiltinName, Package, Results, Broken}
+use Rattle.types_expr.specs.Types.{PlainType, ValueKind, Typed, Untyped, Nil, Meaning, Value, TypeName, Function, BuiltinName, Package, Results, Broken}
 use Rattle.types_expr.specs.World.{Locals, Bound, Local, Means, BrokenVariable, BrokenFunction, BrokenType}
 use Rattle.types_expr.specs.Judge.{MemberUse, Judged, JudgedList, ListValue, means, followed, as_value, value_kind, value_before}
 use Rattle.types_expr.specs.Judge.{judge, judge_value, all_whole}
@@ -158,14 +158,14 @@ defined_found c (i ∷ is) =
 
 -- targets
 
-nil_found : (m : Renumber) (place : ℕ) (k : Option Kind) → nil_refused (m.to place) k ≡ map m.to (nil_refused place k)
+nil_found : (m : Renumber) (place : ℕ) (k : Option ValueKind) → nil_refused (m.to place) k ≡ map m.to (nil_refused place k)
 unfolding nil_refused
 nil_found m place None = refl
 nil_found m place (Some (Typed t)) = refl
 nil_found m place (Some (Untyped b)) = refl
 nil_found m place (Some Nil) = refl
 
-refused_found : (m : Renumber) (place : ℕ) (k : Option Kind) (t : Target) → refused_at (new m) (m.to place) k t ≡ map m.to (refused_at m.old place k t)
+refused_found : (m : Renumber) (place : ℕ) (k : Option ValueKind) (t : Target) → refused_at (new m) (m.to place) k t ≡ map m.to (refused_at m.old place k t)
 unfolding refused_at
 refused_found m place k (Wants None) = refl
 refused_found m place k (Wants (Some t)) = misfit_found m place k t

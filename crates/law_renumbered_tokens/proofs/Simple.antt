@@ -5,11 +5,11 @@ use Rattle.go_ast.specs.declared.syntax.BinaryOp.{BinaryOp}
 use Rattle.go_ast.specs.Tree.{Item, IdentTree, TypeTree, ExprTree, Chain, LinkTrees, no_link, selector, index, call}
 use Rattle.go_ast.specs.Tree.{SimpleTree, Alone, Step, Update, Assign, Define, LocalTree}
 use Rattle.types_expr.specs.Places.{first_token, place_of}
-use Rattle.types_expr.specs.Types.{PlainType, Kind, Meaning, Value, TypeName, Function, BuiltinName, Package, Results, Broken}
+use Rattle.types_expr.specs.Types.{PlainType, ValueKind, Meaning, Value, TypeName, Function, BuiltinName, Package, Results, Broken}
 use Rattle.types_expr.specs.World.{Locals}
 use Rattle.types_expr.specs.Operations.{fits, joined, class_of, is_int, is_bool, operate}
 use Rattle.types_expr.specs.Judge.{Judged, JudgedList, TypeJudged, value_kind, judge, judge_value, judge_type}
-use Rattle.types_stmt.specs.Checked.{Checked}
+use Rattle.types_stmt.specs.Checked.{FoundSoFar}
 use Rattle.types_stmt.specs.Sides.{Target, Wants, Takes, judge_operand, rhs, assigned, defined, defined_names, all_named, with_locals, with_inferred}
 use Rattle.types_stmt.specs.Sides.{first_of_exprs, first_of_idents}
 use Rattle.types_stmt.specs.Simple.{condition_faults, check_condition, step_faults, check_step, binary_of, fault_if_none, update_faults, check_update, is_end}
@@ -29,21 +29,21 @@ use Rattle.law_renumbered_tokens.proofs.Parts.{Same, judging, part, judged, give
 
 -- faults at new tokens
 
-condition_fault : (m : Renumber) (place : ℕ) (k : Option Kind) → condition_faults (new m) (m.to place) k ≡ map m.to (condition_faults m.old place k)
+condition_fault : (m : Renumber) (place : ℕ) (k : Option ValueKind) → condition_faults (new m) (m.to place) k ≡ map m.to (condition_faults m.old place k)
 unfolding condition_faults class_of
 condition_fault m place None = refl
 condition_fault m place (Some k) = if_maps (map m.to) (is_bool (class_of m.old k)) [] (place ∷ [])
 
-step_fault : (m : Renumber) (place : ℕ) (k : Option Kind) → step_faults (new m) (m.to place) k ≡ map m.to (step_faults m.old place k)
+step_fault : (m : Renumber) (place : ℕ) (k : Option ValueKind) → step_faults (new m) (m.to place) k ≡ map m.to (step_faults m.old place k)
 unfolding step_faults class_of
 step_fault m place None = refl
 step_fault m place (Some k) = if_maps (map m.to) (is_int (class_of m.old k)) [] (place ∷ [])
 
-some_kind : (m : Renumber) (k : Option Kind) (start : ℕ) → fault_if_none k (m.to start) ≡ map m.to (fault_if_none k start)
+some_kind : (m : Renumber) (k : Option ValueKind) (start : ℕ) → fault_if_none k (m.to start) ≡ map m.to (fault_if_none k start)
 some_kind m None start = refl
 some_kind m (Some k) start = refl
 
-update_fault : (m : Renumber) (start : ℕ) (o : BinaryOp) (a b : Option Kind) →
+update_fault : (m : Renumber) (start : ℕ) (o : BinaryOp) (a b : Option ValueKind) →
     update_faults (new m) (m.to start) o a b ≡ map m.to (update_faults m.old start o a b)
 unfolding update_faults operate joined class_of fits
 update_fault m start o (Some a) (Some b) = some_kind m (operate m.old o a b) start
@@ -100,7 +100,7 @@ statement_stays c e = refl
 
 -- simple statements
 
-pub condition : (m : Renumber) (s z : Checked) → Same m s z → (e : ExprTree) →
+pub condition : (m : Renumber) (s z : FoundSoFar) → Same m s z → (e : ExprTree) →
     Same m (check_condition m.old s e) (check_condition (new m) z (expr_by m.to e))
 unfolding check_condition
 condition m s z r e =
@@ -110,7 +110,7 @@ condition m s z r e =
     (ap2 (λ (place : ℕ) (x : Judged). condition_faults (new m) place (value_kind x.meaning)) (reports m e) is
     ∙ condition_fault m (place_of e) (value_kind j.meaning))
 
-step : (m : Renumber) (s z : Checked) → Same m s z → (e : ExprTree) → Same m (check_step m.old s e) (check_step (new m) z (expr_by m.to e))
+step : (m : Renumber) (s z : FoundSoFar) → Same m s z → (e : ExprTree) → Same m (check_step m.old s e) (check_step (new m) z (expr_by m.to e))
 unfolding check_step
 step m s z r e =
     let j = judge_operand m.old s.locals e in
@@ -119,7 +119,7 @@ step m s z r e =
     (ap2 (λ (place : ℕ) (x : Judged). step_faults (new m) place (value_kind x.meaning)) (reports m e) is
     ∙ step_fault m (place_of e) (value_kind j.meaning))
 
-update : (m : Renumber) (s z : Checked) → Same m s z → (o : BinaryOp) (x y : ExprTree) →
+update : (m : Renumber) (s z : FoundSoFar) → Same m s z → (o : BinaryOp) (x y : ExprTree) →
     Same m (check_update m.old s o x y) (check_update (new m) z o (expr_by m.to x) (expr_by m.to y))
 unfolding check_update
 update m s z r o x y =
@@ -135,7 +135,7 @@ update m s z r o x y =
     ∙ three m.to i.faults j.faults bad)) (i.uses ++ j.uses) _
     (ap2 (λ (a b : Judged). a.uses ++ b.uses) first second ∙ two (renumbered_use m.to) i.uses j.uses)
 
-alone : (m : Renumber) (s z : Checked) → Same m s z → (e : ExprTree) →
+alone : (m : Renumber) (s z : FoundSoFar) → Same m s z → (e : ExprTree) →
     Same m (check_expr_statement m.old s e) (check_expr_statement (new m) z (expr_by m.to e))
 unfolding check_expr_statement
 alone m s z r e =
@@ -145,7 +145,7 @@ alone m s z r e =
     (ap3 (λ (place : ℕ) (b : Bool) (x : Judged). statement_faults place b x.meaning) (reports m e) (statement_stays c e) (found c e)
     ∙ statement_fault m (place_of e) (is_statement m.old s.locals e) j.meaning)
 
-assign : (m : Renumber) (s z : Checked) → Same m s z → (xs ys : List (Item ExprTree)) →
+assign : (m : Renumber) (s z : FoundSoFar) → Same m s z → (xs ys : List (Item ExprTree)) →
     Same m (check_assign m.old s xs ys) (check_assign (new m) z (exprs_by m.to xs) (exprs_by m.to ys))
 unfolding check_assign
 assign m s z r xs ys =
@@ -161,7 +161,7 @@ inferred_are m ls later l ns xs e v q f = λ token.
     ap2 (λ (x : List (Option ℕ)) (y : JudgedList). with_inferred later x y.values (m.to token)) e f
     ∙ with_inferred_are m ls later ns v.values l token
 
-define : (m : Renumber) (s z : Checked) → Same m s z → (xs ys : List (Item ExprTree)) →
+define : (m : Renumber) (s z : FoundSoFar) → Same m s z → (xs ys : List (Item ExprTree)) →
     Same m (check_define m.old s xs ys) (check_define (new m) z (exprs_by m.to xs) (exprs_by m.to ys))
 unfolding check_define
 define m s z r xs ys =
@@ -171,7 +171,7 @@ define m s z r xs ys =
     (inferred_are m s.locals z.locals r.locals (defined_names m.old xs) _ (defined_names_found m xs) v _ (rhs_found c ys))
     (defined m.old s.locals xs) _ (defined_found c xs) v _ (rhs_found c ys)
 
-pub simple : (m : Renumber) (s z : Checked) → Same m s z → (a : SimpleTree) → Same m (check_simple m.old s a) (check_simple (new m) z (simple_by m.to a))
+pub simple : (m : Renumber) (s z : FoundSoFar) → Same m s z → (a : SimpleTree) → Same m (check_simple m.old s a) (check_simple (new m) z (simple_by m.to a))
 unfolding check_simple
 simple m s z r (Alone e) = alone m s z r e
 simple m s z r (Step e o p) = step m s z r e
@@ -179,12 +179,12 @@ simple m s z r (Update x o p y) = update m s z r (binary_of o) x y
 simple m s z r (Assign xs p ys) = assign m s z r xs ys
 simple m s z r (Define xs p ys) = define m s z r xs ys
 
-pub optional_simple : (m : Renumber) (s z : Checked) → Same m s z → (a : Option SimpleTree) →
+pub optional_simple : (m : Renumber) (s z : FoundSoFar) → Same m s z → (a : Option SimpleTree) →
     Same m (check_optional_simple m.old s a) (check_optional_simple (new m) z (option_map (simple_by m.to) a))
 optional_simple m s z r None = r
 optional_simple m s z r (Some a) = simple m s z r a
 
-pub optional_condition : (m : Renumber) (s z : Checked) → Same m s z → (e : Option ExprTree) →
+pub optional_condition : (m : Renumber) (s z : FoundSoFar) → Same m s z → (e : Option ExprTree) →
     Same m (check_optional_condition m.old s e) (check_optional_condition (new m) z (option_map (expr_by m.to) e))
 optional_condition m s z r None = r
 optional_condition m s z r (Some e) = condition m s z r e
@@ -203,7 +203,7 @@ written_locals_are m ls later l names t = λ token.
     (constant m (ident_by m.to) t names)
     ∙ with_locals_are m ls later (all_named names) (map (λ i. t) names) l token
 
-typed_local : (m : Renumber) (s z : Checked) → Same m s z → (names : List (Item IdentTree)) (t : TypeJudged) (values : Option (ℕ × List (Item ExprTree))) →
+typed_local : (m : Renumber) (s z : FoundSoFar) → Same m s z → (names : List (Item IdentTree)) (t : TypeJudged) (values : Option (ℕ × List (Item ExprTree))) →
     Same m (check_typed_local m.old s names t values)
     (check_typed_local (new m) z (items_by m.to (ident_by m.to) names) (type_found m t) (option_map (values_by m.to (expr_by m.to)) values))
 unfolding check_typed_local
@@ -215,7 +215,7 @@ typed_local m s z r names t (Some x) =
     (ap (λ (ts : List Target). record { targets = ts; faults = map m.to t.faults; uses = [] }) (constant m (ident_by m.to) (Wants t.type_of) names))
     (rhs m.old s.locals x.1) _ (rhs_found (judging m s z r) x.1)
 
-untyped_local : (m : Renumber) (s z : Checked) → Same m s z → (names : List (Item IdentTree)) (values : Option (ℕ × List (Item ExprTree))) →
+untyped_local : (m : Renumber) (s z : FoundSoFar) → Same m s z → (names : List (Item IdentTree)) (values : Option (ℕ × List (Item ExprTree))) →
     Same m (check_untyped_local m.old s names values)
     (check_untyped_local (new m) z (items_by m.to (ident_by m.to) names) (option_map (values_by m.to (expr_by m.to)) values))
 unfolding check_untyped_local
@@ -230,7 +230,7 @@ untyped_local m s z r names (Some x) =
     (inferred_are m s.locals z.locals r.locals (all_named names) _ (all_named_found m names) v _ same) (name_targets names Takes) _
     (ap (λ (ts : List Target). record { targets = ts; faults = []; uses = [] }) (constant m (ident_by m.to) Takes names)) v _ same
 
-local_of : (m : Renumber) (s z : Checked) → Same m s z → (names : List (Item IdentTree)) (t : Option TypeTree) (values : Option (ℕ × List (Item ExprTree))) →
+local_of : (m : Renumber) (s z : FoundSoFar) → Same m s z → (names : List (Item IdentTree)) (t : Option TypeTree) (values : Option (ℕ × List (Item ExprTree))) →
     Same m (check_local_of m.old s names t values)
     (check_local_of (new m) z (items_by m.to (ident_by m.to) names) (option_map (type_by m.to) t) (option_map (values_by m.to (expr_by m.to)) values))
 local_of m s z r names (Some t) values =
@@ -240,6 +240,6 @@ local_of m s z r names (Some t) values =
     (sym (written_found m t)) (typed_local m s z r names (judge_type m.old t) values)
 local_of m s z r names None values = untyped_local m s z r names values
 
-pub local : (m : Renumber) (s z : Checked) → Same m s z → (l : LocalTree) → Same m (check_local m.old s l) (check_local (new m) z (local_by m.to l))
+pub local : (m : Renumber) (s z : FoundSoFar) → Same m s z → (l : LocalTree) → Same m (check_local m.old s l) (check_local (new m) z (local_by m.to l))
 unfolding check_local
 local m s z r l = local_of m s z r l.names l.type_use l.values

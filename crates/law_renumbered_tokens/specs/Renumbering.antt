@@ -4,7 +4,7 @@ use Rattle.types_expr.specs.World.{World, Bound, Local, Means, BrokenVariable, B
 use Rattle.types_expr.specs.Types.{PlainType}
 use Rattle.types_expr.specs.declared.symbol.Symbol.{Symbol}
 use Rattle.types_expr.specs.Judge.{MemberUse, Judged}
-use Rattle.types_stmt.specs.Checked.{Checked}
+use Rattle.types_stmt.specs.Checked.{FoundSoFar}
 
 -- No two tokens come to one number, and the first token stays the first.
 pub record IsRenumbering (t : ℕ → ℕ) : Type 0 where
@@ -35,7 +35,7 @@ abbrev pub AreRenumberedLocals : (ℕ → ℕ) → Locals → Locals → Type 0
 AreRenumberedLocals t old new = (token : ℕ) → new (t token) ≡ old token
 
 -- What is found of statements and files: types of locals, faults and uses are at the new numbers.
-pub record IsRenumberedCheck (t : ℕ → ℕ) (old new : Checked) : Type 0 where
+pub record IsRenumberedCheck (t : ℕ → ℕ) (old new : FoundSoFar) : Type 0 where
   pub locals : AreRenumberedLocals t old.locals new.locals
   pub faults : new.faults ≡ map t old.faults
   pub uses : new.uses ≡ renumbered_uses t old.uses

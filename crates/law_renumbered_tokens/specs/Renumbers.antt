@@ -3,7 +3,7 @@ use Rattle.std.specs.Prelude.{ℕ, ◌≡◌, Bool, List}
 use Rattle.go_ast.specs.Tree.{ExprTree, StatementTree, FileTree}
 use Rattle.types_expr.specs.World.{World, Locals}
 use Rattle.types_expr.specs.Judge.{judge}
-use Rattle.types_stmt.specs.Checked.{Checked}
+use Rattle.types_stmt.specs.Checked.{FoundSoFar}
 use Rattle.types_stmt.specs.Sides.{Target}
 use Rattle.types_stmt.specs.Statements.{check_statement}
 use Rattle.types_stmt.specs.Declarations.{check_file}
@@ -17,7 +17,7 @@ ExpressionsRenumber = (t : ℕ → ℕ) → IsRenumbering t → (v w : World) �
 
 -- That holds of statements. `s` and `z` are what was found before the statement.
 abbrev pub StatementsRenumber : Type 0
-StatementsRenumber = (t : ℕ → ℕ) → IsRenumbering t → (v w : World) → IsRenumberedWorld t v w → (results : List Target) (s z : Checked) →
+StatementsRenumber = (t : ℕ → ℕ) → IsRenumbering t → (v w : World) → IsRenumberedWorld t v w → (results : List Target) (s z : FoundSoFar) →
     IsRenumberedCheck t s z → (x : StatementTree) → IsRenumberedCheck t (check_statement v results s x) (check_statement w results z (statement_by t x))
 
 -- And of files, where names stay `init` or not.

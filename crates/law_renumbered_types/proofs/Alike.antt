@@ -11,7 +11,7 @@ use Rattle.go_scope.specs.Bindings.{IsBoundTo, IsPackageLevel, block_of, is_impl
 use Rattle.go_scope.specs.Table.{IsFoundAt, LiesAt}
 use Rattle.types_declared.specs.Package.{Package, PlacedVariable, PlacedType, PlacedFunction, IsRanked, package_variables, package_types, package_functions}
 use Rattle.types_declared.specs.Package.{variable_place, type_place, function_place, symbol_in, spelled}
-use Rattle.types_declared.specs.Written.{BindsToken, IsPredeclared, ImportsPath, IsExportAt}
+use Rattle.types_declared.specs.Written.{BindsToken, IsPredeclared, DeclaresImport, IsExportAt}
 use Rattle.types_declared.specs.MeaningOf.{parameter_types, result_types}
 use Rattle.types_declared.specs.Definitions.{PlacedField, package_fields}
 use Rattle.law_same_bindings.specs.SameBindings.{IsSelectedAt}
@@ -109,7 +109,7 @@ pub record Half (T : ℕ → ℕ → ℕ → Type 0) (I : ℕ → ℕ → Type 0
   pub types : Follows (SameType T p q) (package_types p) (package_types q)
   pub functions : Follows (SameFunction T p q) (package_functions p) (package_functions q)
   pub fields : Follows (SameField T p q) (package_fields p) (package_fields q)
-  pub imports : (d e : ℕ) (path : List ℕ) → I d e → ImportsPath p d path → ImportsPath q e path
+  pub imports : (d e : ℕ) (path : List ℕ) → I d e → DeclaresImport p d path → DeclaresImport q e path
   pub dots : (file a b : ℕ) → T file a b → IsSelectedAt p file a → BehindDot T file a b
   pub selectors : (file a b : ℕ) → T file a b → IsSelectedAt p file a → spelled q file b ≡ spelled p file a
   pub exports : (path : List ℕ) → q.export_data_of path ≡ p.export_data_of path

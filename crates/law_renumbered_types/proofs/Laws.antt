@@ -13,7 +13,7 @@ use Rattle.go_scope.specs.declared.model.Position.{Position}
 use Rattle.types_expr.specs.declared.symbol.Symbol.{Symbol}
 use Rattle.types_expr.specs.World.{World, Bound, Local, Definition, member_by}
 use Rattle.types_expr.specs.Judge.{MemberUse}
-use Rattle.types_stmt.specs.Checked.{Checked}
+use Rattle.types_stmt.specs.Checked.{FoundSoFar}
 use Rattle.types_stmt.specs.Declarations.{check_decls, check_file}
 use Rattle.types_declared.specs.Files.{RankedSource, ranked_files}
 use Rattle.types_declared.specs.Laid.{init_name}
@@ -21,13 +21,13 @@ use Rattle.types_declared.specs.Package.{Package, PlacedFunction, decl_functions
 use Rattle.types_declared.specs.MeaningOf.{IsMeaningOf}
 use Rattle.types_info.specs.Worlds.{IsName, IsWorldOf, is_init}
 use Rattle.types_info.proofs.OneMeaning.{one_name}
-use Rattle.law_member_uses.specs.MemberUses.{KeepsInit}
+use Rattle.law_member_uses.specs.MemberUses.{AgreesOnInit}
 use Rattle.law_member_uses.proofs.FileUses.{files_ask}
 use Rattle.law_same_bindings.proofs.Worlds.{layout_formed, tokens_rise}
 use Rattle.law_rename.specs.Renumbered.{decl_by, type_by}
 use Rattle.law_renumbered_tokens.specs.Renumbering.{IsRenumberedWorld, IsRenumberedCheck, renumbered_bound}
 use Rattle.law_renumbered_tokens.proofs.Files.{files_renumber}
-use Rattle.law_renumbered_types.specs.RenumberedPackage.{Numbers, AreRenumberedFiles, IsRenumberedPackage, TypesRenumber, BrokenRenumber, UnderlyingRenumber}
+use Rattle.law_renumbered_types.specs.RenumberedPackage.{NewNumbers, AreRenumberedFiles, IsRenumberedPackage, TypesRenumber, BrokenRenumber, UnderlyingRenumber}
 use Rattle.law_renumbered_types.specs.RenumberedPackage.{MeaningsRenumber, DefinitionsRenumber, NamesRenumber, FoundRenumbers}
 use Rattle.law_renumbered_types.proofs.Written.{denotes, denotes_back, broken, broken_back}
 use Rattle.law_renumbered_types.proofs.Underlying.{has_underlying}
@@ -73,7 +73,7 @@ definitions_renumber n p q a rank d =
     let k = back n p q a in
     ((λ is. definition_stays T I p q h k rank d is), (λ is. definition_stays (Turned T) (TurnedIdentifiers I) q p k h rank d is))
 
-bound_is : (n : Numbers) (file : ℕ) (b c : Bound) → SameBound (FollowsToken n) file b c → c ≡ renumbered_bound (n.token file) b
+bound_is : (n : NewNumbers) (file : ℕ) (b c : Bound) → SameBound (FollowsToken n) file b c → c ≡ renumbered_bound (n.token file) b
 bound_is n file _ _ (same_local {a = x} {b = y} e) = ap Local e
 bound_is n file _ _ (same_meaning {m = m}) = refl
 bound_is n file _ _ same_variable = refl
@@ -151,7 +151,7 @@ function_ranked fs file f k x c at has =
 
 -- what is found of files
 
-module _ (n : Numbers) (p q : Package) (a : IsRenumberedPackage n p q) (file : ℕ) (f g : SourceFile) (at : slice_get p.files file ≡ Some f)
+module _ (n : NewNumbers) (p q : Package) (a : IsRenumberedPackage n p q) (file : ℕ) (f g : SourceFile) (at : slice_get p.files file ≡ Some f)
     (there_at : slice_get q.files file ≡ Some g) where
   -- functions are called as before
   called : (k : ℕ) (x : FuncTree) (c : ℕ) → Contains f.tree.decls (FuncDecl k x c) → spelling_of g (n.token file x.name) ≡ spelling_of f x.name
@@ -160,7 +160,7 @@ module _ (n : Numbers) (p q : Package) (a : IsRenumberedPackage n p q) (file : �
       ap (λ o. spelled_at o (n.token file x.name)) (sym there_at) ∙ a.functions r.0 (record { file = file; function = x }) r.1
       ∙ ap (λ o. spelled_at o x.name) at
 
-  inits : (d : DeclTree) → Contains f.tree.decls d → KeepsInit (is_init f) (λ token. is_init g (n.token file token)) d
+  inits : (d : DeclTree) → Contains f.tree.decls d → AgreesOnInit (is_init f) (λ token. is_init g (n.token file token)) d
   inits (VarDecl k x c) has = tt
   inits (TypeDecl k x c) has = tt
   inits (FuncDecl k x c) has = λ none. ap (λ z. pointwise ◌==◌ z init_name) (called k x c has)
@@ -211,8 +211,8 @@ module _ (n : Numbers) (p q : Package) (a : IsRenumberedPackage n p q) (file : �
           definition = λ s. refl;
           members = λ u has. members_are u (spelled_are u has);
         }) in
-        let start : Checked = record { locals = λ token. None; faults = []; uses = [] } in
-        subst (λ (z : Checked). IsRenumberedCheck (n.token file) z (check_file w (is_init g) g.tree)) asked
+        let start : FoundSoFar = record { locals = λ token. None; faults = []; uses = [] } in
+        subst (λ (z : FoundSoFar). IsRenumberedCheck (n.token file) z (check_file w (is_init g) g.tree)) asked
         (subst (λ (ds : List DeclTree). IsRenumberedCheck (n.token file) (check_file patched init f.tree) (check_decls w (is_init g) start ds))
         (sym (decls_of n.token 0 p.files q.files a.files file f g at there_at ∙ ap (λ j. map (decl_by (n.token j)) f.tree.decls) zero_plus))
         (files_renumber (n.token file) (a.apart file) patched w world_is init (is_init g) (λ token. refl) f.tree))

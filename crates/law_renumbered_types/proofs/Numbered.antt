@@ -31,14 +31,14 @@ use Rattle.go_scope.proofs.PackageRegions.{package_well_formed, package_follows_
 use Rattle.go_scope.proofs.PackagePlaces.{package_follows_places}
 use Rattle.law_tokens.proofs.HeldBytes.{numbered_files}
 use Rattle.types_declared.specs.Package.{Package, PlacedVariable, PlacedType, PlacedFunction, package_variables, package_types, package_functions, spelled}
-use Rattle.types_declared.specs.Written.{BindsToken, ImportsPath, written_types}
+use Rattle.types_declared.specs.Written.{BindsToken, DeclaresImport, written_types}
 use Rattle.types_declared.specs.MeaningOf.{parameter_types, result_types}
 use Rattle.types_declared.specs.Definitions.{PlacedField, body_fields, fields_from, package_fields}
 use Rattle.law_rename.specs.Renumbered.{type_by, body_by, receiver_by, field_by, item_by}
-use Rattle.law_same_bindings.specs.SameBindings.{IsSelectedAt, IsDotted, IsParsed, AreTypesDotted}
+use Rattle.law_same_bindings.specs.SameBindings.{IsSelectedAt, IsDotted, IsParsedPackage, AreTypesDotted}
 use Rattle.law_same_bindings.proofs.Dotted.{types_dotted}
 use Rattle.law_same_bindings.proofs.Parts.{all_given, all_alike}
-use Rattle.law_renumbered_types.specs.RenumberedPackage.{Numbers, IsRenumberedPackage}
+use Rattle.law_renumbered_types.specs.RenumberedPackage.{NewNumbers, IsRenumberedPackage}
 use Rattle.law_renumbered_types.proofs.Alike.{Half, SameTree, SameTrees, SameBody, SameReceiver, SameVariable, SameType, SameFunction, SameField}
 use Rattle.law_renumbered_types.proofs.Alike.{Follows, Turned, TurnedIdentifiers}
 use Rattle.law_renumbered_types.proofs.Written.{turned_tree}
@@ -117,7 +117,7 @@ selected_back m (Implied b s) p e = absurd (none-some p (ap purpose_in e))
 
 -- locals are in the file of their block
 
-laid_out : (p : Package) → IsParsed p → (size : ℕ) × IsLaidOut p.layout size
+laid_out : (p : Package) → IsParsedPackage p → (size : ℕ) × IsLaidOut p.layout size
 laid_out p h =
     let laid = h.is_package.is_laid in
     let files = map spelled_file h.files in
@@ -134,7 +134,7 @@ laid_out p h =
           })),
     )
 
-local_file : (p : Package) → IsParsed p → (file token d f x y : ℕ) → BindsToken p file token d → block_of (p.layout.role d) ≡ Inner f x y →
+local_file : (p : Package) → IsParsedPackage p → (file token d f x y : ℕ) → BindsToken p file token d → block_of (p.layout.role d) ≡ Inner f x y →
     (p.layout.place d).file ≡ file
 local_file p parsed file token d f x y b block = by_bound b.identifier b.found.holds.1 b.bound where
   in_block : MayDeclare p.layout d → (p.layout.place d).file ≡ f
@@ -175,17 +175,17 @@ all_fields_dotted p rank (d ∷ ds) h =
 
 -- a token follows to its new number, and an identifier
 
-abbrev pub FollowsToken : Numbers → ℕ → ℕ → ℕ → Type 0
+abbrev pub FollowsToken : NewNumbers → ℕ → ℕ → ℕ → Type 0
 FollowsToken n file x y = y ≡ n.token file x
 
-abbrev pub FollowsIdentifier : Numbers → ℕ → ℕ → Type 0
+abbrev pub FollowsIdentifier : NewNumbers → ℕ → ℕ → Type 0
 FollowsIdentifier n u v = v ≡ n.identifier u
 
 star_stays : (g : ℕ → ℕ) (o : Option ℕ) → is_some (option_map g o) ≡ is_some o
 star_stays g None = refl
 star_stays g (Some x) = refl
 
-module _ (n : Numbers) (p q : Package) (a : IsRenumberedPackage n p q) where
+module _ (n : NewNumbers) (p q : Package) (a : IsRenumberedPackage n p q) where
   -- identifiers and their places
 
   implied_at : (u : ℕ) → is_implied (q.layout.role (n.identifier u)) ≡ is_implied (p.layout.role u)
@@ -494,7 +494,7 @@ module _ (n : Numbers) (p q : Package) (a : IsRenumberedPackage n p q) where
     types = types_follow;
     functions = functions_follow;
     fields = fields_follow;
-    imports = λ d e path i h. subst (λ z. ImportsPath q z path) (sym i) ((a.imports d path).0 h);
+    imports = λ d e path i h. subst (λ z. DeclaresImport q z path) (sym i) ((a.imports d path).0 h);
     dots = λ file x y t s.
         let dot = a.dots file x s in
         record {
@@ -532,7 +532,7 @@ module _ (n : Numbers) (p q : Package) (a : IsRenumberedPackage n p q) where
     types = types_back;
     functions = functions_back;
     fields = fields_back;
-    imports = λ e d path i h. (a.imports d path).1 (subst (λ z. ImportsPath q z path) i h);
+    imports = λ e d path i h. (a.imports d path).1 (subst (λ z. DeclaresImport q z path) i h);
     dots = λ file y x t s.
         let dot = a.dots file x (selected_in file x y t s) in
         record {

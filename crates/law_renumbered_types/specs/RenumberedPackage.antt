@@ -6,20 +6,20 @@ use Rattle.go_scope.specs.Bindings.{IsBoundTo, is_implied}
 use Rattle.go_scope.specs.Moves.{moved_place, moved_role}
 use Rattle.go_scope.specs.Table.{LiesAt}
 use Rattle.law_rename.specs.Renumbered.{decl_by, type_by}
-use Rattle.law_same_bindings.specs.SameBindings.{IsParsed, IsSelectedAt, IsDotted}
+use Rattle.law_same_bindings.specs.SameBindings.{IsParsedPackage, IsSelectedAt, IsDotted}
 use Rattle.law_renumbered_tokens.specs.Renumbering.{IsRenumbering, IsRenumberedCheck, renumbered_bound}
 use Rattle.types_expr.specs.Judge.{MemberUse}
 use Rattle.types_expr.specs.Types.{PlainType, Underlying}
 use Rattle.types_expr.specs.World.{World, Bound, Definition}
 use Rattle.types_stmt.specs.Declarations.{check_file}
 use Rattle.types_declared.specs.Package.{Package, PlacedFunction, package_functions, spelled}
-use Rattle.types_declared.specs.Written.{ImportsPath, DenotesType, IsBroken}
+use Rattle.types_declared.specs.Written.{DeclaresImport, DenotesType, IsBroken}
 use Rattle.types_declared.specs.MeaningOf.{IsMeaningOf}
 use Rattle.types_declared.specs.Definitions.{HasUnderlying, PlacedField, package_fields, IsDefinition}
 use Rattle.types_info.specs.Worlds.{IsName, IsWorldOf, is_init}
 
 -- New numbers: of tokens, by the rank of their file, and of identifiers.
-pub record Numbers : Type 0 where
+pub record NewNumbers : Type 0 where
   pub token : ℕ → ℕ → ℕ
   pub identifier : ℕ → ℕ
 
@@ -37,16 +37,16 @@ pub record IsBehindDot (t : ℕ → ℕ) (token : ℕ) : Type 0 where
   pub stays_behind : t token ≡ suc (suc (t before))
 
 -- The identifier e of q has the number that one of p gets, or it is at no token that one of p gets.
-abbrev pub IsOldOrNew : Numbers → Package → Package → ℕ → Type 0
+abbrev pub IsOldOrNew : NewNumbers → Package → Package → ℕ → Type 0
 IsOldOrNew n p q e = ((d : ℕ) × ((e ≡ n.identifier d) × (d < p.size))) ⊎
     ((file token : ℕ) → LiesAt q.layout (record { file = file; index = n.token file token }) e → ⊥)
 
 -- q is the package p with the new numbers. All that p declares is there, at its new tokens, and its identifiers are bound as they were. There
 -- may be more identifiers, which are no declarations. Names behind dots and names of fields and functions are spelled as they were.
-pub record IsRenumberedPackage (n : Numbers) (p q : Package) : Type 0 where
+pub record IsRenumberedPackage (n : NewNumbers) (p q : Package) : Type 0 where
   pub path : q.path ≡ p.path
-  pub parsed : IsParsed p
-  pub parsed_too : IsParsed q
+  pub parsed : IsParsedPackage p
+  pub parsed_too : IsParsedPackage q
   pub apart : (file : ℕ) → IsRenumbering (n.token file)
   pub files : AreRenumberedFiles n.token 0 p.files q.files
   -- identifiers
@@ -60,7 +60,7 @@ pub record IsRenumberedPackage (n : Numbers) (p q : Package) : Type 0 where
   -- bindings
   pub bound : (u d : ℕ) → IsBoundTo p.layout p.names u d ↔ IsBoundTo q.layout q.names (n.identifier u) (n.identifier d)
   pub bound_to_old : (u e : ℕ) → IsBoundTo q.layout q.names (n.identifier u) e → (d : ℕ) × (e ≡ n.identifier d)
-  pub imports : (d : ℕ) (path : List ℕ) → ImportsPath p d path ↔ ImportsPath q (n.identifier d) path
+  pub imports : (d : ℕ) (path : List ℕ) → DeclaresImport p d path ↔ DeclaresImport q (n.identifier d) path
   -- names
   pub dots : (file token : ℕ) → IsSelectedAt p file token → IsBehindDot (n.token file) token
   pub selectors : (file token : ℕ) → IsSelectedAt p file token → spelled q file (n.token file token) ≡ spelled p file token
@@ -73,37 +73,37 @@ pub record IsRenumberedPackage (n : Numbers) (p q : Package) : Type 0 where
 
 -- A type expression with the new numbers names the same types.
 abbrev pub TypesRenumber : Type 0
-TypesRenumber = (n : Numbers) (p q : Package) → IsRenumberedPackage n p q → (file : ℕ) (tree : TypeTree) (t : PlainType) → IsDotted p file tree →
+TypesRenumber = (n : NewNumbers) (p q : Package) → IsRenumberedPackage n p q → (file : ℕ) (tree : TypeTree) (t : PlainType) → IsDotted p file tree →
     DenotesType p file tree t ↔ DenotesType q file (type_by (n.token file) tree) t
 
 -- The same definitions are broken.
 abbrev pub BrokenRenumber : Type 0
-BrokenRenumber = (n : Numbers) (p q : Package) → IsRenumberedPackage n p q → (rank : ℕ) → IsBroken p rank ↔ IsBroken q rank
+BrokenRenumber = (n : NewNumbers) (p q : Package) → IsRenumberedPackage n p q → (rank : ℕ) → IsBroken p rank ↔ IsBroken q rank
 
 -- Types have the same underlying types.
 abbrev pub UnderlyingRenumber : Type 0
-UnderlyingRenumber = (n : Numbers) (p q : Package) → IsRenumberedPackage n p q → (t : PlainType) (u : Underlying) →
+UnderlyingRenumber = (n : NewNumbers) (p q : Package) → IsRenumberedPackage n p q → (t : PlainType) (u : Underlying) →
     HasUnderlying p t u ↔ HasUnderlying q t u
 
 -- A declaration has the same meaning, a local that at its new token.
 abbrev pub MeaningsRenumber : Type 0
-MeaningsRenumber = (n : Numbers) (p q : Package) → IsRenumberedPackage n p q → (d : ℕ) (b : Bound) → IsMeaningOf p d b →
+MeaningsRenumber = (n : NewNumbers) (p q : Package) → IsRenumberedPackage n p q → (d : ℕ) (b : Bound) → IsMeaningOf p d b →
     IsMeaningOf q (n.identifier d) (renumbered_bound (n.token (p.layout.place d).file) b)
 
 -- Definitions are the same.
 abbrev pub DefinitionsRenumber : Type 0
-DefinitionsRenumber = (n : Numbers) (p q : Package) → IsRenumberedPackage n p q → (rank : ℕ) (d : Definition) →
+DefinitionsRenumber = (n : NewNumbers) (p q : Package) → IsRenumberedPackage n p q → (rank : ℕ) (d : Definition) →
     IsDefinition p rank d ↔ IsDefinition q rank d
 
 -- The name at a token has the same meaning at its new token.
 abbrev pub NamesRenumber : Type 0
-NamesRenumber = (n : Numbers) (p q : Package) → IsRenumberedPackage n p q → (file token : ℕ) (b : Bound) → IsName p file token b →
+NamesRenumber = (n : NewNumbers) (p q : Package) → IsRenumberedPackage n p q → (file token : ℕ) (b : Bound) → IsName p file token b →
     IsName q file (n.token file token) (renumbered_bound (n.token file) b)
 
 -- What judging finds of a file with the new numbers is what it found before, at the new tokens. Names at uses of members have to be spelled
 -- as before, and the declarations of the file have to be renumbered.
 abbrev pub FoundRenumbers : Type 0
-FoundRenumbers = (n : Numbers) (p q : Package) → IsRenumberedPackage n p q → (file : ℕ) (f g : SourceFile) →
+FoundRenumbers = (n : NewNumbers) (p q : Package) → IsRenumberedPackage n p q → (file : ℕ) (f g : SourceFile) →
     slice_get p.files file ≡ Some f → slice_get q.files file ≡ Some g → (v w : World) → IsWorldOf p file f v → IsWorldOf q file g w →
     ((u : MemberUse) → Contains (check_file v (is_init f) f.tree).uses u → spelling_of g (n.token file u.place) ≡ spelling_of f u.place) →
     IsRenumberedCheck (n.token file) (check_file v (is_init f) f.tree) (check_file w (is_init g) g.tree)

@@ -16,7 +16,7 @@ use Rattle.build_object.specs.Lines.{GlobalName, FunctionName}
 use Rattle.build_object.specs.Source.{Source}
 use Rattle.build_object.specs.Slots.{slots_of}
 use Rattle.build_object.specs.Statements.{body_lines}
-use Rattle.build_object.specs.Objects.{Function, Declaration, FunctionOf, Definition, Initial, IntegerValue}
+use Rattle.build_object.specs.Objects.{ObjectFunction, ObjectDeclaration, FunctionOf, ObjectDefinition, Initial, IntegerValue}
 use Rattle.build_object.specs.Objects.{definition_of, type_declarations, declared_type, initial_of, known_variable, first_initial, other_initials, literals_of}
 use Rattle.build_object.specs.Objects.{variable_declarations, initials_of, global_variables, function_of, declared_function}
 use Rattle.build_object.specs.Objects.{declared_by, others_of, names_behind, declared_in, names_behind_all, declared_from}
@@ -29,20 +29,20 @@ use Rattle.law_replaced_names.proofs.SlotsStay.{same_definition, same_parameters
 use Rattle.law_replaced_names.proofs.StatementsBy.{body_with}
 use Rattle.law_replaced_names.specs.SourcesBy.{IsUniform, NumbersStay, AreSourcesBy, no_source, no_tree, a_source, source_by, SourcesGiveObjects}
 
-same_function : (f g : Function) → f.name ≡ g.name → f.parameters ≡ g.parameters → f.results ≡ g.results → f.slots ≡ g.slots → f.code ≡ g.code → f ≡ g
+same_function : (f g : ObjectFunction) → f.name ≡ g.name → f.parameters ≡ g.parameters → f.results ≡ g.results → f.slots ≡ g.slots → f.code ≡ g.code → f ≡ g
 same_function f g n p q k c = λ i. record { name = n i; parameters = p i; results = q i; slots = k i; code = c i }
 
 module _ (r : Replaced) where
-  abbrev D : List Declaration → List Declaration
+  abbrev D : List ObjectDeclaration → List ObjectDeclaration
   D ds = map (declaration_by r) ds
 
   abbrev named : List FunctionName → List FunctionName
   named fs = map r.function fs
 
-  both : (xs ys : List Declaration) → D xs ++ D ys ≡ D (xs ++ ys)
+  both : (xs ys : List ObjectDeclaration) → D xs ++ D ys ≡ D (xs ++ ys)
   both xs ys = sym (map-append (declaration_by r) xs ys)
 
-  type_by : (name : Option GlobalName) (d : Option Definition) → type_declarations (option_map r.global name) d ≡ D (type_declarations name d)
+  type_by : (name : Option GlobalName) (d : Option ObjectDefinition) → type_declarations (option_map r.global name) d ≡ D (type_declarations name d)
   type_by None d = refl
   type_by (Some name) None = refl
   type_by (Some name) (Some d) = refl

@@ -9,7 +9,7 @@ use Rattle.go_ast.specs.declared.syntax.Token.{Token}
 use Rattle.go_ast.specs.Flatten.{sign, sign_if, all_tokens, item_tokens, list_tokens, group_tokens}
 use Rattle.go_ast.specs.Tree.{Item, Group, single, several}
 use Rattle.types_declared.specs.Files.{group_items}
-use Rattle.build_object.specs.Lines.{Line}
+use Rattle.build_object.specs.Lines.{CodeLine}
 use Rattle.build_object.specs.Statements.{from_last}
 use Rattle.law_faultless.proofs.DeclaringNames.{AllOf, front, back}
 
@@ -42,7 +42,7 @@ module _ (K : Kind → ℕ → Type 0) {X : Type 0} {Y : Type 0} (change : Y →
   group_by (single x) h = ap (λ a. a ++ []) (each x h) ∙ both_parts (g x) []
   group_by (several o is c) h = values_by kind.Semicolon is (front K (list_tokens kind.Semicolon tokens is) (sign kind.RightParen c ∷ []) h.1)
 
-module _ (K : Kind → ℕ → Type 0) {X : Type 0} (change : Line → Line) (tokens : X → List Token) (f g : X → List Line)
+module _ (K : Kind → ℕ → Type 0) {X : Type 0} (change : CodeLine → CodeLine) (tokens : X → List Token) (f g : X → List CodeLine)
     (each : (x : X) → AllOf K (tokens x) → f x ≡ map change (g x)) where
   pub last_by : (k : Kind) (is : List (Item X)) → AllOf K (list_tokens k tokens is) → from_last f is ≡ map change (from_last g is)
   unfolding all_tokens from_last

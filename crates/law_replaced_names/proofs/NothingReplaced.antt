@@ -2,13 +2,13 @@
 use Rattle.std.proofs.Common.{◌≡◌, List, [], ◌∷◌, Option, Some, None, option_map, map, refl, ap}
 use Rattle.std.proofs.Math.Path.{ap₂, fun_ext}
 use Rattle.types_expr.specs.declared.symbol.Symbol.{Symbol}
-use Rattle.build_object.specs.Lines.{GlobalName, Line}
+use Rattle.build_object.specs.Lines.{GlobalName, CodeLine}
 use Rattle.build_object.specs.Lines as line
-use Rattle.build_object.specs.Objects.{Object, Declaration, TypeOf, Variable, FunctionOf}
+use Rattle.build_object.specs.Objects.{Object, ObjectDeclaration, TypeOf, Variable, FunctionOf}
 use Rattle.build_object.specs.ObjectText.{object_text}
 use Rattle.law_replaced_names.specs.Replaced.{line_by, declaration_by, text_by, of_none}
 
-same_line : (l : Line) → line_by of_none l ≡ l
+same_line : (l : CodeLine) → line_by of_none l ≡ l
 same_line (line.Global g) = refl
 same_line (line.GlobalAddress g) = refl
 same_line (line.Call f n) = refl
@@ -18,7 +18,7 @@ same_each : {X : Type 0} (f : X → X) → ((x : X) → f x ≡ x) → (xs : Lis
 same_each f same [] = refl
 same_each f same (x ∷ xs) = ap₂ (λ a rest. a ∷ rest) (same x) (same_each f same xs)
 
-same_declaration : (d : Declaration) → declaration_by of_none d ≡ d
+same_declaration : (d : ObjectDeclaration) → declaration_by of_none d ≡ d
 same_declaration (TypeOf name definition) = refl
 same_declaration (Variable name t value) = refl
 same_declaration (FunctionOf f) =

@@ -6,16 +6,16 @@ use Rattle.go_ast.specs.declared.syntax.BinaryOp.{BinaryOp}
 use Rattle.go_ast.specs.declared.syntax.BinaryOp.TheVariants as op
 use Rattle.go_ast.specs.declared.syntax.PrefixOp.{PrefixOp}
 use Rattle.go_ast.specs.declared.syntax.PrefixOp.TheVariants as prefix
-use Rattle.types_expr.specs.Types.{PlainType, Kind, Typed, Untyped, Meaning, Value, TypeName, Function, BuiltinName, Package, Results, Broken, points}
+use Rattle.types_expr.specs.Types.{PlainType, ValueKind, Typed, Untyped, Meaning, Value, TypeName, Function, BuiltinName, Package, Results, Broken, points}
 use Rattle.types_expr.specs.Types.{is_pointer}
 use Rattle.types_expr.specs.Types.{Nil as NilKind, is_struct}
 use Rattle.types_expr.specs.World.{Bound, Means, BrokenVariable, BrokenFunction, BrokenType, Member, AField, AMethod, ABrokenMethod, underlying}
 use Rattle.types_expr.specs.World.{Local as LocalName}
-use Rattle.build_object.specs.Lines.{GlobalName, FunctionName, Plain, Line, line_if_known, pops}
+use Rattle.build_object.specs.Lines.{GlobalName, FunctionName, Plain, CodeLine, line_if_known, pops}
 use Rattle.build_object.specs.Lines as line
 use Rattle.build_object.specs.Numbering.{slot_of}
 use Rattle.build_object.specs.Source.{Source}
-use Rattle.build_object.specs.Operands.{Mode, Values, Called, Converts, Predeclared, Qualifies, Operand, plain, variable, mode_alone, local_operand}
+use Rattle.build_object.specs.Operands.{Mode, Values, Called, Converts, Predeclared, Qualifies, CodeOperand, plain, variable, mode_alone, local_operand}
 use Rattle.build_object.specs.Operands.{global_operand}
 use Rattle.build_object.specs.Operands.{function_mode, plain_function, value_name, named_meaning, bound_name, name_operand, prefixed, operated, unqualified}
 use Rattle.build_object.specs.Operands.{export_operand, field_operand, receiver_lines, method_operand, member_operand, typed_selector, selected_by, selected}
@@ -29,27 +29,27 @@ abbrev pub mode_by : Replaced → Mode → Mode
 mode_by r (Called received f n) = Called received (r.function f) n
 mode_by r mode = mode
 
-abbrev pub lines_by : Replaced → List Line → List Line
+abbrev pub lines_by : Replaced → List CodeLine → List CodeLine
 lines_by r lines = map (line_by r) lines
 
-abbrev pub operand_by : Replaced → Operand → Operand
+abbrev pub operand_by : Replaced → CodeOperand → CodeOperand
 operand_by r o = record { value = lines_by r o.value; address = lines_by r o.address; mode = mode_by r o.mode }
 
-pub same_operand : (a b : Operand) → a.value ≡ b.value → a.address ≡ b.address → a.mode ≡ b.mode → a ≡ b
+pub same_operand : (a b : CodeOperand) → a.value ≡ b.value → a.address ≡ b.address → a.mode ≡ b.mode → a ≡ b
 same_operand a b v k m = λ i. record { value = v i; address = k i; mode = m i }
 
 module _ (r : Replaced) where
-  abbrev L : List Line → List Line
+  abbrev L : List CodeLine → List CodeLine
   L lines = lines_by r lines
 
-  pub both : (xs ys : List Line) → L xs ++ L ys ≡ L (xs ++ ys)
+  pub both : (xs ys : List CodeLine) → L xs ++ L ys ≡ L (xs ++ ys)
   both xs ys = sym (map-append (line_by r) xs ys)
 
-  pub known_by : {X : Type 0} (make : X → Line) → ((x : X) → line_by r (make x) ≡ make x) → (o : Option X) → line_if_known make o ≡ L (line_if_known make o)
+  pub known_by : {X : Type 0} (make : X → CodeLine) → ((x : X) → line_by r (make x) ≡ make x) → (o : Option X) → line_if_known make o ≡ L (line_if_known make o)
   known_by make same None = refl
   known_by make same (Some x) = ap (λ z. z ∷ []) (sym (same x))
 
-  pub plain_by : (xs ys : List Line) → xs ≡ L ys → plain xs ≡ operand_by r (plain ys)
+  pub plain_by : (xs ys : List CodeLine) → xs ≡ L ys → plain xs ≡ operand_by r (plain ys)
   plain_by xs ys e = ap plain e
 
   -- names
@@ -72,16 +72,16 @@ module _ (r : Replaced) where
 
   -- operators
 
-  pub prefixed_by : (o : PrefixOp) (x : List Line) → prefixed o (L x) ≡ operand_by r (prefixed o x)
+  pub prefixed_by : (o : PrefixOp) (x : List CodeLine) → prefixed o (L x) ≡ operand_by r (prefixed o x)
   prefixed_by prefix.Plus x = refl
   prefixed_by prefix.Minus x = ap plain (both x (line.Negate ∷ []))
   prefixed_by prefix.Not x = ap plain (both x (line.Not ∷ []))
   prefixed_by prefix.Deref x = ap (λ z. variable z (L x)) (both x (line.Load ∷ []))
 
-  operate_by : (o : BinaryOp) (a b : List Line) → L a ++ (L b ++ (line.Operate o ∷ [])) ≡ L (a ++ (b ++ (line.Operate o ∷ [])))
+  operate_by : (o : BinaryOp) (a b : List CodeLine) → L a ++ (L b ++ (line.Operate o ∷ [])) ≡ L (a ++ (b ++ (line.Operate o ∷ [])))
   operate_by o a b = ap (λ z. L a ++ z) (both b (line.Operate o ∷ [])) ∙ both a (b ++ (line.Operate o ∷ []))
 
-  pub operated_by : (o : BinaryOp) (a b : List Line) → operated o (L a) (L b) ≡ L (operated o a b)
+  pub operated_by : (o : BinaryOp) (a b : List CodeLine) → operated o (L a) (L b) ≡ L (operated o a b)
   operated_by op.And a b =
       ap (λ n. L a ++ (line.Duplicate ∷ line.JumpUnless (suc n) ∷ line.Pop ∷ L b)) (length-map b (line_by r))
       ∙ both a (line.Duplicate ∷ line.JumpUnless (suc (length b)) ∷ line.Pop ∷ b)
@@ -109,35 +109,35 @@ module _ (r : Replaced) where
   unqualified_by (Predeclared b) = refl
   unqualified_by Qualifies = refl
 
-  export_by : (xs : List Line) (o : Operand) → export_operand (L xs) (operand_by r o) ≡ operand_by r (export_operand xs o)
+  export_by : (xs : List CodeLine) (o : CodeOperand) → export_operand (L xs) (operand_by r o) ≡ operand_by r (export_operand xs o)
   export_by xs o =
       same_operand (export_operand (L xs) (operand_by r o)) (operand_by r (export_operand xs o)) (both xs o.value) (both xs o.address) (unqualified_by o.mode)
 
-  through_by : (make other : ℕ → Line) → ((x : ℕ) → line_by r (make x) ≡ make x) → ((x : ℕ) → line_by r (other x) ≡ other x) → (i : Option ℕ) →
-      (a b : List Line) →
+  through_by : (make other : ℕ → CodeLine) → ((x : ℕ) → line_by r (make x) ≡ make x) → ((x : ℕ) → line_by r (other x) ≡ other x) → (i : Option ℕ) →
+      (a b : List CodeLine) →
       variable (L a ++ line_if_known make i) (L b ++ line_if_known other i) ≡ operand_by r (variable (a ++ line_if_known make i) (b ++ line_if_known other i))
   through_by make other same also i a b =
       ap₂ variable (ap (λ z. L a ++ z) (known_by make same i) ∙ both a (line_if_known make i))
       (ap (λ z. L b ++ z) (known_by other also i) ∙ both b (line_if_known other i))
 
-  field_by : (o : Operand) (b : Bool) (i : Option ℕ) → field_operand (operand_by r o) b i ≡ operand_by r (field_operand o b i)
+  field_by : (o : CodeOperand) (b : Bool) (i : Option ℕ) → field_operand (operand_by r o) b i ≡ operand_by r (field_operand o b i)
   field_by o true i = through_by line.FieldThrough line.FieldAddress (λ x. refl) (λ x. refl) i o.value o.value
   field_by o false i = through_by line.Field line.FieldAddress (λ x. refl) (λ x. refl) i o.value o.address
 
-  receiver_by : (o : Operand) (p q : Bool) → receiver_lines (operand_by r o) p q ≡ L (receiver_lines o p q)
+  receiver_by : (o : CodeOperand) (p q : Bool) → receiver_lines (operand_by r o) p q ≡ L (receiver_lines o p q)
   receiver_by o true true = refl
   receiver_by o true false = both o.value (line.Load ∷ [])
   receiver_by o false true = refl
   receiver_by o false false = refl
 
-  method_by : (xs ys : List Line) → xs ≡ L ys → (name : Option FunctionName) (n : ℕ) →
+  method_by : (xs ys : List CodeLine) → xs ≡ L ys → (name : Option FunctionName) (n : ℕ) →
       method_operand xs (option_map r.function name) n ≡ operand_by r (method_operand ys name n)
   method_by xs ys e name n =
       same_operand (method_operand xs (option_map r.function name) n) (operand_by r (method_operand ys name n)) e e (function_mode_by name true n)
 
   -- indexes and calls
 
-  pub indexed_by : (o : Operand) (i : List Line) → indexed (operand_by r o) (L i) ≡ operand_by r (indexed o i)
+  pub indexed_by : (o : CodeOperand) (i : List CodeLine) → indexed (operand_by r o) (L i) ≡ operand_by r (indexed o i)
   indexed_by o i =
       ap₂ variable (ap (λ z. L o.value ++ z) (both i (line.Index ∷ [])) ∙ both o.value (i ++ (line.Index ∷ [])))
       (ap (λ z. L o.value ++ z) (both i (line.IndexAddress ∷ [])) ∙ both o.value (i ++ (line.IndexAddress ∷ [])))
@@ -158,7 +158,7 @@ module _ (r : Replaced) where
   left_by (Predeclared b) = refl
   left_by Qualifies = refl
 
-  pub called_by : (o : Operand) (n : ℕ) (xs : List Line) → called (operand_by r o) n (L xs) ≡ operand_by r (called o n xs)
+  pub called_by : (o : CodeOperand) (n : ℕ) (xs : List CodeLine) → called (operand_by r o) n (L xs) ≡ operand_by r (called o n xs)
   called_by o n xs =
       let lines : L o.value ++ (L xs ++ calling n (mode_by r o.mode)) ≡ L (o.value ++ (xs ++ calling n o.mode)) =
       ap (λ z. L o.value ++ (L xs ++ z)) (calling_by n o.mode) ∙ ap (λ z. L o.value ++ z) (both xs (calling n o.mode)) ∙
@@ -172,7 +172,7 @@ module _ (r : Replaced) where
   count_by (Predeclared b) = refl
   count_by Qualifies = refl
 
-  pub settled_by : (o : Operand) → settled (operand_by r o) ≡ operand_by r (settled o)
+  pub settled_by : (o : CodeOperand) → settled (operand_by r o) ≡ operand_by r (settled o)
   settled_by o = same_operand (settled (operand_by r o)) (operand_by r (settled o)) refl refl (ap Values (count_by o.mode))
 
   pub pops_by : (n : ℕ) → pops n ≡ L (pops n)
@@ -187,7 +187,7 @@ module _ (r : Replaced) where
     abbrev pub now : Source
     now = source_by r s m numbers
 
-    value_name_by : (n : ℕ) (k : Kind) → value_name now n k ≡ operand_by r (value_name s n k)
+    value_name_by : (n : ℕ) (k : ValueKind) → value_name now n k ≡ operand_by r (value_name s n k)
     value_name_by n (Typed t) = global_by (s.global n)
     value_name_by n (Untyped b) = refl
     value_name_by n NilKind = refl
@@ -215,7 +215,7 @@ module _ (r : Replaced) where
     pub name_by : (slots : List ℕ) (n : ℕ) → name_operand now slots n ≡ operand_by r (name_operand s slots n)
     name_by slots n = bound_by slots n (s.world.bound n)
 
-    member_by : (o : Operand) (t : PlainType) (x : Option Member) → member_operand now (operand_by r o) t x ≡ operand_by r (member_operand s o t x)
+    member_by : (o : CodeOperand) (t : PlainType) (x : Option Member) → member_operand now (operand_by r o) t x ≡ operand_by r (member_operand s o t x)
     unfolding member_operand
     member_by o t None = refl
     member_by o t (Some (AField f own)) = field_by o (points (underlying s.world t)) (s.position f)
@@ -224,12 +224,12 @@ module _ (r : Replaced) where
         (receiver_by o (is_pointer t) on_pointer) (s.function f) (length signature.results)
     member_by o t (Some (ABrokenMethod f)) = refl
 
-    typed_by : (n : ℕ) (o : Operand) (b : Option PlainType) → s.before n ≡ b → typed_selector now n (operand_by r o) b ≡ operand_by r (typed_selector s n o b)
+    typed_by : (n : ℕ) (o : CodeOperand) (b : Option PlainType) → s.before n ≡ b → typed_selector now n (operand_by r o) b ≡ operand_by r (typed_selector s n o b)
     unfolding typed_selector
     typed_by n o None e = refl
     typed_by n o (Some t) e = ap (member_operand now (operand_by r o) t) (agree n t e) ∙ member_by o t (s.world.member n t)
 
-    selected_mode_by : (slots : List ℕ) (n : ℕ) (o : Operand) (x : Mode) →
+    selected_mode_by : (slots : List ℕ) (n : ℕ) (o : CodeOperand) (x : Mode) →
         selected_by now slots n (operand_by r o) (mode_by r x) ≡ operand_by r (selected_by s slots n o x)
     unfolding selected_by
     selected_mode_by slots n o Qualifies =
@@ -239,7 +239,7 @@ module _ (r : Replaced) where
     selected_mode_by slots n o Converts = typed_by n o (s.before n) refl
     selected_mode_by slots n o (Predeclared b) = typed_by n o (s.before n) refl
 
-    pub select_by : (slots : List ℕ) (n : ℕ) (o : Operand) → selected now slots n (operand_by r o) ≡ operand_by r (selected s slots n o)
+    pub select_by : (slots : List ℕ) (n : ℕ) (o : CodeOperand) → selected now slots n (operand_by r o) ≡ operand_by r (selected s slots n o)
     select_by slots n o = selected_mode_by slots n o o.mode
 
     -- composite literals
@@ -258,11 +258,11 @@ module _ (r : Replaced) where
     key_by None = refl
     key_by (Some k) = keyed_by k.0 (s.before k.0) refl
 
-    literal_code_by : (b : Bool) (t : PlainType) (xs ys : List Line) (n : ℕ) → literal_code b t (L xs) (L ys) n ≡ L (literal_code b t xs ys n)
+    literal_code_by : (b : Bool) (t : PlainType) (xs ys : List CodeLine) (n : ℕ) → literal_code b t (L xs) (L ys) n ≡ L (literal_code b t xs ys n)
     literal_code_by true t xs ys n = refl
     literal_code_by false t xs ys n = both ys (line.MakeSlice n ∷ [])
 
-    pub literal_by : (t : Option PlainType) (xs ys : List Line) (n : ℕ) → typed_literal now t (L xs) (L ys) n ≡ L (typed_literal s t xs ys n)
+    pub literal_by : (t : Option PlainType) (xs ys : List CodeLine) (n : ℕ) → typed_literal now t (L xs) (L ys) n ≡ L (typed_literal s t xs ys n)
     unfolding typed_literal
     literal_by None xs ys n = refl
     literal_by (Some t) xs ys n = literal_code_by (is_struct (underlying s.world t)) t xs ys n

@@ -16,7 +16,7 @@ use Rattle.types_expr.specs.Types.{PlainType}
 use Rattle.types_expr.specs.World.{Bound, Local, Means, BrokenVariable, BrokenFunction, BrokenType}
 use Rattle.types_expr.specs.Judge.{judge_type}
 use Rattle.types_stmt.specs.Simple.{binary_of}
-use Rattle.build_object.specs.Lines.{Line, line_if_known, pops}
+use Rattle.build_object.specs.Lines.{CodeLine, line_if_known, pops}
 use Rattle.build_object.specs.Lines as line
 use Rattle.build_object.specs.Numbering.{slot_of}
 use Rattle.build_object.specs.Source.{Source}
@@ -37,10 +37,10 @@ use Rattle.law_replaced_names.proofs.ListsBy.{items_by, group_by, last_by}
 use Rattle.law_replaced_names.specs.SourcesBy.{IsUniform, NumbersStay, source_by}
 
 module _ (r : Replaced) where
-  abbrev L : List Line → List Line
+  abbrev L : List CodeLine → List CodeLine
   L lines = lines_by r lines
 
-  size_by : (xs : List Line) → length (L xs) ≡ length xs
+  size_by : (xs : List CodeLine) → length (L xs) ≡ length xs
   size_by xs = length-map xs (line_by r)
 
   set_by : (slots : List ℕ) (place : ℕ) → line_if_known line.Set (slot_of slots place) ≡ L (line_if_known line.Set (slot_of slots place))
@@ -57,7 +57,7 @@ module _ (r : Replaced) where
   set_bound_by slots BrokenFunction = refl
   set_bound_by slots BrokenType = refl
 
-  update_by : (a y : List Line) (o : BinaryOp) → update_lines (L a) (L y) o ≡ L (update_lines a y o)
+  update_by : (a y : List CodeLine) (o : BinaryOp) → update_lines (L a) (L y) o ≡ L (update_lines a y o)
   update_by a y o =
       ap (λ z. L a ++ (line.Duplicate ∷ line.Load ∷ z)) (both r y (line.Operate o ∷ line.Assign 1 ∷ []))
       ∙ both r a (line.Duplicate ∷ line.Load ∷ (y ++ (line.Operate o ∷ line.Assign 1 ∷ [])))
@@ -65,17 +65,17 @@ module _ (r : Replaced) where
   zero_by : (o : Option PlainType) → line_if_known line.Zero o ≡ L (line_if_known line.Zero o)
   zero_by o = known_by r line.Zero (λ x. refl) o
 
-  block_exits_by : (o : Option (List Line)) (x : Exits) → block_exits (option_map L o) x ≡ block_exits o x
+  block_exits_by : (o : Option (List CodeLine)) (x : Exits) → block_exits (option_map L o) x ≡ block_exits o x
   block_exits_by None x = refl
   block_exits_by (Some other) x = ap (λ n. further (suc n) x) (size_by other)
 
-  branched_by : (body : List Line) (o : Option (List Line)) → branched (L body) (option_map L o) ≡ L (branched body o)
+  branched_by : (body : List CodeLine) (o : Option (List CodeLine)) → branched (L body) (option_map L o) ≡ L (branched body o)
   branched_by body None = ap (λ n. line.JumpUnless n ∷ L body) (size_by body)
   branched_by body (Some other) =
       ap₂ (λ n k. line.JumpUnless (suc n) ∷ (L body ++ (line.Jump k ∷ L other))) (size_by body) (size_by other)
       ∙ ap (λ z. line.JumpUnless (suc (length body)) ∷ z) (both r body (line.Jump (length other) ∷ other))
 
-  jump_back_by : (xs : List Line) → with_jump_back (L xs) ≡ L (with_jump_back xs)
+  jump_back_by : (xs : List CodeLine) → with_jump_back (L xs) ≡ L (with_jump_back xs)
   jump_back_by xs =
       ap (λ n. L xs ++ (line.JumpBack (suc n) ∷ [])) (size_by xs) ∙ both r xs (line.JumpBack (suc (length xs)) ∷ [])
 
@@ -225,7 +225,7 @@ module _ (r : Replaced) (uniform : IsUniform r) (s : Source) (m : Members) (numb
   condition (Some e) n h =
       ap (λ z. z ++ (line.JumpUnless n ∷ [])) (value e h) ∙ both r (value_lines s slots e) (line.JumpUnless n ∷ [])
 
-  loop : (e : Option ExprTree) → AllOf K (tokens_if expr_tokens e) → (body post : List Line) →
+  loop : (e : Option ExprTree) → AllOf K (tokens_if expr_tokens e) → (body post : List CodeLine) →
       loop_lines now slots e (L r body) (L r post) ≡ L r (loop_lines s slots e body post)
   loop e h body post =
       ap (λ z. with_jump_back (loop_condition now slots e (suc (length z)) ++ z)) (both r body post)

@@ -2,9 +2,9 @@
 use Rattle.std.specs.Prelude.{ℕ, ◌==◌, ◌&&◌, Bool, if◌then◌else◌, List, Option, map, option_map}
 use Rattle.std.specs.Cmp.Lexicographic.{pointwise}
 use Rattle.types_expr.specs.declared.symbol.Symbol.{Symbol}
-use Rattle.build_object.specs.Lines.{GlobalName, FunctionName, Plain, Method, Initializer, Line}
+use Rattle.build_object.specs.Lines.{GlobalName, FunctionName, Plain, Method, Initializer, CodeLine}
 use Rattle.build_object.specs.Lines as line
-use Rattle.build_object.specs.Objects.{Object, Function, Declaration, TypeOf, Variable, FunctionOf}
+use Rattle.build_object.specs.Objects.{Object, ObjectFunction, ObjectDeclaration, TypeOf, Variable, FunctionOf}
 use Rattle.build_object.specs.ObjectText.{object_text}
 
 -- By what the names of package-level declarations, and those of functions and methods, are replaced.
@@ -13,18 +13,18 @@ pub record Replaced : Type 0 where
   pub function : FunctionName → FunctionName
 
 -- A line of code with these names.
-abbrev pub line_by : Replaced → Line → Line
+abbrev pub line_by : Replaced → CodeLine → CodeLine
 line_by r (line.Global g) = line.Global (r.global g)
 line_by r (line.GlobalAddress g) = line.GlobalAddress (r.global g)
 line_by r (line.Call f n) = line.Call (r.function f) n
 line_by r other = other
 
 -- A function with these names.
-abbrev pub function_by : Replaced → Function → Function
+abbrev pub function_by : Replaced → ObjectFunction → ObjectFunction
 function_by r f = record { name = r.function f.name; parameters = f.parameters; results = f.results; slots = f.slots; code = map (line_by r) f.code }
 
 -- A declaration with these names.
-abbrev pub declaration_by : Replaced → Declaration → Declaration
+abbrev pub declaration_by : Replaced → ObjectDeclaration → ObjectDeclaration
 declaration_by r (TypeOf name definition) = TypeOf (r.global name) definition
 declaration_by r (Variable name t value) = Variable (r.global name) t value
 declaration_by r (FunctionOf f) = FunctionOf (function_by r f)

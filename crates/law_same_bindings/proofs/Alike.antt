@@ -9,7 +9,7 @@ use Rattle.go_scope.specs.Table.{IsFoundAt}
 use Rattle.law_rename.specs.Renaming.{HasSameBindings}
 use Rattle.types_declared.specs.Package.{Package, Export, PlacedVariable, PlacedType, PlacedFunction, IsRanked, symbol_in, spelled}
 use Rattle.types_declared.specs.Package.{package_variables, package_types, package_functions}
-use Rattle.types_declared.specs.Written.{BindsToken, IsPredeclared, ImportsPath, IsExportAt, written_types}
+use Rattle.types_declared.specs.Written.{BindsToken, IsPredeclared, DeclaresImport, IsExportAt, written_types}
 use Rattle.types_declared.specs.MeaningOf.{parameter_types, result_types}
 use Rattle.law_same_bindings.specs.SameBindings.{IsSelectedAt, IsDotted, AreTypesDotted, IsBoundAlike}
 use Rattle.law_same_bindings.proofs.Dotted.{types_dotted}
@@ -25,9 +25,9 @@ pub record Alike (p q : Package) : Type 0 where
   pub functions : package_functions q ≡ package_functions p
   pub bindings : HasSameBindings p.layout p.names q.names
   pub predeclared : (d : ℕ) → is_implied (p.layout.role d) ≡ true → q.names d ≡ p.names d
-  pub imports : (d : ℕ) (path : List ℕ) → ImportsPath p d path ↔ ImportsPath q d path
+  pub imports : (d : ℕ) (path : List ℕ) → DeclaresImport p d path ↔ DeclaresImport q d path
   pub dotted : AreTypesDotted p
-  pub sees : (d file token : ℕ) (path : List ℕ) (e : Export) → BindsToken p file token d → ImportsPath p d path →
+  pub sees : (d file token : ℕ) (path : List ℕ) (e : Export) → BindsToken p file token d → DeclaresImport p d path →
       IsSelectedAt p file (suc (suc token)) →
       ((p.export_data_of path).exported (spelled p file (suc (suc token))) ≡ Some e) ↔
       ((q.export_data_of path).exported (spelled q file (suc (suc token))) ≡ Some e)

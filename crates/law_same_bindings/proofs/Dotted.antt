@@ -32,7 +32,7 @@ use Rattle.types_declared.specs.Package.{decl_variables, decl_types, decl_functi
 use Rattle.types_declared.specs.Written.{written_types}
 use Rattle.types_declared.specs.MeaningOf.{parameter_types, result_types}
 use Rattle.types_info.specs.PackageOf.{package_in}
-use Rattle.law_same_bindings.specs.SameBindings.{IsParsed, IsSelectedAt, IsDotted, AreTypesDotted}
+use Rattle.law_same_bindings.specs.SameBindings.{IsParsedPackage, IsSelectedAt, IsDotted, AreTypesDotted}
 use Rattle.law_same_bindings.proofs.Parts.{IsPart, itself, back, part_of, inside, of_all, of_list, of_group, all_given, all_alike, identifier_among}
 
 -- the type expressions of one declaration, where each part of its tokens that is a type's satisfies D
@@ -295,7 +295,7 @@ module _ (path : List ℕ) (files : List FileParts) (names : ℕ → Option (Lis
     results = each_file (ResultsDotted (IsDotted own) 0) decl_functions (decl_results_dotted (IsDotted own));
   }
 
-pub types_dotted : (p : Package) → IsParsed p → AreTypesDotted p
+pub types_dotted : (p : Package) → IsParsedPackage p → AreTypesDotted p
 types_dotted p h =
     let own_files = map source_of h.files in
     let is : p ≡ package_in h.path own_files (with_names h.is_package.is_laid.names (scoped h.files)) h.export_data_of =

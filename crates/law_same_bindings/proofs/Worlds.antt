@@ -30,14 +30,14 @@ use Rattle.types_declared.proofs.OneUnderlying.{one_underlying}
 use Rattle.types_info.specs.Uniqueness.{TokensRise}
 use Rattle.types_info.specs.Worlds.{IsWorldOf}
 use Rattle.types_info.proofs.OneMeaning.{one_name}
-use Rattle.law_same_bindings.specs.SameBindings.{IsParsed}
+use Rattle.law_same_bindings.specs.SameBindings.{IsParsedPackage}
 use Rattle.law_same_bindings.proofs.Alike.{Alike, turned, symbols, got_by}
 use Rattle.law_same_bindings.proofs.Types.{has_underlying}
 use Rattle.law_same_bindings.proofs.Meanings.{name}
 
 -- packages of parsed files
 
-pub layout_formed : (p : Package) → IsParsed p → WellFormed p.layout
+pub layout_formed : (p : Package) → IsParsedPackage p → WellFormed p.layout
 layout_formed p h =
     let laid = h.is_package.is_laid in
     let files = map spelled_file h.files in
@@ -55,7 +55,7 @@ sources_in_order (f ∷ fs) sources zero s at =
     (file_numbered f (All-head (λ (g : FileParts). IsSourceFile (source_of g)) f fs sources)).rising
 sources_in_order (f ∷ fs) sources (suc k) s at = sources_in_order fs (All-tail (λ (g : FileParts). IsSourceFile (source_of g)) f fs sources) k s at
 
-pub tokens_rise : (p : Package) → IsParsed p → TokensRise p.files
+pub tokens_rise : (p : Package) → IsParsedPackage p → TokensRise p.files
 tokens_rise p h =
     let is : p.files ≡ map source_of h.files = ap (λ (x : Package). x.files) h.is_package.is_package in
     subst TokensRise (sym is) (sources_in_order h.files h.sources)
@@ -111,7 +111,7 @@ module _ (p q : Package) (a : Alike p q) (w : WellFormed p.layout) (c d : Symbol
 
 -- worlds
 
-pub bind_alike : (p q : Package) → Alike p q → IsParsed p → (file : ℕ) (f g : SourceFile) (v x : World) → IsWorldOf p file f v → IsWorldOf q file g x →
+pub bind_alike : (p q : Package) → Alike p q → IsParsedPackage p → (file : ℕ) (f g : SourceFile) (v x : World) → IsWorldOf p file f v → IsWorldOf q file g x →
     ((token : ℕ) → x.bound token ≡ v.bound token) × ((s : Symbol) → x.definition s ≡ v.definition s)
 bind_alike p q a parsed file f g v x before after =
     let w = layout_formed p parsed in (

@@ -12,7 +12,7 @@ use Rattle.types_expr.specs.declared.symbol.Symbol.{Symbol}
 use Rattle.types_expr.specs.Types.{PlainType, Underlying}
 use Rattle.types_expr.specs.World.{World, Bound}
 use Rattle.types_declared.specs.Package.{Package, Export, ExportData, package_variables, package_types, package_functions, spelled}
-use Rattle.types_declared.specs.Written.{BindsToken, ImportsPath, DenotesType, IsBroken, written_types}
+use Rattle.types_declared.specs.Written.{BindsToken, DeclaresImport, DenotesType, IsBroken, written_types}
 use Rattle.types_declared.specs.MeaningOf.{IsMeaningOf, parameter_types, result_types}
 use Rattle.types_declared.specs.Definitions.{HasUnderlying}
 use Rattle.types_info.specs.PackageOf.{IsPackageOf}
@@ -26,7 +26,7 @@ abbrev pub paths_of : List SourceFile → List (List ℕ)
 paths_of files = map (λ f. f.path) files
 
 -- The package is that of parsed files, whatever names its imports without a name declare.
-pub record IsParsed (p : Package) : Type 0 where
+pub record IsParsedPackage (p : Package) : Type 0 where
   pub path : List ℕ
   pub files : List FileParts
   pub sources : AreSourceFiles files
@@ -63,9 +63,9 @@ pub record IsBoundAlike (p q : Package) : Type 0 where
   pub trees : trees_of q.files ≡ trees_of p.files
   pub bindings : HasSameBindings p.layout p.names q.names
   pub predeclared : (d : ℕ) → is_implied (p.layout.role d) ≡ true → q.names d ≡ p.names d
-  pub imports : (d : ℕ) (path : List ℕ) → ImportsPath p d path ↔ ImportsPath q d path
-  pub parsed : IsParsed p
-  pub sees : (d file token : ℕ) (path : List ℕ) (e : Export) → BindsToken p file token d → ImportsPath p d path →
+  pub imports : (d : ℕ) (path : List ℕ) → DeclaresImport p d path ↔ DeclaresImport q d path
+  pub parsed : IsParsedPackage p
+  pub sees : (d file token : ℕ) (path : List ℕ) (e : Export) → BindsToken p file token d → DeclaresImport p d path →
       IsSelectedAt p file (suc (suc token)) →
       ((p.export_data_of path).exported (spelled p file (suc (suc token))) ≡ Some e) ↔
       ((q.export_data_of path).exported (spelled q file (suc (suc token))) ≡ Some e)
@@ -74,7 +74,7 @@ pub record IsBoundAlike (p q : Package) : Type 0 where
 
 -- In packages of parsed files, names of qualified types follow dots.
 abbrev pub TypesAreDotted : Type 0
-TypesAreDotted = (p : Package) → IsParsed p → AreTypesDotted p
+TypesAreDotted = (p : Package) → IsParsedPackage p → AreTypesDotted p
 
 -- The name at a token is bound to the same declaration.
 abbrev pub TokensStay : Type 0

@@ -15,7 +15,7 @@ use Rattle.refs_binding.specs.declared.declaration.Declaration.TheVariants.{Pred
 use Rattle.refs_binding.specs.Binding.{BindsByScope}
 use Rattle.refs_binding.specs.DeclaringPlaces.{IsDeclaredAt}
 use Rattle.refs_binding.specs.Identifiers.{BeginsAt}
-use Rattle.refs_binding.specs.Uses.{IsPackage}
+use Rattle.refs_binding.specs.Uses.{IsCheckedPackage}
 use Rattle.refs_index.specs.Becoming.{IsSamePredeclared}
 use Rattle.refs_index.specs.Corresponding.{predeclared}
 use Rattle.refs_index.proofs.Becoming.{StandBoth, by_cases}
@@ -40,7 +40,7 @@ pub record KeepsPackages (w : Workspace) (known : Verdicts) (r : Revision) : Typ
 
 -- Uses of members stay bound, and so do the names by which members are declared.
 abbrev pub KeepsMembers : Workspace → Verdicts → Revision → Type 0
-KeepsMembers w known r = (x : Package) → IsPackage w known x → (u : ℕ) (place : Place) → BeginsAt x place.path place.offset u →
+KeepsMembers w known r = (x : Package) → IsCheckedPackage w known x → (u : ℕ) (place : Place) → BeginsAt x place.path place.offset u →
     StaysByMember w known r x u place × StaysByName w known r x u place
 
 -- the parts of equal declarations
@@ -60,10 +60,10 @@ module _ (w : Workspace) (known : Verdicts) (r : Revision) (apart : MoveApart w 
 
   pub becomes_once : (c d e : Declaration) → IsBindable r.after e → Bec c e → Bec d e → c ≡ d
   becomes_once c d e counts h k =
-      by_ways (by_cases (IsPackage w known) (IsScopedIn r.after) r.moved c e h) (by_cases (IsPackage w known) (IsScopedIn r.after) r.moved d e k)
+      by_ways (by_cases (IsCheckedPackage w known) (IsScopedIn r.after) r.moved c e h) (by_cases (IsCheckedPackage w known) (IsScopedIn r.after) r.moved d e k)
     where
-      by_ways : IsSamePredeclared c e ⊎ StandBoth (IsPackage w known) (IsScopedIn r.after) r.moved c e →
-          IsSamePredeclared d e ⊎ StandBoth (IsPackage w known) (IsScopedIn r.after) r.moved d e → c ≡ d
+      by_ways : IsSamePredeclared c e ⊎ StandBoth (IsCheckedPackage w known) (IsScopedIn r.after) r.moved c e →
+          IsSamePredeclared d e ⊎ StandBoth (IsCheckedPackage w known) (IsScopedIn r.after) r.moved d e → c ≡ d
       by_ways (inl m) (inl n) = m.one ∙ (sym m.other ∙ n.other) ∙ sym n.one
       by_ways (inl m) (inr s) = absurd (nowhere e m.number m.other (r.moved s.place) s.new)
       by_ways (inr s) (inl n) = absurd (nowhere e n.number n.other (r.moved s.place) s.new)
@@ -99,7 +99,7 @@ module _ (w : Workspace) (known : Verdicts) (r : Revision) (x q : Package) (a : 
 
 -- A package that doesn't declare what is renamed has the bindings that it had.
 module _ (w : Workspace) (known : Verdicts) (d : Declaration) (name : List ℕ) (s : FileChanges) (h : IsPlainRename w known d name s) (y q : Package)
-    (is : IsPackage w known y) (other : (m : ℕ) → d ≡ Declared y.path m → ⊥) (relaid : IsRelaid (revision_of w s) y q) where
+    (is : IsCheckedPackage w known y) (other : (m : ℕ) → d ≡ Declared y.path m → ⊥) (relaid : IsRelaid (revision_of w s) y q) where
   lexical_name : (u : ℕ) → (is_use (y.layout.role u) ≡ true) ⊎ (may_declare (y.layout.role u) ≡ true) → q.names u ≡ y.names u
   lexical_name u k =
       same_bytes (q.names u) (y.names u)

@@ -25,9 +25,9 @@ use Rattle.workspace_check.specs.Verdicts.{Verdicts}
 use Rattle.workspace_check.proofs.OnePackage.{layout_formed}
 use Rattle.refs_binding.specs.declared.declaration.Declaration.{Declaration}
 use Rattle.refs_binding.specs.declared.declaration.Declaration.TheVariants.{Predeclared, Declared, Field, Method}
-use Rattle.refs_binding.specs.Binding.{BindsQualified, IsPredeclared, by_package}
+use Rattle.refs_binding.specs.Binding.{BindsQualified, IsPredeclaredNumber, by_package}
 use Rattle.refs_binding.specs.Identifiers.{BeginsAt}
-use Rattle.refs_binding.specs.Uses.{IsPackage, IsBoundTo}
+use Rattle.refs_binding.specs.Uses.{IsCheckedPackage, IsBoundToDeclaration}
 use Rattle.refs_binding.proofs.Units.{one_package}
 use Rattle.refs_lookup.proofs.OneDeclaration.{one_declaration}
 use Rattle.refactor_after.proofs.OneScoped.{one_scoped}
@@ -55,17 +55,17 @@ other_block : Universe ≡ PackageBlock → ⊥
 other_block e = cc
 
 -- a package-level declaration is not predeclared
-level_declared : (w : Workspace) (known : Verdicts) (y : Package) → IsPackage w known y → (d : ℕ) → IsPackageLevel y.layout d → IsPredeclared d → ⊥
+level_declared : (w : Workspace) (known : Verdicts) (y : Package) → IsCheckedPackage w known y → (d : ℕ) → IsPackageLevel y.layout d → IsPredeclaredNumber d → ⊥
 level_declared w known y is d level lt = other_block (sym (in_universe w known y.path y is.is_checked d lt) ∙ level)
 
 module _ (w : Workspace) (known : Verdicts) (p : Package) (n : ℕ) (name : List ℕ) (s : FileChanges) (h : IsRenameIn w known p n name s)
-    (keeps : KeepsPackages w known (revision_of w s)) (x : Package) (is : IsPackage w known x) (u : ℕ) (place : Place)
+    (keeps : KeepsPackages w known (revision_of w s)) (x : Package) (is : IsCheckedPackage w known x) (u : ℕ) (place : Place)
     (begins : BeginsAt x place.path place.offset u) where
   abbrev r : Revision
   r = revision_of w s
 
   abbrev Known : Package → Type 0
-  Known = IsPackage w known
+  Known = IsCheckedPackage w known
 
   abbrev Bec : Declaration → Declaration → Type 0
   Bec = HasBecome w known r
@@ -82,13 +82,13 @@ module _ (w : Workspace) (known : Verdicts) (p : Package) (n : ℕ) (name : List
   called_so : x_after.0.names u ≡ called
   called_so = x_after.1.relaid.names u place begins
 
-  kept_name : (e : Declaration) → IsBoundTo w known x u e → (Declared p.path n ≡ e → ⊥) → called ≡ x.names u
+  kept_name : (e : Declaration) → IsBoundToDeclaration w known x u e → (Declared p.path n ≡ e → ⊥) → called ≡ x.names u
   kept_name e b other =
       sym called_so
       ∙ others_are_kept w known (Declared p.path n) name s h.rename x x_after.0 is x_after.1.relaid u
       (λ inside k. other (one_declaration w known x is u inside (Declared p.path n) e k b))
 
-  new_name : IsBoundTo w known x u (Declared p.path n) → called ≡ name
+  new_name : IsBoundToDeclaration w known x u (Declared p.path n) → called ≡ name
   new_name b =
       sym called_so ∙ bound_is_called w known (Declared p.path n) name s h.rename x x_after.0 is x_after.1.relaid u place begins b
 

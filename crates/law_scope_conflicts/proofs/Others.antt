@@ -8,7 +8,7 @@ use Rattle.types_declared.specs.Package.{Package}
 use Rattle.workspace_check.specs.Verdicts.{Verdicts}
 use Rattle.refs_binding.specs.declared.declaration.Declaration.TheVariants.{Declared}
 use Rattle.refs_binding.specs.Identifiers.{BeginsAt}
-use Rattle.refs_binding.specs.Uses.{IsPackage}
+use Rattle.refs_binding.specs.Uses.{IsCheckedPackage}
 use Rattle.refs_binding.proofs.Units.{one_package}
 use Rattle.refactor_conflict.specs.Staying.{StaysByScope}
 use Rattle.law_scoped_packages.specs.There.{ArePackagesThere}
@@ -16,7 +16,7 @@ use Rattle.law_scope_conflicts.specs.ScopeRenames.{IsRenameIn}
 use Rattle.law_scope_conflicts.proofs.Afterwards.{other_bindings, same_path, scope_stays}
 
 pub others_by : (w : Workspace) (known : Verdicts) (p : Package) (n : ℕ) (name : List ℕ) (s : FileChanges) → IsRenameIn w known p n name s →
-    ArePackagesThere w known (revision_of w s) → (x : Package) → IsPackage w known x → (x ≡ p → ⊥) → (u : ℕ) (place : Place) →
+    ArePackagesThere w known (revision_of w s) → (x : Package) → IsCheckedPackage w known x → (x ≡ p → ⊥) → (u : ℕ) (place : Place) →
     BeginsAt x place.path place.offset u → StaysByScope w known (revision_of w s) x u place
 others_by w known p n name s h there x is away u place begins =
     let a = there x is in

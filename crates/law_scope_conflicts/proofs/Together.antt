@@ -21,10 +21,10 @@ use Rattle.types_declared.proofs.ByteKeys.{cases_bytes}
 use Rattle.workspace_check.specs.Verdicts.{Verdicts}
 use Rattle.refs_binding.specs.declared.declaration.Declaration.{Declaration}
 use Rattle.refs_binding.specs.declared.declaration.Declaration.TheVariants.{Predeclared, Declared, Field, Method}
-use Rattle.refs_binding.specs.Binding.{BindsByScope, IsPredeclared}
+use Rattle.refs_binding.specs.Binding.{BindsByScope, IsPredeclaredNumber}
 use Rattle.refs_binding.specs.Identifiers.{BeginsAt}
 use Rattle.refs_binding.specs.Places.{place_cmp}
-use Rattle.refs_binding.specs.Uses.{IsPackage}
+use Rattle.refs_binding.specs.Uses.{IsCheckedPackage}
 use Rattle.refs_binding.proofs.PlaceOrder.{place_cmp_total}
 use Rattle.refs_binding.proofs.Units.{one_package}
 use Rattle.refactor_conflict.specs.Conflicts.{ChangesBinding, IsConflict, by_package, by_scope}
@@ -34,7 +34,7 @@ use Rattle.refactor_conflict.specs.declared.conflict.Capturer.{Capturer}
 use Rattle.refactor_conflict.specs.declared.conflict.Conflict.{Conflict}
 use Rattle.refactor_conflict.proofs.Firsts.{not_before}
 use Rattle.law_renamed_scopes.proofs.OwnNames.{own_renames}
-use Rattle.law_rename_agrees.specs.ConflictsByTables.{IsNumbered, OwnConflictsAreTold, TellsFirstOf, WouldTurn}
+use Rattle.law_rename_agrees.specs.ConflictsByTables.{IsOwnNumber, OwnConflictsAreTold, TellsFirstOf, WouldTurn}
 use Rattle.law_rename_agrees.proofs.OwnConflicts.{numbered}
 use Rattle.law_scope_conflicts.specs.Behind.{TakenBehind, TurnsBehind, hidden, preceded, repeated}
 use Rattle.law_scope_conflicts.specs.ScopeConflicts.{HasNoOwnConflict, IsOwnConflict, IsOwnConflictBy, HasNoConflictBehind, IsSameCapturer, IsConflictBehind}
@@ -60,7 +60,7 @@ own_scope w known p n name s h keeps u place begins free =
 
 pub stays_by : (w : Workspace) (known : Verdicts) (p : Package) (n : ℕ) (name : List ℕ) (s : FileChanges) → IsRenameIn w known p n name s →
     KeepsPackages w known (revision_of w s) → KeepsMembers w known (revision_of w s) → (place : Place) → HasNoOwnConflict p n name place →
-    HasNoConflictBehind (IsPackage w known) p n name place → StaysAt w known (revision_of w s) place
+    HasNoConflictBehind (IsCheckedPackage w known) p n name place → StaysAt w known (revision_of w s) place
 stays_by w known p n name s h keeps members place own free x is u begins = record {
   by_scope = elim (cases_bytes x.path p.path) [
     | inl same ↦
@@ -77,11 +77,11 @@ stays_by w known p n name s h keeps members place own free x is u begins = recor
 
 -- Each conflict is one of the change.
 
-binds_number : (p : Package) (u m : ℕ) (d : Declaration) → IsNumbered p m d → IsBoundTo p.layout p.names u m → BindsByScope p u d
-binds_number p u m (Predeclared k) h b = subst (λ j. IsPredeclared j × IsBoundTo p.layout p.names u j) (sym h.0) (h.1, b)
+binds_number : (p : Package) (u m : ℕ) (d : Declaration) → IsOwnNumber p m d → IsBoundTo p.layout p.names u m → BindsByScope p u d
+binds_number p u m (Predeclared k) h b = subst (λ j. IsPredeclaredNumber j × IsBoundTo p.layout p.names u j) (sym h.0) (h.1, b)
 binds_number p u m (Declared path k) h b =
-    let both : (IsPredeclared k → ⊥) × IsBoundTo p.layout p.names u k =
-    subst (λ j. (IsPredeclared j → ⊥) × IsBoundTo p.layout p.names u j) (sym h.1) (h.2, b) in
+    let both : (IsPredeclaredNumber k → ⊥) × IsBoundTo p.layout p.names u k =
+    subst (λ j. (IsPredeclaredNumber j → ⊥) × IsBoundTo p.layout p.names u j) (sym h.1) (h.2, b) in
     (h.0, both.0, both.1)
 binds_number p u m (Field f) h b = absurd h
 binds_number p u m (Method f) h b = absurd h
@@ -118,7 +118,7 @@ module _ (own_told : OwnConflictsAreTold) (w : Workspace) (known : Verdicts) (p 
         let binds = binds_number p u m d.0 d.1 was in
         by_scope d.0 binds ((own_told w known p n name s h.rename h.is_package place u begins d.0 binds by).1 turn)
 
-    own_changes : (by : Option Capturer) → IsOwnConflictBy (IsPackage w known) p n name u by →
+    own_changes : (by : Option Capturer) → IsOwnConflictBy (IsCheckedPackage w known) p n name u by →
         ChangesBinding w known r p u (record { used = place; by = by })
     own_changes None k =
         let x = lost u k in
@@ -127,7 +127,7 @@ module _ (own_told : OwnConflictsAreTold) (w : Workspace) (known : Verdicts) (p 
         let x = captured u k.0 k.1.0 in
         turned x.old x.was (Some by) (k.0, (k.1.0, (k.1.1.declaration, (k.1.1.numbered, k.1.1.told))))
 
-  pub own_is : (c : Conflict) → IsOwnConflict (IsPackage w known) p n name c → IsConflict w known r c
+  pub own_is : (c : Conflict) → IsOwnConflict (IsCheckedPackage w known) p n name c → IsConflict w known r c
   own_is c k = record {
     used_in = p;
     is_package = h.is_package;
@@ -142,7 +142,7 @@ named_taken Known p n name old (Some c) None turns same = absurd same
 named_taken Known p n name old (Some c) (Some t) turns same = (c, (turns, same))
 
 pub behind_is : (w : Workspace) (known : Verdicts) (p : Package) (n : ℕ) (name : List ℕ) (s : FileChanges) → IsRenameIn w known p n name s →
-    KeepsPackages w known (revision_of w s) → (c : Conflict) → IsConflictBehind (IsPackage w known) p n name c → IsConflict w known (revision_of w s) c
+    KeepsPackages w known (revision_of w s) → (c : Conflict) → IsConflictBehind (IsCheckedPackage w known) p n name c → IsConflict w known (revision_of w s) c
 behind_is w known p n name s h keeps c k =
     let t = k.turns in record {
       used_in = k.used_in;
@@ -153,7 +153,7 @@ behind_is w known p n name s h keeps c k =
         turned =
             by_package (Declared p.path t.old) t.was
             (behind.turned w known p n name s h keeps k.used_in k.is_package k.user c.used k.begins t.old t.was c.by
-            (named_taken (IsPackage w known) p n name t.old k.by c.by t.turns k.told));
+            (named_taken (IsCheckedPackage w known) p n name t.old k.by c.by t.turns k.told));
       };
     }
 
@@ -189,11 +189,11 @@ module _ (w : Workspace) (known : Verdicts) (r : Revision) (C D : Conflict → T
 
 pub first_by : OwnConflictsAreTold → (w : Workspace) (known : Verdicts) (p : Package) (n : ℕ) (name : List ℕ) (s : FileChanges) →
     IsRenameIn w known p n name s → KeepsPackages w known (revision_of w s) → KeepsMembers w known (revision_of w s) → (own far : Option Conflict) →
-    FirstOwnConflict (IsPackage w known) p n name own → FirstConflictBehind (IsPackage w known) p n name far →
+    FirstOwnConflict (IsCheckedPackage w known) p n name own → FirstConflictBehind (IsCheckedPackage w known) p n name far →
     TellsFirstOf w known (revision_of w s) (earlier_conflict own far)
 first_by own_told w known p n name s h keeps members own far first_own first_behind =
-    first_of_both w known (revision_of w s) (IsOwnConflict (IsPackage w known) p n name) (IsConflictBehind (IsPackage w known) p n name)
-    (HasNoOwnConflict p n name) (HasNoConflictBehind (IsPackage w known) p n name)
+    first_of_both w known (revision_of w s) (IsOwnConflict (IsCheckedPackage w known) p n name) (IsConflictBehind (IsCheckedPackage w known) p n name)
+    (HasNoOwnConflict p n name) (HasNoConflictBehind (IsCheckedPackage w known) p n name)
     (own_is own_told w known p n name s h keeps)
     (behind_is w known p n name s h keeps)
     (stays_by w known p n name s h keeps members)

@@ -10,7 +10,7 @@ use Rattle.types_declared.specs.Package.{Package}
 use Rattle.refs_binding.specs.declared.declaration.Declaration.TheVariants.{Declared}
 use Rattle.refs_binding.specs.Binding.{BindsQualified}
 use Rattle.refs_binding.specs.Identifiers.{BeginsAt}
-use Rattle.refs_binding.specs.Uses.{IsPackage}
+use Rattle.refs_binding.specs.Uses.{IsCheckedPackage}
 use Rattle.refactor_conflict.specs.BoundAfter.{HasBecome, IsBoundByPackage}
 use Rattle.refactor_conflict.specs.Conflicts.{IsCapturer, LostOrCaptured}
 use Rattle.refactor_conflict.specs.Staying.{StaysBound, StaysByPackage}
@@ -43,10 +43,10 @@ TakenBehind Known p n name old (Some by) =
 
 -- That tells exactly which identifiers behind the package's name are lost or captured.
 abbrev pub ConflictsBehindAreTold : Type 0
-ConflictsBehindAreTold = OfRenamesIn (λ w known p n name s. (x : Package) → IsPackage w known x →
-    (u : ℕ) (place : Place) → BeginsAt x place.path place.offset u → (old : ℕ) → BindsQualified (IsPackage w known) x u (Declared p.path old) →
-    (by : Option Capturer) → LostOrCaptured (HasBecome w known (revision_of w s)) (IsPackage w known)
-    (IsBoundByPackage w (revision_of w s) place x u) (Declared p.path old) by ↔ TakenBehind (IsPackage w known) p n name old by)
+ConflictsBehindAreTold = OfRenamesIn (λ w known p n name s. (x : Package) → IsCheckedPackage w known x →
+    (u : ℕ) (place : Place) → BeginsAt x place.path place.offset u → (old : ℕ) → BindsQualified (IsCheckedPackage w known) x u (Declared p.path old) →
+    (by : Option Capturer) → LostOrCaptured (HasBecome w known (revision_of w s)) (IsCheckedPackage w known)
+    (IsBoundByPackage w (revision_of w s) place x u) (Declared p.path old) by ↔ TakenBehind (IsCheckedPackage w known) p n name old by)
 
 -- The identifier `u` of the package `x` is lost or captured behind the name of the package `p`, as the old names tell.
 pub record TurnsQualified (Known : Package → Type 0) (p : Package) (n : ℕ) (name : List ℕ) (x : Package) (u : ℕ) (by : Option ℕ) : Type 0 where
@@ -56,12 +56,12 @@ pub record TurnsQualified (Known : Package → Type 0) (p : Package) (n : ℕ) (
 
 -- What is bound behind the name of another package stays bound.
 abbrev pub OtherNamesBehindStay : Type 0
-OtherNamesBehindStay = OfRenamesIn (λ w known p n name s. (x : Package) → IsPackage w known x → (u : ℕ) (place : Place) →
-    BeginsAt x place.path place.offset u → (path : List ℕ) (d : ℕ) → (path ≡ p.path → ⊥) → BindsQualified (IsPackage w known) x u (Declared path d) →
+OtherNamesBehindStay = OfRenamesIn (λ w known p n name s. (x : Package) → IsCheckedPackage w known x → (u : ℕ) (place : Place) →
+    BeginsAt x place.path place.offset u → (path : List ℕ) (d : ℕ) → (path ≡ p.path → ⊥) → BindsQualified (IsCheckedPackage w known) x u (Declared path d) →
     StaysBound (HasBecome w known (revision_of w s)) (IsBoundByPackage w (revision_of w s) place x u) (Declared path d))
 
 -- So an identifier that is neither lost nor captured stays bound behind each name.
 abbrev pub NamesBehindStay : Type 0
-NamesBehindStay = OfRenamesIn (λ w known p n name s. (x : Package) → IsPackage w known x →
-    (u : ℕ) (place : Place) → BeginsAt x place.path place.offset u → ((by : Option ℕ) → TurnsQualified (IsPackage w known) p n name x u by → ⊥) →
+NamesBehindStay = OfRenamesIn (λ w known p n name s. (x : Package) → IsCheckedPackage w known x →
+    (u : ℕ) (place : Place) → BeginsAt x place.path place.offset u → ((by : Option ℕ) → TurnsQualified (IsCheckedPackage w known) p n name x u by → ⊥) →
     StaysByPackage w known (revision_of w s) x u place)

@@ -11,12 +11,12 @@ use Rattle.refs_binding.specs.declared.declaration.Declaration.{Declaration}
 use Rattle.refs_binding.specs.declared.declaration.Declaration.TheVariants.{Declared}
 use Rattle.refs_binding.specs.Identifiers.{BeginsAt}
 use Rattle.refs_binding.specs.Places.{place_cmp}
-use Rattle.refs_binding.specs.Uses.{IsPackage}
+use Rattle.refs_binding.specs.Uses.{IsCheckedPackage}
 use Rattle.refactor_conflict.specs.Conflicts.{IsCapturer, IsConflict}
 use Rattle.refactor_conflict.specs.Staying.{StaysAt}
 use Rattle.refactor_conflict.specs.declared.conflict.Capturer.{Capturer}
 use Rattle.refactor_conflict.specs.declared.conflict.Conflict.{Conflict}
-use Rattle.law_rename_agrees.specs.ConflictsByTables.{IsNumbered, TellsFirstOf}
+use Rattle.law_rename_agrees.specs.ConflictsByTables.{IsOwnNumber, TellsFirstOf}
 use Rattle.law_scope_conflicts.specs.Behind.{TurnsQualified}
 use Rattle.law_scope_conflicts.specs.ScopeRenames.{OfRenamesIn}
 
@@ -29,7 +29,7 @@ HasNoOwnConflict p n name place = (u : ℕ) → BeginsAt p place.path place.offs
 -- A capturer names the declaration of this number of the package.
 pub record NamesNumber (Known : Package → Type 0) (p : Package) (c : ℕ) (by : Capturer) : Type 0 where
   pub declaration : Declaration
-  pub numbered : IsNumbered p c declaration
+  pub numbered : IsOwnNumber p c declaration
   pub told : IsCapturer Known declaration by
 
 -- The identifier `u` has this conflict by the old names.
@@ -72,16 +72,16 @@ pub record IsConflictBehind (Known : Package → Type 0) (p : Package) (n : ℕ)
 -- Where there is no conflict of both kinds, each identifier stays bound.
 abbrev pub NoConflictStays : Type 0
 NoConflictStays = OfRenamesIn (λ w known p n name s. (place : Place) →
-    HasNoOwnConflict p n name place → HasNoConflictBehind (IsPackage w known) p n name place → StaysAt w known (revision_of w s) place)
+    HasNoOwnConflict p n name place → HasNoConflictBehind (IsCheckedPackage w known) p n name place → StaysAt w known (revision_of w s) place)
 
 -- Each conflict by the old names is one of the change.
 abbrev pub OwnConflictsAreConflicts : Type 0
 OwnConflictsAreConflicts = OfRenamesIn (λ w known p n name s. (c : Conflict) →
-    IsOwnConflict (IsPackage w known) p n name c → IsConflict w known (revision_of w s) c)
+    IsOwnConflict (IsCheckedPackage w known) p n name c → IsConflict w known (revision_of w s) c)
 
 abbrev pub ConflictsBehindAreConflicts : Type 0
 ConflictsBehindAreConflicts = OfRenamesIn (λ w known p n name s. (c : Conflict) →
-    IsConflictBehind (IsPackage w known) p n name c → IsConflict w known (revision_of w s) c)
+    IsConflictBehind (IsCheckedPackage w known) p n name c → IsConflict w known (revision_of w s) c)
 
 -- The first of them
 
@@ -104,9 +104,9 @@ earlier_conflict (Some a) (Some b) = if is_lt (place_cmp b.used a.used) then Som
 
 -- The earlier one of the first conflict of the scopes and the first behind the package's name is the first of the change.
 abbrev pub FirstConflictsAreTold : Type 0
-FirstConflictsAreTold = OfRenamesIn (λ w known p n name s. (own behind : Option Conflict) → FirstOwnConflict (IsPackage w known) p n name own →
-    FirstConflictBehind (IsPackage w known) p n name behind → TellsFirstOf w known (revision_of w s) (earlier_conflict own behind))
+FirstConflictsAreTold = OfRenamesIn (λ w known p n name s. (own behind : Option Conflict) → FirstOwnConflict (IsCheckedPackage w known) p n name own →
+    FirstConflictBehind (IsCheckedPackage w known) p n name behind → TellsFirstOf w known (revision_of w s) (earlier_conflict own behind))
 
 -- A declaration that is not package-level has no conflict behind the package's name.
 abbrev pub LocalRenamesTurnNoneBehind : Type 0
-LocalRenamesTurnNoneBehind = OfRenamesIn (λ w known p n name s. (IsPackageLevel p.layout n → ⊥) → FirstConflictBehind (IsPackage w known) p n name None)
+LocalRenamesTurnNoneBehind = OfRenamesIn (λ w known p n name s. (IsPackageLevel p.layout n → ⊥) → FirstConflictBehind (IsCheckedPackage w known) p n name None)

@@ -22,9 +22,9 @@ use Rattle.workspace_check.proofs.PackageFiles.{file_in_folder}
 use Rattle.refs_binding.specs.declared.declaration.Declaration.{Declaration}
 use Rattle.refs_binding.specs.declared.declaration.Declaration.TheVariants.{Predeclared, Declared, Field, Method}
 use Rattle.refs_binding.specs.Binding.{DeclaresMember, field_place}
-use Rattle.refs_binding.specs.DeclaringPlaces.{InPackage, TokenAt, TokenBegins, DeclaresAt, IsDeclaredAt}
+use Rattle.refs_binding.specs.DeclaringPlaces.{InPackage, TokenAt, TokenBegins, HasDeclarationAt, IsDeclaredAt}
 use Rattle.refs_binding.specs.Identifiers.{BeginsAt, NameBegins}
-use Rattle.refs_binding.specs.Uses.{IsPackage}
+use Rattle.refs_binding.specs.Uses.{IsCheckedPackage}
 use Rattle.refs_binding.proofs.Tokens.{Begins}
 use Rattle.refs_binding.proofs.Units.{one_package}
 use Rattle.refs_lookup.proofs.BoundNamedMembers.{one_by_name}
@@ -67,7 +67,7 @@ literal_apart l n may = by_test (is_literal (l.role (n + 1))) refl
     by_test true e member = role_apart (l.role (n + 1)) e member
     by_test false e member = may_apart (l.role n) may member
 
-module _ (w : Workspace) (known : Verdicts) (p : Package) (is : IsPackage w known p) where
+module _ (w : Workspace) (known : Verdicts) (p : Package) (is : IsCheckedPackage w known p) where
   -- a name at which a member is declared
   name_begins : (at : Position) (place : Place) → IsNamedIn p at.file at.index → TokenAt p at place → Begins p at place
   name_begins at place named begins =
@@ -90,7 +90,7 @@ module _ (w : Workspace) (known : Verdicts) (p : Package) (is : IsPackage w know
         marks = marks u.0 u.1.1;
       }
 
-  scope_marked : (path : List ℕ) (n : ℕ) (place : Place) → path ≡ p.path → DeclaresAt p (Declared path n) place → IsMarkedBy p (Declared path n) place
+  scope_marked : (path : List ℕ) (n : ℕ) (place : Place) → path ≡ p.path → HasDeclarationAt p (Declared path n) place → IsMarkedBy p (Declared path n) place
   scope_marked path n place own h =
       let there = literal_stands w known p.path p is.is_checked n h.is_at.counts h.is_at.own in
       record {
@@ -101,7 +101,7 @@ module _ (w : Workspace) (known : Verdicts) (p : Package) (is : IsPackage w know
         marks = (own, (refl, h.is_at.counts.declares.may));
       }
 
-  field_marked : (s : Symbol) (place : Place) → s.package ≡ p.path → DeclaresAt p (Field s) place → IsMarkedBy p (Field s) place
+  field_marked : (s : Symbol) (place : Place) → s.package ≡ p.path → HasDeclarationAt p (Field s) place → IsMarkedBy p (Field s) place
   field_marked s place own h =
       let counts = h.is_at.counts in
       let f = counts.field in
@@ -109,7 +109,7 @@ module _ (w : Workspace) (known : Verdicts) (p : Package) (is : IsPackage w know
       (subst (λ at. TokenAt p at place) (sym h.is_at.named_at) h.begins)
       (λ u stands. (own, record { at = field_place f; is_at = record { counts = counts; named_at = refl }; stands = stands }))
 
-  method_marked : (s : Symbol) (place : Place) → s.package ≡ p.path → DeclaresAt p (Method s) place → IsMarkedBy p (Method s) place
+  method_marked : (s : Symbol) (place : Place) → s.package ≡ p.path → HasDeclarationAt p (Method s) place → IsMarkedBy p (Method s) place
   method_marked s place own h =
       let counts = h.is_at.counts in
       let f = counts.method in
@@ -151,7 +151,7 @@ module _ (w : Workspace) (known : Verdicts) (p : Package) (is : IsPackage w know
 -- The package that declares a declaration at a place.
 record IsMarkedIn (w : Workspace) (known : Verdicts) (d : Declaration) (place : Place) : Type 0 where
   inside : Package
-  is_package : IsPackage w known inside
+  is_package : IsCheckedPackage w known inside
   of_folder : folder place.path ≡ inside.path
   marked : IsMarkedBy inside d place
 
@@ -160,14 +160,14 @@ module _ (w : Workspace) (known : Verdicts) where
   file_of_token None token place h = absurd h
   file_of_token (Some f) token place h = (f, (refl, h.0))
 
-  in_folder : (path : List ℕ) (d : Declaration) (place : Place) → (h : InPackage (IsPackage w known) path (λ p. DeclaresAt p d place)) →
+  in_folder : (path : List ℕ) (d : Declaration) (place : Place) → (h : InPackage (IsCheckedPackage w known) path (λ p. HasDeclarationAt p d place)) →
       folder place.path ≡ h.inside.path
   in_folder path d place h =
       let at = h.holds.at in
       let f = file_of_token (slice_get h.inside.files at.file) at.index place h.holds.begins in
       ap folder (sym f.1.1) ∙ file_in_folder w known h.inside.path h.inside h.is_package.is_checked at.file f.0 f.1.0
 
-  marked_in : (d : Declaration) (place : Place) → IsDeclaredAt (IsPackage w known) d place → IsMarkedIn w known d place
+  marked_in : (d : Declaration) (place : Place) → IsDeclaredAt (IsCheckedPackage w known) d place → IsMarkedIn w known d place
   marked_in (Predeclared n) place h = absurd h
   marked_in (Declared path n) place h = record {
     inside = h.inside;

@@ -17,7 +17,7 @@ use Rattle.workspace_check.proofs.Closed.{to_package}
 use Rattle.workspace_check.proofs.Members.{cases_contains}
 use Rattle.workspace_check.proofs.OneList.{is_faultless}
 use Rattle.workspace_check.proofs.OneVerdict.{one_verdict, right_below, verdict_by}
-use Rattle.refs_binding.specs.Uses.{IsPackage}
+use Rattle.refs_binding.specs.Uses.{IsCheckedPackage}
 use Rattle.refs_lookup.proofs.OnePlace.{same_files}
 use Rattle.refactor_after.specs.ScopedPackages.{AreClauseNames, IsScopedIn, IsClauseName, named, unnamed}
 use Rattle.law_renamed_scopes.proofs.GoodImports.{imports_are_good}
@@ -26,7 +26,7 @@ use Rattle.law_renamed_scopes.proofs.ScopedAgain.{imported}
 use Rattle.law_scoped_packages.specs.ScopedPackages.{FaultlessPackagesAreScoped}
 
 -- A package of the workspace `v`, by any verdicts. The names under which it sees what it imports are those of clauses.
-module _ (v : Workspace) (known : Verdicts) (q : Package) (is : IsPackage v known q) (name_of : List ℕ → Option (List ℕ)) (are : AreClauseNames v name_of)
+module _ (v : Workspace) (known : Verdicts) (q : Package) (is : IsCheckedPackage v known q) (name_of : List ℕ → Option (List ℕ)) (are : AreClauseNames v name_of)
     (sees : (r : List ℕ) → PackageImports v q.path r → (n : Option (List ℕ)) (i : ExportData) → IsSeenAs v known q.path r n i → n ≡ name_of r) where
   abbrev files : List FileParts
   files = is.is_checked.files
@@ -87,7 +87,7 @@ module _ (x : Workspace) (known : Verdicts) (right : AreVerdicts x known) (sound
   is_name path (inr not) = unnamed (λ files has parsed. not has)
 
   -- a package that is imported is seen under that name
-  seen_where : (p : Package) → IsPackage x known p → (r : List ℕ) → PackageImports x p.path r → (n : Option (List ℕ)) (i : ExportData) →
+  seen_where : (p : Package) → IsCheckedPackage x known p → (r : List ℕ) → PackageImports x p.path r → (n : Option (List ℕ)) (i : ExportData) →
       IsSeenAs x known p.path r n i → (c : IsHeld r) → n ≡ name_where r c
   seen_where p is r imports _ _ (seen on good) (inl has) = refl
   seen_where p is r imports _ _ (seen on good) (inr not) = absurd (not (to_package x p.path r on.imported))
@@ -95,7 +95,7 @@ module _ (x : Workspace) (known : Verdicts) (right : AreVerdicts x known) (sound
       absurd (imports_are_good x sound known right p is r imports (λ on. true≢false (sym (none on) ∙ faultless r has)))
   seen_where p is r imports _ _ (unseen none) (inr not) = refl
 
-  pub is_scoped : (q : Package) → IsPackage x known q → IsScopedIn x (scoped_of q)
+  pub is_scoped : (q : Package) → IsCheckedPackage x known q → IsScopedIn x (scoped_of q)
   is_scoped q is =
       scoped_by x known q is name_of (λ path. is_name path (cases_contains (package_paths x) path))
       (λ r imports n i sees. seen_where q is r imports n i sees (cases_contains (package_paths x) r))

@@ -21,8 +21,8 @@ use Rattle.types_declared.specs.Package.{Package}
 use Rattle.workspace_check.specs.Verdicts.{Verdicts}
 use Rattle.refs_binding.specs.declared.declaration.Declaration.{Declaration}
 use Rattle.refs_binding.specs.DeclaringPlaces.{TokenAt, TokenBegins}
-use Rattle.refs_binding.specs.Identifiers.{BeginsAt, IsName, NameBegins, file_of}
-use Rattle.refs_binding.specs.Uses.{IsPackage}
+use Rattle.refs_binding.specs.Identifiers.{BeginsAt, IsNameToken, NameBegins, file_of}
+use Rattle.refs_binding.specs.Uses.{IsCheckedPackage}
 use Rattle.refs_lookup.proofs.BoundUsedMembers.{file_at}
 use Rattle.law_renamed_packages.specs.Layouts.{IsRelaid}
 use Rattle.law_renamed_packages.specs.Renames.{IsPlainRename}
@@ -43,21 +43,21 @@ have_places w known p is d counts other =
     (place, subst (λ o. TokenBegins o at.index place) (sym (in_package w known p.path p h at t.0 t.1)) (refl, refl))
 
 -- a name stays a name
-moved_name : (edits : List Edit) (o : Option Piece) → IsName o → IsName (option_map (moved_piece edits) o)
+moved_name : (edits : List Edit) (o : Option Piece) → IsNameToken o → IsNameToken (option_map (moved_piece edits) o)
 moved_name edits None h = absurd h
 moved_name edits (Some t) h = h
 
 -- A package that is checked after a plain rename, and was relaid.
 module _ (w : Workspace) (known after : Verdicts) (d : Declaration) (name : List ℕ) (s : FileChanges) (h : IsPlainRename w known d name s)
-    (p q : Package) (is : IsPackage w known p) (also : IsPackage (edited s w) after q) (relaid : IsRelaid (revision_of w s) p q) where
+    (p q : Package) (is : IsCheckedPackage w known p) (also : IsCheckedPackage (edited s w) after q) (relaid : IsRelaid (revision_of w s) p q) where
   abbrev edits : SourceFile → List Edit
   edits f = edits_by (change_of s f.path)
 
-  name_there : (k i : ℕ) (f : SourceFile) → slice_get p.files k ≡ Some f → IsName (slice_get (tokens_in f.cut) i) →
-      IsName (slice_get (tokens_in (renamed_file (edits f) f).cut) i)
+  name_there : (k i : ℕ) (f : SourceFile) → slice_get p.files k ≡ Some f → IsNameToken (slice_get (tokens_in f.cut) i) →
+      IsNameToken (slice_get (tokens_in (renamed_file (edits f) f).cut) i)
   name_there k i f at named =
       let tokens = tokens_moved f.cut (edits f) (replaced.is_file w known d name s h p is k f at).is_cut (replaced.are w known d name s h p is k f at) in
-      subst IsName (sym (ap (λ ts. slice_get ts i) tokens ∙ slice_get-map (moved_piece (edits f)) (tokens_in f.cut) i))
+      subst IsNameToken (sym (ap (λ ts. slice_get ts i) tokens ∙ slice_get-map (moved_piece (edits f)) (tokens_in f.cut) i))
       (moved_name (edits f) (slice_get (tokens_in f.cut) i) named)
 
   begins_by : (k i : ℕ) (place : Place) (o : Option SourceFile) → slice_get p.files k ≡ o → NameBegins o i place.path place.offset →

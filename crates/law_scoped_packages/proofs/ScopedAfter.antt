@@ -15,7 +15,7 @@ use Rattle.workspace_check.proofs.Closed.{to_package}
 use Rattle.workspace_check.proofs.Members.{cases_contains}
 use Rattle.workspace_check.proofs.SameImports.{builds_by}
 use Rattle.refs_binding.specs.declared.declaration.Declaration.{Declaration}
-use Rattle.refs_binding.specs.Uses.{IsPackage}
+use Rattle.refs_binding.specs.Uses.{IsCheckedPackage}
 use Rattle.refactor_after.specs.ScopedPackages.{AreClauseNames, IsScopedIn, IsClauseName, named, unnamed}
 use Rattle.law_renamed_packages.specs.Layouts.{AreSoundBelow, IsRelaid}
 use Rattle.law_renamed_packages.specs.Renames.{IsPlainRename}
@@ -45,7 +45,7 @@ module _ (w : Workspace) (known : Verdicts) (d : Declaration) (name : List ℕ) 
   clauses = name_of w known h.rename.right h.rename.sound
 
   package_at : (path : List ℕ) → Contains (package_paths w) path →
-      (p : Package) × (IsPackage w known p × ((p.path ≡ path) × ((known path).export_data.name ≡ package_name p.files)))
+      (p : Package) × (IsCheckedPackage w known p × ((p.path ≡ path) × ((known path).export_data.name ≡ package_name p.files)))
   package_at path has =
       let x = data_of w known h.rename.right h.rename.sound path has in
       let same : x.checked.path ≡ path = ap (λ (c : Package). c.path) x.is_package.is_package.is_package in (
@@ -79,7 +79,7 @@ module _ (w : Workspace) (known : Verdicts) (d : Declaration) (name : List ℕ) 
   are_clauses path = clause_there path (cases_contains (package_paths w) path)
 
   -- so does each package see what it imports
-  module _ (p : Package) (is : IsPackage w known p) (q : Package) (also : IsPackage v known q) (path : q.path ≡ p.path) where
+  module _ (p : Package) (is : IsCheckedPackage w known p) (q : Package) (also : IsCheckedPackage v known q) (path : q.path ≡ p.path) where
     never_unseen : (r : List ℕ) → PackageImports v q.path r → (n : Option (List ℕ)) (i : ExportData) → IsSeenAs v known q.path r n i →
         (c : IsHeld w known h.rename.right h.rename.sound r) → n ≡ name_where w known h.rename.right h.rename.sound r c
     never_unseen r imports _ _ (seen on good) (inl has) = refl
@@ -98,8 +98,8 @@ module _ (w : Workspace) (known : Verdicts) (d : Declaration) (name : List ℕ) 
         scoped_by v known q also clauses are_clauses
         (λ r imports n i sees. never_unseen r imports n i sees (cases_contains (package_paths w) r))
 
-  module _ (p : Package) (is : IsPackage w known p) where
-    abbrev checked : (q : Package) × (IsPackage v known q × IsRelaid (revision_of w s) p q)
+  module _ (p : Package) (is : IsCheckedPackage w known p) where
+    abbrev checked : (q : Package) × (IsCheckedPackage v known q × IsRelaid (revision_of w s) p q)
     checked = relaid_by w known known d name s h p is (sound_below p.path)
 
     abbrev q : Package

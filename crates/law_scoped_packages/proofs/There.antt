@@ -15,9 +15,9 @@ use Rattle.types_declared.specs.Package.{Package}
 use Rattle.workspace_check.specs.Verdicts.{Verdicts}
 use Rattle.workspace_check.proofs.PackageFiles.{in_folder, package_file}
 use Rattle.refs_binding.specs.declared.declaration.Declaration.TheVariants.{Declared}
-use Rattle.refs_binding.specs.Binding.{IsPredeclared}
+use Rattle.refs_binding.specs.Binding.{IsPredeclaredNumber}
 use Rattle.refs_binding.specs.DeclaringPlaces.{TokenAt, IsDeclaredAt}
-use Rattle.refs_binding.specs.Uses.{IsPackage}
+use Rattle.refs_binding.specs.Uses.{IsCheckedPackage}
 use Rattle.refs_index.specs.Corresponding.{stands}
 use Rattle.refactor_after.specs.ScopedPackages.{IsScopedIn}
 use Rattle.refactor_conflict.specs.BoundAfter.{HasBecome}
@@ -36,7 +36,7 @@ first_file w path e has (first ∷ rest) is = (first, (rest, is))
 
 -- A package moves to its own path where the change leaves each file at its path.
 pub stays_there : (w : Workspace) (known : Verdicts) (r : Revision) → ((place : Place) → (r.moved place).path ≡ place.path) → (p : Package) →
-    IsPackage w known p → PackageMovesTo w r p.path p.path
+    IsCheckedPackage w known p → PackageMovesTo w r p.path p.path
 stays_there w known r stays p is =
     let some = package_file w p.path is.of_workspace in
     let first = first_file w p.path some.0 some.1 (package_files w p.path) refl in
@@ -49,9 +49,9 @@ stays_there w known r stays p is =
     }
 
 -- A package of the workspace before the change, and that package after it.
-module _ (w : Workspace) (known : Verdicts) (r : Revision) (p q : Package) (is : IsPackage w known p) (scoped : IsScopedIn r.after q)
+module _ (w : Workspace) (known : Verdicts) (r : Revision) (p q : Package) (is : IsCheckedPackage w known p) (scoped : IsScopedIn r.after q)
     (relaid : IsRelaid r p q) (moved : HasMovedTokens r p q) where
-  pub becomes_itself : (d : ℕ) → (IsPredeclared d → ⊥) → Counts p.layout p.names d → Counts q.layout q.names d →
+  pub becomes_itself : (d : ℕ) → (IsPredeclaredNumber d → ⊥) → Counts p.layout p.names d → Counts q.layout q.names d →
       HasBecome w known r (Declared p.path d) (Declared p.path d)
   becomes_itself d own before after =
       let l = p.layout in
@@ -60,7 +60,7 @@ module _ (w : Workspace) (known : Verdicts) (r : Revision) (p q : Package) (is :
       let token : TokenAt q at (r.moved place.0) = moved.tokens at place.0 place.1 in
       let there : TokenAt q (q.layout.place (literal_of q.layout d)) (r.moved place.0) =
       subst (λ (k : Layout). TokenAt q (k.place (literal_of k d)) (r.moved place.0)) (sym relaid.layout) token in
-      let old : IsDeclaredAt (IsPackage w known) (Declared p.path d) place.0 = record {
+      let old : IsDeclaredAt (IsCheckedPackage w known) (Declared p.path d) place.0 = record {
         inside = p;
         is_package = is;
         of_path = refl;

@@ -8,17 +8,17 @@ use Rattle.base_edits.specs.RevisionsOfEdits.{revision_of}
 use Rattle.workspace_check.specs.Verdicts.{Verdicts}
 use Rattle.refs_binding.specs.declared.declaration.Declaration.{Declaration}
 use Rattle.refs_binding.specs.DeclaringPlaces.{IsDeclaredAt}
-use Rattle.refs_binding.specs.Uses.{IsPackage}
+use Rattle.refs_binding.specs.Uses.{IsCheckedPackage}
 use Rattle.law_renamed_packages.specs.Renames.{IsRename}
 
 -- Declarations that are declared at one place are one declaration.
 abbrev pub DeclarationsStandApart : Type 0
-DeclarationsStandApart = (w : Workspace) (known : Verdicts) (c d : Declaration) (place : Place) → IsDeclaredAt (IsPackage w known) c place →
-    IsDeclaredAt (IsPackage w known) d place → c ≡ d
+DeclarationsStandApart = (w : Workspace) (known : Verdicts) (c d : Declaration) (place : Place) → IsDeclaredAt (IsCheckedPackage w known) c place →
+    IsDeclaredAt (IsCheckedPackage w known) d place → c ≡ d
 
 -- The change moves no two declarations to one place.
 abbrev pub MoveApart : Workspace → Verdicts → Revision → Type 0
-MoveApart w known r = (c d : Declaration) (a b : Place) → IsDeclaredAt (IsPackage w known) c a → IsDeclaredAt (IsPackage w known) d b →
+MoveApart w known r = (c d : Declaration) (a b : Place) → IsDeclaredAt (IsCheckedPackage w known) c a → IsDeclaredAt (IsCheckedPackage w known) d b →
     r.moved a ≡ r.moved b → c ≡ d
 
 -- No rename moves two declarations to one place.

@@ -12,10 +12,10 @@ use Rattle.types_declared.specs.Package.{Package}
 use Rattle.workspace_check.specs.FaultLists.{ListsFaults}
 use Rattle.workspace_check.specs.Verdicts.{Verdicts, AreVerdicts}
 use Rattle.refs_binding.specs.declared.declaration.Declaration.{Declaration}
-use Rattle.refs_binding.specs.Binding.{IsPredeclared}
+use Rattle.refs_binding.specs.Binding.{IsPredeclaredNumber}
 use Rattle.refs_binding.specs.DeclaringPlaces.{TokenAt}
 use Rattle.refs_binding.specs.Identifiers.{BeginsAt}
-use Rattle.refs_binding.specs.Uses.{IsPackage}
+use Rattle.refs_binding.specs.Uses.{IsCheckedPackage}
 use Rattle.refactor_after.specs.ScopedPackages.{IsScopedIn}
 use Rattle.law_renamed_packages.specs.Layouts.{IsRelaid}
 use Rattle.law_renamed_packages.specs.Renames.{IsPlainRename}
@@ -30,13 +30,13 @@ pub record HasSameScopes (q o : Package) : Type 0 where
 
 -- In a workspace without faults each package that is checked has the scopes that it has without checking.
 abbrev pub FaultlessPackagesAreScoped : Type 0
-FaultlessPackagesAreScoped = (x : Workspace) (known : Verdicts) → AreVerdicts x known → ListsFaults x [] → (q : Package) → IsPackage x known q →
+FaultlessPackagesAreScoped = (x : Workspace) (known : Verdicts) → AreVerdicts x known → ListsFaults x [] → (q : Package) → IsCheckedPackage x known q →
     (o : Package) × (IsScopedIn x o × HasSameScopes q o)
 
 -- A declaration of a package's own scopes has a place.
 abbrev pub DeclarationsHavePlaces : Type 0
-DeclarationsHavePlaces = (w : Workspace) (known : Verdicts) (p : Package) → IsPackage w known p → (d : ℕ) → Counts p.layout p.names d →
-    (IsPredeclared d → ⊥) → (place : Place) × TokenAt p (p.layout.place (literal_of p.layout d)) place
+DeclarationsHavePlaces = (w : Workspace) (known : Verdicts) (p : Package) → IsCheckedPackage w known p → (d : ℕ) → Counts p.layout p.names d →
+    (IsPredeclaredNumber d → ⊥) → (place : Place) × TokenAt p (p.layout.place (literal_of p.layout d)) place
 
 -- Each token of the package `q` begins where the change moves the token of this position in `p`. Names stay names.
 pub record HasMovedTokens (r : Revision) (p q : Package) : Type 0 where
@@ -46,5 +46,5 @@ pub record HasMovedTokens (r : Revision) (p q : Package) : Type 0 where
 -- By scopes each package is there after a plain rename, relaid, with its tokens moved. This asks for no verdict of the edited workspace.
 abbrev pub ScopedPackagesAreRelaid : Type 0
 ScopedPackagesAreRelaid = (w : Workspace) (known : Verdicts) (d : Declaration) (name : List ℕ) (s : FileChanges) → IsPlainRename w known d name s →
-    (p : Package) → IsPackage w known p →
+    (p : Package) → IsCheckedPackage w known p →
     (q : Package) × (IsScopedIn (edited s w) q × (IsRelaid (revision_of w s) p q × HasMovedTokens (revision_of w s) p q))

@@ -10,9 +10,9 @@ use Rattle.types_declared.specs.Package.{Package}
 use Rattle.workspace_check.specs.Verdicts.{Verdicts}
 use Rattle.refs_binding.specs.declared.declaration.Declaration.{Declaration}
 use Rattle.refs_binding.specs.declared.declaration.Declaration.TheVariants.{Declared}
-use Rattle.refs_binding.specs.Binding.{IsPredeclared}
+use Rattle.refs_binding.specs.Binding.{IsPredeclaredNumber}
 use Rattle.refs_binding.specs.Identifiers.{BeginsAt}
-use Rattle.refs_binding.specs.Uses.{IsPackage}
+use Rattle.refs_binding.specs.Uses.{IsCheckedPackage}
 use Rattle.refactor_after.specs.ScopedPackages.{IsScopedIn}
 use Rattle.refactor_conflict.specs.BoundAfter.{HasBecome}
 use Rattle.law_renamed_packages.specs.Layouts.{IsRelaid}
@@ -25,12 +25,12 @@ pub record IsThereAfter (w : Workspace) (known : Verdicts) (r : Revision) (y q :
   pub relaid : IsRelaid r y q
   pub goes : PackageMovesTo w r y.path q.path
   pub begins : (u : ℕ) (place : Place) → BeginsAt y place.path place.offset u → BeginsAt q (r.moved place).path (r.moved place).offset u
-  pub become : (d : ℕ) → (IsPredeclared d → ⊥) → Counts y.layout y.names d → Counts q.layout q.names d →
+  pub become : (d : ℕ) → (IsPredeclaredNumber d → ⊥) → Counts y.layout y.names d → Counts q.layout q.names d →
       HasBecome w known r (Declared y.path d) (Declared y.path d)
 
 -- Each package of the workspace is there after the change.
 abbrev pub ArePackagesThere : Workspace → Verdicts → Revision → Type 0
-ArePackagesThere w known r = (y : Package) → IsPackage w known y → (q : Package) × IsThereAfter w known r y q
+ArePackagesThere w known r = (y : Package) → IsCheckedPackage w known y → (q : Package) × IsThereAfter w known r y q
 
 -- That is so after each plain rename.
 abbrev pub PackagesAreThere : Type 0

@@ -11,16 +11,16 @@ use Rattle.go_ast.specs.Flatten.{argument_tokens, literal_tokens, element_tokens
 use Rattle.go_ast.specs.Tree.{Item, TypeTree, Local, Imported, Pointer, Slice, ExprTree, Number, Text, Name, Blank, Composite, Paren, Prefix, Address}
 use Rattle.go_ast.specs.Tree.{Chain, Binary, OperandTrees, no_operand, operand, LinkTrees, no_link, selector, index, call, ArgumentTrees, no_argument}
 use Rattle.go_ast.specs.Tree.{argument, LiteralTree, literal, ElementTrees, no_element, element}
-use Rattle.go_scope.specs.Site.{Site, Source}
+use Rattle.go_scope.specs.Site.{Site, TokenSpellings}
 use Rattle.go_scope.specs.ExpressionSites.{type_sites, key_sites, expr_sites, operand_sites, link_sites, argument_sites, literal_sites, element_sites}
 use Rattle.go_scope.specs.ExpressionSites.{exprs_sites}
 use Rattle.law_tokens.specs.Tokens.{is_ident_token}
 use Rattle.law_tokens.proofs.Covers.{Covers, IsSkipped, ends, skips, takes, selects, keys, covers_append, covers_end, covers_behind, list_covers}
 
-abbrev pub Named : Source → List Site → List Token → Type 0
+abbrev pub Named : TokenSpellings → List Site → List Token → Type 0
 Named s xs ts = Covers is_ident_token s xs ts
 
-pub named_append : (s : Source) (xs ys : List Site) (ts us : List Token) → Named s xs ts → Named s ys us → Named s (xs ++ ys) (ts ++ us)
+pub named_append : (s : TokenSpellings) (xs ys : List Site) (ts us : List Token) → Named s xs ts → Named s ys us → Named s (xs ++ ys) (ts ++ us)
 named_append s xs ys ts us a b = covers_append is_ident_token s xs ys ts us a b
 
 no_binary : (op : BinaryOp) → IsSkipped is_ident_token (binary_kind op)
@@ -44,14 +44,14 @@ no_prefix prefix.Minus = refl
 no_prefix prefix.Not = refl
 no_prefix prefix.Deref = refl
 
-pub type_named : (s : Source) (t : TypeTree) → Named s (type_sites s t) (type_tokens t)
+pub type_named : (s : TokenSpellings) (t : TypeTree) → Named s (type_sites s t) (type_tokens t)
 unfolding type_sites type_tokens
 type_named s (Local n) = takes refl refl refl ends
 type_named s (Imported p d n) = takes refl refl refl (selects refl refl refl refl ends)
 type_named s (Pointer p t) = skips refl (type_named s t)
 type_named s (Slice o c t) = skips refl (skips refl (type_named s t))
 
-key_named : (s : Source) (k : Option (ℕ × ℕ)) → Named s (key_sites s k) (key_tokens k)
+key_named : (s : TokenSpellings) (k : Option (ℕ × ℕ)) → Named s (key_sites s k) (key_tokens k)
 key_named s None = ends
 key_named s (Some k) = keys refl refl refl refl ends
 
@@ -59,7 +59,7 @@ mutual
   unfolding expr_sites operand_sites link_sites argument_sites literal_sites element_sites expr_tokens operand_tokens link_tokens argument_tokens
       literal_tokens element_tokens
 
-  pub expr_named : (s : Source) (e : ExprTree) → Named s (expr_sites s e) (expr_tokens e)
+  pub expr_named : (s : TokenSpellings) (e : ExprTree) → Named s (expr_sites s e) (expr_tokens e)
   expr_named s (Number n) = skips refl ends
   expr_named s (Text n) = skips refl ends
   expr_named s (Name n) = takes refl refl refl ends
@@ -71,12 +71,12 @@ mutual
   expr_named s (Chain e ls) = named_append s (expr_sites s e) (link_sites s ls) (expr_tokens e) (link_tokens ls) (expr_named s e) (links_named s ls)
   expr_named s (Binary e os) = named_append s (expr_sites s e) (operand_sites s os) (expr_tokens e) (operand_tokens os) (expr_named s e) (operands_named s os)
 
-  operands_named : (s : Source) (os : OperandTrees) → Named s (operand_sites s os) (operand_tokens os)
+  operands_named : (s : TokenSpellings) (os : OperandTrees) → Named s (operand_sites s os) (operand_tokens os)
   operands_named s no_operand = ends
   operands_named s (operand op p e os) =
       skips (no_binary op) (named_append s (expr_sites s e) (operand_sites s os) (expr_tokens e) (operand_tokens os) (expr_named s e) (operands_named s os))
 
-  links_named : (s : Source) (ls : LinkTrees) → Named s (link_sites s ls) (link_tokens ls)
+  links_named : (s : TokenSpellings) (ls : LinkTrees) → Named s (link_sites s ls) (link_tokens ls)
   links_named s no_link = ends
   links_named s (selector d n ls) = selects refl refl refl refl (links_named s ls)
   links_named s (index o e c ls) =
@@ -86,19 +86,19 @@ mutual
       skips refl (named_append s (argument_sites s xs) (link_sites s ls) (argument_tokens xs) (sign kind.RightParen c ∷ link_tokens ls)
       (arguments_named s xs) (skips refl (links_named s ls)))
 
-  arguments_named : (s : Source) (xs : ArgumentTrees) → Named s (argument_sites s xs) (argument_tokens xs)
+  arguments_named : (s : TokenSpellings) (xs : ArgumentTrees) → Named s (argument_sites s xs) (argument_tokens xs)
   arguments_named s no_argument = ends
   arguments_named s (argument e comma rest) =
       named_append s (expr_sites s e) (argument_sites s rest) (expr_tokens e) (sign_if kind.Comma comma ++ argument_tokens rest) (expr_named s e)
       (covers_behind is_ident_token s (argument_sites s rest) (argument_tokens rest) kind.Comma comma refl (arguments_named s rest))
 
-  literal_named : (s : Source) (l : LiteralTree) → Named s (literal_sites s l) (literal_tokens l)
+  literal_named : (s : TokenSpellings) (l : LiteralTree) → Named s (literal_sites s l) (literal_tokens l)
   literal_named s (literal t o es c) =
       named_append s (type_sites s t) (element_sites s es) (type_tokens t) (sign kind.LeftBrace o ∷ (element_tokens es ++ (sign kind.RightBrace c ∷ [])))
       (type_named s t)
       (skips refl (covers_end is_ident_token s (element_sites s es) (element_tokens es) kind.RightBrace c refl (elements_named s es)))
 
-  elements_named : (s : Source) (es : ElementTrees) → Named s (element_sites s es) (element_tokens es)
+  elements_named : (s : TokenSpellings) (es : ElementTrees) → Named s (element_sites s es) (element_tokens es)
   elements_named s no_element = ends
   elements_named s (element key e comma rest) =
       named_append s (key_sites s key) (expr_sites s e ++ element_sites s rest) (key_tokens key)
@@ -106,5 +106,5 @@ mutual
       (named_append s (expr_sites s e) (element_sites s rest) (expr_tokens e) (sign_if kind.Comma comma ++ element_tokens rest) (expr_named s e)
       (covers_behind is_ident_token s (element_sites s rest) (element_tokens rest) kind.Comma comma refl (elements_named s rest)))
 
-pub exprs_named : (s : Source) (es : List (Item ExprTree)) → Named s (exprs_sites s es) (exprs_tokens es)
+pub exprs_named : (s : TokenSpellings) (es : List (Item ExprTree)) → Named s (exprs_sites s es) (exprs_tokens es)
 exprs_named s es = list_covers is_ident_token s kind.Comma refl (expr_sites s) expr_tokens (expr_named s) es

@@ -14,7 +14,7 @@ use Rattle.go_scope.specs.declared.model.Block.TheVariants.{Package}
 use Rattle.go_scope.specs.declared.model.Role.{Role}
 use Rattle.go_scope.specs.declared.model.Role.TheVariants.{Use, Declaring, NotLexical}
 use Rattle.go_scope.specs.declared.model.Purpose.TheVariants as purpose
-use Rattle.go_scope.specs.Site.{Source, site}
+use Rattle.go_scope.specs.Site.{TokenSpellings, site}
 use Rattle.go_scope.specs.ExpressionSites.{sites_if, list_sites, type_sites}
 use Rattle.go_scope.specs.StatementSites.{ident_sites, open_of, block_sites}
 use Rattle.go_scope.specs.FileSites.{global_name, member_name, spec_sites, global_sites, field_sites, body_sites, type_spec_sites, receiver_sites}
@@ -26,27 +26,27 @@ use Rattle.law_tokens.proofs.Covers.{none_all, list_covers, group_covers, option
 use Rattle.law_tokens.proofs.CoveredExpressions.{Named, named_append, type_named}
 use Rattle.law_tokens.proofs.CoveredStatements.{ident_named, block_named}
 
-global_name_named : (s : Source) (n : ℕ) → Named s (global_name s n) (name_tokens n)
+global_name_named : (s : TokenSpellings) (n : ℕ) → Named s (global_name s n) (name_tokens n)
 global_name_named s n = takes refl refl refl ends
 
-member_name_named : (s : Source) (n : ℕ) → Named s (member_name s n) (name_tokens n)
+member_name_named : (s : TokenSpellings) (n : ℕ) → Named s (member_name s n) (name_tokens n)
 member_name_named s n = takes refl refl refl ends
 
-no_basic : (s : Source) (b : BasicTree) → Named s [] (basic_tokens b)
+no_basic : (s : TokenSpellings) (b : BasicTree) → Named s [] (basic_tokens b)
 no_basic s (Integer n) = skips refl ends
 no_basic s (String n) = skips refl ends
 
-no_basics : (s : Source) (xs : List (Item BasicTree)) → Named s [] (list_tokens kind.Comma basic_tokens xs)
+no_basics : (s : TokenSpellings) (xs : List (Item BasicTree)) → Named s [] (list_tokens kind.Comma basic_tokens xs)
 no_basics s xs =
     none_all is_ident_token s (item_tokens kind.Comma basic_tokens)
     (λ (x : Item BasicTree). covers_pad is_ident_token s [] (basic_tokens x.value) (sign_if kind.Comma x.separator) (no_basic s x.value)
     (none_if is_ident_token s kind.Comma x.separator refl)) xs
 
-no_values : (s : Source) (v : Option (ℕ × List (Item BasicTree))) → Named s [] (tokens_if (value_tokens basic_tokens) v)
+no_values : (s : TokenSpellings) (v : Option (ℕ × List (Item BasicTree))) → Named s [] (tokens_if (value_tokens basic_tokens) v)
 no_values s None = ends
 no_values s (Some v) = skips refl (no_basics s v.1)
 
-global_named : (s : Source) (g : GlobalTree) → Named s (global_sites s g) (global_tokens g)
+global_named : (s : TokenSpellings) (g : GlobalTree) → Named s (global_sites s g) (global_tokens g)
 unfolding global_sites global_tokens
 global_named s g =
     named_append s (list_sites (global_name s) g.names) (type_sites s g.type_use) (list_tokens kind.Comma name_tokens g.names)
@@ -55,13 +55,13 @@ global_named s g =
     (covers_pad is_ident_token s (type_sites s g.type_use) (type_tokens g.type_use) (tokens_if (value_tokens basic_tokens) g.values) (type_named s g.type_use)
     (no_values s g.values))
 
-field_named : (s : Source) (f : FieldTree) → Named s (field_sites s f) (field_tokens f)
+field_named : (s : TokenSpellings) (f : FieldTree) → Named s (field_sites s f) (field_tokens f)
 unfolding field_sites field_tokens
 field_named s f =
     named_append s (list_sites (member_name s) f.names) (type_sites s f.type_use) (list_tokens kind.Comma name_tokens f.names) (type_tokens f.type_use)
     (list_covers is_ident_token s kind.Comma refl (member_name s) name_tokens (member_name_named s) f.names) (type_named s f.type_use)
 
-body_named : (s : Source) (b : BodyTree) → Named s (body_sites s b) (body_tokens b)
+body_named : (s : TokenSpellings) (b : BodyTree) → Named s (body_sites s b) (body_tokens b)
 unfolding body_sites body_tokens
 body_named s (Other t) = type_named s t
 body_named s (Struct p o fs c) =
@@ -69,11 +69,11 @@ body_named s (Struct p o fs c) =
     (covers_end is_ident_token s (list_sites (field_sites s) fs) (list_tokens kind.Semicolon field_tokens fs) kind.RightBrace c refl
     (list_covers is_ident_token s kind.Semicolon refl (field_sites s) field_tokens (field_named s) fs)))
 
-type_spec_named : (s : Source) (t : TypeSpecTree) → Named s (type_spec_sites s t) (type_spec_tokens t)
+type_spec_named : (s : TokenSpellings) (t : TypeSpecTree) → Named s (type_spec_sites s t) (type_spec_tokens t)
 unfolding type_spec_sites type_spec_tokens
 type_spec_named s t = takes refl refl refl (body_named s t.body)
 
-receiver_named : (s : Source) (b : Block) (start : ℕ) (r : ReceiverTree) → Named s (receiver_sites s b start r) (receiver_tokens r)
+receiver_named : (s : TokenSpellings) (b : Block) (start : ℕ) (r : ReceiverTree) → Named s (receiver_sites s b start r) (receiver_tokens r)
 unfolding receiver_sites receiver_tokens
 receiver_named s b start r =
     skips refl
@@ -84,7 +84,7 @@ receiver_named s b start r =
     (sign kind.Name r.type_name ∷ (sign_if kind.Comma r.comma ++ (sign kind.RightParen r.rparen ∷ []))) kind.Star r.star refl
     (takes refl refl refl (covers_behind is_ident_token s [] (sign kind.RightParen r.rparen ∷ []) kind.Comma r.comma refl (skips refl ends)))))
 
-param_named : (s : Source) (b : Block) (start : ℕ) (p : ParamTree) → Named s (param_sites s b start p) (param_tokens p)
+param_named : (s : TokenSpellings) (b : Block) (start : ℕ) (p : ParamTree) → Named s (param_sites s b start p) (param_tokens p)
 unfolding param_sites param_tokens
 param_named s b start p =
     named_append s (list_sites (ident_sites s (Declaring b start)) p.names) (type_sites s p.type_use) (list_tokens kind.Comma ident_tokens p.names)
@@ -92,7 +92,7 @@ param_named s b start p =
     (list_covers is_ident_token s kind.Comma refl (ident_sites s (Declaring b start)) ident_tokens (ident_named s (Declaring b start) refl) p.names)
     (type_named s p.type_use)
 
-result_named : (s : Source) (r : ResultTree) → Named s (result_sites s r) (result_tokens r)
+result_named : (s : TokenSpellings) (r : ResultTree) → Named s (result_sites s r) (result_tokens r)
 unfolding result_sites result_tokens
 result_named s no_result = ends
 result_named s (one_result t) = type_named s t
@@ -106,7 +106,7 @@ func_declared None name = cond_both (bytes_eq name (codes "init")) (NotLexical p
     (λ (role : Role). is_linked role ≡ false) (λ e. refl) (λ e. refl)
 func_declared (Some r) name = refl
 
-func_named : (s : Source) (f : FuncTree) → Named s (func_sites s f) (func_tokens f)
+func_named : (s : TokenSpellings) (f : FuncTree) → Named s (func_sites s f) (func_tokens f)
 unfolding func_sites func_tokens
 func_named s f =
     let b = func_block s f in
@@ -125,7 +125,7 @@ func_named s f =
     (skips refl (named_append s (result_sites s f.result) (block_sites s f.body) (result_tokens f.result) (block_tokens f.body) (result_named s f.result)
     (block_named s f.body))))))
 
-decl_named : (s : Source) (d : DeclTree) → Named s (decl_sites s d) (decl_tokens d)
+decl_named : (s : TokenSpellings) (d : DeclTree) → Named s (decl_sites s d) (decl_tokens d)
 unfolding decl_sites decl_tokens
 decl_named s (VarDecl k g semicolon) =
     skips refl
@@ -137,12 +137,12 @@ decl_named s (TypeDecl k g semicolon) =
     (group_covers is_ident_token s refl refl refl (λ following. type_spec_sites s) type_spec_tokens (λ n. type_spec_named s) 0 g))
 decl_named s (FuncDecl k f semicolon) = skips refl (covers_end is_ident_token s (func_sites s f) (func_tokens f) kind.Semicolon semicolon refl (func_named s f))
 
-pub decls_named : (s : Source) (ds : List DeclTree) → Named s (flat_map (decl_sites s) ds) (all_tokens decl_tokens ds)
+pub decls_named : (s : TokenSpellings) (ds : List DeclTree) → Named s (flat_map (decl_sites s) ds) (all_tokens decl_tokens ds)
 decls_named s ds = all_covers is_ident_token s (decl_sites s) decl_tokens (decl_named s) ds
 
 -- imports, with their literals
 
-import_name_covered : (s : Source) (n : Option ℕ) → Covers is_header_name s (import_name s n) (sign_if kind.Name n)
+import_name_covered : (s : TokenSpellings) (n : Option ℕ) → Covers is_header_name s (import_name s n) (sign_if kind.Name n)
 import_name_covered s None = ends
 import_name_covered s (Some n) = takes refl refl refl ends
 
@@ -150,19 +150,19 @@ import_linked : (n : Option ℕ) → is_linked (NotLexical (import_purpose n)) �
 import_linked None = refl
 import_linked (Some n) = refl
 
-import_covered : (s : Source) (i : ImportTree) → Covers is_header_name s (import_sites s i) (import_tokens i)
+import_covered : (s : TokenSpellings) (i : ImportTree) → Covers is_header_name s (import_sites s i) (import_tokens i)
 unfolding import_sites import_tokens
 import_covered s i =
     covers_append is_header_name s (import_name s i.name) (site s i.path (NotLexical (import_purpose i.name)) ∷ []) (sign_if kind.Name i.name)
     (sign kind.Text i.path ∷ []) (import_name_covered s i.name)
     (takes refl (import_linked i.name) refl ends)
 
-each_covered : (s : Source) (i : ImportsTree) → Covers is_header_name s (imports_sites s i) (imports_tokens i)
+each_covered : (s : TokenSpellings) (i : ImportsTree) → Covers is_header_name s (imports_sites s i) (imports_tokens i)
 unfolding imports_sites imports_tokens
 each_covered s i =
     skips refl
     (covers_end is_header_name s (spec_sites (import_sites s) i.imports) (group_tokens import_tokens i.imports) kind.Semicolon i.semicolon refl
     (group_covers is_header_name s refl refl refl (λ following. import_sites s) import_tokens (λ n. import_covered s) 0 i.imports))
 
-pub imports_covered : (s : Source) (is : List ImportsTree) → Covers is_header_name s (flat_map (imports_sites s) is) (all_tokens imports_tokens is)
+pub imports_covered : (s : TokenSpellings) (is : List ImportsTree) → Covers is_header_name s (flat_map (imports_sites s) is) (all_tokens imports_tokens is)
 imports_covered s is = all_covers is_header_name s (imports_sites s) imports_tokens (each_covered s) is

@@ -13,7 +13,7 @@ use Rattle.go_scope.specs.declared.model.Purpose.TheVariants as purpose
 use Rattle.go_scope.specs.declared.model.Role.{Role}
 use Rattle.go_scope.specs.declared.model.Role.TheVariants.{Use, Declaring, LeftName, Implied, NotLexical}
 use Rattle.go_scope.specs.Bindings.{is_implied}
-use Rattle.go_scope.specs.Site.{Site, Source, site}
+use Rattle.go_scope.specs.Site.{Site, TokenSpellings, site}
 use Rattle.go_scope.specs.FileSites.{imports_sites, decl_sites, file_sites}
 use Rattle.law_tokens.specs.Tokens.{is_ident_token, is_header_name, begins_declaration, names_among, identifiers_among}
 use Rattle.law_tokens.specs.Covered.{CoverTokens, place_in}
@@ -21,13 +21,13 @@ use Rattle.law_tokens.proofs.Covers.{Covers, is_link, is_linked, IsTaken, ends, 
 use Rattle.law_tokens.proofs.CoveredFiles.{imports_covered, decls_named}
 
 -- one identifier at each token, in their order, none of them predeclared
-abbrev pub Pairs : Source → List Site → List Token → Type 0
+abbrev pub Pairs : TokenSpellings → List Site → List Token → Type 0
 Pairs s [] [] = Unit {0}
 Pairs s [] (t ∷ ts) = ⊥
 Pairs s (x ∷ xs) [] = ⊥
 Pairs s (x ∷ xs) (t ∷ ts) = (is_implied x.role ≡ false) × (x ≡ site s t.place x.role) × Pairs s xs ts
 
-pairs_append : (s : Source) (xs ys : List Site) (ts us : List Token) → Pairs s xs ts → Pairs s ys us → Pairs s (xs ++ ys) (ts ++ us)
+pairs_append : (s : TokenSpellings) (xs ys : List Site) (ts us : List Token) → Pairs s xs ts → Pairs s ys us → Pairs s (xs ++ ys) (ts ++ us)
 pairs_append s [] ys [] us a b = b
 pairs_append s [] ys (t ∷ ts) us a b = absurd a
 pairs_append s (x ∷ xs) ys [] us a b = absurd a
@@ -54,10 +54,10 @@ not_implied (Implied block start) e = absurd (true≢false e)
 not_implied (NotLexical p) e = refl
 
 -- an identifier of a known role, by its own
-by_role : (s : Source) (x : Site) (place : ℕ) (p : Purpose) → x ≡ site s place (NotLexical p) → (is_implied x.role ≡ false) × (x ≡ site s place x.role)
+by_role : (s : TokenSpellings) (x : Site) (place : ℕ) (p : Purpose) → x ≡ site s place (NotLexical p) → (is_implied x.role ≡ false) × (x ≡ site s place x.role)
 by_role s x place p e = (ap (λ (y : Site). is_implied y.role) e, e ∙ ap (site s place) (sym (ap (λ (y : Site). y.role) e)))
 
-pairs_of : (P : Kind → Bool) (s : Source) (xs : List Site) (ts : List Token) → Covers P s xs ts → Pairs s xs (among P ts)
+pairs_of : (P : Kind → Bool) (s : TokenSpellings) (xs : List Site) (ts : List Token) → Covers P s xs ts → Pairs s xs (among P ts)
 pairs_of P s _ _ ends = tt
 pairs_of P s xs _ (skips {t = t} {ts = ts} k a) =
     subst (λ l. Pairs s xs l) (sym (dropped P t ts (neither (P t.kind) (is_link t.kind) k).0)) (pairs_of P s xs ts a)
@@ -129,7 +129,7 @@ names_behind (VarDecl k g semicolon ∷ ds) = refl
 names_behind (TypeDecl k g semicolon ∷ ds) = refl
 names_behind (FuncDecl k f semicolon ∷ ds) = refl
 
-pub file_pairs : (s : Source) (f : FileTree) → Pairs s (file_sites s f) (identifiers_among (flatten f))
+pub file_pairs : (s : TokenSpellings) (f : FileTree) → Pairs s (file_sites s f) (identifiers_among (flatten f))
 unfolding file_sites flatten identifiers_among
 file_pairs s f =
     let header = all_tokens imports_tokens f.imports in
@@ -145,19 +145,19 @@ file_pairs s f =
 
 -- places and spellings
 
-places_of : (s : Source) (xs : List Site) (ts : List Token) → Pairs s xs ts → map (λ x. x.place) xs ≡ map (place_in s.rank) ts
+places_of : (s : TokenSpellings) (xs : List Site) (ts : List Token) → Pairs s xs ts → map (λ x. x.place) xs ≡ map (place_in s.rank) ts
 places_of s [] [] h = refl
 places_of s [] (t ∷ ts) h = absurd h
 places_of s (x ∷ xs) [] h = absurd h
 places_of s (x ∷ xs) (t ∷ ts) h = ap (λ (y : Site). y.place ∷ map (λ x. x.place) xs) h.1 ∙ ap (λ l. place_in s.rank t ∷ l) (places_of s xs ts h.2)
 
-names_of : (s : Source) (xs : List Site) (ts : List Token) → Pairs s xs ts → map (λ x. x.name) xs ≡ map (λ t. s.spell t.place) ts
+names_of : (s : TokenSpellings) (xs : List Site) (ts : List Token) → Pairs s xs ts → map (λ x. x.name) xs ≡ map (λ t. s.spell t.place) ts
 names_of s [] [] h = refl
 names_of s [] (t ∷ ts) h = absurd h
 names_of s (x ∷ xs) [] h = absurd h
 names_of s (x ∷ xs) (t ∷ ts) h = ap (λ (y : Site). y.name ∷ map (λ x. x.name) xs) h.1 ∙ ap (λ l. s.spell t.place ∷ l) (names_of s xs ts h.2)
 
-pub file_covered : (s : Source) (f : FileTree) → CoverTokens s (file_sites s f) (identifiers_among (flatten f))
+pub file_covered : (s : TokenSpellings) (f : FileTree) → CoverTokens s (file_sites s f) (identifiers_among (flatten f))
 file_covered s f =
     let pairs = file_pairs s f in
     record {

@@ -10,7 +10,7 @@ use Rattle.go_ast.specs.Tree.{Item, Group, single, several}
 use Rattle.go_scope.specs.declared.model.Purpose.TheVariants as purpose
 use Rattle.go_scope.specs.declared.model.Role.{Role}
 use Rattle.go_scope.specs.declared.model.Role.TheVariants.{Implied, NotLexical}
-use Rattle.go_scope.specs.Site.{Site, Source, site}
+use Rattle.go_scope.specs.Site.{Site, TokenSpellings, site}
 use Rattle.go_scope.specs.ExpressionSites.{sites_if, list_sites}
 use Rattle.go_scope.specs.StatementSites.{separated_sites, group_sites}
 
@@ -34,7 +34,7 @@ abbrev pub IsSkipped : (Kind → Bool) → Kind → Type 0
 IsSkipped P k = (P k || is_link k) ≡ false
 
 -- one identifier at each token of such a kind, in their order; those behind a dot are selected, and those before a colon keys
-pub data Covers (P : Kind → Bool) (s : Source) : List Site → List Token → Type 0 where
+pub data Covers (P : Kind → Bool) (s : TokenSpellings) : List Site → List Token → Type 0 where
   ends : Covers P s [] []
   skips : {xs : List Site} {t : Token} {ts : List Token} → IsSkipped P t.kind → Covers P s xs ts → Covers P s xs (t ∷ ts)
   takes : {x : Site} {xs : List Site} {t : Token} {ts : List Token} → IsTaken P t.kind → is_linked x.role ≡ false → x ≡ site s t.place x.role →
@@ -47,7 +47,7 @@ pub data Covers (P : Kind → Bool) (s : Source) : List Site → List Token → 
       x ≡ site s t.place (NotLexical purpose.Key) →
       Covers P s xs ts → Covers P s (x ∷ xs) (t ∷ (c ∷ ts))
 
-pub covers_append : (P : Kind → Bool) (s : Source) (xs ys : List Site) (ts us : List Token) → Covers P s xs ts → Covers P s ys us →
+pub covers_append : (P : Kind → Bool) (s : TokenSpellings) (xs ys : List Site) (ts us : List Token) → Covers P s xs ts → Covers P s ys us →
     Covers P s (xs ++ ys) (ts ++ us)
 covers_append P s _ ys _ us ends b = b
 covers_append P s xs ys _ us (skips {ts = ts} k a) b = skips k (covers_append P s xs ys ts us a b)
@@ -56,49 +56,49 @@ covers_append P s _ ys _ us (selects {xs = xs} {ts = ts} d n k e a) b = selects 
 covers_append P s _ ys _ us (keys {xs = xs} {ts = ts} c n k e a) b = keys c n k e (covers_append P s xs ys ts us a b)
 
 -- tokens of no such kind behind
-pub covers_pad : (P : Kind → Bool) (s : Source) (xs : List Site) (ts us : List Token) → Covers P s xs ts → Covers P s [] us → Covers P s xs (ts ++ us)
+pub covers_pad : (P : Kind → Bool) (s : TokenSpellings) (xs : List Site) (ts us : List Token) → Covers P s xs ts → Covers P s [] us → Covers P s xs (ts ++ us)
 covers_pad P s _ _ us ends b = b
 covers_pad P s xs _ us (skips {ts = ts} k a) b = skips k (covers_pad P s xs ts us a b)
 covers_pad P s _ _ us (takes {xs = xs} {ts = ts} k i e a) b = takes k i e (covers_pad P s xs ts us a b)
 covers_pad P s _ _ us (selects {xs = xs} {ts = ts} d n k e a) b = selects d n k e (covers_pad P s xs ts us a b)
 covers_pad P s _ _ us (keys {xs = xs} {ts = ts} c n k e a) b = keys c n k e (covers_pad P s xs ts us a b)
 
-pub covers_end : (P : Kind → Bool) (s : Source) (xs : List Site) (ts : List Token) (k : Kind) (p : ℕ) → IsSkipped P k → Covers P s xs ts →
+pub covers_end : (P : Kind → Bool) (s : TokenSpellings) (xs : List Site) (ts : List Token) (k : Kind) (p : ℕ) → IsSkipped P k → Covers P s xs ts →
     Covers P s xs (ts ++ (sign k p ∷ []))
 covers_end P s xs ts k p h a = covers_pad P s xs ts (sign k p ∷ []) a (skips h ends)
 
-pub none_if : (P : Kind → Bool) (s : Source) (k : Kind) (p : Option ℕ) → IsSkipped P k → Covers P s [] (sign_if k p)
+pub none_if : (P : Kind → Bool) (s : TokenSpellings) (k : Kind) (p : Option ℕ) → IsSkipped P k → Covers P s [] (sign_if k p)
 none_if P s k None h = ends
 none_if P s k (Some p) h = skips h ends
 
 -- such a token before, where there is one
-pub covers_behind : (P : Kind → Bool) (s : Source) (xs : List Site) (ts : List Token) (k : Kind) (p : Option ℕ) → IsSkipped P k → Covers P s xs ts →
+pub covers_behind : (P : Kind → Bool) (s : TokenSpellings) (xs : List Site) (ts : List Token) (k : Kind) (p : Option ℕ) → IsSkipped P k → Covers P s xs ts →
     Covers P s xs (sign_if k p ++ ts)
 covers_behind P s xs ts k None h a = a
 covers_behind P s xs ts k (Some p) h a = skips h a
 
 -- lists, groups and what may be absent
 
-pub all_covers : {X : Type 0} (P : Kind → Bool) (s : Source) (f : X → List Site) (t : X → List Token) → ((x : X) → Covers P s (f x) (t x)) →
+pub all_covers : {X : Type 0} (P : Kind → Bool) (s : TokenSpellings) (f : X → List Site) (t : X → List Token) → ((x : X) → Covers P s (f x) (t x)) →
     (xs : List X) → Covers P s (flat_map f xs) (all_tokens t xs)
 unfolding all_tokens
 all_covers P s f t h [] = ends
 all_covers P s f t h (x ∷ xs) = covers_append P s (f x) (flat_map f xs) (t x) (all_tokens t xs) (h x) (all_covers P s f t h xs)
 
-pub none_all : {X : Type 0} (P : Kind → Bool) (s : Source) (t : X → List Token) → ((x : X) → Covers P s [] (t x)) → (xs : List X) →
+pub none_all : {X : Type 0} (P : Kind → Bool) (s : TokenSpellings) (t : X → List Token) → ((x : X) → Covers P s [] (t x)) → (xs : List X) →
     Covers P s [] (all_tokens t xs)
 unfolding all_tokens
 none_all P s t h [] = ends
 none_all P s t h (x ∷ xs) = covers_append P s [] [] (t x) (all_tokens t xs) (h x) (none_all P s t h xs)
 
-pub list_covers : {X : Type 0} (P : Kind → Bool) (s : Source) (k : Kind) → IsSkipped P k → (f : X → List Site) (t : X → List Token) →
+pub list_covers : {X : Type 0} (P : Kind → Bool) (s : TokenSpellings) (k : Kind) → IsSkipped P k → (f : X → List Site) (t : X → List Token) →
     ((x : X) → Covers P s (f x) (t x)) → (xs : List (Item X)) →
     Covers P s (list_sites f xs) (list_tokens k t xs)
 list_covers P s k other f t h xs =
     all_covers P s (λ x. f x.value) (item_tokens k t)
     (λ x. covers_pad P s (f x.value) (t x.value) (sign_if k x.separator) (h x.value) (none_if P s k x.separator other)) xs
 
-pub separated_covers : {X : Type 0} (P : Kind → Bool) (s : Source) (k : Kind) → IsSkipped P k → (f : ℕ → X → List Site) (t : X → List Token) →
+pub separated_covers : {X : Type 0} (P : Kind → Bool) (s : TokenSpellings) (k : Kind) → IsSkipped P k → (f : ℕ → X → List Site) (t : X → List Token) →
     ((n : ℕ) (x : X) → Covers P s (f n x) (t x)) →
     (close : ℕ) (xs : List (Item X)) → Covers P s (separated_sites f close xs) (list_tokens k t xs)
 unfolding separated_sites
@@ -107,7 +107,7 @@ separated_covers P s k other f t h close xs =
     (λ x. covers_pad P s (f (unwrap_or x.separator close) x.value) (t x.value) (sign_if k x.separator) (h (unwrap_or x.separator close) x.value)
     (none_if P s k x.separator other)) xs
 
-pub group_covers : {X : Type 0} (P : Kind → Bool) (s : Source) → IsSkipped P kind.LeftParen → IsSkipped P kind.Semicolon → IsSkipped P kind.RightParen →
+pub group_covers : {X : Type 0} (P : Kind → Bool) (s : TokenSpellings) → IsSkipped P kind.LeftParen → IsSkipped P kind.Semicolon → IsSkipped P kind.RightParen →
     (f : ℕ → X → List Site) (t : X → List Token) →
     ((n : ℕ) (x : X) → Covers P s (f n x) (t x)) → (following : ℕ) (g : Group X) → Covers P s (group_sites f following g) (group_tokens t g)
 unfolding group_sites group_tokens
@@ -116,7 +116,7 @@ group_covers P s left between right f t h following (several o xs c) =
     skips left (covers_end P s (separated_sites f c xs) (list_tokens kind.Semicolon t xs) kind.RightParen c right
     (separated_covers P s kind.Semicolon between f t h c xs))
 
-pub option_covers : {X : Type 0} (P : Kind → Bool) (s : Source) (f : X → List Site) (t : X → List Token) → ((x : X) → Covers P s (f x) (t x)) →
+pub option_covers : {X : Type 0} (P : Kind → Bool) (s : TokenSpellings) (f : X → List Site) (t : X → List Token) → ((x : X) → Covers P s (f x) (t x)) →
     (x : Option X) → Covers P s (sites_if f x) (tokens_if t x)
 option_covers P s f t h None = ends
 option_covers P s f t h (Some x) = h x

@@ -10,7 +10,7 @@ use Rattle.go_ast.specs.Tree.{FileTree}
 use Rattle.go_scope.specs.declared.model.Purpose.TheVariants as purpose
 use Rattle.go_scope.specs.declared.model.Role.{Role}
 use Rattle.go_scope.specs.declared.model.Role.TheVariants.{NotLexical}
-use Rattle.go_scope.specs.Site.{Site, Source}
+use Rattle.go_scope.specs.Site.{Site, TokenSpellings}
 use Rattle.go_scope.specs.FileSites.{imports_sites, decl_sites, file_sites}
 use Rattle.law_tokens.specs.Tokens.{is_ident_token, is_header_name}
 use Rattle.law_tokens.proofs.Covers.{Covers, is_link, is_linked, ends, skips, takes, selects, keys}
@@ -18,7 +18,7 @@ use Rattle.law_tokens.proofs.CoveredFiles.{imports_covered, decls_named}
 use Rattle.law_tokens.proofs.Covering.{neither}
 
 -- identifiers among tokens: behind each dot stands a selected name, before each colon a key
-data Linked (s : Source) : List Site → List Token → Type 0 where
+data Linked (s : TokenSpellings) : List Site → List Token → Type 0 where
   stop : Linked s [] []
   skip : {xs : List Site} {t : Token} {ts : List Token} → is_link t.kind ≡ false → Linked s xs ts → Linked s xs (t ∷ ts)
   take : {x : Site} {xs : List Site} {t : Token} {ts : List Token} → is_link t.kind ≡ false → is_linked x.role ≡ false → x.place.index ≡ t.place →
@@ -30,7 +30,7 @@ data Linked (s : Source) : List Site → List Token → Type 0 where
       x.role ≡ NotLexical purpose.Key →
       Linked s xs ts → Linked s (x ∷ xs) (t ∷ (c ∷ ts))
 
-linked : (P : Kind → Bool) (s : Source) (xs : List Site) (ts : List Token) → Covers P s xs ts → Linked s xs ts
+linked : (P : Kind → Bool) (s : TokenSpellings) (xs : List Site) (ts : List Token) → Covers P s xs ts → Linked s xs ts
 linked P s _ _ ends = stop
 linked P s xs _ (skips {t = t} {ts = ts} k a) = skip (neither (P t.kind) (is_link t.kind) k).1 (linked P s xs ts a)
 linked P s _ _ (takes {x = x} {xs = xs} {t = t} {ts = ts} k i e a) =
@@ -42,14 +42,14 @@ linked P s _ _ (keys {x = x} {xs = xs} {t = t} {ts = ts} c out k e a) =
     key c (not-true (is_link t.kind) (and_parts (P t.kind) (not (is_link t.kind)) k).1) (ap (λ (y : Site). y.place.index) e) (ap (λ (y : Site). y.role) e)
     (linked P s xs ts a)
 
-linked_append : (s : Source) (xs ys : List Site) (ts us : List Token) → Linked s xs ts → Linked s ys us → Linked s (xs ++ ys) (ts ++ us)
+linked_append : (s : TokenSpellings) (xs ys : List Site) (ts us : List Token) → Linked s xs ts → Linked s ys us → Linked s (xs ++ ys) (ts ++ us)
 linked_append s _ ys _ us stop b = b
 linked_append s xs ys _ us (skip {ts = ts} k a) b = skip k (linked_append s xs ys ts us a b)
 linked_append s _ ys _ us (take {xs = xs} {ts = ts} k i e a) b = take k i e (linked_append s xs ys ts us a b)
 linked_append s _ ys _ us (select {xs = xs} {ts = ts} d k e r a) b = select d k e r (linked_append s xs ys ts us a b)
 linked_append s _ ys _ us (key {xs = xs} {ts = ts} c k e r a) b = key c k e r (linked_append s xs ys ts us a b)
 
-file_linked : (s : Source) (f : FileTree) → Linked s (file_sites s f) (flatten f)
+file_linked : (s : TokenSpellings) (f : FileTree) → Linked s (file_sites s f) (flatten f)
 unfolding file_sites flatten
 file_linked s f =
     let header = all_tokens imports_tokens f.imports in
@@ -79,7 +79,7 @@ kind_from n (t ∷ ts) w k i h = elim h [
 ]
 
 -- no colon comes first
-none_first : (s : Source) (n : ℕ) (xs : List Site) (ts : List Token) → Linked s xs ts → AreConsecutive n ts → HasKind kind.Colon n ts → ⊥
+none_first : (s : TokenSpellings) (n : ℕ) (xs : List Site) (ts : List Token) → Linked s xs ts → AreConsecutive n ts → HasKind kind.Colon n ts → ⊥
 none_first s n _ _ stop w h = h
 none_first s n xs _ (skip {t = t} {ts = ts} k a) w h = elim h [
   | inl here ↦ true≢false (sym (ap is_link here.1) ∙ k)
@@ -128,7 +128,7 @@ not_key r k e = true≢false (sym (ap is_linked e) ∙ k)
 selected_no_key : (r : Role) → r ≡ NotLexical purpose.Selected → r ≡ NotLexical purpose.Key → ⊥
 selected_no_key r e f = let same : NotLexical purpose.Selected ≡ NotLexical purpose.Key = sym e ∙ f in let z : ⊥ = cc in z
 
-told_here : (s : Source) (n : ℕ) (x : Site) (xs : List Site) (t : Token) (ts : List Token) → is_link t.kind ≡ false → is_linked x.role ≡ false →
+told_here : (s : TokenSpellings) (n : ℕ) (x : Site) (xs : List Site) (t : Token) (ts : List Token) → is_link t.kind ≡ false → is_linked x.role ≡ false →
     x.place.index ≡ t.place → Linked s xs ts →
     t.place ≡ n → AreConsecutive (suc n) ts → Told (t ∷ ts) x.place.index x.role
 told_here s n x xs t ts k i e a at w = record {
@@ -144,7 +144,7 @@ told_here s n x xs t ts k i e a at w = record {
   ]);
 }
 
-told_selected : (s : Source) (n : ℕ) (x : Site) (xs : List Site) (d t : Token) (ts : List Token) → d.kind ≡ kind.Dot → x.place.index ≡ t.place →
+told_selected : (s : TokenSpellings) (n : ℕ) (x : Site) (xs : List Site) (d t : Token) (ts : List Token) → d.kind ≡ kind.Dot → x.place.index ≡ t.place →
     x.role ≡ NotLexical purpose.Selected → Linked s xs ts →
     d.place ≡ n → t.place ≡ suc n → AreConsecutive (suc (suc n)) ts → Told (d ∷ (t ∷ ts)) x.place.index x.role
 told_selected s n x xs d t ts dot e r a first second w = record {
@@ -160,7 +160,7 @@ told_selected s n x xs d t ts dot e r a first second w = record {
   ]);
 }
 
-told_key : (s : Source) (n : ℕ) (x : Site) (t c : Token) (ts : List Token) → c.kind ≡ kind.Colon → x.place.index ≡ t.place →
+told_key : (s : TokenSpellings) (n : ℕ) (x : Site) (t c : Token) (ts : List Token) → c.kind ≡ kind.Colon → x.place.index ≡ t.place →
     x.role ≡ NotLexical purpose.Key → AreConsecutive n (t ∷ (c ∷ ts)) →
     Told (t ∷ (c ∷ ts)) x.place.index x.role
 told_key s n x t c ts colon e r w =
@@ -199,7 +199,7 @@ all_behind : (n : ℕ) (ts : List Token) (xs : List Site) → AllByRecursion (To
 all_behind n ts [] h = tt
 all_behind n ts (x ∷ xs) h = (h.0.0, all_behind n ts xs h.1)
 
-each_told : (s : Source) (n : ℕ) (xs : List Site) (ts : List Token) → Linked s xs ts → AreConsecutive n ts → AllByRecursion (ToldFrom n ts) xs
+each_told : (s : TokenSpellings) (n : ℕ) (xs : List Site) (ts : List Token) → Linked s xs ts → AreConsecutive n ts → AllByRecursion (ToldFrom n ts) xs
 each_told s n _ _ stop w = tt
 each_told s n xs _ (skip {t = t} {ts = ts} k a) w = plain_more n t ts xs w.0 k (each_told s (suc n) xs ts a w.1)
 each_told s n _ _ (take {x = x} {xs = xs} {t = t} {ts = ts} k i e a) w =
@@ -228,5 +228,5 @@ told_alone : (n : ℕ) (ts : List Token) (xs : List Site) → AllByRecursion (To
 told_alone n ts [] h = tt
 told_alone n ts (x ∷ xs) h = (h.0.1, told_alone n ts xs h.1)
 
-pub file_told : (s : Source) (f : FileTree) → AreConsecutive 0 (flatten f) → AllByRecursion (ToldIn (flatten f)) (file_sites s f)
+pub file_told : (s : TokenSpellings) (f : FileTree) → AreConsecutive 0 (flatten f) → AllByRecursion (ToldIn (flatten f)) (file_sites s f)
 file_told s f w = told_alone 0 (flatten f) (file_sites s f) (each_told s 0 (file_sites s f) (flatten f) (file_linked s f) w)

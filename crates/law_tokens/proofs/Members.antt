@@ -19,7 +19,7 @@ use Rattle.go_scope.specs.FileSites.{universe_site, package_sites}
 use Rattle.go_scope.specs.Named.{with_names}
 use Rattle.go_scope.specs.SpelledFiles.{spelled_file}
 use Rattle.go_scope.specs.Packages.{scoped, layout_in}
-use Rattle.go_scope.specs.Site.{Site, Source, site, or_blank, sites_layout}
+use Rattle.go_scope.specs.Site.{Site, TokenSpellings, site, or_blank, sites_layout}
 use Rattle.go_scope.specs.Table.{LiesAt}
 use Rattle.law_tokens.specs.Covered.{AreSourceFiles}
 use Rattle.law_tokens.specs.MemberNames.{in_group, field_name_tokens, body_members, method_name, decl_members, member_names}
@@ -29,7 +29,7 @@ use Rattle.law_tokens.proofs.Places.{plainly_stands}
 use Rattle.law_tokens.proofs.Roles.{role_keeps}
 
 -- a member stands at a token, among some identifiers
-abbrev Has : Source → ℕ → List Site → Type 0
+abbrev Has : TokenSpellings → ℕ → List Site → Type 0
 Has s n [] = ⊥
 Has s n (x ∷ xs) = (x ≡ site s n (NotLexical purpose.Member)) ⊎ Has s n xs
 
@@ -50,15 +50,15 @@ one_either n (k ∷ ks) ms h = elim h [
   | inr rest ↦ elim (one_either n ks ms rest) [ inl l ↦ inl (inr l) | inr r ↦ inr r ]
 ]
 
-has_left : (s : Source) (n : ℕ) (xs ys : List Site) → Has s n xs → Has s n (xs ++ ys)
+has_left : (s : TokenSpellings) (n : ℕ) (xs ys : List Site) → Has s n xs → Has s n (xs ++ ys)
 has_left s n [] ys h = absurd h
 has_left s n (x ∷ xs) ys h = elim h [ inl e ↦ inl e | inr rest ↦ inr (has_left s n xs ys rest) ]
 
-has_right : (s : Source) (n : ℕ) (xs ys : List Site) → Has s n ys → Has s n (xs ++ ys)
+has_right : (s : TokenSpellings) (n : ℕ) (xs ys : List Site) → Has s n ys → Has s n (xs ++ ys)
 has_right s n [] ys h = h
 has_right s n (x ∷ xs) ys h = inr (has_right s n xs ys h)
 
-has_all : {X : Type 0} (s : Source) (n : ℕ) (f : X → List Site) (g : X → List ℕ) → ((x : X) → IsOne n (g x) → Has s n (f x)) → (xs : List X) →
+has_all : {X : Type 0} (s : TokenSpellings) (n : ℕ) (f : X → List Site) (g : X → List ℕ) → ((x : X) → IsOne n (g x) → Has s n (f x)) → (xs : List X) →
     IsOne n (flat_map g xs) → Has s n (flat_map f xs)
 has_all s n f g h [] one = absurd one
 has_all s n f g h (x ∷ xs) one = elim (one_either n (g x) (flat_map g xs) one) [
@@ -68,25 +68,25 @@ has_all s n f g h (x ∷ xs) one = elim (one_either n (g x) (flat_map g xs) one)
 
 -- by the parts of a tree
 
-names_have : (s : Source) (n : ℕ) (xs : List (Item ℕ)) → IsOne n (map (λ (i : Item ℕ). i.value) xs) → Has s n (list_sites (member_name s) xs)
+names_have : (s : TokenSpellings) (n : ℕ) (xs : List (Item ℕ)) → IsOne n (map (λ (i : Item ℕ). i.value) xs) → Has s n (list_sites (member_name s) xs)
 names_have s n [] one = absurd one
 names_have s n (x ∷ xs) one = elim one [ inl e ↦ inl (ap (λ m. site s m (NotLexical purpose.Member)) e) | inr rest ↦ inr (names_have s n xs rest) ]
 
-field_has : (s : Source) (n : ℕ) (f : FieldTree) → IsOne n (field_name_tokens f) → Has s n (field_sites s f)
+field_has : (s : TokenSpellings) (n : ℕ) (f : FieldTree) → IsOne n (field_name_tokens f) → Has s n (field_sites s f)
 unfolding field_sites
 field_has s n f one = has_left s n (list_sites (member_name s) f.names) (type_sites s f.type_use) (names_have s n f.names one)
 
-body_has : (s : Source) (n : ℕ) (b : BodyTree) → IsOne n (body_members b) → Has s n (body_sites s b)
+body_has : (s : TokenSpellings) (n : ℕ) (b : BodyTree) → IsOne n (body_members b) → Has s n (body_sites s b)
 unfolding body_sites
 body_has s n (Other t) one = absurd one
 body_has s n (Struct p o fs c) one =
     has_all s n (λ (i : Item FieldTree). field_sites s i.value) (λ (i : Item FieldTree). field_name_tokens i.value) (λ i. field_has s n i.value) fs one
 
-type_spec_has : (s : Source) (n : ℕ) (t : TypeSpecTree) → IsOne n (body_members t.body) → Has s n (type_spec_sites s t)
+type_spec_has : (s : TokenSpellings) (n : ℕ) (t : TypeSpecTree) → IsOne n (body_members t.body) → Has s n (type_spec_sites s t)
 unfolding type_spec_sites
 type_spec_has s n t one = has_right s n (global_name s t.name) (body_sites s t.body) (body_has s n t.body one)
 
-group_has : (s : Source) (n : ℕ) (g : Group TypeSpecTree) → IsOne n (in_group (λ (t : TypeSpecTree). body_members t.body) g) →
+group_has : (s : TokenSpellings) (n : ℕ) (g : Group TypeSpecTree) → IsOne n (in_group (λ (t : TypeSpecTree). body_members t.body) g) →
     Has s n (spec_sites (type_spec_sites s) g)
 unfolding group_sites separated_sites
 group_has s n (single t) one = type_spec_has s n t one
@@ -98,7 +98,7 @@ method_role : (r : Option ReceiverTree) (m n : ℕ) (name : List ℕ) → IsOne 
 method_role None m n name one = absurd one
 method_role (Some r) m n name one = elim one [ inl e ↦ (e, refl) | inr rest ↦ absurd rest ]
 
-func_has : (s : Source) (n : ℕ) (f : FuncTree) → IsOne n (method_name f.receiver f.name) → Has s n (func_sites s f)
+func_has : (s : TokenSpellings) (n : ℕ) (f : FuncTree) → IsOne n (method_name f.receiver f.name) → Has s n (func_sites s f)
 unfolding func_sites
 func_has s n f one =
     let start = open_of f.body in
@@ -108,20 +108,20 @@ func_has s n f one =
     (site s f.name role ∷ (list_sites (param_sites s (func_block s f) start) f.params ++ (result_sites s f.result ++ block_sites s f.body)))
     (inl (ap (λ m. site s m role) is.0 ∙ ap (site s n) is.1))
 
-decl_has : (s : Source) (n : ℕ) (d : DeclTree) → IsOne n (decl_members d) → Has s n (decl_sites s d)
+decl_has : (s : TokenSpellings) (n : ℕ) (d : DeclTree) → IsOne n (decl_members d) → Has s n (decl_sites s d)
 unfolding decl_sites
 decl_has s n (VarDecl k g semicolon) one = absurd one
 decl_has s n (TypeDecl k g semicolon) one = group_has s n g one
 decl_has s n (FuncDecl k f semicolon) one = func_has s n f one
 
-file_has : (s : Source) (n : ℕ) (f : FileTree) → IsOne n (member_names f) → Has s n (file_sites s f)
+file_has : (s : TokenSpellings) (n : ℕ) (f : FileTree) → IsOne n (member_names f) → Has s n (file_sites s f)
 unfolding file_sites
 file_has s n f one = inr (has_right s n (flat_map (imports_sites s) f.imports) (flat_map (decl_sites s) f.decls)
     (has_all s n (decl_sites s) decl_members (decl_has s n) f.decls one))
 
 -- in a package
 
-abbrev source_at : ℕ → FileParts → Source
+abbrev source_at : ℕ → FileParts → TokenSpellings
 source_at rank f = record { rank = rank; spell = spelling_of (source_of f) }
 
 files_have : (rank : ℕ) (fs : List FileParts) (k j n : ℕ) (f : FileParts) → slice_get fs k ≡ Some f → rank + k ≡ j →
@@ -137,7 +137,7 @@ files_have rank (g ∷ gs) (suc k) j n f is at h =
     has_right (source_at j f) n (file_sites (source_at rank g) (file_view g.file)) (files_sites (suc rank) (map spelled_file gs))
     (files_have (suc rank) gs k j n f is (omega arith) h)
 
-number_of : (s : Source) (n : ℕ) (xs : List Site) → Has s n xs → (u : ℕ) ×
+number_of : (s : TokenSpellings) (n : ℕ) (xs : List Site) → Has s n xs → (u : ℕ) ×
     ((u < length xs) × (or_blank (slice_get xs u) ≡ site s n (NotLexical purpose.Member)))
 number_of s n [] h = absurd h
 number_of s n (x ∷ xs) h = elim h [ inl e ↦ (zero, (omega arith, e)) | inr rest ↦ (let r = number_of s n xs rest in (suc r.0, (omega (arith, r.1.0), r.1.1))) ]

@@ -13,7 +13,7 @@ use Rattle.go_scope.specs.Bindings.{Layout, is_implied}
 use Rattle.go_scope.specs.FileSites.{SpelledFile, file_sites, files_sites, universe, universe_site, package_sites}
 use Rattle.go_scope.specs.Named.{is_unnamed_import, named_where, named_sites, with_names}
 use Rattle.go_scope.specs.Packages.{ScopedPackage, layout_in}
-use Rattle.go_scope.specs.Site.{Site, Source, or_blank, sites_layout}
+use Rattle.go_scope.specs.Site.{Site, TokenSpellings, or_blank, sites_layout}
 use Rattle.go_scope.specs.Table.{LiesAt}
 use Rattle.go_scope.specs.Trees.{AreRising, IsNumbered, AreNumbered}
 use Rattle.go_scope.proofs.NamedSites.{place_stays}
@@ -52,7 +52,7 @@ rising_identifiers n (t ∷ ts) h =
     (λ e. rising_from n (suc t.place) (names_among ts) (let le : n ≤ t.place = h.0 in omega arith) (rising_names (suc t.place) ts h.1))
     (λ e. rising_kept (is_header_name t.kind) n t (identifiers_among ts) h.0 (rising_identifiers (suc t.place) ts h.1))
 
-rises : (s : Source) (n : ℕ) (xs : List Site) (ts : List Token) → Pairs s xs ts → AreRising n ts → RisesFrom s.rank n xs
+rises : (s : TokenSpellings) (n : ℕ) (xs : List Site) (ts : List Token) → Pairs s xs ts → AreRising n ts → RisesFrom s.rank n xs
 rises s n [] [] p h = tt
 rises s n [] (t ∷ ts) p h = absurd p
 rises s n (x ∷ xs) [] p h = absurd p
@@ -115,7 +115,7 @@ unfolding files_sites
 files_ordered rank [] h = (tt, tt)
 files_ordered rank (f ∷ fs) h =
     let head : IsNumbered f = All-head IsNumbered f fs h in
-    let s : Source = record { rank = rank; spell = f.spell } in
+    let s : TokenSpellings = record { rank = rank; spell = f.spell } in
     let first = rises s 0 (file_sites s f.tree) (identifiers_among (flatten f.tree)) (file_pairs s f.tree)
     (rising_identifiers 0 (flatten f.tree) head.rising) in
     let rest = files_ordered (suc rank) fs (All-tail IsNumbered f fs h) in (

@@ -14,7 +14,7 @@ use Rattle.go_scope.specs.FileSites.{file_sites, files_sites, universe, universe
 use Rattle.go_scope.specs.Named.{with_names}
 use Rattle.go_scope.specs.SpelledFiles.{spelled_file}
 use Rattle.go_scope.specs.Packages.{ScopedPackage, scoped, layout_in}
-use Rattle.go_scope.specs.Site.{Site, Source, sites_layout}
+use Rattle.go_scope.specs.Site.{Site, TokenSpellings, sites_layout}
 use Rattle.go_scope.specs.Table.{LiesAt}
 use Rattle.go_scope.proofs.NamedSites.{place_stays}
 use Rattle.law_tokens.specs.Tokens.{identifiers_among}
@@ -79,7 +79,7 @@ mark_of i (u ∷ us) h = elim h [
   | inr rest ↦ (let m = mark_of i us rest in (m.0, (Contains-append_right (u ∷ []) us m.0 m.1.0, m.1.1)))
 ]
 
-pair_stands : (s : Source) (xs : List Site) (ts : List Token) → Pairs s xs ts → (at : Position) → at.file ≡ s.rank → Marks at.index ts → Stands at xs
+pair_stands : (s : TokenSpellings) (xs : List Site) (ts : List Token) → Pairs s xs ts → (at : Position) → at.file ≡ s.rank → Marks at.index ts → Stands at xs
 pair_stands s [] [] p at f h = absurd h
 pair_stands s [] (t ∷ ts) p at f h = absurd p
 pair_stands s (x ∷ xs) [] p at f h = absurd p
@@ -88,7 +88,7 @@ pair_stands s (x ∷ xs) (t ∷ ts) p at f h = elim h [
   | inr rest ↦ inr (pair_stands s xs ts p.2 at f rest)
 ]
 
-pair_marks : (s : Source) (xs : List Site) (ts : List Token) → Pairs s xs ts → (at : Position) → Stands at xs → (at.file ≡ s.rank) × Marks at.index ts
+pair_marks : (s : TokenSpellings) (xs : List Site) (ts : List Token) → Pairs s xs ts → (at : Position) → Stands at xs → (at.file ≡ s.rank) × Marks at.index ts
 pair_marks s [] [] p at h = absurd h
 pair_marks s [] (t ∷ ts) p at h = absurd p
 pair_marks s (x ∷ xs) [] p at h = absurd p
@@ -103,7 +103,7 @@ abbrev MarksIn : ℕ → List FileParts → Position → Type 0
 MarksIn rank [] at = ⊥
 MarksIn rank (f ∷ fs) at = ((at.file ≡ rank) × Marks at.index (identifiers_among (kinds_of f.cut))) ⊎ MarksIn (suc rank) fs at
 
-abbrev source_at : ℕ → FileParts → Source
+abbrev source_at : ℕ → FileParts → TokenSpellings
 source_at rank f = record { rank = rank; spell = spelling_of (source_of f) }
 
 file_tokens : (rank : ℕ) (f : FileParts) → IsSourceFile (source_of f) →

@@ -26,7 +26,7 @@ use Rattle.go_scope.specs.FileSites.{file_sites, files_sites, universe, universe
 use Rattle.go_scope.specs.Named.{is_unnamed_import, named_where, named_sites, with_names}
 use Rattle.go_scope.specs.SpelledFiles.{spelled_file}
 use Rattle.go_scope.specs.Packages.{scoped, layout_in}
-use Rattle.go_scope.specs.Site.{Site, Source, or_blank}
+use Rattle.go_scope.specs.Site.{Site, TokenSpellings, or_blank}
 use Rattle.go_scope.proofs.NamedSites.{place_stays}
 use Rattle.law_tokens.specs.Covered.{AreSourceFiles}
 use Rattle.law_tokens.specs.Roles.{IsOfKind, FitsTokens}
@@ -104,7 +104,7 @@ files_told : (rank : ℕ) (fs : List FileParts) → AreSourceFiles fs → AllByR
 unfolding files_sites
 files_told rank [] w = tt
 files_told rank (f ∷ fs) w =
-    let s : Source = record { rank = rank; spell = spelling_of (source_of f) } in
+    let s : TokenSpellings = record { rank = rank; spell = spelling_of (source_of f) } in
     let tree = file_view f.file in
     let is : IsSourceFile (source_of f) = All-head (λ (g : FileParts). IsSourceFile (source_of g)) f fs w in
     let numbered : AreConsecutive 0 (flatten tree) = subst (λ ts. AreConsecutive 0 ts) (sym is.is_tree.written) (consecutive 0 f.cut.text (tokens_in f.cut)) in

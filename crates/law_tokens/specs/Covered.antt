@@ -5,7 +5,7 @@ use Rattle.go_ast.specs.Kinds.{kinds_of}
 use Rattle.go_ast.specs.SourceFile.{FileParts, IsSourceFile, source_of}
 use Rattle.go_scope.specs.declared.model.Position.{Position}
 use Rattle.go_scope.specs.Bindings.{Layout}
-use Rattle.go_scope.specs.Site.{Site, Source}
+use Rattle.go_scope.specs.Site.{Site, TokenSpellings}
 use Rattle.go_scope.specs.Table.{LiesAt}
 use Rattle.law_tokens.specs.Tokens.{identifiers_among}
 
@@ -14,7 +14,7 @@ abbrev pub place_in : ℕ → Token → Position
 place_in rank t = record { file = rank; index = t.place }
 
 -- The identifiers are at exactly these tokens, in their order, and have the bytes of the tokens as names.
-pub record CoverTokens (s : Source) (xs : List Site) (ts : List Token) : Type 0 where
+pub record CoverTokens (s : TokenSpellings) (xs : List Site) (ts : List Token) : Type 0 where
   pub places : map (λ x. x.place) xs ≡ map (place_in s.rank) ts
   pub names : map (λ x. x.name) xs ≡ map (λ t. s.spell t.place) ts
 

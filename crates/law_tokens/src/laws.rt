@@ -11,7 +11,7 @@ ghost use Rattle.go_scope.specs.Bindings.{Layout, Names, IsIdentifier, IsBoundTo
 ghost use Rattle.go_scope.specs.FileSites.{SpelledFile, file_sites, package_sites};
 ghost use Rattle.go_scope.specs.Named.{with_names};
 ghost use Rattle.go_scope.specs.Packages.{ScopedPackage, scoped, layout_in, IsAtPlace};
-ghost use Rattle.go_scope.specs.Site.{Source, sites_layout};
+ghost use Rattle.go_scope.specs.Site.{TokenSpellings, sites_layout};
 ghost use Rattle.go_scope.specs.Table.{LiesAt};
 ghost use Rattle.go_scope.specs.Trees.{AreNumbered};
 ghost use Rattle.go_scope.specs.declared.model.Position.{Position};
@@ -43,7 +43,7 @@ pub fn identifiers_stand_apart()
 /// The identifiers of a file are at exactly its identifier tokens and the string literals of its imports, in order. Their names are the
 /// bytes of these.
 pub fn sites_cover_tokens()
-    ensures { (s : Source) → (f : FileTree) → CoverTokens s (file_sites s f) (identifiers_among (flatten f)) }
+    ensures { (s : TokenSpellings) → (f : FileTree) → CoverTokens s (file_sites s f) (identifiers_among (flatten f)) }
 {}
 
 /// The identifiers of a package are at exactly the identifier tokens of its files and the string literals of their imports.

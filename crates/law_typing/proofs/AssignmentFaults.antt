@@ -3,14 +3,14 @@ use Rattle.std.proofs.Common.{ℕ, ◌≡◌, ◌==◌, Bool, true, false, ◌&&
 use Rattle.std.proofs.Common.{refl, sym, ap, ◌∙◌, subst, suc, true≢false, eq-eqb, eqb-true}
 use Rattle.go_ast.specs.Tree.{Item, ExprTree}
 use Rattle.types_expr.specs.Places.{place_of}
-use Rattle.types_expr.specs.Types.{PlainType, Kind, Typed, Untyped, Nil, Meaning, Value, TypeName, Function, BuiltinName, Package, Results, Broken}
+use Rattle.types_expr.specs.Types.{PlainType, ValueKind, Typed, Untyped, Nil, Meaning, Value, TypeName, Function, BuiltinName, Package, Results, Broken}
 use Rattle.types_expr.specs.World.{World, Locals}
 use Rattle.types_expr.specs.Operations.{fits}
 use Rattle.types_expr.specs.Judge.{ListValue, judge, as_value, value_kind, is_whole, all_whole, misfit}
 use Rattle.types_stmt.specs.Checked.{fault_if}
 use Rattle.types_stmt.specs.Sides.{Target, Wants, rhs, judge_each, values_of, nil_refused, refused_at, all_refused, all_unbroken, given_faults}
 use Rattle.types_stmt.specs.Statements.{returned}
-use Rattle.law_typing.specs.Names.{IsWhole}
+use Rattle.law_typing.specs.Names.{IsNotBroken}
 use Rattle.law_typing.specs.Meanings.{HasMeaning}
 use Rattle.law_typing.specs.Faults.{IsNoValue}
 use Rattle.law_typing.proofs.Tests.{and_first, and_second, and_both}
@@ -42,7 +42,7 @@ each_only w locals none_left = refl
 each_only w locals (one_more {i} {is} {k} {vs} g more) = ap (λ z. given_at (place_of i.value) z ∷ (judge_each w locals is).values) (gives_only w locals g)
     ∙ ap (λ z. given_at (place_of i.value) k ∷ z) (each_only w locals more)
 
-lone_found : (w : World) (locals : Locals) (i : Item ExprTree) (m : Meaning) → (judge w locals i.value).meaning ≡ m → (IsWhole m →
+lone_found : (w : World) (locals : Locals) (i : Item ExprTree) (m : Meaning) → (judge w locals i.value).meaning ≡ m → (IsNotBroken m →
     HasMeaning w locals i.value m) → SidesGive w locals (i ∷ []) (values_of (place_of i.value) m).values
 unfolding values_of as_value value_kind
 lone_found w locals i (Results ts) e h = a_call (h results_whole)
@@ -68,7 +68,7 @@ sides_found w locals [] = nothing_given
 sides_found w locals (i ∷ []) = as_found w locals i
 sides_found w locals (i ∷ j ∷ is) = several_given (each_found w locals (i ∷ j ∷ is))
 
-lone_only : (place : ℕ) (m : Meaning) → ((ts : List PlainType) → m ≡ Results ts → ⊥) → ((k : Kind) (a : Bool) → m ≡ Value k a → ⊥) →
+lone_only : (place : ℕ) (m : Meaning) → ((ts : List PlainType) → m ≡ Results ts → ⊥) → ((k : ValueKind) (a : Bool) → m ≡ Value k a → ⊥) →
     (values_of place m).values ≡ given_at place None ∷ []
 unfolding values_of as_value value_kind
 lone_only place (Value k a) n v = absurd (v k a refl)
@@ -79,10 +79,10 @@ lone_only place (BuiltinName b) n v = refl
 lone_only place Package n v = refl
 lone_only place Broken n v = refl
 
-means_as : (w : World) (locals : Locals) (e : ExprTree) (m : Meaning) → IsWhole m → (judge w locals e).meaning ≡ m → HasMeaning w locals e m
-means_as w locals e m n h = subst (λ z. HasMeaning w locals e z) h (complete w locals e (subst (λ z. IsWhole z) (sym h) n))
+means_as : (w : World) (locals : Locals) (e : ExprTree) (m : Meaning) → IsNotBroken m → (judge w locals e).meaning ≡ m → HasMeaning w locals e m
+means_as w locals e m n h = subst (λ z. HasMeaning w locals e z) h (complete w locals e (subst (λ z. IsNotBroken z) (sym h) n))
 
-given_of : (place : ℕ) {m : Meaning} {k : Kind} {a : Bool} → m ≡ Value k a → (values_of place m).values ≡ given_at place (Some k) ∷ []
+given_of : (place : ℕ) {m : Meaning} {k : ValueKind} {a : Bool} → m ≡ Value k a → (values_of place m).values ≡ given_at place (Some k) ∷ []
 unfolding values_of as_value value_kind
 given_of place e = ap (λ m. (values_of place m).values) e
 
@@ -119,7 +119,7 @@ each_told w locals [] = no_expression (ValueBreaksAt w locals)
 each_told w locals (i ∷ is) = any_told (ValueBreaksAt w locals) i is (value_told w locals i.value) (each_told w locals is)
 
 abbrev GivesNothing : Meaning → Type 0
-GivesNothing m = IsWhole m × IsNoValue m × ((ts : List PlainType) → m ≡ Results ts → ⊥)
+GivesNothing m = IsNotBroken m × IsNoValue m × ((ts : List PlainType) → m ≡ Results ts → ⊥)
 
 record IsNothing (w : World) (locals : Locals) (e : ExprTree) : Type 0 where
   meaning : Meaning
@@ -175,20 +175,20 @@ abbrev pub aim_of : Option Taker → Target
 aim_of None = Wants None
 aim_of (Some t) = aim t
 
-own_refused : (w : World) (place : ℕ) (o : Option Kind) → AreExactly (nil_refused place o) (At place (Refuses w o (Some Fresh)))
+own_refused : (w : World) (place : ℕ) (o : Option ValueKind) → AreExactly (nil_refused place o) (At place (Refuses w o (Some Fresh)))
 unfolding nil_refused
 own_refused w place None = nothing_at place (λ c. elim c [ ])
 own_refused w place (Some (Typed t)) = nothing_at place (λ c. elim c [ refuses n ↦ n (fresh own) ])
 own_refused w place (Some (Untyped b)) = nothing_at place (λ c. elim c [ refuses n ↦ n (fresh by_default) ])
 own_refused w place (Some Nil) = fault_at place (refuses (λ t. elim t [ fresh g ↦ elim g [ ] ]))
 
-type_refused : (w : World) (place : ℕ) (o : Option Kind) (t : PlainType) → AreExactly (misfit w place o t) (At place (Refuses w o (Some (OfType t))))
+type_refused : (w : World) (place : ℕ) (o : Option ValueKind) (t : PlainType) → AreExactly (misfit w place o t) (At place (Refuses w o (Some (OfType t))))
 unfolding misfit
 type_refused w place None t = nothing_at place (λ c. elim c [ ])
 type_refused w place (Some k) t = test_told (fits w k t) place (λ e c. elim c [ refuses n ↦ n (fitting (true_fits w k t e)) ])
     (λ e. refuses (λ r. elim r [ fitting f ↦ true≢false (sym (fits_true w f) ∙ e) ]))
 
-refused_told : (w : World) (place : ℕ) (o : Option Kind) (t : Option Taker) → AreExactly (refused_at w place o (aim_of t)) (At place (Refuses w o t))
+refused_told : (w : World) (place : ℕ) (o : Option ValueKind) (t : Option Taker) → AreExactly (refused_at w place o (aim_of t)) (At place (Refuses w o t))
 unfolding refused_at
 refused_told w place None None = nothing_at place (λ c. elim c [ ])
 refused_told w place (Some k) None = nothing_at place (λ c. elim c [ ])

@@ -2,7 +2,7 @@
 use Rattle.std.proofs.Common.{ℕ, ◌≡◌, ◌==◌, Bool, true, false, ◌&&◌, if◌then◌else◌, List, [], ◌∷◌, map, length, Option, Some, None, refl, sym, ap, ◌∙◌}
 use Rattle.std.proofs.Common.{subst, suc, arith, eq-eqb, eqb-true}
 use Rattle.go_ast.specs.Tree.{Item, IdentTree}
-use Rattle.types_expr.specs.Types.{PlainType, BasicType, Kind, Typed, Untyped, Nil}
+use Rattle.types_expr.specs.Types.{PlainType, BasicType, ValueKind, Typed, Untyped, Nil}
 use Rattle.types_expr.specs.World.{World, Locals, declared}
 use Rattle.types_expr.specs.Judge.{ListValue, all_whole}
 use Rattle.types_stmt.specs.Checked.{fault_if}
@@ -16,46 +16,46 @@ use Rattle.law_typing.proofs.Tests.{and_both}
 use Rattle.law_typing.proofs.Judgements.{empty_first, empty_second, empty_both}
 use Rattle.law_typing.proofs.BrokenRules.{no_fault}
 use Rattle.law_typing.proofs.Arguments.{AreOf, whole_all, fit_silent, silent_fit}
-use Rattle.law_typing.specs.Assignments.{DefaultsTo, own, by_default, Taker, Fresh, OfType, Takes, fresh, fitting, TakenInTurn, none_given, also_given}
+use Rattle.law_typing.specs.Assignments.{DefaultsTo, own, by_default, Taker, Fresh, OfType, TakesValue, fresh, fitting, TakenInTurn, none_given, also_given}
 use Rattle.law_typing.specs.Assignments.{Declare, no_name, no_local, new_local, DeclareAs, no_name_left, not_named, named}
 
 abbrev pub aim : Taker → Target
-aim Fresh = sides.Takes
+aim Fresh = sides.TakesValue
 aim (OfType t) = Wants (Some t)
 
-gives_kind : {k : Kind} {t : PlainType} → DefaultsTo k t → default_type k ≡ Some t
+gives_kind : {k : ValueKind} {t : PlainType} → DefaultsTo k t → default_type k ≡ Some t
 unfolding default_type
 gives_kind own = refl
 gives_kind by_default = refl
 
-not_nil : (place : ℕ) {k : Kind} {t : PlainType} → DefaultsTo k t → nil_refused place (Some k) ≡ []
+not_nil : (place : ℕ) {k : ValueKind} {t : PlainType} → DefaultsTo k t → nil_refused place (Some k) ≡ []
 unfolding nil_refused
 not_nil place own = refl
 not_nil place by_default = refl
 
-given_type : (place : ℕ) (k : Kind) → nil_refused place (Some k) ≡ [] → (t : PlainType) × DefaultsTo k t
+given_type : (place : ℕ) (k : ValueKind) → nil_refused place (Some k) ≡ [] → (t : PlainType) × DefaultsTo k t
 unfolding nil_refused
 given_type place (Typed t) h = (t, own)
 given_type place (Untyped b) h = (BasicType b, by_default)
 given_type place Nil h = no_fault h
 
-taken_silent : (w : World) (place : ℕ) {o : Option Kind} {k : Kind} {t : Taker} → o ≡ Some k → Takes w k t → refused_at w place o (aim t) ≡ []
+taken_silent : (w : World) (place : ℕ) {o : Option ValueKind} {k : ValueKind} {t : Taker} → o ≡ Some k → TakesValue w k t → refused_at w place o (aim t) ≡ []
 unfolding refused_at
 taken_silent w place e (fresh g) = ap (nil_refused place) e ∙ not_nil place g
 taken_silent w place e (fitting f) = fit_silent w place e f
 
-silent_taken : (w : World) (place : ℕ) (o : Option Kind) (k : Kind) (t : Taker) → o ≡ Some k → refused_at w place o (aim t) ≡ [] → Takes w k t
+silent_taken : (w : World) (place : ℕ) (o : Option ValueKind) (k : ValueKind) (t : Taker) → o ≡ Some k → refused_at w place o (aim t) ≡ [] → TakesValue w k t
 unfolding refused_at
 silent_taken w place o k Fresh e h = fresh (given_type place k (ap (nil_refused place) (sym e) ∙ h)).1
 silent_taken w place o k (OfType t) e h = fitting (silent_fit w place o k t e h)
 
-pub as_many : (w : World) (vs : List ListValue) {ks : List Kind} {ts : List Taker} → AreOf vs ks → TakenInTurn w ks ts → length vs ≡ length (map aim ts)
+pub as_many : (w : World) (vs : List ListValue) {ks : List ValueKind} {ts : List Taker} → AreOf vs ks → TakenInTurn w ks ts → length vs ≡ length (map aim ts)
 as_many w [] a none_given = refl
 as_many w [] a (also_given f more) = absurd a
 as_many w (v ∷ vs) a none_given = absurd a
 as_many w (v ∷ vs) a (also_given f more) = ap suc (as_many w vs a.1 more)
 
-pub none_refused : (w : World) (vs : List ListValue) {ks : List Kind} {ts : List Taker} → AreOf vs ks → TakenInTurn w ks ts → all_refused w vs (map aim ts) ≡ []
+pub none_refused : (w : World) (vs : List ListValue) {ks : List ValueKind} {ts : List Taker} → AreOf vs ks → TakenInTurn w ks ts → all_refused w vs (map aim ts) ≡ []
 unfolding all_refused
 none_refused w [] a none_given = refl
 none_refused w [] a (also_given f more) = absurd a
@@ -63,7 +63,7 @@ none_refused w (v ∷ vs) a none_given = absurd a
 none_refused w (v ∷ vs) a (also_given {t = t} {ts = ts} f more) = empty_both (refused_at w v.place v.kind (aim t)) (all_refused w vs (map aim ts))
     (taken_silent w v.place a.0 f) (none_refused w vs a.1 more)
 
-pub all_taken : (w : World) (vs : List ListValue) (ks : List Kind) (ts : List Taker) → AreOf vs ks → length vs ≡ length (map aim ts) →
+pub all_taken : (w : World) (vs : List ListValue) (ks : List ValueKind) (ts : List Taker) → AreOf vs ks → length vs ≡ length (map aim ts) →
     all_refused w vs (map aim ts) ≡ [] → TakenInTurn w ks ts
 unfolding all_refused
 all_taken w [] [] [] a n h = none_given
@@ -91,13 +91,13 @@ right_count xs ys {n} {m} e h = ap (λ c. if c then xs else ys) (eq-eqb n m e) �
 one_fault : {A : Type 0} (c : Bool) (place : ℕ) → c ≡ true → fault_if c place ≡ [] → A
 one_fault c place e h = no_fault (ap (λ z. fault_if z place) (sym e) ∙ h)
 
-pub given_silent : (w : World) (place : ℕ) (vs : List ListValue) {ks : List Kind} {ts : List Taker} → AreOf vs ks → TakenInTurn w ks ts →
+pub given_silent : (w : World) (place : ℕ) (vs : List ListValue) {ks : List ValueKind} {ts : List Taker} → AreOf vs ks → TakenInTurn w ks ts →
     given_faults w place vs (map aim ts) ≡ []
 unfolding given_faults
 given_silent w place vs {ks} {ts} a t = right_count (all_refused w vs (map aim ts)) (fault_if (all_whole vs && all_unbroken (map aim ts)) place)
     (as_many w vs a t) (none_refused w vs a t)
 
-pub silent_given : (w : World) (place : ℕ) (vs : List ListValue) (ks : List Kind) (ts : List Taker) → AreOf vs ks → given_faults w place vs (map aim ts) ≡ [] →
+pub silent_given : (w : World) (place : ℕ) (vs : List ListValue) (ks : List ValueKind) (ts : List Taker) → AreOf vs ks → given_faults w place vs (map aim ts) ≡ [] →
     TakenInTurn w ks ts
 unfolding given_faults
 silent_given w place vs ks ts a h = counted (length vs == length (map aim ts)) (all_refused w vs (map aim ts)) (fault_if (all_whole vs && all_unbroken
@@ -105,12 +105,12 @@ silent_given w place vs ks ts a h = counted (length vs == length (map aim ts)) (
     (λ q. one_fault (all_whole vs && all_unbroken (map aim ts)) place (and_both (all_whole vs) (all_unbroken (map aim ts)) (whole_all vs ks a) (sound_aims ts)) q)
     (λ c q. all_taken w vs ks ts a (eqb-true (length vs) (length (map aim ts)) c) q)
 
-pub return_silent : (w : World) (place : ℕ) (vs : List ListValue) {ks : List Kind} {ts : List Taker} → AreOf vs ks → TakenInTurn w ks ts →
+pub return_silent : (w : World) (place : ℕ) (vs : List ListValue) {ks : List ValueKind} {ts : List Taker} → AreOf vs ks → TakenInTurn w ks ts →
     returned w place vs (map aim ts) ≡ []
 unfolding returned
 return_silent w place vs {ks} {ts} a t = right_count (all_refused w vs (map aim ts)) (fault_if (all_whole vs) place) (as_many w vs a t) (none_refused w vs a t)
 
-pub silent_return : (w : World) (place : ℕ) (vs : List ListValue) (ks : List Kind) (ts : List Taker) → AreOf vs ks → returned w place vs (map aim ts) ≡ [] →
+pub silent_return : (w : World) (place : ℕ) (vs : List ListValue) (ks : List ValueKind) (ts : List Taker) → AreOf vs ks → returned w place vs (map aim ts) ≡ [] →
     TakenInTurn w ks ts
 unfolding returned
 silent_return w place vs ks ts a h = counted (length vs == length (map aim ts)) (all_refused w vs (map aim ts)) (fault_if (all_whole vs) place) h
@@ -119,11 +119,11 @@ silent_return w place vs ks ts a h = counted (length vs == length (map aim ts)) 
 
 -- locals
 
-type_taken : {o : Option Kind} {k : Kind} {t : PlainType} → o ≡ Some k → DefaultsTo k t → inferred_type o ≡ Some t
+type_taken : {o : Option ValueKind} {k : ValueKind} {t : PlainType} → o ≡ Some k → DefaultsTo k t → inferred_type o ≡ Some t
 unfolding inferred_type
 type_taken e g = ap inferred_type e ∙ gives_kind g
 
-pub declare_many : (vs : List ListValue) {before after : Locals} {ns : List (Option ℕ)} {ks : List Kind} → AreOf vs ks → Declare before ns ks after →
+pub declare_many : (vs : List ListValue) {before after : Locals} {ns : List (Option ℕ)} {ks : List ValueKind} → AreOf vs ks → Declare before ns ks after →
     length vs ≡ length ns
 declare_many [] a no_name = refl
 declare_many [] a (no_local more) = absurd a
@@ -132,7 +132,7 @@ declare_many (v ∷ vs) a no_name = absurd a
 declare_many (v ∷ vs) a (no_local more) = ap suc (declare_many vs a.1 more)
 declare_many (v ∷ vs) a (new_local g more) = ap suc (declare_many vs a.1 more)
 
-declare_types : (vs : List ListValue) {before after : Locals} {ns : List (Option ℕ)} {ks : List Kind} → AreOf vs ks → Declare before ns ks after →
+declare_types : (vs : List ListValue) {before after : Locals} {ns : List (Option ℕ)} {ks : List ValueKind} → AreOf vs ks → Declare before ns ks after →
     with_locals before ns (inferred_types vs) ≡ after
 unfolding with_locals
 declare_types [] a no_name = refl
@@ -143,7 +143,7 @@ declare_types (v ∷ vs) a (no_local more) = declare_types vs a.1 more
 declare_types (v ∷ vs) a (new_local {before} {p = p} {ns = ns} g more) = ap (λ t. with_locals (declared before p t) ns (inferred_types vs))
     (type_taken a.0 g) ∙ declare_types vs a.1 more
 
-pub declare_true : (vs : List ListValue) {before after : Locals} {ns : List (Option ℕ)} {ks : List Kind} → AreOf vs ks → Declare before ns ks after →
+pub declare_true : (vs : List ListValue) {before after : Locals} {ns : List (Option ℕ)} {ks : List ValueKind} → AreOf vs ks → Declare before ns ks after →
     with_inferred before ns vs ≡ after
 unfolding inferred
 declare_true vs {before} {ns = ns} a d = ap (λ c. with_locals before ns (if c then inferred_types vs else [])) (eq-eqb (length vs) (length ns)
@@ -156,7 +156,7 @@ AreNew (t ∷ ts) (None ∷ ns) = AreNew ts ns
 AreNew (Fresh ∷ ts) (Some p ∷ ns) = AreNew ts ns
 AreNew ts ns = ⊥
 
-new_types : (w : World) (vs : List ListValue) (before : Locals) {ts : List Taker} (ns : List (Option ℕ)) {ks : List Kind} → AreNew ts ns → AreOf vs ks →
+new_types : (w : World) (vs : List ListValue) (before : Locals) {ts : List Taker} (ns : List (Option ℕ)) {ks : List ValueKind} → AreNew ts ns → AreOf vs ks →
     TakenInTurn w ks ts →
     (length vs ≡ length ns) × Declare before ns ks (with_locals before ns (inferred_types vs))
 unfolding with_locals
@@ -174,7 +174,7 @@ new_types w (v ∷ vs) before (Some p ∷ ns) u a (also_given {ks = ks} (fresh {
           (type_taken a.0 g)) q.1),
     )
 
-pub declare_found : (w : World) (vs : List ListValue) (before : Locals) {ts : List Taker} (ns : List (Option ℕ)) {ks : List Kind} → AreNew ts ns →
+pub declare_found : (w : World) (vs : List ListValue) (before : Locals) {ts : List Taker} (ns : List (Option ℕ)) {ks : List ValueKind} → AreNew ts ns →
     AreOf vs ks → TakenInTurn w ks ts → Declare before ns ks (with_inferred before ns vs)
 unfolding inferred
 declare_found w vs before ns {ks} u a t = let q = new_types w vs before ns u a t in

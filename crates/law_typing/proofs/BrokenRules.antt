@@ -9,7 +9,7 @@ use Rattle.types_expr.specs.declared.types.Basic.TheVariants as basic
 use Rattle.types_expr.specs.declared.types.Builtin.{Builtin}
 use Rattle.types_expr.specs.declared.types.Builtin.TheVariants as builtin
 use Rattle.types_expr.specs.declared.symbol.Symbol.{Symbol}
-use Rattle.types_expr.specs.Types.{PlainType, BasicType, Pointer, Slice, Underlying, Plain, PointerTo, SliceOf, Struct, Kind, Typed, Untyped, Nil, Signature}
+use Rattle.types_expr.specs.Types.{PlainType, BasicType, Pointer, Slice, Underlying, Plain, PointerTo, SliceOf, Struct, ValueKind, Typed, Untyped, Nil, Signature}
 use Rattle.types_expr.specs.Types.{Meaning, Value, TypeName, Function, BuiltinName, Package, Results, Broken, is_pointer}
 use Rattle.types_expr.specs.World.{World, Locals, Bound, Local, Means, BrokenVariable, BrokenFunction, BrokenType, Member, AField, AMethod, ABrokenMethod}
 use Rattle.types_expr.specs.World.{name_meaning}
@@ -20,7 +20,7 @@ use Rattle.types_expr.specs.Judge.{unless_faults, wrong_if_whole, result_meaning
 use Rattle.types_expr.specs.Judge.{len_fits, all_printed, call_builtin, call_of, bad_index, indexed, index_of, element_meaning, operation, prefix_of}
 use Rattle.types_expr.specs.Judge.{judge_type, named_type, imported_type, key_in, key_of_member, key_faults, is_whole_key, is_empty, misfit_if, with_element}
 use Rattle.types_expr.specs.Judge.{literal_result}
-use Rattle.law_typing.specs.Names.{IsWhole, NameMeans}
+use Rattle.law_typing.specs.Names.{IsNotBroken, NameMeans}
 use Rattle.law_typing.specs.BrokenUses.{IsBrokenType, named, imported, pointer, slice, SelectsBroken, a_method, of_package}
 use Rattle.law_typing.proofs.Tests.{and_first, and_second, and_both}
 use Rattle.law_typing.proofs.Judgements.{value_whole, function_whole, results_whole, empty_first, empty_second}
@@ -31,7 +31,7 @@ use Rattle.law_typing.proofs.Calling.{gives, gives_whole}
 pub no_fault : {A : Type 0} {place : ℕ} {rest : List ℕ} → (place ∷ rest) ≡ [] → A
 no_fault {A} {place} {rest} h = cc
 
-pub whole_or_broken : (m : Meaning) → IsWhole m ⊎ (m ≡ Broken)
+pub whole_or_broken : (m : Meaning) → IsNotBroken m ⊎ (m ≡ Broken)
 whole_or_broken (Value k a) = inl value_whole
 whole_or_broken (TypeName t) = inl (λ h. cc)
 whole_or_broken (Function s) = inl function_whole
@@ -43,7 +43,7 @@ whole_or_broken Broken = inr refl
 pub no_name : (w : World) (locals : Locals) (p : ℕ) → name_meaning w locals p ≡ Broken → (m : Meaning) → NameMeans w locals p m → ⊥
 no_name w locals p e m h = name_whole w locals h (sym (name_true w locals h) ∙ e)
 
-pub value_or_fault : (place : ℕ) (m : Meaning) → IsWhole m → (as_value place m).faults ≡ [] → (k : Kind) × (a : Bool) × (m ≡ Value k a)
+pub value_or_fault : (place : ℕ) (m : Meaning) → IsNotBroken m → (as_value place m).faults ≡ [] → (k : ValueKind) × (a : Bool) × (m ≡ Value k a)
 unfolding as_value
 value_or_fault place (Value k a) n h = (k, a, refl)
 value_or_fault place (TypeName t) n h = no_fault h
@@ -55,43 +55,43 @@ value_or_fault place Broken n h = absurd (n refl)
 
 -- operators
 
-prefix_chosen : (w : World) (o : PrefixOp) (p : ℕ) (k : Kind) (r : Option Meaning) → prefixed w o k ≡ r → (means_or_wrong r p).faults ≡ [] →
-    IsWhole (means_or_wrong r p).meaning
+prefix_chosen : (w : World) (o : PrefixOp) (p : ℕ) (k : ValueKind) (r : Option Meaning) → prefixed w o k ≡ r → (means_or_wrong r p).faults ≡ [] →
+    IsNotBroken (means_or_wrong r p).meaning
 prefix_chosen w o p k None e h = no_fault h
 prefix_chosen w o p k (Some m) e h = prefix_whole (true_prefixes w o k m e)
 
-pub prefix_or_fault : (w : World) (o : PrefixOp) (p : ℕ) (k : Kind) (a : Bool) → (prefix_of w o p (Value k a)).faults ≡ [] →
-    IsWhole (prefix_of w o p (Value k a)).meaning
+pub prefix_or_fault : (w : World) (o : PrefixOp) (p : ℕ) (k : ValueKind) (a : Bool) → (prefix_of w o p (Value k a)).faults ≡ [] →
+    IsNotBroken (prefix_of w o p (Value k a)).meaning
 unfolding prefix_of
 prefix_or_fault w o p k a h = prefix_chosen w o p k (prefixed w o k) refl h
 
-operation_chosen : (start : ℕ) (r : Option Kind) → (value_or_wrong r start).faults ≡ [] → (l : Kind) × ((value_or_wrong r start).meaning ≡ Value l false)
+operation_chosen : (start : ℕ) (r : Option ValueKind) → (value_or_wrong r start).faults ≡ [] → (l : ValueKind) × ((value_or_wrong r start).meaning ≡ Value l false)
 operation_chosen start None h = no_fault h
 operation_chosen start (Some l) h = (l, refl)
 
-pub operation_or_fault : (w : World) (o : BinaryOp) (start : ℕ) (j k : Kind) (a b : Bool) → (operation w o start (Value j a) (Value k b)).faults ≡ [] →
-    (l : Kind) × ((operation w o start (Value j a) (Value k b)).meaning ≡ Value l false)
+pub operation_or_fault : (w : World) (o : BinaryOp) (start : ℕ) (j k : ValueKind) (a b : Bool) → (operation w o start (Value j a) (Value k b)).faults ≡ [] →
+    (l : ValueKind) × ((operation w o start (Value j a) (Value k b)).meaning ≡ Value l false)
 unfolding operation value_kind
 operation_or_fault w o start j k a b h = operation_chosen start (operate w o j k) h
 
 -- selectors
 
 variable_method : (g : Signature) (name : ℕ) (b : Bool) → (means_or_wrong (if b then Some (Function g) else None) name).faults ≡ [] →
-    IsWhole (means_or_wrong (if b then Some (Function g) else None) name).meaning
+    IsNotBroken (means_or_wrong (if b then Some (Function g) else None) name).meaning
 variable_method g name true h = function_whole
 variable_method g name false h = no_fault h
 
 member_or_broken : (w : World) (locals : Locals) (t : PlainType) (a : Bool) (name : ℕ) (o : Option Member) → w.member name t ≡ o →
     (means_or_wrong (member_meaning w t a o) name).faults ≡ [] →
-    IsWhole (means_or_wrong (member_meaning w t a o) name).meaning ⊎ SelectsBroken w locals (Value (Typed t) a) name
+    IsNotBroken (means_or_wrong (member_meaning w t a o) name).meaning ⊎ SelectsBroken w locals (Value (Typed t) a) name
 member_or_broken w locals t a name None e h = no_fault h
 member_or_broken w locals t a name (Some (AField s u)) e h = inl value_whole
 member_or_broken w locals t a name (Some (AMethod s true g)) e h = inl (variable_method g name (is_pointer t || a) h)
 member_or_broken w locals t a name (Some (AMethod s false g)) e h = inl function_whole
 member_or_broken w locals t a name (Some (ABrokenMethod s)) e h = inr (a_method e)
 
-pub select_or_broken : (w : World) (locals : Locals) (place name : ℕ) (m : Meaning) → IsWhole m → (select w locals place name m).faults ≡ [] →
-    IsWhole (select w locals place name m).meaning ⊎ SelectsBroken w locals m name
+pub select_or_broken : (w : World) (locals : Locals) (place name : ℕ) (m : Meaning) → IsNotBroken m → (select w locals place name m).faults ≡ [] →
+    IsNotBroken (select w locals place name m).meaning ⊎ SelectsBroken w locals m name
 unfolding select select_member
 select_or_broken w locals place name (Value (Typed t) a) n h = member_or_broken w locals t a name (w.member name t) refl h
 select_or_broken w locals place name (Value (Untyped b) a) n h = no_fault h
@@ -106,29 +106,29 @@ select_or_broken w locals place name Broken n h = absurd (n refl)
 
 -- indexes
 
-element_or_fault : (o : Option PlainType) (start : ℕ) → (element_meaning o start).faults ≡ [] → IsWhole (element_meaning o start).meaning
+element_or_fault : (o : Option PlainType) (start : ℕ) → (element_meaning o start).faults ≡ [] → IsNotBroken (element_meaning o start).meaning
 element_or_fault None start h = no_fault h
 element_or_fault (Some t) start h = value_whole
 
-int_or_fault : (w : World) (start place : ℕ) (s : Kind) (a : Bool) (b : Bool) →
+int_or_fault : (w : World) (start place : ℕ) (s : ValueKind) (a : Bool) (b : Bool) →
     (indexed w start (if b then [] else (place ∷ [])) true (Value s a)).faults ≡ [] →
-    IsWhole (indexed w start (if b then [] else (place ∷ [])) true (Value s a)).meaning
+    IsNotBroken (indexed w start (if b then [] else (place ∷ [])) true (Value s a)).meaning
 unfolding indexed
 int_or_fault w start place s a true h = element_or_fault (element_of_kind w s) start h
 int_or_fault w start place s a false h = no_fault h
 
-values_indexed : (w : World) (start place : ℕ) (s k : Kind) (a b : Bool) → (index_of w start place (Value s b) (Value k a)).faults ≡ [] →
-    IsWhole (index_of w start place (Value s b) (Value k a)).meaning
+values_indexed : (w : World) (start place : ℕ) (s k : ValueKind) (a b : Bool) → (index_of w start place (Value s b) (Value k a)).faults ≡ [] →
+    IsNotBroken (index_of w start place (Value s b) (Value k a)).meaning
 unfolding index_of bad_index value_kind
 values_indexed w start place s k a b h = int_or_fault w start place s b (is_int (class_of w k)) h
 
-pub index_or_fault : (w : World) (start here place : ℕ) (m i : Meaning) {s k : Kind} {b a : Bool} → m ≡ Value s b → i ≡ Value k a →
+pub index_or_fault : (w : World) (start here place : ℕ) (m i : Meaning) {s k : ValueKind} {b a : Bool} → m ≡ Value s b → i ≡ Value k a →
     (index_of w start place (as_value here m).meaning i).faults ≡ [] →
-    IsWhole (index_of w start place (as_value here m).meaning i).meaning
+    IsNotBroken (index_of w start place (as_value here m).meaning i).meaning
 unfolding as_value
 index_or_fault w start here place m i {s} {k} {b} {a} e f h =
-    subst (λ z. IsWhole (index_of w start place (as_value here z).meaning i).meaning) (sym e)
-    (subst (λ z. IsWhole (index_of w start place (Value s b) z).meaning) (sym f)
+    subst (λ z. IsNotBroken (index_of w start place (as_value here z).meaning i).meaning) (sym e)
+    (subst (λ z. IsNotBroken (index_of w start place (Value s b) z).meaning) (sym f)
     (values_indexed w start place s k a b (ap (λ z. (index_of w start place (Value s b) z).faults) (sym f) ∙
     (ap (λ z. (index_of w start place (as_value here z).meaning i).faults) (sym e) ∙ h))))
 
@@ -138,8 +138,8 @@ refused_if_whole : {A : Type 0} (b : Bool) (place : ℕ) → b ≡ true → (wro
 refused_if_whole true place e h = no_fault h
 refused_if_whole false place e h = absurd (true≢false (sym e))
 
-fits_or_fault : (places : List ℕ) (b : Bool) (m : Meaning) → IsWhole m → b ≡ true → (unless_faults places b m).faults ≡ [] →
-    IsWhole (unless_faults places b m).meaning
+fits_or_fault : (places : List ℕ) (b : Bool) (m : Meaning) → IsNotBroken m → b ≡ true → (unless_faults places b m).faults ≡ [] →
+    IsNotBroken (unless_faults places b m).meaning
 unfolding unless_faults
 fits_or_fault [] true m n e h = n
 fits_or_fault [] false m n e h = absurd (true≢false (sym e))
@@ -147,57 +147,57 @@ fits_or_fault (p ∷ ps) b m n e h = no_fault h
 
 count_or_fault : (w : World) (start : ℕ) (s : Signature) (vs : List ListValue) → all_whole vs ≡ true → (b : Bool) →
     (if b then unless_faults (misfits w vs s.parameters) (all_whole vs) (result_meaning s.results) else wrong_if_whole (all_whole vs) start).faults ≡ [] →
-    IsWhole (if b then unless_faults (misfits w vs s.parameters) (all_whole vs) (result_meaning s.results) else wrong_if_whole (all_whole vs) start).meaning
+    IsNotBroken (if b then unless_faults (misfits w vs s.parameters) (all_whole vs) (result_meaning s.results) else wrong_if_whole (all_whole vs) start).meaning
 count_or_fault w start s vs a true h = fits_or_fault (misfits w vs s.parameters) (all_whole vs) (result_meaning s.results) (gives_whole (gives s.results)) a h
 count_or_fault w start s vs a false h = refused_if_whole (all_whole vs) start a h
 
 function_or_fault : (w : World) (start : ℕ) (s : Signature) (vs : List ListValue) → all_whole vs ≡ true → (call_function w start s vs).faults ≡ [] →
-    IsWhole (call_function w start s vs).meaning
+    IsNotBroken (call_function w start s vs).meaning
 unfolding call_function
 function_or_fault w start s vs a h = count_or_fault w start s vs a (length vs == length s.parameters) h
 
 converts_or_fault : (start : ℕ) (t : PlainType) (b : Bool) → (if b then means (Value (Typed t) false) else wrong start).faults ≡ [] →
-    IsWhole (if b then means (Value (Typed t) false) else wrong start).meaning
+    IsNotBroken (if b then means (Value (Typed t) false) else wrong start).meaning
 converts_or_fault start t true h = value_whole
 converts_or_fault start t false h = no_fault h
 
-one_or_fault : (w : World) (start : ℕ) (t : PlainType) (o : Option Kind) → is_whole o ≡ true → (convert_one w start t o).faults ≡ [] →
-    IsWhole (convert_one w start t o).meaning
+one_or_fault : (w : World) (start : ℕ) (t : PlainType) (o : Option ValueKind) → is_whole o ≡ true → (convert_one w start t o).faults ≡ [] →
+    IsNotBroken (convert_one w start t o).meaning
 one_or_fault w start t None a h = absurd (true≢false (sym a))
 one_or_fault w start t (Some k) a h = converts_or_fault start t (converts w k t) h
 
 conversion_or_fault : (w : World) (start : ℕ) (t : PlainType) (vs : List ListValue) → all_whole vs ≡ true → (convert w start t vs).faults ≡ [] →
-    IsWhole (convert w start t vs).meaning
+    IsNotBroken (convert w start t vs).meaning
 unfolding convert all_whole
 conversion_or_fault w start t [] a h = refused_if_whole true start refl h
 conversion_or_fault w start t (v ∷ []) a h = one_or_fault w start t v.kind (and_first (is_whole v.kind) true a) h
 conversion_or_fault w start t (v ∷ u ∷ vs) a h = refused_if_whole (all_whole (v ∷ u ∷ vs)) start a h
 
-fine_or_fault : (fine whole : Bool) (start : ℕ) (m : Meaning) → IsWhole m → whole ≡ true →
+fine_or_fault : (fine whole : Bool) (start : ℕ) (m : Meaning) → IsNotBroken m → whole ≡ true →
     (if whole then (if fine then means m else wrong start) else means Broken).faults ≡ [] →
-    IsWhole (if whole then (if fine then means m else wrong start) else means Broken).meaning
+    IsNotBroken (if whole then (if fine then means m else wrong start) else means Broken).meaning
 fine_or_fault true true start m n a h = n
 fine_or_fault false true start m n a h = no_fault h
 fine_or_fault fine false start m n a h = absurd (true≢false (sym a))
 
-element_append : (w : World) (start : ℕ) (k : Kind) (o : Option PlainType) (vs : List ListValue) → all_whole vs ≡ true →
-    (append_to w start k o vs).faults ≡ [] → IsWhole (append_to w start k o vs).meaning
+element_append : (w : World) (start : ℕ) (k : ValueKind) (o : Option PlainType) (vs : List ListValue) → all_whole vs ≡ true →
+    (append_to w start k o vs).faults ≡ [] → IsNotBroken (append_to w start k o vs).meaning
 element_append w start k None vs a h = refused_if_whole (all_whole vs) start a h
 element_append w start k (Some t) vs a h = fits_or_fault (all_misfits w vs t) (all_whole vs) (Value k false) value_whole a h
 
-first_append : (w : World) (start : ℕ) (o : Option Kind) (vs : List ListValue) → is_whole o ≡ true → all_whole vs ≡ true →
-    (append_first w start o vs).faults ≡ [] → IsWhole (append_first w start o vs).meaning
+first_append : (w : World) (start : ℕ) (o : Option ValueKind) (vs : List ListValue) → is_whole o ≡ true → all_whole vs ≡ true →
+    (append_first w start o vs).faults ≡ [] → IsNotBroken (append_first w start o vs).meaning
 first_append w start None vs f a h = absurd (true≢false (sym f))
 first_append w start (Some k) vs f a h = element_append w start k (element_of_kind w k) vs a h
 
-append_or_fault : (w : World) (start : ℕ) (vs : List ListValue) → all_whole vs ≡ true → (append w start vs).faults ≡ [] → IsWhole (append w start vs).meaning
+append_or_fault : (w : World) (start : ℕ) (vs : List ListValue) → all_whole vs ≡ true → (append w start vs).faults ≡ [] → IsNotBroken (append w start vs).meaning
 unfolding append all_whole
 append_or_fault w start [] a h = no_fault h
 append_or_fault w start (v ∷ vs) a h = first_append w start v.kind vs (and_first (is_whole v.kind) (all_whole vs) a)
     (and_second (is_whole v.kind) (all_whole vs) a) h
 
 builtin_or_fault : (w : World) (start : ℕ) (b : Builtin) (vs : List ListValue) → all_whole vs ≡ true → (call_builtin w start b vs).faults ≡ [] →
-    IsWhole (call_builtin w start b vs).meaning
+    IsNotBroken (call_builtin w start b vs).meaning
 unfolding call_builtin
 builtin_or_fault w start builtin.Append vs a h = append_or_fault w start vs a h
 builtin_or_fault w start builtin.Len vs a h = fine_or_fault (len_fits w vs) (all_whole vs) start (Value (Typed (BasicType basic.Int)) false) value_whole a h
@@ -205,8 +205,8 @@ builtin_or_fault w start builtin.Panic vs a h = fine_or_fault (length vs == 1) (
 builtin_or_fault w start builtin.Print vs a h = fine_or_fault (all_printed w vs) (all_whole vs) start (Results []) results_whole a h
 builtin_or_fault w start builtin.Println vs a h = fine_or_fault (all_printed w vs) (all_whole vs) start (Results []) results_whole a h
 
-pub call_or_fault : (w : World) (start place : ℕ) (vs : List ListValue) (m : Meaning) → IsWhole m → all_whole vs ≡ true →
-    (call_of w start place vs m).faults ≡ [] → IsWhole (call_of w start place vs m).meaning
+pub call_or_fault : (w : World) (start place : ℕ) (vs : List ListValue) (m : Meaning) → IsNotBroken m → all_whole vs ≡ true →
+    (call_of w start place vs m).faults ≡ [] → IsNotBroken (call_of w start place vs m).meaning
 unfolding call_of
 call_or_fault w start place vs (Function s) n a h = function_or_fault w start s vs a h
 call_or_fault w start place vs (TypeName t) n a h = conversion_or_fault w start t vs a h
@@ -309,7 +309,7 @@ all_parts_whole w k place j rest a b c d =
     (and_both (is_empty (misfit_if w place (value_kind j.meaning) k.wanted)) rest.whole (ap is_empty c) d))
 
 pub ends_or_fault : (start : ℕ) (t : PlainType) (u : Underlying) (unkeyed : Bool) → (literal_result start t u true unkeyed).faults ≡ [] →
-    IsWhole (literal_result start t u true unkeyed).meaning
+    IsNotBroken (literal_result start t u true unkeyed).meaning
 ends_or_fault start t (Struct s) true h = no_fault h
 ends_or_fault start t (Struct s) false h = value_whole
 ends_or_fault start t (SliceOf x) unkeyed h = value_whole

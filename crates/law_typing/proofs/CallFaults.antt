@@ -6,17 +6,17 @@ use Rattle.go_ast.specs.Tree.{ExprTree, ArgumentTrees}
 use Rattle.go_ast.specs.Tree as tree
 use Rattle.types_expr.specs.declared.types.Builtin.TheVariants as builtin
 use Rattle.types_expr.specs.Places.{place_of}
-use Rattle.types_expr.specs.Types.{PlainType, SliceOf, Kind, Typed, Signature, Meaning, Value, TypeName, Function, BuiltinName, Package, Results, Broken}
+use Rattle.types_expr.specs.Types.{PlainType, SliceOf, ValueKind, Typed, Signature, Meaning, Value, TypeName, Function, BuiltinName, Package, Results, Broken}
 use Rattle.types_expr.specs.Types.{element_of}
 use Rattle.types_expr.specs.World.{World, Locals, underlying}
 use Rattle.types_expr.specs.Operations.{fits, operate}
 use Rattle.types_expr.specs.Judge.{ListValue, value_kind, value_at, call_rule, call_of, call_function, call_builtin, append, append_first, append_to, misfit}
 use Rattle.types_expr.specs.Judge.{misfits, all_misfits, unless_faults, wrong_if_whole, result_meaning, all_whole, value_or_wrong, operation, operation_on}
 use Rattle.types_expr.specs.Judge.{judge, judge_value, judge_arguments}
-use Rattle.law_typing.specs.Fits.{Fits}
+use Rattle.law_typing.specs.Fits.{FitsType}
 use Rattle.law_typing.specs.Operators.{Operates}
-use Rattle.law_typing.specs.Names.{IsWhole}
-use Rattle.law_typing.specs.Links.{Calls}
+use Rattle.law_typing.specs.Names.{IsNotBroken}
+use Rattle.law_typing.specs.Links.{CallGives}
 use Rattle.law_typing.specs.Meanings.{HasMeaning, AreValues, no_argument, argument}
 use Rattle.law_typing.specs.Faults.{IsNoCallee, a_package, a_call, Misfits, no_fit, no_element, IsMisfit, this_argument, other_argument, IsMisfitOf}
 use Rattle.law_typing.specs.Faults.{this_value, other_value, AreAsMany, no_more, one_more}
@@ -37,12 +37,12 @@ use Rattle.law_typing.proofs.LinkFaults.{IsRule}
 
 -- arguments
 
-arguments_of : (w : World) (locals : Locals) {xs : ArgumentTrees} {ks : List Kind} → AreValues w locals xs ks → AreOf (judge_arguments w locals xs).values ks
+arguments_of : (w : World) (locals : Locals) {xs : ArgumentTrees} {ks : List ValueKind} → AreValues w locals xs ks → AreOf (judge_arguments w locals xs).values ks
 unfolding judge
 arguments_of w locals no_argument = tt
 arguments_of w locals (argument h more) = (kind_is w locals h, arguments_of w locals more)
 
-same_kinds : (vs : List ListValue) (js ks : List Kind) → AreOf vs js → AreOf vs ks → js ≡ ks
+same_kinds : (vs : List ListValue) (js ks : List ValueKind) → AreOf vs js → AreOf vs ks → js ≡ ks
 same_kinds [] [] [] a b = refl
 same_kinds [] [] (k ∷ ks) a b = absurd b
 same_kinds [] (j ∷ js) ks a b = absurd a
@@ -51,7 +51,7 @@ same_kinds (v ∷ vs) (j ∷ js) [] a b = absurd b
 same_kinds (v ∷ vs) (j ∷ js) (k ∷ ks) a b = ap (λ z. z ∷ js) (some_same (sym a.0 ∙ b.0)) ∙ ap (λ z. k ∷ z) (same_kinds vs js ks a.1 b.1)
 
 called_only : (w : World) (locals : Locals) (start place : ℕ) (xs : ArgumentTrees) (m s : Meaning) → CalledWith w locals xs m s →
-    ((call_of w start place (judge_arguments w locals xs).values m).meaning ≡ s) × IsWhole s
+    ((call_of w start place (judge_arguments w locals xs).values m).meaning ≡ s) × IsNotBroken s
 called_only w locals start place xs m s (by_values vs c) = let t = calls_true w start place (judge_arguments w locals xs).values (arguments_of w locals vs) c in
     (t.meaning, t.whole)
 
@@ -67,12 +67,12 @@ calls_rule w locals start place xs m = record {
 pub data CallBreaks (w : World) (locals : Locals) (start place : ℕ) (xs : ArgumentTrees) : Option Meaning → ℕ → Type 0 where
   cannot_be_called : {m : Meaning} → IsNoCallee m → CallBreaks w locals start place xs (Some m) place
   a_misfit : {m : Meaning} {p : ℕ} → Misfits w locals m xs p → CallBreaks w locals start place xs (Some m) p
-  wrong_call : {m : Meaning} {ks : List Kind} → (IsNoCallee m → ⊥) → AreValues w locals xs ks → ((s : Meaning) → Calls w m ks s → ⊥) →
+  wrong_call : {m : Meaning} {ks : List ValueKind} → (IsNoCallee m → ⊥) → AreValues w locals xs ks → ((s : Meaning) → CallGives w m ks s → ⊥) →
       ((p : ℕ) → Misfits w locals m xs p → ⊥) → CallBreaks w locals start place xs (Some m) start
 
 -- misfits are found
 
-misfit_holds : (w : World) (place : ℕ) {o : Option Kind} {k : Kind} {t : PlainType} → o ≡ Some k → (Fits w k t → ⊥) → HasToken (misfit w place o t) place
+misfit_holds : (w : World) (place : ℕ) {o : Option ValueKind} {k : ValueKind} {t : PlainType} → o ≡ Some k → (FitsType w k t → ⊥) → HasToken (misfit w place o t) place
 unfolding misfit
 misfit_holds w place {k = k} {t = t} e n = subst (λ z. HasToken (misfit w place z t) place) (sym e) (unfit (fits w k t) refl)
   where
@@ -113,7 +113,7 @@ right_count : (w : World) (start : ℕ) (s : Signature) (vs : List ListValue) (p
 right_count w start s vs p true e h = unless_holds (misfits w vs s.parameters) (all_whole vs) (result_meaning s.results) p h
 right_count w start s vs p false e h = absurd (true≢false (sym e))
 
-append_holds : (w : World) (start : ℕ) (vs : List ListValue) (p : ℕ) {o : Option Kind} {t u : PlainType} → o ≡ Some (Typed t) → underlying w t ≡ SliceOf u →
+append_holds : (w : World) (start : ℕ) (vs : List ListValue) (p : ℕ) {o : Option ValueKind} {t u : PlainType} → o ≡ Some (Typed t) → underlying w t ≡ SliceOf u →
     HasToken (all_misfits w vs u) p → HasToken (append_first w start o vs).faults p
 append_holds w start vs p {t = t} {u = u} e s h = subst (λ z. HasToken (append_first w start z vs).faults p) (sym e) (subst
     (λ z. HasToken (append_to w start (Typed t) z vs).faults p) (sym (ap element_of s)) (unless_holds (all_misfits w vs u) (all_whole vs) (Value
@@ -162,24 +162,24 @@ start_only n f (cannot_be_called c) = absurd (n c)
 start_only {p = p} n f (a_misfit b) = absurd (f p b)
 start_only n f (wrong_call c a g h) = refl
 
-wrong_stands : (w : World) (locals : Locals) (start place : ℕ) (xs : ArgumentTrees) (m : Meaning) {ks : List Kind} → IsWhole m → (IsNoCallee m → ⊥) →
-    AreValues w locals xs ks → ((s : Meaning) → Calls w m ks s → ⊥) → ((p : ℕ) → Misfits w locals m xs p → ⊥) → (fs : List ℕ) →
+wrong_stands : (w : World) (locals : Locals) (start place : ℕ) (xs : ArgumentTrees) (m : Meaning) {ks : List ValueKind} → IsNotBroken m → (IsNoCallee m → ⊥) →
+    AreValues w locals xs ks → ((s : Meaning) → CallGives w m ks s → ⊥) → ((p : ℕ) → Misfits w locals m xs p → ⊥) → (fs : List ℕ) →
     (call_of w start place (judge_arguments w locals xs).values m).faults ≡ fs → HasToken fs start
 wrong_stands w locals start place xs m {ks} whole n a g f [] e = let vs = (judge_arguments w locals xs).values in
     let q = true_calls w start place vs m (call_or_fault w start place vs m whole (whole_all vs ks (arguments_of w locals a)) e) in
-    absurd (g (call_of w start place vs m).meaning (subst (λ z. Calls w m z (call_of w start place vs m).meaning) (same_kinds vs q.1.0 ks q.1.1
+    absurd (g (call_of w start place vs m).meaning (subst (λ z. CallGives w m z (call_of w start place vs m).meaning) (same_kinds vs q.1.0 ks q.1.1
     (arguments_of w locals a)) q.1.2))
 wrong_stands w locals start place xs m whole n a g f (x ∷ rest) e =
     inl (start_only n f (call_found w locals start place xs m n x (subst (λ z. HasToken z x) (sym e) (inl refl))))
 
-call_stands : (w : World) (locals : Locals) (start place : ℕ) (xs : ArgumentTrees) (m : Meaning) → IsWhole m → (IsNoCallee m → ⊥) → (p : ℕ) →
+call_stands : (w : World) (locals : Locals) (start place : ℕ) (xs : ArgumentTrees) (m : Meaning) → IsNotBroken m → (IsNoCallee m → ⊥) → (p : ℕ) →
     CallBreaks w locals start place xs (Some m) p → HasToken (call_of w start place (judge_arguments w locals xs).values m).faults p
 call_stands w locals start place xs m whole n p (cannot_be_called c) = absurd (n c)
 call_stands w locals start place xs m whole n p (a_misfit b) = misfit_stands w locals start place b
 call_stands w locals start place xs m whole n p (wrong_call c a g f) =
     wrong_stands w locals start place xs m whole n a g f (call_of w start place (judge_arguments w locals xs).values m).faults refl
 
-callable_told : (w : World) (locals : Locals) (start place : ℕ) (xs : ArgumentTrees) (m : Meaning) → IsWhole m → (IsNoCallee m → ⊥) →
+callable_told : (w : World) (locals : Locals) (start place : ℕ) (xs : ArgumentTrees) (m : Meaning) → IsNotBroken m → (IsNoCallee m → ⊥) →
     AreExactly (call_of w start place (judge_arguments w locals xs).values m).faults (CallBreaks w locals start place xs (Some m))
 callable_told w locals start place xs m whole n = record {
   found = call_found w locals start place xs m n;
@@ -212,21 +212,21 @@ call_told w locals start place xs Broken = none_told (λ p b. elim b [ ])
 
 -- operators
 
-pub record IsNoOperation (w : World) (locals : Locals) (o : BinaryOp) (e : ExprTree) (q : Option Kind) : Type 0 where
-  pub left : Kind
+pub record IsNoOperation (w : World) (locals : Locals) (o : BinaryOp) (e : ExprTree) (q : Option ValueKind) : Type 0 where
+  pub left : ValueKind
   pub known : q ≡ Some left
-  pub right : Kind
+  pub right : ValueKind
   pub addressable : Bool
   pub means : HasMeaning w locals e (Value right addressable)
-  pub is_none : (l : Kind) → Operates w o left right l → ⊥
+  pub is_none : (l : ValueKind) → Operates w o left right l → ⊥
 
-one_operation : (w : World) (o : BinaryOp) (start : ℕ) (j k : Kind) (r : Option Kind) → operate w o j k ≡ r → {C : Type 0} → (((l : Kind) →
+one_operation : (w : World) (o : BinaryOp) (start : ℕ) (j k : ValueKind) (r : Option ValueKind) → operate w o j k ≡ r → {C : Type 0} → (((l : ValueKind) →
     Operates w o j k l → ⊥) → C) →
-    (C → (l : Kind) → Operates w o j k l → ⊥) → AreExactly (value_or_wrong r start).faults (At start C)
+    (C → (l : ValueKind) → Operates w o j k l → ⊥) → AreExactly (value_or_wrong r start).faults (At start C)
 one_operation w o start j k None e f g = fault_at start (f (λ l x. none_some e (operates_true w x)))
 one_operation w o start j k (Some l) e f g = nothing_at start (λ c. g c l (true_operates w o j k l e))
 
-on_kinds : (w : World) (locals : Locals) (o : BinaryOp) (start : ℕ) (e : ExprTree) (x y : Option Kind) → value_kind (judge_value w locals e).meaning ≡ y →
+on_kinds : (w : World) (locals : Locals) (o : BinaryOp) (start : ℕ) (e : ExprTree) (x y : Option ValueKind) → value_kind (judge_value w locals e).meaning ≡ y →
     AreExactly (operation_on w o start x y).faults (At start (IsNoOperation w locals o e x))
 on_kinds w locals o start e None y h = nothing_at start (λ c. none_some refl c.known)
 on_kinds w locals o start e (Some j) None h = nothing_at start (λ c. none_some h (kind_is w locals c.means))
@@ -245,19 +245,19 @@ pub operation_told : (w : World) (locals : Locals) (o : BinaryOp) (start : ℕ) 
 unfolding operation
 operation_told w locals o start e m = on_kinds w locals o start e (value_kind m) (value_kind (judge_value w locals e).meaning) refl
 
-one_kind : (w : World) (locals : Locals) {e : ExprTree} {j k : Kind} {a b : Bool} → HasMeaning w locals e (Value j a) → HasMeaning w locals e (Value k b) →
+one_kind : (w : World) (locals : Locals) {e : ExprTree} {j k : ValueKind} {a b : Bool} → HasMeaning w locals e (Value j a) → HasMeaning w locals e (Value k b) →
     j ≡ k
 one_kind w locals h g = some_same (sym (kind_is w locals h) ∙ kind_is w locals g)
 
-next_by : (w : World) (locals : Locals) (o : BinaryOp) (start : ℕ) (e : ExprTree) (j k : Kind) → value_kind (judge_value w locals e).meaning ≡ Some k →
-    (r : Option Kind) →
+next_by : (w : World) (locals : Locals) (o : BinaryOp) (start : ℕ) (e : ExprTree) (j k : ValueKind) → value_kind (judge_value w locals e).meaning ≡ Some k →
+    (r : Option ValueKind) →
     operate w o j k ≡ r → NextKind w locals o e (Some j) (value_kind (value_or_wrong r start).meaning)
 unfolding value_kind
 next_by w locals o start e j k h None f = operates_on_nothing (λ i l a g r. none_some f (subst (λ z. operate w o j z ≡ Some l)
     (some_same (sym (kind_is w locals g) ∙ h)) (operates_true w r)))
 next_by w locals o start e j k h (Some l) f = let v = kind_means w locals e k h in operates v.1 (true_operates w o j k l f)
 
-next_on : (w : World) (locals : Locals) (o : BinaryOp) (start : ℕ) (e : ExprTree) (x y : Option Kind) → value_kind (judge_value w locals e).meaning ≡ y →
+next_on : (w : World) (locals : Locals) (o : BinaryOp) (start : ℕ) (e : ExprTree) (x y : Option ValueKind) → value_kind (judge_value w locals e).meaning ≡ y →
     NextKind w locals o e x (value_kind (operation_on w o start x y).meaning)
 unfolding value_kind
 next_on w locals o start e None y h = nothing_operated
@@ -270,7 +270,7 @@ unfolding operation
 operated_found w locals o start e m = next_on w locals o start e (value_kind m) (value_kind (judge_value w locals e).meaning) refl
 
 -- an operation has at most one kind
-pub operated_once : (w : World) (locals : Locals) {o : BinaryOp} {e : ExprTree} {q r s : Option Kind} → NextKind w locals o e q r →
+pub operated_once : (w : World) (locals : Locals) {o : BinaryOp} {e : ExprTree} {q r s : Option ValueKind} → NextKind w locals o e q r →
     NextKind w locals o e q s → r ≡ s
 operated_once w locals {o} (operates {j = j} {l = l} h r) (operates g s) = sym (operates_true w r) ∙ (ap (operate w o j) (one_kind w locals h g)
     ∙ operates_true w s)

@@ -4,12 +4,12 @@ use Rattle.types_expr.specs.declared.types.Basic.{Basic}
 use Rattle.types_expr.specs.declared.types.Basic.TheVariants as basic
 use Rattle.types_expr.specs.declared.classes.ValueClass.{ValueClass}
 use Rattle.types_expr.specs.declared.classes.ValueClass.TheVariants as class
-use Rattle.types_expr.specs.Types.{PlainType, Underlying, Plain, PointerTo, SliceOf, Struct, Kind, Typed, Untyped, Nil}
+use Rattle.types_expr.specs.Types.{PlainType, Underlying, Plain, PointerTo, SliceOf, Struct, ValueKind, Typed, Untyped, Nil}
 use Rattle.types_expr.specs.World.{World, underlying}
 use Rattle.types_expr.specs.Operations.{class_of, class_of_underlying, is_int, is_bool, is_ordered}
 use Rattle.law_typing.specs.Operators.{IsBasic, by_type, by_kind, IsComparable, a_pointer}
 
-pub class_true : (w : World) {k : Kind} {b : Basic} → IsBasic w k b → class_of w k ≡ class.Of b
+pub class_true : (w : World) {k : ValueKind} {b : Basic} → IsBasic w k b → class_of w k ≡ class.Of b
 unfolding class_of
 class_true w (by_type e) = ap class_of_underlying e
 class_true w by_kind = refl
@@ -35,13 +35,13 @@ slice_class (Struct s) h = cc
 same_kind : (a b : Basic) → class.Of a ≡ class.Of b → a ≡ b
 same_kind a b h = cc
 
-pub class_is : (w : World) (k : Kind) (b : Basic) → class_of w k ≡ class.Of b → IsBasic w k b
+pub class_is : (w : World) (k : ValueKind) (b : Basic) → class_of w k ≡ class.Of b → IsBasic w k b
 unfolding class_of
 class_is w (Typed t) b h = by_type (plain_class (underlying w t) b h)
 class_is w (Untyped a) b h = subst (λ z. IsBasic w (Untyped a) z) (same_kind a b h) by_kind
 class_is w Nil b h = cc
 
-pub pointer_comparable : (w : World) (k : Kind) → class_of w k ≡ class.Pointer → IsComparable w k
+pub pointer_comparable : (w : World) (k : ValueKind) → class_of w k ≡ class.Pointer → IsComparable w k
 unfolding class_of
 pointer_comparable w (Typed t) h = a_pointer (pointer_class (underlying w t) h).1
 pointer_comparable w (Untyped a) h = cc
@@ -60,15 +60,15 @@ ordered_class (class.Of basic.Int) h = inl refl
 ordered_class (class.Of basic.String) h = inr refl
 ordered_class c h = absurd (true≢false (sym h))
 
-pub is_of_int : (w : World) (k : Kind) → is_int (class_of w k) ≡ true → IsBasic w k basic.Int
+pub is_of_int : (w : World) (k : ValueKind) → is_int (class_of w k) ≡ true → IsBasic w k basic.Int
 is_of_int w k h = class_is w k basic.Int (int_class (class_of w k) h)
 
-pub is_of_bool : (w : World) (k : Kind) → is_bool (class_of w k) ≡ true → IsBasic w k basic.Bool
+pub is_of_bool : (w : World) (k : ValueKind) → is_bool (class_of w k) ≡ true → IsBasic w k basic.Bool
 is_of_bool w k h = class_is w k basic.Bool (bool_class (class_of w k) h)
 
-pub is_of_ordered : (w : World) (k : Kind) → is_ordered (class_of w k) ≡ true → IsBasic w k basic.Int ⊎ IsBasic w k basic.String
+pub is_of_ordered : (w : World) (k : ValueKind) → is_ordered (class_of w k) ≡ true → IsBasic w k basic.Int ⊎ IsBasic w k basic.String
 is_of_ordered w k h = elim (ordered_class (class_of w k) h) [ inl e ↦ inl (class_is w k basic.Int e) | inr e ↦ inr (class_is w k basic.String e) ]
 
-pub ordered_true : (w : World) (k : Kind) → IsBasic w k basic.Int ⊎ IsBasic w k basic.String → is_ordered (class_of w k) ≡ true
+pub ordered_true : (w : World) (k : ValueKind) → IsBasic w k basic.Int ⊎ IsBasic w k basic.String → is_ordered (class_of w k) ≡ true
 ordered_true w k (inl i) = ap is_ordered (class_true w i)
 ordered_true w k (inr i) = ap is_ordered (class_true w i)

@@ -6,7 +6,7 @@ use Rattle.go_ast.specs.Tree.{ExprTree, LinkTrees, OperandTrees, ArgumentTrees, 
 use Rattle.go_ast.specs.Tree as tree
 use Rattle.types_expr.specs.declared.symbol.Symbol.{Symbol}
 use Rattle.types_expr.specs.Places.{first_token, first_of_type, place_of}
-use Rattle.types_expr.specs.Types.{PlainType, Pointer, SliceOf, Struct, Kind, Typed, Meaning, Value, TypeName, Function, BuiltinName, Package, Results, Broken}
+use Rattle.types_expr.specs.Types.{PlainType, Pointer, SliceOf, Struct, ValueKind, Typed, Meaning, Value, TypeName, Function, BuiltinName, Package, Results, Broken}
 use Rattle.types_expr.specs.Types.{element_of}
 use Rattle.types_expr.specs.World.{World, Locals, underlying}
 use Rattle.types_expr.specs.Operations.{operate, prefixed}
@@ -15,7 +15,7 @@ use Rattle.types_expr.specs.Judge.{operation, operation_on, prefix_of, address_o
 use Rattle.types_expr.specs.Judge.{judge_elements, judge_type, judge_key, is_whole_key, key_at, key_in, seen_with, wanted_after_key, no_key, none_seen, misfit_if}
 use Rattle.types_expr.specs.Judge.{FieldKey, Seen}
 use Rattle.law_typing.specs.Operators.{Operates, Prefixes}
-use Rattle.law_typing.specs.Names.{IsWhole}
+use Rattle.law_typing.specs.Names.{IsNotBroken}
 use Rattle.law_typing.specs.Links.{Indexes}
 use Rattle.law_typing.specs.Links.{element as slice_element}
 use Rattle.law_typing.specs.Meanings.{HasMeaning, number, text, name, composite, paren, prefix, address, chain, binary, LinksMean, no_link, selector, index}
@@ -29,15 +29,15 @@ use Rattle.law_typing.proofs.Arguments.{AreOf, silent_fit}
 use Rattle.law_typing.proofs.Calling.{true_calls}
 use Rattle.law_typing.proofs.Elements.{is_taken, free_new, IsFieldKey, whole_key, whole_element, IsLiteralFound, literal_found}
 
-pub whole_as : {m n : Meaning} → m ≡ n → IsWhole n → IsWhole m
+pub whole_as : {m n : Meaning} → m ≡ n → IsNotBroken n → IsNotBroken m
 whole_as e n h = n (sym e ∙ h)
 
 -- a part whose judged meaning is a value is one by the rules
-pub has_value : {w : World} {locals : Locals} {e : ExprTree} {m : Meaning} {k : Kind} {a : Bool} → (IsWhole m → HasMeaning w locals e m) → m ≡ Value k a →
+pub has_value : {w : World} {locals : Locals} {e : ExprTree} {m : Meaning} {k : ValueKind} {a : Bool} → (IsNotBroken m → HasMeaning w locals e m) → m ≡ Value k a →
     HasMeaning w locals e (Value k a)
 has_value {w} {locals} {e} f h = subst (λ z. HasMeaning w locals e z) h (f (whole_as h value_whole))
 
-pub value_was : (place : ℕ) (m : Meaning) {k : Kind} {a : Bool} → (as_value place m).meaning ≡ Value k a → m ≡ Value k a
+pub value_was : (place : ℕ) (m : Meaning) {k : ValueKind} {a : Bool} → (as_value place m).meaning ≡ Value k a → m ≡ Value k a
 unfolding as_value
 value_was place (Value k a) h = h
 value_was place (TypeName t) h = cc
@@ -49,17 +49,17 @@ value_was place Broken h = cc
 
 -- a prefix operator
 record IsPrefixed (w : World) (o : PrefixOp) (m r : Meaning) : Type 0 where
-  kind : Kind
+  kind : ValueKind
   addressable : Bool
   value : m ≡ Value kind addressable
   prefixes : Prefixes w o kind r
 
-prefix_chosen : (w : World) (o : PrefixOp) (p : ℕ) (k : Kind) (a : Bool) (r : Option Meaning) → prefixed w o k ≡ r → IsWhole (means_or_wrong r p).meaning →
+prefix_chosen : (w : World) (o : PrefixOp) (p : ℕ) (k : ValueKind) (a : Bool) (r : Option Meaning) → prefixed w o k ≡ r → IsNotBroken (means_or_wrong r p).meaning →
     IsPrefixed w o (Value k a) (means_or_wrong r p).meaning
 prefix_chosen w o p k a None e n = absurd (n refl)
 prefix_chosen w o p k a (Some m) e n = record { kind = k; addressable = a; value = refl; prefixes = true_prefixes w o k m e }
 
-prefix_found : (w : World) (o : PrefixOp) (p place : ℕ) (m : Meaning) → IsWhole (prefix_of w o p (as_value place m).meaning).meaning →
+prefix_found : (w : World) (o : PrefixOp) (p place : ℕ) (m : Meaning) → IsNotBroken (prefix_of w o p (as_value place m).meaning).meaning →
     IsPrefixed w o m (prefix_of w o p (as_value place m).meaning).meaning
 unfolding prefix_of as_value
 prefix_found w o p place (Value k a) n = prefix_chosen w o p k a (prefixed w o k) refl n
@@ -72,18 +72,18 @@ prefix_found w o p place Broken n = absurd (n refl)
 
 -- a binary operator
 pub record IsOperation (w : World) (o : BinaryOp) (m n r : Meaning) : Type 0 where
-  pub left : Kind
+  pub left : ValueKind
   pub left_addressable : Bool
-  pub right : Kind
+  pub right : ValueKind
   pub right_addressable : Bool
-  pub result : Kind
+  pub result : ValueKind
   pub left_value : m ≡ Value left left_addressable
   pub right_value : n ≡ Value right right_addressable
   pub operates : Operates w o left right result
   pub found : r ≡ Value result false
 
-operation_chosen : (w : World) (o : BinaryOp) (start : ℕ) (j k : Kind) (a b : Bool) (r : Option Kind) → operate w o j k ≡ r →
-    IsWhole (value_or_wrong r start).meaning →
+operation_chosen : (w : World) (o : BinaryOp) (start : ℕ) (j k : ValueKind) (a b : Bool) (r : Option ValueKind) → operate w o j k ≡ r →
+    IsNotBroken (value_or_wrong r start).meaning →
     IsOperation w o (Value j a) (Value k b) (value_or_wrong r start).meaning
 operation_chosen w o start j k a b None e n = absurd (n refl)
 operation_chosen w o start j k a b (Some l) e n = record {
@@ -99,8 +99,8 @@ operation_chosen w o start j k a b (Some l) e n = record {
   found = refl;
 }
 
-known_operation : (w : World) (o : BinaryOp) (start : ℕ) (m n : Meaning) (x y : Option Kind) → value_kind m ≡ x → value_kind n ≡ y →
-    IsWhole (operation_on w o start x y).meaning → IsOperation w o m n (operation_on w o start x y).meaning
+known_operation : (w : World) (o : BinaryOp) (start : ℕ) (m n : Meaning) (x y : Option ValueKind) → value_kind m ≡ x → value_kind n ≡ y →
+    IsNotBroken (operation_on w o start x y).meaning → IsOperation w o m n (operation_on w o start x y).meaning
 known_operation w o start m n None y e f h = absurd (h refl)
 known_operation w o start m n (Some j) None e f h = absurd (h refl)
 known_operation w o start m n (Some j) (Some k) e f h = let a = known_kind m j e in let b = known_kind n k f in
@@ -108,13 +108,13 @@ known_operation w o start m n (Some j) (Some k) e f h = let a = known_kind m j e
     (subst (λ z. IsOperation w o (Value j a.0) z (operation_on w o start (Some j) (Some k)).meaning) (sym b.1)
     (operation_chosen w o start j k a.0 b.0 (operate w o j k) refl h))
 
-pub operation_found : (w : World) (o : BinaryOp) (start : ℕ) (m n : Meaning) → IsWhole (operation w o start m n).meaning →
+pub operation_found : (w : World) (o : BinaryOp) (start : ℕ) (m n : Meaning) → IsNotBroken (operation w o start m n).meaning →
     IsOperation w o m n (operation w o start m n).meaning
 unfolding operation
 operation_found w o start m n h = known_operation w o start m n (value_kind m) (value_kind n) refl refl h
 
 -- the address of a literal
-address_whole : (m : Meaning) → IsWhole (address_of m).meaning → IsWhole m
+address_whole : (m : Meaning) → IsNotBroken (address_of m).meaning → IsNotBroken m
 unfolding address_of
 address_whole (Value k a) n = value_whole
 address_whole (TypeName t) n = absurd (n refl)
@@ -128,7 +128,7 @@ address_found : {m : Meaning} {t : PlainType} → m ≡ Value (Typed t) false �
 unfolding address_of
 address_found e = ap (λ z. (address_of z).meaning) e
 
-indexes_whole : {w : World} {m r : Meaning} {k : Kind} → Indexes w m k r → IsWhole m
+indexes_whole : {w : World} {m r : Meaning} {k : ValueKind} → Indexes w m k r → IsNotBroken m
 indexes_whole (slice_element e i) = value_whole
 
 combined : (w : World) (locals : Locals) (o : BinaryOp) (p : ℕ) (e : ExprTree) (rest : OperandTrees) (m n s r : Meaning) (q : IsOperation w o m n s) →
@@ -140,8 +140,8 @@ combined w locals o p e rest m n s r q v c =
 
 -- an element of a struct literal
 field_element : (w : World) (locals : Locals) (t : PlainType) (named : List ℕ) (key : ℕ × ℕ) (e : ExprTree) (c : Option ℕ) (rest : ElementTrees)
-    (m : Meaning) (k : Kind) (a : Bool) →
-    IsFieldKey (underlying w t) (is_taken named) (w.member key.0 t) (key_at w (is_taken named) t key.0) → (IsWhole m → HasMeaning w locals e m) →
+    (m : Meaning) (k : ValueKind) (a : Bool) →
+    IsFieldKey (underlying w t) (is_taken named) (w.member key.0 t) (key_at w (is_taken named) t key.0) → (IsNotBroken m → HasMeaning w locals e m) →
     m ≡ Value k a →
     misfit_if w (place_of e) (Some k) (wanted_after_key (key_at w (is_taken named) t key.0) (underlying w t)) ≡ [] →
     ((rank : ℕ) (u : PlainType) → key_at w (is_taken named) t key.0 ≡ FieldKey rank u → AreFields w locals t (rank ∷ named) rest) →
@@ -155,13 +155,13 @@ field_element w locals t named key e c rest m k a f h v silent more =
 no_slice_key : {A : Type 0} (w : World) (t u : PlainType) → underlying w t ≡ SliceOf u → (seen : Seen) (n : ℕ) → is_whole_key (key_at w seen t n) ≡ true → A
 no_slice_key w t u i seen n h = absurd (true≢false (sym h ∙ ap (λ z. is_whole_key (key_in z seen (w.member n t))) i))
 
-pub only_indexed : (w : World) (start here place : ℕ) (m i : Meaning) → IsWhole (index_of w start place (as_value here m).meaning i).meaning → IsWhole m
+pub only_indexed : (w : World) (start here place : ℕ) (m i : Meaning) → IsNotBroken (index_of w start place (as_value here m).meaning i).meaning → IsNotBroken m
 only_indexed w start here place m i n = let f = true_indexes w start here place m i n in indexes_whole f.3
 
 mutual
   unfolding judge
 
-  pub complete : (w : World) (locals : Locals) (e : ExprTree) → IsWhole (judge w locals e).meaning → HasMeaning w locals e (judge w locals e).meaning
+  pub complete : (w : World) (locals : Locals) (e : ExprTree) → IsNotBroken (judge w locals e).meaning → HasMeaning w locals e (judge w locals e).meaning
   complete w locals (tree.Number p) n = number
   complete w locals (tree.Text p) n = text
   complete w locals (tree.Name p) n = name (true_name w locals p n)
@@ -183,8 +183,8 @@ mutual
       (value_kept (place_of e) v.2) f.1)
 
   complete_links : (w : World) (locals : Locals) (links : LinkTrees) (start place : ℕ) (j : Judged) →
-      IsWhole (judge_links w locals start place j links).meaning →
-      IsWhole j.meaning × LinksMean w locals j.meaning links (judge_links w locals start place j links).meaning
+      IsNotBroken (judge_links w locals start place j links).meaning →
+      IsNotBroken j.meaning × LinksMean w locals j.meaning links (judge_links w locals start place j links).meaning
   complete_links w locals tree.no_link start place j n = (n, no_link)
   complete_links w locals (tree.selector d x rest) start place j n = let more = complete_links w locals rest start x (followed j (select w locals place x)) n in
       let s = true_selects w locals place x j.meaning more.0 in
@@ -200,8 +200,8 @@ mutual
       let s = true_calls w start place (judge_arguments w locals xs).values j.meaning more.0 in
       (s.0, call (complete_arguments w locals xs s.1.0 s.1.1) s.1.2 more.1)
 
-  complete_operands : (w : World) (locals : Locals) (rest : OperandTrees) (start : ℕ) (j : Judged) → IsWhole (judge_operands w locals start j rest).meaning →
-      IsWhole j.meaning × OperandsMean w locals j.meaning rest (judge_operands w locals start j rest).meaning
+  complete_operands : (w : World) (locals : Locals) (rest : OperandTrees) (start : ℕ) (j : Judged) → IsNotBroken (judge_operands w locals start j rest).meaning →
+      IsNotBroken j.meaning × OperandsMean w locals j.meaning rest (judge_operands w locals start j rest).meaning
   complete_operands w locals tree.no_operand start j n = (n, no_operand)
   complete_operands w locals (tree.operand o p e rest) start j n =
       let more = complete_operands w locals rest start (followed j (λ a. followed (value_at e (judge w locals e)) (operation w o start a))) n in
@@ -213,7 +213,7 @@ mutual
             (has_value (λ z. complete w locals e z) (value_was (place_of e) (judge w locals e).meaning q.right_value)) more.1,
       )
 
-  pub complete_arguments : (w : World) (locals : Locals) (xs : ArgumentTrees) (ks : List Kind) → AreOf (judge_arguments w locals xs).values ks →
+  pub complete_arguments : (w : World) (locals : Locals) (xs : ArgumentTrees) (ks : List ValueKind) → AreOf (judge_arguments w locals xs).values ks →
       AreValues w locals xs ks
   complete_arguments w locals tree.no_argument [] a = no_argument
   complete_arguments w locals tree.no_argument (k ∷ ks) a = absurd a
@@ -221,7 +221,7 @@ mutual
   complete_arguments w locals (tree.argument e c rest) (k ∷ ks) a = let v = known_kind (value_at e (judge w locals e)).meaning k a.0 in
       argument (has_value (λ q. complete w locals e q) (value_was (place_of e) (judge w locals e).meaning v.1)) (complete_arguments w locals rest ks a.1)
 
-  pub complete_literal : (w : World) (locals : Locals) (l : LiteralTree) → IsWhole (judge_literal w locals l).meaning →
+  pub complete_literal : (w : World) (locals : Locals) (l : LiteralTree) → IsNotBroken (judge_literal w locals l).meaning →
       IsLiteralFound w locals l (judge_literal w locals l).meaning
   complete_literal w locals (tree.literal x o es c) n =
       literal_found w locals x o es c (first_of_type x) (judge_type w x).type_of refl n (λ t s e h u. complete_fields w locals es t [] s e h u)

@@ -8,11 +8,11 @@ use Rattle.types_expr.specs.Types.{PlainType, Untyped}
 use Rattle.types_expr.specs.World.{World, Locals, no_locals}
 use Rattle.types_expr.specs.Operations.{fits}
 use Rattle.types_expr.specs.Judge.{judge_type, misfit}
-use Rattle.types_stmt.specs.Checked.{Checked, check_items, check_group}
+use Rattle.types_stmt.specs.Checked.{FoundSoFar, check_items, check_group}
 use Rattle.types_stmt.specs.Sides.{Wants, refused_at, all_refused}
 use Rattle.types_stmt.specs.Declarations.{literal_value, first_name, literal_faults, value_faults, global_faults, field_faults, body_faults, check_global}
 use Rattle.types_stmt.specs.Declarations.{check_type, check_decl, check_decls, check_file}
-use Rattle.law_typing.specs.Fits.{Fits}
+use Rattle.law_typing.specs.Fits.{FitsType}
 use Rattle.law_typing.specs.Names.{IsType}
 use Rattle.law_typing.specs.Faults.{IsNoType}
 use Rattle.law_typing.proofs.Naming.{type_true, true_type}
@@ -33,8 +33,8 @@ use Rattle.law_typing.proofs.HeaderFaults.{function_told}
 
 -- a literal that does not fit
 abbrev Misfits : World → PlainType → BasicTree → Type 0
-Misfits w t (Integer n) = Fits w (Untyped basic.Int) t → ⊥
-Misfits w t (String n) = Fits w (Untyped basic.String) t → ⊥
+Misfits w t (Integer n) = FitsType w (Untyped basic.Int) t → ⊥
+Misfits w t (String n) = FitsType w (Untyped basic.String) t → ⊥
 
 literal_told : (w : World) (t : PlainType) (b : BasicTree) → AreExactly (refused_at w (literal_value b).place (literal_value b).kind (Wants (Some t)))
     (At (literal_value b).place (Misfits w t b))
@@ -200,38 +200,38 @@ type_spec_told w = told_of TypeSpecTree (DeclaresNone TypeSpecTree) (TypeBreaksA
 -- declarations
 
 -- after a group that declares no local, the locals are those before it
-items_stay : {X : Type 0} {B : Locals → X → ℕ → Type 0} {check : Checked → X → Checked} → IsExact X (DeclaresNone X) B check → (s : Checked) (is : List (Item X)) →
+items_stay : {X : Type 0} {B : Locals → X → ℕ → Type 0} {check : FoundSoFar → X → FoundSoFar} → IsExact X (DeclaresNone X) B check → (s : FoundSoFar) (is : List (Item X)) →
     (check_items check s is).locals ≡ s.locals
 unfolding check_items
 items_stay t s [] = refl
 items_stay {check = check} t s (i ∷ is) = items_stay t (check s i.value) is ∙ t.only s i.value s.locals stays
 
-group_stays : {X : Type 0} {B : Locals → X → ℕ → Type 0} {check : Checked → X → Checked} → IsExact X (DeclaresNone X) B check → (s : Checked) (g : Group X) →
+group_stays : {X : Type 0} {B : Locals → X → ℕ → Type 0} {check : FoundSoFar → X → FoundSoFar} → IsExact X (DeclaresNone X) B check → (s : FoundSoFar) (g : Group X) →
     (check_group check s g).locals ≡ s.locals
 unfolding check_group
 group_stays t s (tree.single x) = t.only s x s.locals stays
 group_stays t s (tree.several o is c) = items_stay t s is
 
-decl_leads : (w : World) (is_init : ℕ → Bool) (s : Checked) (d : DeclTree) → DeclDeclares w s.locals d (check_decl w is_init s d).locals
+decl_leads : (w : World) (is_init : ℕ → Bool) (s : FoundSoFar) (d : DeclTree) → DeclDeclares w s.locals d (check_decl w is_init s d).locals
 unfolding check_decl
 decl_leads w is_init s (tree.VarDecl q g c) = subst (λ z. DeclDeclares w s.locals (tree.VarDecl q g c) z) (sym (group_stays (global_told w) s g)) behind_variables
 decl_leads w is_init s (tree.TypeDecl q g c) = subst (λ z. DeclDeclares w s.locals (tree.TypeDecl q g c) z) (sym (group_stays (type_spec_told w) s g)) behind_types
 decl_leads w is_init s (tree.FuncDecl q f c) = let t = function_told w (is_init f.name) in behind_one_function (t.leads s f)
 
-decl_only : (w : World) (is_init : ℕ → Bool) (s : Checked) (d : DeclTree) (after : Locals) → DeclDeclares w s.locals d after →
+decl_only : (w : World) (is_init : ℕ → Bool) (s : FoundSoFar) (d : DeclTree) (after : Locals) → DeclDeclares w s.locals d after →
     (check_decl w is_init s d).locals ≡ after
 unfolding check_decl
 decl_only w is_init s (tree.VarDecl q g c) after behind_variables = group_stays (global_told w) s g
 decl_only w is_init s (tree.TypeDecl q g c) after behind_types = group_stays (type_spec_told w) s g
 decl_only w is_init s (tree.FuncDecl q f c) after (behind_one_function r) = let t = function_told w (is_init f.name) in t.only s f after r
 
-decl_stays : (w : World) (is_init : ℕ → Bool) (s : Checked) (d : DeclTree) (p : ℕ) → HasToken s.faults p → HasToken (check_decl w is_init s d).faults p
+decl_stays : (w : World) (is_init : ℕ → Bool) (s : FoundSoFar) (d : DeclTree) (p : ℕ) → HasToken s.faults p → HasToken (check_decl w is_init s d).faults p
 unfolding check_decl
 decl_stays w is_init s (tree.VarDecl q g c) p h = let t = group_told (global_told w) in t.stays s g p h
 decl_stays w is_init s (tree.TypeDecl q g c) p h = let t = group_told (type_spec_told w) in t.stays s g p h
 decl_stays w is_init s (tree.FuncDecl q f c) p h = let t = function_told w (is_init f.name) in t.stays s f p h
 
-decl_found : (w : World) (is_init : ℕ → Bool) (s : Checked) (d : DeclTree) (p : ℕ) → HasToken (check_decl w is_init s d).faults p → HasToken s.faults p ⊎
+decl_found : (w : World) (is_init : ℕ → Bool) (s : FoundSoFar) (d : DeclTree) (p : ℕ) → HasToken (check_decl w is_init s d).faults p → HasToken s.faults p ⊎
     DeclBreaksAt w is_init s.locals d p
 unfolding check_decl
 decl_found w is_init s (tree.VarDecl q g c) p h = let t = group_told (global_told w) in elim (t.found s g p h) [ inl a ↦ inl a | inr b ↦ inr (in_variables b) ]
@@ -242,7 +242,7 @@ decl_found w is_init s (tree.FuncDecl q f c) p h = let t = function_told w (is_i
       (in_function b)
 ]
 
-decl_stands : (w : World) (is_init : ℕ → Bool) (s : Checked) (d : DeclTree) (p : ℕ) → DeclBreaksAt w is_init s.locals d p →
+decl_stands : (w : World) (is_init : ℕ → Bool) (s : FoundSoFar) (d : DeclTree) (p : ℕ) → DeclBreaksAt w is_init s.locals d p →
     HasToken (check_decl w is_init s d).faults p
 unfolding check_decl
 decl_stands w is_init s (tree.VarDecl q g c) p (in_variables b) = let t = group_told (global_told w) in t.stands s g p b
@@ -260,12 +260,12 @@ decl_told w is_init = record {
 
 -- files
 
-decls_stay : (w : World) (is_init : ℕ → Bool) (s : Checked) (ds : List DeclTree) (p : ℕ) → HasToken s.faults p → HasToken (check_decls w is_init s ds).faults p
+decls_stay : (w : World) (is_init : ℕ → Bool) (s : FoundSoFar) (ds : List DeclTree) (p : ℕ) → HasToken s.faults p → HasToken (check_decls w is_init s ds).faults p
 unfolding check_decls
 decls_stay w is_init s [] p h = h
 decls_stay w is_init s (d ∷ ds) p h = decls_stay w is_init (check_decl w is_init s d) ds p (decl_stays w is_init s d p h)
 
-decls_found : (w : World) (is_init : ℕ → Bool) (s : Checked) (ds : List DeclTree) (p : ℕ) → HasToken (check_decls w is_init s ds).faults p → HasToken s.faults p ⊎
+decls_found : (w : World) (is_init : ℕ → Bool) (s : FoundSoFar) (ds : List DeclTree) (p : ℕ) → HasToken (check_decls w is_init s ds).faults p → HasToken s.faults p ⊎
     DeclsBreakAt w is_init s.locals ds p
 unfolding check_decls
 decls_found w is_init s [] p h = inl h
@@ -274,7 +274,7 @@ decls_found w is_init s (d ∷ ds) p h = elim (decls_found w is_init (check_decl
   | inr b ↦ inr (later_decl (decl_leads w is_init s d) b)
 ]
 
-decls_stand : (w : World) (is_init : ℕ → Bool) (s : Checked) (ds : List DeclTree) (p : ℕ) → DeclsBreakAt w is_init s.locals ds p →
+decls_stand : (w : World) (is_init : ℕ → Bool) (s : FoundSoFar) (ds : List DeclTree) (p : ℕ) → DeclsBreakAt w is_init s.locals ds p →
     HasToken (check_decls w is_init s ds).faults p
 unfolding check_decls
 decls_stand w is_init s [] p b = elim b [ ]
@@ -285,7 +285,7 @@ decls_stand w is_init s (d ∷ ds) p (later_decl {inside = inside} r b) = decls_
 file_breaks : {w : World} {is_init : ℕ → Bool} {f : FileTree} {p : ℕ} → FileBreaksAt w is_init f p → DeclsBreakAt w is_init no_locals f.decls p
 file_breaks (in_file b) = b
 
-abbrev at_first : Checked
+abbrev at_first : FoundSoFar
 at_first = record { locals = no_locals; faults = []; uses = [] }
 
 first_found : (w : World) (is_init : ℕ → Bool) (f : FileTree) (p : ℕ) → HasToken (check_decls w is_init at_first f.decls).faults p → FileBreaksAt w is_init f p

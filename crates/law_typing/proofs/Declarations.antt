@@ -3,10 +3,10 @@ use Rattle.std.proofs.Common.{ℕ, ◌≡◌, ◌==◌, Bool, ◌⊎◌, inl, in
 use Rattle.go_ast.specs.Tree.{Item, BasicTree, Integer, String, GlobalTree, FieldTree, BodyTree, TypeSpecTree, DeclTree, FileTree}
 use Rattle.go_ast.specs.Tree as tree
 use Rattle.types_expr.specs.declared.types.Basic.TheVariants as basic
-use Rattle.types_expr.specs.Types.{PlainType, Kind, Untyped}
+use Rattle.types_expr.specs.Types.{PlainType, ValueKind, Untyped}
 use Rattle.types_expr.specs.World.{World, Locals, no_locals}
 use Rattle.types_expr.specs.Judge.{ListValue, judge_type}
-use Rattle.types_stmt.specs.Checked.{Checked}
+use Rattle.types_stmt.specs.Checked.{FoundSoFar}
 use Rattle.types_stmt.specs.Sides.{Target, Wants, all_refused}
 use Rattle.types_stmt.specs.Declarations.{literal_value, first_name, literal_faults, value_faults, global_faults, field_faults, body_faults, check_global}
 use Rattle.types_stmt.specs.Declarations.{check_type, check_decl, check_decls, check_file}
@@ -33,13 +33,13 @@ use Rattle.law_typing.proofs.Headers.{function_true, function_settled}
 abbrev pub literals : List (Item BasicTree) → List ListValue
 literals is = map (λ i. literal_value i.value) is
 
-literal_kinds : {is : List (Item BasicTree)} {ks : List Kind} → AreLiterals is ks → AreOf (literals is) ks
+literal_kinds : {is : List (Item BasicTree)} {ks : List ValueKind} → AreLiterals is ks → AreOf (literals is) ks
 literal_kinds no_literal = tt
 literal_kinds (an_integer e more) = (ap (λ z. (literal_value z).kind) e, literal_kinds more)
 literal_kinds (a_string e more) = (ap (λ z. (literal_value z).kind) e, literal_kinds more)
 
 record AreLiteralsFound (is : List (Item BasicTree)) : Type 0 where
-  kinds : List Kind
+  kinds : List ValueKind
   are : AreLiterals is kinds
 
 literal_before : (i : Item BasicTree) (is : List (Item BasicTree)) (b : BasicTree) → i.value ≡ b → AreLiteralsFound is → AreLiteralsFound (i ∷ is)
@@ -61,7 +61,7 @@ pub length_of : (is : List (Item BasicTree)) → length (literals is) ≡ length
 length_of [] = refl
 length_of (x ∷ xs) = ap suc (length_of xs)
 
-literals_silent : (w : World) (names : List (Item ℕ)) (t : PlainType) {is : List (Item BasicTree)} {ks : List Kind} → AreLiterals is ks →
+literals_silent : (w : World) (names : List (Item ℕ)) (t : PlainType) {is : List (Item BasicTree)} {ks : List ValueKind} → AreLiterals is ks →
     TakenInTurn w ks (map (λ i. OfType t) names) → literal_faults w names (Some t) is ≡ []
 unfolding literal_faults
 literals_silent w names t {is} l u = let a = literal_kinds l in let e = wants_are names t in
@@ -84,7 +84,7 @@ without_silent : (w : World) (g : GlobalTree) (t : PlainType) → g.values ≡ N
 unfolding value_faults
 without_silent w g t e = ap (value_faults w g.names (Some t)) e
 
-with_silent : (w : World) (g : GlobalTree) (t : PlainType) {v : ℕ × List (Item BasicTree)} {ks : List Kind} → g.values ≡ Some v → AreLiterals v.1 ks →
+with_silent : (w : World) (g : GlobalTree) (t : PlainType) {v : ℕ × List (Item BasicTree)} {ks : List ValueKind} → g.values ≡ Some v → AreLiterals v.1 ks →
     TakenInTurn w ks (map (λ i. OfType t) g.names) →
     value_faults w g.names (Some t) g.values ≡ []
 unfolding value_faults
@@ -94,7 +94,7 @@ global_silent : (w : World) (g : GlobalTree) (t : PlainType) → IsType w g.type
 unfolding global_faults
 global_silent w g t i h = ap (λ z. z.faults ++ value_faults w g.names z.type_of g.values) (type_true w i) ∙ h
 
-pub global_true : (w : World) (s : Checked) (g : GlobalTree) (after : Locals) → s.faults ≡ [] → GlobalIsTyped w s.locals g after →
+pub global_true : (w : World) (s : FoundSoFar) (g : GlobalTree) (after : Locals) → s.faults ≡ [] → GlobalIsTyped w s.locals g after →
     IsAt (check_global w s g) after
 global_true w s g after h (without_values {t = t} i e) = reached s (global_faults w g) [] h (global_silent w g t i (without_silent w g t e)) refl
 global_true w s g after h (with_literals {t = t} i e l u) = reached s (global_faults w g) [] h (global_silent w g t i (with_silent w g t e l u)) refl
@@ -114,7 +114,7 @@ global_parts w locals g h = let v = value_faults w g.names (judge_type w g.type_
       | inr b ↦ inr (global_of_broken b)
     ]
 
-global_settled : (w : World) (s : Checked) (g : GlobalTree) → (check_global w s g).faults ≡ [] →
+global_settled : (w : World) (s : FoundSoFar) (g : GlobalTree) → (check_global w s g).faults ≡ [] →
     IsSettled (GlobalIsTyped w) (GlobalIsExcused w) s g (check_global w s g)
 global_settled w s g h = (empty_first s.faults (global_faults w g) h, global_parts w s.locals g (empty_second s.faults (global_faults w g) h))
 
@@ -148,11 +148,11 @@ unfolding body_faults
 body_settled w (tree.Other x) h = elim (type_or_broken w x h) [ inl t ↦ inl (another_type (true_type w x t.0 t.1)) | inr b ↦ inr (other_broken b) ]
 body_settled w (tree.Struct p o is c) h = elim (fields_settled w is h) [ inl f ↦ inl (a_struct f) | inr b ↦ inr (in_struct b) ]
 
-pub type_spec_true : (w : World) (s : Checked) (t : TypeSpecTree) (after : Locals) → s.faults ≡ [] → TypeIsTyped w s.locals t after →
+pub type_spec_true : (w : World) (s : FoundSoFar) (t : TypeSpecTree) (after : Locals) → s.faults ≡ [] → TypeIsTyped w s.locals t after →
     IsAt (check_type w s t) after
 type_spec_true w s t after h (a_definition_of b) = reached s (body_faults w t.body) [] h (body_silent w b) refl
 
-type_spec_settled : (w : World) (s : Checked) (t : TypeSpecTree) → (check_type w s t).faults ≡ [] →
+type_spec_settled : (w : World) (s : FoundSoFar) (t : TypeSpecTree) → (check_type w s t).faults ≡ [] →
     IsSettled (TypeIsTyped w) (TypeIsExcused w) s t (check_type w s t)
 type_spec_settled w s t h = (
   empty_first s.faults (body_faults w t.body) h,
@@ -162,7 +162,7 @@ type_spec_settled w s t h = (
 
 -- declarations
 
-pub decl_true : (w : World) (is_init : ℕ → Bool) (s : Checked) {d : DeclTree} {before after : Locals} → IsAt s before →
+pub decl_true : (w : World) (is_init : ℕ → Bool) (s : FoundSoFar) {d : DeclTree} {before after : Locals} → IsAt s before →
     DeclIsTyped w is_init before d after → IsAt (check_decl w is_init s d) after
 unfolding check_decl
 decl_true w is_init s a (variables g) = group_true (GlobalIsTyped w) (check_global w) (global_true w) g s a
@@ -170,7 +170,7 @@ decl_true w is_init s a (types g) = group_true (TypeIsTyped w) (check_type w) (t
 decl_true w is_init s a (one_function {after = after} {f = f} r) = function_true w (is_init f.name) s f after a.faultless (held (FunctionIsTyped w
     (is_init f.name)) a r)
 
-pub decl_settled : (w : World) (is_init : ℕ → Bool) (s : Checked) (d : DeclTree) → (check_decl w is_init s d).faults ≡ [] →
+pub decl_settled : (w : World) (is_init : ℕ → Bool) (s : FoundSoFar) (d : DeclTree) → (check_decl w is_init s d).faults ≡ [] →
     (s.faults ≡ []) × (DeclIsTyped w is_init s.locals d (check_decl w is_init s d).locals ⊎ DeclIsExcused w s.locals d)
 unfolding check_decl
 decl_settled w is_init s (tree.VarDecl p g c) h = let q = group_settled (GlobalIsTyped w) (GlobalIsExcused w) (check_global w) (global_settled w) g s h in
@@ -180,13 +180,13 @@ decl_settled w is_init s (tree.TypeDecl p g c) h = let q = group_settled (TypeIs
 decl_settled w is_init s (tree.FuncDecl p f c) h = let q = function_settled w (is_init f.name) s f h in
     (q.0, elim q.1 [ inl r ↦ inl (one_function r) | inr e ↦ inr (in_function e) ])
 
-decls_true : (w : World) (is_init : ℕ → Bool) {ds : List DeclTree} {before after : Locals} → DeclsAreTyped w is_init before ds after → (s : Checked) →
+decls_true : (w : World) (is_init : ℕ → Bool) {ds : List DeclTree} {before after : Locals} → DeclsAreTyped w is_init before ds after → (s : FoundSoFar) →
     IsAt s before → IsAt (check_decls w is_init s ds) after
 unfolding check_decls
 decls_true w is_init no_decl s a = a
 decls_true w is_init (also_decl {d = d} r more) s a = decls_true w is_init more (check_decl w is_init s d) (decl_true w is_init s a r)
 
-decls_settled : (w : World) (is_init : ℕ → Bool) (ds : List DeclTree) (s : Checked) → (check_decls w is_init s ds).faults ≡ [] →
+decls_settled : (w : World) (is_init : ℕ → Bool) (ds : List DeclTree) (s : FoundSoFar) → (check_decls w is_init s ds).faults ≡ [] →
     (s.faults ≡ []) × (DeclsAreTyped w is_init s.locals ds (check_decls w is_init s ds).locals ⊎ DeclsAreExcused w is_init s.locals ds)
 unfolding check_decls
 decls_settled w is_init [] s h = (h, inl no_decl)

@@ -2,7 +2,7 @@
 use Rattle.std.proofs.Common.{ℕ, ◌≡◌, ◌==◌, Bool, true, false, if◌then◌else◌, List, [], ◌∷◌, map, length, Option, Some, None, refl, sym, ap, ◌∙◌, suc}
 use Rattle.std.proofs.Common.{true≢false, eq-eqb, eqb-true, arith}
 use Rattle.go_ast.specs.Tree.{Item, IdentTree, TypeTree}
-use Rattle.types_expr.specs.Types.{PlainType, Kind, Typed, Untyped, Nil}
+use Rattle.types_expr.specs.Types.{PlainType, ValueKind, Typed, Untyped, Nil}
 use Rattle.types_expr.specs.World.{World, Locals, declared}
 use Rattle.types_expr.specs.Judge.{ListValue, TypeJudged, judge_type}
 use Rattle.types_stmt.specs.Sides.{default_type, inferred_type, inferred_types, inferred, with_locals, with_inferred, all_named, named}
@@ -16,14 +16,14 @@ use Rattle.law_typing.specs.DeclaredLocals.{not_named, also_named, DeclareInferr
 
 -- types from values
 
-pub takes_found : (o : Option Kind) → InfersType o (inferred_type o)
+pub takes_found : (o : Option ValueKind) → InfersType o (inferred_type o)
 unfolding inferred_type default_type
 takes_found None = from_nothing
 takes_found (Some (Typed t)) = from_value own
 takes_found (Some (Untyped b)) = from_value by_default
 takes_found (Some Nil) = from_nil
 
-pub takes_only : {o : Option Kind} {t : Option PlainType} → InfersType o t → inferred_type o ≡ t
+pub takes_only : {o : Option ValueKind} {t : Option PlainType} → InfersType o t → inferred_type o ≡ t
 unfolding inferred_type default_type
 takes_only (from_value own) = refl
 takes_only (from_value by_default) = refl

@@ -4,13 +4,13 @@ use Rattle.go_ast.specs.Tree.{ExprTree, ElementTrees}
 use Rattle.go_ast.specs.Tree as tree
 use Rattle.types_expr.specs.declared.symbol.Symbol.{Symbol}
 use Rattle.types_expr.specs.Places.{place_of}
-use Rattle.types_expr.specs.Types.{PlainType, Underlying, Plain, PointerTo, SliceOf, Struct, Kind, Value, element_of}
+use Rattle.types_expr.specs.Types.{PlainType, Underlying, Plain, PointerTo, SliceOf, Struct, ValueKind, Value, element_of}
 use Rattle.types_expr.specs.World.{World, Locals, Member, AField, AMethod, ABrokenMethod, underlying}
 use Rattle.types_expr.specs.Operations.{fits}
-use Rattle.types_expr.specs.Judge.{JudgedElements, Seen, with_element, Key, FieldKey, WrongKey, BrokenKey, key_at, key_in, key_of_member, key_faults}
+use Rattle.types_expr.specs.Judge.{JudgedElements, Seen, with_element, KeyMeaning, FieldKey, WrongKey, BrokenKey, key_at, key_in, key_of_member, key_faults}
 use Rattle.types_expr.specs.Judge.{is_whole_key, wanted_after_key, seen_with, misfit, misfit_if, judge_key, no_key as unkeyed_key, value_kind, judge, judge_value}
 use Rattle.types_expr.specs.Judge.{judge_elements}
-use Rattle.law_typing.specs.Fits.{Fits}
+use Rattle.law_typing.specs.Fits.{FitsType}
 use Rattle.law_typing.specs.Meanings.{HasMeaning}
 use Rattle.law_typing.specs.Faults.{IsKey, of_field, IsBrokenKey, of_method, HasUnkeyed, this_unkeyed, other_unkeyed}
 use Rattle.law_typing.proofs.Fitting.{true_fits, fits_true}
@@ -28,7 +28,7 @@ use Rattle.law_typing.proofs.ValueFaults.{kind_is, kind_means}
 abbrev NoField : World → PlainType → List ℕ → ℕ → Type 0
 NoField w t named key = (s : Symbol) (u : PlainType) → IsKey w t named key s u → ⊥
 
-pub data KeyIs (w : World) (t : PlainType) (named : List ℕ) (key : ℕ) (k : Key) : Type 0 where
+pub data KeyIs (w : World) (t : PlainType) (named : List ℕ) (key : ℕ) (k : KeyMeaning) : Type 0 where
   a_field : {s : Symbol} {u : PlainType} → IsKey w t named key s u → k ≡ FieldKey s.rank u → KeyIs w t named key k
   a_broken_one : NoField w t named key → IsBrokenKey w t key → k ≡ BrokenKey → KeyIs w t named key k
   a_wrong_one : NoField w t named key → (IsBrokenKey w t key → ⊥) → k ≡ WrongKey → KeyIs w t named key k
@@ -40,11 +40,11 @@ field_found w t named key {s} (of_field i m n) = field_key (is_taken named) i m 
 broken_found : (w : World) (t : PlainType) (named : List ℕ) (key : ℕ) → IsBrokenKey w t key → key_at w (is_taken named) t key ≡ BrokenKey
 broken_found w t named key (of_method i m) = ap (λ z. key_in z (is_taken named) (w.member key t)) i ∙ ap (key_of_member (is_taken named)) m
 
-no_field_by : (w : World) (t : PlainType) (named : List ℕ) (key : ℕ) {k : Key} → key_at w (is_taken named) t key ≡ k → is_whole_key k ≡ false →
+no_field_by : (w : World) (t : PlainType) (named : List ℕ) (key : ℕ) {k : KeyMeaning} → key_at w (is_taken named) t key ≡ k → is_whole_key k ≡ false →
     NoField w t named key
 no_field_by w t named key e h s u f = true≢false (ap is_whole_key (sym (field_found w t named key f) ∙ e) ∙ h)
 
-broken_or : {k : Key} → k ≡ BrokenKey → k ≡ WrongKey → ⊥
+broken_or : {k : KeyMeaning} → k ≡ BrokenKey → k ≡ WrongKey → ⊥
 broken_or e f = cc
 
 -- a broken key is a broken method of a struct
@@ -65,7 +65,7 @@ broken_in w t seen key (Plain b) i e = cc
 broken_in w t seen key (PointerTo x) i e = cc
 broken_in w t seen key (SliceOf x) i e = cc
 
-key_by : (w : World) (t : PlainType) (named : List ℕ) (key : ℕ) (k : Key) → key_at w (is_taken named) t key ≡ k → KeyIs w t named key k
+key_by : (w : World) (t : PlainType) (named : List ℕ) (key : ℕ) (k : KeyMeaning) → key_at w (is_taken named) t key ≡ k → KeyIs w t named key k
 key_by w t named key (FieldKey rank u) e = let q = whole_key (underlying w t) (is_taken named) (w.member key t) (ap is_whole_key e) in
     a_field (of_field q.is_struct q.is_field (free_new q.symbol.rank named q.is_free)) (sym e ∙ q.is_key)
 key_by w t named key BrokenKey e = a_broken_one (no_field_by w t named key e refl) (broken_in w t (is_taken named) key (underlying w t) refl e) refl
@@ -103,26 +103,26 @@ pub record IsFieldMisfit (w : World) (locals : Locals) (t : PlainType) (named : 
   pub symbol : Symbol
   pub type : PlainType
   pub is_key : IsKey w t named key symbol type
-  pub kind : Kind
+  pub kind : ValueKind
   pub addressable : Bool
   pub means : HasMeaning w locals e (Value kind addressable)
-  pub is_none : Fits w kind type → ⊥
+  pub is_none : FitsType w kind type → ⊥
 
 pub record IsElementMisfit (w : World) (locals : Locals) (t : PlainType) (e : ExprTree) : Type 0 where
   pub type : PlainType
   pub slice : underlying w t ≡ SliceOf type
-  pub kind : Kind
+  pub kind : ValueKind
   pub addressable : Bool
   pub means : HasMeaning w locals e (Value kind addressable)
-  pub is_none : Fits w kind type → ⊥
+  pub is_none : FitsType w kind type → ⊥
 
-fits_told : (w : World) (locals : Locals) (e : ExprTree) (o : Option Kind) (u : PlainType) {C : Type 0} → value_kind (judge_value w locals e).meaning ≡ o →
-    ((k : Kind) (a : Bool) →
-    HasMeaning w locals e (Value k a) → (Fits w k u → ⊥) → C) → (C → (k : Kind) × (a : Bool) × HasMeaning w locals e (Value k a) × (Fits w k u → ⊥)) →
+fits_told : (w : World) (locals : Locals) (e : ExprTree) (o : Option ValueKind) (u : PlainType) {C : Type 0} → value_kind (judge_value w locals e).meaning ≡ o →
+    ((k : ValueKind) (a : Bool) →
+    HasMeaning w locals e (Value k a) → (FitsType w k u → ⊥) → C) → (C → (k : ValueKind) × (a : Bool) × HasMeaning w locals e (Value k a) × (FitsType w k u → ⊥)) →
     AreExactly (misfit w (place_of e) o u) (At (place_of e) C)
 unfolding misfit
 fits_told w locals e None u h f g = nothing_at (place_of e) (λ c. let q = g c in none_some h (kind_is w locals q.2))
-fits_told w locals e (Some k) u h f g = test_told (fits w k u) (place_of e) (λ b c. let q = g c in q.3 (subst (λ z. Fits w z u)
+fits_told w locals e (Some k) u h f g = test_told (fits w k u) (place_of e) (λ b c. let q = g c in q.3 (subst (λ z. FitsType w z u)
     (some_same (sym h ∙ kind_is w locals q.2)) (true_fits w k u b))) (λ b. let v = kind_means w locals e k h in f k v.0 v.1 (λ x. true≢false (sym
     (fits_true w x) ∙ b)))
 
@@ -136,7 +136,7 @@ slice_by w locals t e (Some u) h = fits_told w locals e (value_kind (judge_value
   addressable = a;
   means = v;
   is_none = n;
-}) (λ c. (c.kind, c.addressable, c.means, λ f. c.is_none (subst (λ z. Fits w c.kind z) (some_same (sym h ∙ ap element_of c.slice)) f)))
+}) (λ c. (c.kind, c.addressable, c.means, λ f. c.is_none (subst (λ z. FitsType w c.kind z) (some_same (sym h ∙ ap element_of c.slice)) f)))
 
 pub slice_told : (w : World) (locals : Locals) (t : PlainType) (e : ExprTree) →
     AreExactly (misfit_if w (place_of e) (value_kind (judge_value w locals e).meaning) (element_of (underlying w t))) (At (place_of e)
@@ -150,12 +150,12 @@ abbrev Misfit : World → Locals → PlainType → List ℕ → ℕ → ExprTree
 Misfit w locals t named key e = IsFieldMisfit w locals t named key e ⊎ IsElementMisfit w locals t e
 
 field_value : (w : World) (locals : Locals) (t : PlainType) (named : List ℕ) (key : ℕ) (e : ExprTree) {s : Symbol} {u : PlainType} → IsKey w t named key s u →
-    Misfit w locals t named key e → (k : Kind) × (a : Bool) × HasMeaning w locals e (Value k a) × (Fits w k u → ⊥)
+    Misfit w locals t named key e → (k : ValueKind) × (a : Bool) × HasMeaning w locals e (Value k a) × (FitsType w k u → ⊥)
 field_value w locals t named key e f (inl c) = (
   c.kind,
   c.addressable,
   c.means,
-  λ x. c.is_none (subst (λ z. Fits w c.kind z) (type_in
+  λ x. c.is_none (subst (λ z. FitsType w c.kind z) (type_in
       (one_field w t named key f c.is_key)) x),
 )
 field_value w locals t named key e f (inr c) = absurd (key_struct f c.slice)
@@ -184,7 +184,7 @@ behind_other_told : (w : World) (locals : Locals) (t : PlainType) (named : List 
     (Misfit w locals t named key e))
 behind_other_told w locals t named key e n = told_as (slice_told w locals t e) (λ p a. (a.0, inr a.1)) (λ p a. (a.0, no_field_misfit n a.1))
 
-abbrev behind_key : World → Locals → PlainType → ExprTree → Key → List ℕ
+abbrev behind_key : World → Locals → PlainType → ExprTree → KeyMeaning → List ℕ
 behind_key w locals t e k = misfit_if w (place_of e) (value_kind (judge_value w locals e).meaning) (wanted_after_key k (underlying w t))
 
 pub misfit_told : (w : World) (locals : Locals) (t : PlainType) (named : List ℕ) (key : ℕ) (e : ExprTree) →
@@ -238,11 +238,11 @@ no_wanted : (w : World) (t : PlainType) → ((u : PlainType) → underlying w t 
 no_wanted w t n None e = refl
 no_wanted w t n (Some u) e = absurd (n u (element_slice (underlying w t) u e))
 
-value_silent : (w : World) (t : PlainType) (place : ℕ) (k : Kind) → ((u : PlainType) → underlying w t ≡ SliceOf u → ⊥) →
+value_silent : (w : World) (t : PlainType) (place : ℕ) (k : ValueKind) → ((u : PlainType) → underlying w t ≡ SliceOf u → ⊥) →
     misfit_if w place (Some k) (element_of (underlying w t)) ≡ []
 value_silent w t place k n = ap (λ z. misfit_if w place (Some k) z) (no_wanted w t n (element_of (underlying w t)) refl)
 
-abbrev element_as : World → Locals → PlainType → List ℕ → ℕ × ℕ → ExprTree → ElementTrees → Key → JudgedElements
+abbrev element_as : World → Locals → PlainType → List ℕ → ℕ × ℕ → ExprTree → ElementTrees → KeyMeaning → JudgedElements
 element_as w locals t named key e rest z = with_element w (judge_key w t key.0 z) (place_of e) (judge_value w locals e)
     (judge_elements w locals (Some t) (seen_with z (is_taken named)) rest)
 

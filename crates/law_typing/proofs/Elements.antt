@@ -5,12 +5,12 @@ use Rattle.go_ast.specs.Tree.{TypeTree, ElementTrees}
 use Rattle.go_ast.specs.Tree as tree
 use Rattle.types_expr.specs.declared.types.Basic.{Basic}
 use Rattle.types_expr.specs.declared.symbol.Symbol.{Symbol}
-use Rattle.types_expr.specs.Types.{PlainType, Underlying, Plain, PointerTo, SliceOf, Struct, Kind, Typed, Meaning, Value, Broken}
+use Rattle.types_expr.specs.Types.{PlainType, Underlying, Plain, PointerTo, SliceOf, Struct, ValueKind, Typed, Meaning, Value, Broken}
 use Rattle.types_expr.specs.World.{World, Locals, Member, AField, AMethod, ABrokenMethod, underlying}
-use Rattle.types_expr.specs.Judge.{Judged, JudgedKey, JudgedElements, TypeJudged, Seen, Key, FieldKey, WrongKey, is_whole, is_empty, is_whole_key, key_in}
+use Rattle.types_expr.specs.Judge.{Judged, JudgedKey, JudgedElements, TypeJudged, Seen, KeyMeaning, FieldKey, WrongKey, is_whole, is_empty, is_whole_key, key_in}
 use Rattle.types_expr.specs.Judge.{key_of_member, value_kind, misfit_if, with_element, means, judge_type, judge_elements, good_type, none_seen, literal_of}
 use Rattle.types_expr.specs.Judge.{literal_meaning, literal_result}
-use Rattle.law_typing.specs.Names.{IsWhole, IsType}
+use Rattle.law_typing.specs.Names.{IsNotBroken, IsType}
 use Rattle.law_typing.specs.Meanings.{IsNew, first, after, IsLiteralOf, struct_literal, slice_literal, AreFields, AreElements}
 use Rattle.law_typing.specs.IsJudgedAs.{IsJudgedAs}
 use Rattle.law_typing.proofs.Tests.{and_first, and_second, and_both, or_none}
@@ -43,7 +43,7 @@ pub field_key : {u : Underlying} {m : Option Member} (seen : Seen) {x s : Symbol
 field_key {u} {m} seen {x} {s} {t} e f n = ap (λ z. key_in z seen m) e ∙ (ap (key_of_member seen) f ∙ ap (λ b. if b then WrongKey else FieldKey s.rank t) n)
 
 -- the key k is whole: it names a field that no earlier key named
-pub record IsFieldKey (u : Underlying) (seen : Seen) (m : Option Member) (k : Key) : Type 0 where
+pub record IsFieldKey (u : Underlying) (seen : Seen) (m : Option Member) (k : KeyMeaning) : Type 0 where
   pub owner : Symbol
   pub symbol : Symbol
   pub type_of : PlainType
@@ -75,7 +75,7 @@ pub record IsWholeElement (j : JudgedElements) : Type 0 where
   pub whole : j.whole ≡ true
   pub faultless : j.faults ≡ []
 
-pub element_whole : (w : World) (k : JudgedKey) (place : ℕ) {j : Judged} {rest : JudgedElements} {l : Kind} {a : Bool} → k.whole ≡ true → k.faults ≡ [] →
+pub element_whole : (w : World) (k : JudgedKey) (place : ℕ) {j : Judged} {rest : JudgedElements} {l : ValueKind} {a : Bool} → k.whole ≡ true → k.faults ≡ [] →
     IsJudgedAs j (Value l a) →
     misfit_if w place (Some l) k.wanted ≡ [] → IsWholeElement rest → IsWholeElement (with_element w k place j rest)
 element_whole w k place {j} {rest} {l} {a} kw kf v m r =
@@ -97,7 +97,7 @@ empty_is (x ∷ xs) h = absurd (true≢false (sym h))
 -- an element is whole: its key is, its value fits, and the other elements are whole
 pub record IsElement (w : World) (k : JudgedKey) (place : ℕ) (j : Judged) (rest : JudgedElements) : Type 0 where
   pub key : k.whole ≡ true
-  pub kind : Kind
+  pub kind : ValueKind
   pub addressable : Bool
   pub value : j.meaning ≡ Value kind addressable
   pub silent : misfit_if w place (Some kind) k.wanted ≡ []
@@ -162,7 +162,7 @@ ElementsOf w locals es t = (u : PlainType) → underlying w t ≡ SliceOf u → 
 
 struct_found : (w : World) (locals : Locals) (x : TypeTree) (o : ℕ) (es : ElementTrees) (c start : ℕ) (t : PlainType) (s : Symbol) (whole unkeyed : Bool) →
     IsType w x t → underlying w t ≡ Struct s →
-    IsWhole (literal_result start t (Struct s) whole unkeyed).meaning → (whole ≡ true → unkeyed ≡ false → AreFields w locals t [] es) →
+    IsNotBroken (literal_result start t (Struct s) whole unkeyed).meaning → (whole ≡ true → unkeyed ≡ false → AreFields w locals t [] es) →
     IsLiteralFound w locals (tree.literal x o es c) (literal_result start t (Struct s) whole unkeyed).meaning
 struct_found w locals x o es c start t s true false h e n f = record { type_of = t; is_literal = struct_literal h e (f refl refl); found = refl }
 struct_found w locals x o es c start t s true true h e n f = absurd (n refl)
@@ -170,7 +170,7 @@ struct_found w locals x o es c start t s false unkeyed h e n f = absurd (n refl)
 
 slice_found : (w : World) (locals : Locals) (x : TypeTree) (o : ℕ) (es : ElementTrees) (c start : ℕ) (t u : PlainType) (whole unkeyed : Bool) →
     IsType w x t → underlying w t ≡ SliceOf u →
-    IsWhole (literal_result start t (SliceOf u) whole unkeyed).meaning → (whole ≡ true → AreElements w locals u es) →
+    IsNotBroken (literal_result start t (SliceOf u) whole unkeyed).meaning → (whole ≡ true → AreElements w locals u es) →
     IsLiteralFound w locals (tree.literal x o es c) (literal_result start t (SliceOf u) whole unkeyed).meaning
 slice_found w locals x o es c start t u true unkeyed h e n f = record { type_of = t; is_literal = slice_literal h e (f refl); found = refl }
 slice_found w locals x o es c start t u false unkeyed h e n f = absurd (n refl)
@@ -185,7 +185,7 @@ pointer_ends start t u false unkeyed = refl
 
 by_underlying : (w : World) (locals : Locals) (x : TypeTree) (o : ℕ) (es : ElementTrees) (c start : ℕ) (t : PlainType) (whole unkeyed : Bool)
     (v : Underlying) → IsType w x t → underlying w t ≡ v →
-    IsWhole (literal_result start t v whole unkeyed).meaning →
+    IsNotBroken (literal_result start t v whole unkeyed).meaning →
     ((s : Symbol) → underlying w t ≡ Struct s → whole ≡ true → unkeyed ≡ false → AreFields w locals t [] es) →
     ((u : PlainType) → underlying w t ≡ SliceOf u → whole ≡ true → AreElements w locals u es) →
     IsLiteralFound w locals (tree.literal x o es c) (literal_result start t v whole unkeyed).meaning
@@ -196,7 +196,7 @@ by_underlying w locals x o es c start t whole unkeyed (PointerTo u) h e n f g = 
 
 pub literal_found : (w : World) (locals : Locals) (x : TypeTree) (o : ℕ) (es : ElementTrees) (c start : ℕ) (type_of : Option PlainType) →
     (judge_type w x).type_of ≡ type_of →
-    IsWhole (literal_meaning w start type_of (judge_elements w locals type_of none_seen es).whole
+    IsNotBroken (literal_meaning w start type_of (judge_elements w locals type_of none_seen es).whole
     (judge_elements w locals type_of none_seen es).unkeyed).meaning →
     ((t : PlainType) → FieldsOf w locals es t) → ((t : PlainType) → ElementsOf w locals es t) →
     IsLiteralFound w locals (tree.literal x o es c) (literal_meaning w start type_of (judge_elements w locals type_of none_seen es).whole

@@ -6,7 +6,7 @@ use Rattle.go_ast.specs.Tree.{TypeTree, ExprTree, LinkTrees, OperandTrees, Argum
 use Rattle.go_ast.specs.Tree as tree
 use Rattle.types_expr.specs.declared.symbol.Symbol.{Symbol}
 use Rattle.types_expr.specs.Places.{first_token, first_of_type, place_of}
-use Rattle.types_expr.specs.Types.{PlainType, Underlying, Plain, PointerTo, SliceOf, Struct, Kind, Typed, Untyped, Nil, Meaning, Value, TypeName, Function}
+use Rattle.types_expr.specs.Types.{PlainType, Underlying, Plain, PointerTo, SliceOf, Struct, ValueKind, Typed, Untyped, Nil, Meaning, Value, TypeName, Function}
 use Rattle.types_expr.specs.Types.{BuiltinName, Package, Results, Broken, element_of}
 use Rattle.types_expr.specs.World.{World, Locals, underlying}
 use Rattle.types_expr.specs.Operations.{prefixed}
@@ -15,7 +15,7 @@ use Rattle.types_expr.specs.Judge.{address_of, value_kind, misfit_if, key_at, ke
 use Rattle.types_expr.specs.Judge.{judge_value, judge_links, judge_operands, judge_arguments, judge_literal, judge_elements, judge_type}
 use Rattle.types_stmt.specs.Sides.{judge_operand}
 use Rattle.law_typing.specs.Operators.{Prefixes}
-use Rattle.law_typing.specs.Names.{IsWhole, IsType}
+use Rattle.law_typing.specs.Names.{IsNotBroken, IsType}
 use Rattle.law_typing.specs.Meanings.{HasMeaning}
 use Rattle.law_typing.specs.Faults.{IsNoType, IsKey, IsBrokenKey, HasUnkeyed}
 use Rattle.law_typing.proofs.Naming.{type_true, true_type}
@@ -77,7 +77,7 @@ adds_told t y f g h = record {
 
 -- operands
 
-stands_by : (w : World) (locals : Locals) (e : ExprTree) → IsWhole (judge w locals e).meaning ⊎ ((judge w locals e).meaning ≡ Broken) →
+stands_by : (w : World) (locals : Locals) (e : ExprTree) → IsNotBroken (judge w locals e).meaning ⊎ ((judge w locals e).meaning ≡ Broken) →
     MeaningIs w locals e (status (judge w locals e).meaning)
 stands_by w locals e (inl n) = subst (λ z. MeaningIs w locals e z) (sym (whole_status (judge w locals e).meaning n)) (meant (complete w locals e n))
 stands_by w locals e (inr b) = subst (λ z. MeaningIs w locals e (status z)) (sym b) (unmeant (λ m h. meant_whole w locals h b))
@@ -170,18 +170,18 @@ call_breaks o c rest (wrong_call n a g m) = no_call n a g m
 
 -- operators
 
-no_operand_breaks : {w : World} {locals : Locals} {start p : ℕ} {q : Option Kind} {rest : OperandTrees} → OperandsBreakAt w locals start q rest p →
+no_operand_breaks : {w : World} {locals : Locals} {start p : ℕ} {q : Option ValueKind} {rest : OperandTrees} → OperandsBreakAt w locals start q rest p →
     rest ≡ tree.no_operand → ⊥
 no_operand_breaks (in_operand b) e = cc
 no_operand_breaks (no_operation v n) e = cc
 no_operand_breaks (behind_operation x b) e = cc
 
-record IsBehindOperation (w : World) (locals : Locals) (start : ℕ) (o : BinaryOp) (e : ExprTree) (q : Option Kind) (rest : OperandTrees) (p : ℕ) : Type 0 where
-  state : Option Kind
+record IsBehindOperation (w : World) (locals : Locals) (start : ℕ) (o : BinaryOp) (e : ExprTree) (q : Option ValueKind) (rest : OperandTrees) (p : ℕ) : Type 0 where
+  state : Option ValueKind
   next : NextKind w locals o e q state
   breaks : OperandsBreakAt w locals start state rest p
 
-operand_cases : {w : World} {locals : Locals} {start x p : ℕ} {o : BinaryOp} {e : ExprTree} {q : Option Kind} {rest : OperandTrees} →
+operand_cases : {w : World} {locals : Locals} {start x p : ℕ} {o : BinaryOp} {e : ExprTree} {q : Option ValueKind} {rest : OperandTrees} →
     OperandsBreakAt w locals start q (tree.operand o x e rest) p → (ValueBreaksAt w locals e p ⊎ At start (IsNoOperation w locals o e q) p) ⊎
     IsBehindOperation w locals start o e q rest p
 operand_cases (in_operand b) = inl (inl b)
@@ -189,20 +189,20 @@ operand_cases (no_operation {j = j} {k = k} {a = a} v n) = inl (inr
     (refl, record { left = j; known = refl; right = k; addressable = a; means = v; is_none = n }))
 operand_cases (behind_operation {l = l} x b) = inr (record { state = l; next = x; breaks = b })
 
-operation_breaks : {w : World} {locals : Locals} {start : ℕ} {o : BinaryOp} {e : ExprTree} {q : Option Kind} (x : ℕ) (rest : OperandTrees) →
+operation_breaks : {w : World} {locals : Locals} {start : ℕ} {o : BinaryOp} {e : ExprTree} {q : Option ValueKind} (x : ℕ) (rest : OperandTrees) →
     IsNoOperation w locals o e q →
     OperandsBreakAt w locals start q (tree.operand o x e rest) start
 operation_breaks {w} {locals} {start} {o} {e} x rest c = subst (λ z. OperandsBreakAt w locals start z (tree.operand o x e rest) start) (sym c.known)
     (no_operation c.means c.is_none)
 
-operand_breaks : {w : World} {locals : Locals} {start p : ℕ} {o : BinaryOp} {e : ExprTree} {q : Option Kind} (x : ℕ) (rest : OperandTrees) →
+operand_breaks : {w : World} {locals : Locals} {start p : ℕ} {o : BinaryOp} {e : ExprTree} {q : Option ValueKind} (x : ℕ) (rest : OperandTrees) →
     ValueBreaksAt w locals e p ⊎
     At start (IsNoOperation w locals o e q) p → OperandsBreakAt w locals start q (tree.operand o x e rest) p
 operand_breaks x rest (inl b) = in_operand b
 operand_breaks {w} {locals} {start} {p} {o} {e} {q} x rest (inr a) = at_place (OperandsBreakAt w locals start q (tree.operand o x e rest))
     (operation_breaks x rest) p a
 
-behind_operator : {w : World} {locals : Locals} {start : ℕ} {o : BinaryOp} {e : ExprTree} {q s : Option Kind} {rest : OperandTrees} {p : ℕ} →
+behind_operator : {w : World} {locals : Locals} {start : ℕ} {o : BinaryOp} {e : ExprTree} {q s : Option ValueKind} {rest : OperandTrees} {p : ℕ} →
     NextKind w locals o e q s →
     IsBehindOperation w locals start o e q rest p → OperandsBreakAt w locals start s rest p
 behind_operator {w} {locals} {start} {rest = rest} {p = p} n b = subst (λ z. OperandsBreakAt w locals start z rest p) (operated_once w locals b.next n) b.breaks
@@ -218,21 +218,21 @@ argument_cases (in_other b) = inr b
 -- prefix operators
 
 record IsNoPrefix (w : World) (locals : Locals) (o : PrefixOp) (e : ExprTree) : Type 0 where
-  kind : Kind
+  kind : ValueKind
   addressable : Bool
   means : HasMeaning w locals e (Value kind addressable)
   is_none : (m : Meaning) → Prefixes w o kind m → ⊥
 
-prefix_by : (w : World) (o : PrefixOp) (q : ℕ) (k : Kind) (r : Option Meaning) → prefixed w o k ≡ r → {C : Type 0} → (((m : Meaning) → Prefixes w o k m →
+prefix_by : (w : World) (o : PrefixOp) (q : ℕ) (k : ValueKind) (r : Option Meaning) → prefixed w o k ≡ r → {C : Type 0} → (((m : Meaning) → Prefixes w o k m →
     ⊥) → C) → (C →
     (m : Meaning) → Prefixes w o k m → ⊥) → AreExactly (means_or_wrong r q).faults (At q C)
 prefix_by w o q k None e f g = fault_at q (f (λ m h. none_some e (prefixes_true w h)))
 prefix_by w o q k (Some m) e f g = nothing_at q (λ c. g c m (true_prefixes w o k m e))
 
 abbrev CannotPrefix : World → PrefixOp → Meaning → Type 0
-CannotPrefix w o m = (k : Kind) × (a : Bool) × (m ≡ Value k a) × ((r : Meaning) → Prefixes w o k r → ⊥)
+CannotPrefix w o m = (k : ValueKind) × (a : Bool) × (m ≡ Value k a) × ((r : Meaning) → Prefixes w o k r → ⊥)
 
-kind_in : {j k : Kind} {a b : Bool} → Value j a ≡ Value k b → j ≡ k
+kind_in : {j k : ValueKind} {a b : Bool} → Value j a ≡ Value k b → j ≡ k
 kind_in e = cc
 
 prefix_at : (w : World) (o : PrefixOp) (q : ℕ) (m : Meaning) {C : Type 0} → (CannotPrefix w o m → C) → (C → CannotPrefix w o m) →

@@ -5,13 +5,13 @@ use Rattle.go_ast.specs.declared.syntax.PrefixOp.{PrefixOp}
 use Rattle.go_ast.specs.Tree.{TypeTree, ExprTree, LinkTrees, OperandTrees, ArgumentTrees, LiteralTree, ElementTrees}
 use Rattle.go_ast.specs.Tree as tree
 use Rattle.types_expr.specs.Places.{first_token, first_of_type, place_of}
-use Rattle.types_expr.specs.Types.{PlainType, Kind, Typed, Meaning, Value}
+use Rattle.types_expr.specs.Types.{PlainType, ValueKind, Typed, Meaning, Value}
 use Rattle.types_expr.specs.World.{World, Locals, underlying, name_meaning}
 use Rattle.types_expr.specs.Judge.{Judged, ListValue, JudgedElements, Seen, followed, value_at, value_kind, select, index_rule, index_of, as_value, call_rule}
 use Rattle.types_expr.specs.Judge.{call_of, operation, prefix_of, address_of, judge, judge_links, judge_operands, judge_arguments, judge_literal}
 use Rattle.types_expr.specs.Judge.{judge_elements, judge_type, judge_key, key_at, seen_with, no_key, none_seen, is_whole, all_whole, literal_of}
 use Rattle.types_expr.specs.Judge.{literal_meaning}
-use Rattle.law_typing.specs.Names.{IsWhole}
+use Rattle.law_typing.specs.Names.{IsNotBroken}
 use Rattle.law_typing.specs.BrokenUses.{UsesBroken, blank, a_name, in_composite, in_address, in_paren, in_prefix, in_chain, in_links, in_binary, in_operands}
 use Rattle.law_typing.specs.BrokenUses.{LinksUseBroken, selected, in_index, in_call, behind_selector, behind_index, behind_call, OperandsUseBroken, this_operand}
 use Rattle.law_typing.specs.BrokenUses.{other_operand, ArgumentsUseBroken, this_argument, other_argument, LiteralUsesBroken, of_broken_type, in_elements}
@@ -51,10 +51,10 @@ operands_first w locals (tree.operand o p e rest) start j h =
 -- parts
 
 abbrev IsSettled : Judged → Type 0 → Type 0
-IsSettled j uses = IsWhole j.meaning ⊎ uses
+IsSettled j uses = IsNotBroken j.meaning ⊎ uses
 
 abbrev IsValue : Meaning → Type 0
-IsValue m = (k : Kind) × (a : Bool) × (m ≡ Value k a)
+IsValue m = (k : ValueKind) × (a : Bool) × (m ≡ Value k a)
 
 settled_value : {uses : Type 0} (e : ExprTree) (j : Judged) → (j.faults ≡ [] → IsSettled j uses) → (value_at e j).faults ≡ [] → IsValue j.meaning ⊎ uses
 settled_value e j f h = elim (f (empty_first j.faults (as_value (place_of e) j.meaning).faults h)) [
@@ -62,13 +62,13 @@ settled_value e j f h = elim (f (empty_first j.faults (as_value (place_of e) j.m
   | inr u ↦ inr u
 ]
 
-value_stays : (place : ℕ) {m : Meaning} → IsValue m → IsWhole (as_value place m).meaning
+value_stays : (place : ℕ) {m : Meaning} → IsValue m → IsNotBroken (as_value place m).meaning
 value_stays place v = whole_as (value_kept place v.2) value_whole
 
 prefixed_value : (w : World) (o : PrefixOp) (p place : ℕ) (m : Meaning) → IsValue m → (prefix_of w o p (as_value place m).meaning).faults ≡ [] →
-    IsWhole (prefix_of w o p (as_value place m).meaning).meaning
+    IsNotBroken (prefix_of w o p (as_value place m).meaning).meaning
 prefixed_value w o p place m v h = let e = value_kept place v.2 in
-    subst (λ z. IsWhole (prefix_of w o p z).meaning) (sym e) (prefix_or_fault w o p v.0 v.1 (ap (λ z. (prefix_of w o p z).faults) (sym e) ∙ h))
+    subst (λ z. IsNotBroken (prefix_of w o p z).meaning) (sym e) (prefix_or_fault w o p v.0 v.1 (ap (λ z. (prefix_of w o p z).faults) (sym e) ∙ h))
 
 operation_value : (w : World) (o : BinaryOp) (start place : ℕ) (m n : Meaning) → IsValue m → IsValue n →
     (operation w o start m (as_value place n).meaning).faults ≡ [] →
@@ -81,9 +81,9 @@ operation_value w o start place m n v u h = let e = value_kept place u.2 in
     (ap (λ z. (operation w o start z (as_value place n).meaning).faults) (sym v.2) ∙ h)) in
     (f.0, false, f.1)))
 
-index_value : (w : World) (start here : ℕ) (e : ExprTree) (i : Judged) (m x : Meaning) → IsWhole m → i.meaning ≡ (as_value (place_of e) x).meaning →
+index_value : (w : World) (start here : ℕ) (e : ExprTree) (i : Judged) (m x : Meaning) → IsNotBroken m → i.meaning ≡ (as_value (place_of e) x).meaning →
     IsValue x → (index_rule w start here e i m).faults ≡ [] →
-    IsWhole (index_rule w start here e i m).meaning
+    IsNotBroken (index_rule w start here e i m).meaning
 index_value w start here e i m x n same v h =
     let operand = value_or_fault here m n (empty_first (as_value here m).faults
     (followed i (index_of w start (place_of e) (as_value here m).meaning)).faults h) in
@@ -91,12 +91,12 @@ index_value w start here e i m x n same v h =
     (empty_second i.faults (index_of w start (place_of e) (as_value here m).meaning i.meaning).faults
     (empty_second (as_value here m).faults (followed i (index_of w start (place_of e) (as_value here m).meaning)).faults h))
 
-address_stays : (m : Meaning) (t : PlainType) → m ≡ Value (Typed t) false → IsWhole (address_of m).meaning
+address_stays : (m : Meaning) (t : PlainType) → m ≡ Value (Typed t) false → IsNotBroken (address_of m).meaning
 unfolding address_of
-address_stays m t e = subst (λ z. IsWhole (address_of z).meaning) (sym e) value_whole
+address_stays m t e = subst (λ z. IsNotBroken (address_of z).meaning) (sym e) value_whole
 
 literal_settled : (w : World) (start : ℕ) (t : PlainType) (whole unkeyed : Bool) → whole ≡ true →
-    (literal_meaning w start (Some t) whole unkeyed).faults ≡ [] → IsWhole (literal_meaning w start (Some t) whole unkeyed).meaning
+    (literal_meaning w start (Some t) whole unkeyed).faults ≡ [] → IsNotBroken (literal_meaning w start (Some t) whole unkeyed).meaning
 literal_settled w start t true unkeyed e h = ends_or_fault start t (underlying w t) unkeyed h
 literal_settled w start t false unkeyed e h = absurd (true≢false (sym e))
 
@@ -115,12 +115,12 @@ typed_literal w locals x o es c type_of faults t known e f h =
     let silent : (E (Some t)).faults ≡ [] = ap (λ z. (E z).faults) (sym e) ∙ empty_second faults (E type_of).faults front in
     let last : (M (Some t)).faults ≡ [] = ap (λ z. (M z).faults) (sym e) ∙ empty_second (faults ++ (E type_of).faults) (M type_of).faults h in
     elim (f silent) [
-      | inl whole ↦ inl (subst (λ z. IsWhole (M z).meaning) (sym e) (literal_settled w (first_of_type x) t (E (Some t)).whole (E (Some t)).unkeyed whole last))
+      | inl whole ↦ inl (subst (λ z. IsNotBroken (M z).meaning) (sym e) (literal_settled w (first_of_type x) t (E (Some t)).whole (E (Some t)).unkeyed whole last))
       | inr u ↦ inr (in_elements (true_type w x t known) u)
     ]
 
-address_kept : (w : World) (locals : Locals) (l : LiteralTree) → IsWhole (judge_literal w locals l).meaning →
-    IsWhole (address_of (judge_literal w locals l).meaning).meaning
+address_kept : (w : World) (locals : Locals) (l : LiteralTree) → IsNotBroken (judge_literal w locals l).meaning →
+    IsNotBroken (address_of (judge_literal w locals l).meaning).meaning
 address_kept w locals l n = let f = complete_literal w locals l n in address_stays (judge_literal w locals l).meaning f.type_of f.found
 
 all_of_none : all_whole [] ≡ true
@@ -166,7 +166,7 @@ mutual
         | inr u ↦ inr (in_binary u)
       ]
 
-  settle_links : (w : World) (locals : Locals) (links : LinkTrees) (start place : ℕ) (j : Judged) → IsWhole j.meaning →
+  settle_links : (w : World) (locals : Locals) (links : LinkTrees) (start place : ℕ) (j : Judged) → IsNotBroken j.meaning →
       (judge_links w locals start place j links).faults ≡ [] →
       IsSettled (judge_links w locals start place j links) (LinksUseBroken w locals j.meaning links)
   settle_links w locals tree.no_link start place j n h = inl n

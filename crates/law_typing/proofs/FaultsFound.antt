@@ -9,12 +9,12 @@ use Rattle.types_expr.specs.Places.{first_token, first_of_type, place_of}
 use Rattle.types_expr.specs.Types.{PlainType, Underlying, Plain, PointerTo, SliceOf, Struct, Typed, Untyped, Nil, Meaning, Value, TypeName, Function}
 use Rattle.types_expr.specs.Types.{BuiltinName, Package, Results, Broken, element_of}
 use Rattle.types_expr.specs.World.{World, Locals, underlying}
-use Rattle.types_expr.specs.Judge.{Judged, Seen, Key, FieldKey, WrongKey, BrokenKey, followed, value_at, value_kind, select, index_rule, index_of, as_value}
+use Rattle.types_expr.specs.Judge.{Judged, Seen, KeyMeaning, FieldKey, WrongKey, BrokenKey, followed, value_at, value_kind, select, index_rule, index_of, as_value}
 use Rattle.types_expr.specs.Judge.{call_rule, call_of, operation, prefix_of, address_of, judge, judge_links, judge_operands, judge_arguments, judge_literal}
 use Rattle.types_expr.specs.Judge.{judge_elements, judge_type, key_at, key_in, key_of_member, judge_key, key_faults, is_whole_key, wanted_after_key, seen_with}
 use Rattle.types_expr.specs.Judge.{none_seen, misfit_if, literal_meaning, literal_result}
 use Rattle.types_expr.specs.Judge.{no_key as no_key_there}
-use Rattle.law_typing.specs.Fits.{Fits}
+use Rattle.law_typing.specs.Fits.{FitsType}
 use Rattle.law_typing.specs.Names.{IsType}
 use Rattle.law_typing.specs.Meanings.{HasMeaning}
 use Rattle.law_typing.specs.Faults.{HasFault, in_composite, in_address, in_paren, in_prefix, no_prefix, in_chain, in_links, in_binary, in_operands}
@@ -241,7 +241,7 @@ wrong_is_unbroken : (w : World) (t : PlainType) (named : List ℕ) (key : ℕ) �
 wrong_is_unbroken w t named key e (of_method i m) =
     let q : WrongKey ≡ BrokenKey = sym e ∙ (ap (λ z. key_in z (is_taken named) (w.member key t)) i ∙ ap (key_of_member (is_taken named)) m) in cc
 
-field_is_key : (w : World) (t : PlainType) (named : List ℕ) (key : ℕ) {k : Key} (f : IsFieldKey (underlying w t) (is_taken named) (w.member key t) k) →
+field_is_key : (w : World) (t : PlainType) (named : List ℕ) (key : ℕ) {k : KeyMeaning} (f : IsFieldKey (underlying w t) (is_taken named) (w.member key t) k) →
     IsKey w t named key f.symbol f.type_of
 field_is_key w t named key f = of_field f.is_struct f.is_field (free_new f.symbol.rank named f.is_free)
 
@@ -258,7 +258,7 @@ slice_each P w locals t named key e c rest f = wanted_each P w (place_of e) (pla
     (λ u h l a v n. f (place_of e) (element_misfit (element_slice (underlying w t) u h) (has_value (λ y. complete w locals e y) v) n))
 
 behind_key_each : (P : ℕ → Type 0) (w : World) (locals : Locals) (t : PlainType) (named : List ℕ) (key : ℕ × ℕ) (e : ExprTree) (c : Option ℕ)
-    (rest : ElementTrees) (k : Key) → key_at w (is_taken named) t key.0 ≡ k →
+    (rest : ElementTrees) (k : KeyMeaning) → key_at w (is_taken named) t key.0 ≡ k →
     ((p : ℕ) → ElementsHaveFault w locals t named (tree.element (Some key) e c rest) p → P p) →
     Each P (misfit_if w (place_of e) (value_kind (value_at e (judge w locals e)).meaning) (wanted_after_key k (underlying w t)))
 behind_key_each P w locals t named key e c rest (FieldKey rank u) i f = let q = known_key w t named key.0 rank u i in
@@ -266,12 +266,12 @@ behind_key_each P w locals t named key e c rest (FieldKey rank u) i f = let q = 
     let type_same : q.type_of ≡ u = cc in
     wanted_each P w (place_of e) (place_of e) (judge w locals e).meaning (Some u) (λ z h l a v n. let z_same : u ≡ z = cc in
     f (place_of e) (field_misfit (field_is_key w t named key.0 q) (has_value (λ y. complete w locals e y) v)
-    (λ fit. n (subst (λ y. Fits w l y) (type_same ∙ z_same) fit))))
+    (λ fit. n (subst (λ y. FitsType w l y) (type_same ∙ z_same) fit))))
 behind_key_each P w locals t named key e c rest WrongKey i f = slice_each P w locals t named (Some key) e c rest f
 behind_key_each P w locals t named key e c rest BrokenKey i f = slice_each P w locals t named (Some key) e c rest f
 
 behind_key_others : (P : ℕ → Type 0) (w : World) (locals : Locals) (t : PlainType) (named : List ℕ) (key : ℕ × ℕ) (e : ExprTree) (c : Option ℕ)
-    (rest : ElementTrees) (k : Key) → key_at w (is_taken named) t key.0 ≡ k →
+    (rest : ElementTrees) (k : KeyMeaning) → key_at w (is_taken named) t key.0 ≡ k →
     ((p : ℕ) → ElementsHaveFault w locals t named (tree.element (Some key) e c rest) p → P p) →
     ((ranks : List ℕ) → ((p : ℕ) → ElementsHaveFault w locals t ranks rest p → P p) → Each P (judge_elements w locals (Some t) (is_taken ranks) rest).faults) →
     Each P (judge_elements w locals (Some t) (seen_with k (is_taken named)) rest).faults

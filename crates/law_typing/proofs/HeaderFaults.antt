@@ -7,7 +7,7 @@ use Rattle.types_expr.specs.declared.symbol.Symbol.{Symbol}
 use Rattle.types_expr.specs.Types.{PlainType, BasicType, Defined, Pointer, Slice, Value, TypeName, Function, BuiltinName, Package, Results, Broken, points}
 use Rattle.types_expr.specs.World.{World, Locals, Bound, Local, Means, BrokenVariable, BrokenFunction, BrokenType}
 use Rattle.types_expr.specs.Judge.{TypeJudged, judge_type, good_type, no_type_at, named_type}
-use Rattle.types_stmt.specs.Checked.{Checked, fault_if, check_items}
+use Rattle.types_stmt.specs.Checked.{FoundSoFar, fault_if, check_items}
 use Rattle.types_stmt.specs.Sides.{Target, Wants, named as named_of, with_locals}
 use Rattle.types_stmt.specs.Simple.{written_locals}
 use Rattle.types_stmt.specs.Headers.{may_receive, receiver_or_fault, received, receiver_base, starred, judge_receiver, check_receiver, check_optional_receiver}
@@ -176,15 +176,15 @@ receiver_type_only w r (receives_nothing n) = elim (base_of w r.type_name) [
 abbrev receiver_added : World → Locals → ReceiverTree → List ℕ
 receiver_added w locals r = (judge_receiver w r).faults
 
-receiver_faults_are : (w : World) (s : Checked) (r : ReceiverTree) → (check_receiver w s r).faults ≡ s.faults ++ receiver_added w s.locals r
+receiver_faults_are : (w : World) (s : FoundSoFar) (r : ReceiverTree) → (check_receiver w s r).faults ≡ s.faults ++ receiver_added w s.locals r
 unfolding check_receiver
 receiver_faults_are w s r = refl
 
-receiver_leads : (w : World) (s : Checked) (r : ReceiverTree) → ReceiverDeclares w s.locals r (check_receiver w s r).locals
+receiver_leads : (w : World) (s : FoundSoFar) (r : ReceiverTree) → ReceiverDeclares w s.locals r (check_receiver w s r).locals
 unfolding check_receiver
 receiver_leads w s r = behind_receiver (receiver_type w r) (single_found r.name (judge_receiver w r).type_of s.locals)
 
-receiver_only : (w : World) (s : Checked) (r : ReceiverTree) (after : Locals) → ReceiverDeclares w s.locals r after → (check_receiver w s r).locals ≡ after
+receiver_only : (w : World) (s : FoundSoFar) (r : ReceiverTree) (after : Locals) → ReceiverDeclares w s.locals r after → (check_receiver w s r).locals ≡ after
 unfolding check_receiver
 receiver_only w s r after (behind_receiver i d) = ap (λ z. with_locals s.locals (named_of r.name ∷ []) (z ∷ [])) (receiver_type_only w r i)
     ∙ single_only r.name d
@@ -193,7 +193,7 @@ receiver_told : (w : World) → IsExact ReceiverTree (ReceiverDeclares w) (Recei
 receiver_told w = told_of ReceiverTree (ReceiverDeclares w) (ReceiverBreaksAt w) (check_receiver w) (receiver_added w) (receiver_leads w) (receiver_only w)
     (receiver_faults_are w) (receiver_places w)
 
-receiver_same : (w : World) (s : Checked) (o : Option ReceiverTree) → check_optional_receiver w s o ≡ check_present (check_receiver w) s o
+receiver_same : (w : World) (s : FoundSoFar) (o : Option ReceiverTree) → check_optional_receiver w s o ≡ check_present (check_receiver w) s o
 receiver_same w s None = refl
 receiver_same w s (Some r) = refl
 
@@ -213,15 +213,15 @@ param_breaks (in_param b) = b
 param_places : (w : World) (locals : Locals) (x : ParamTree) → AreExactly (param_added w locals x) (ParamBreaksAt w locals x)
 param_places w locals x = told_as (type_told w x.type_use) (λ p b. in_param b) (λ p b. param_breaks b)
 
-param_faults_are : (w : World) (s : Checked) (x : ParamTree) → (check_param w s x).faults ≡ s.faults ++ param_added w s.locals x
+param_faults_are : (w : World) (s : FoundSoFar) (x : ParamTree) → (check_param w s x).faults ≡ s.faults ++ param_added w s.locals x
 unfolding check_param
 param_faults_are w s x = refl
 
-param_leads : (w : World) (s : Checked) (x : ParamTree) → ParamDeclares w s.locals x (check_param w s x).locals
+param_leads : (w : World) (s : FoundSoFar) (x : ParamTree) → ParamDeclares w s.locals x (check_param w s x).locals
 unfolding check_param
 param_leads w s x = behind_param (type_found w x.type_use) (written_found x.names (judge_type w x.type_use).type_of s.locals)
 
-param_only : (w : World) (s : Checked) (x : ParamTree) (after : Locals) → ParamDeclares w s.locals x after → (check_param w s x).locals ≡ after
+param_only : (w : World) (s : FoundSoFar) (x : ParamTree) (after : Locals) → ParamDeclares w s.locals x after → (check_param w s x).locals ≡ after
 unfolding check_param
 param_only w s x after (behind_param i d) = ap (λ z. written_locals s.locals x.names z) (type_only w i) ∙ written_only x.names d
 
@@ -314,7 +314,7 @@ init_told w b f = init_by w b f f.receiver f.params (judge_results w f.result).w
 
 -- functions
 
-abbrev entered_at : World → Checked → FuncTree → Checked
+abbrev entered_at : World → FoundSoFar → FuncTree → FoundSoFar
 entered_at w s f = check_items (check_param w) (check_optional_receiver w s f.receiver) f.params
 
 abbrev header_added : World → Bool → FuncTree → List ℕ
@@ -325,28 +325,28 @@ header_places w b f = both_told (judge_results w f.result).faults (fault_if (is_
     (results_told w f.result)
     (init_told w b f) (λ p x. inl x) (λ p x. inr x) (λ p x. x)
 
-signature_faults_are : (w : World) (b : Bool) (s : Checked) (f : FuncTree) → (check_signature w b s f).faults ≡ (entered_at w s f).faults ++ header_added w b f
+signature_faults_are : (w : World) (b : Bool) (s : FoundSoFar) (f : FuncTree) → (check_signature w b s f).faults ≡ (entered_at w s f).faults ++ header_added w b f
 unfolding check_signature
 signature_faults_are w b s f = refl
 
-signature_locals : (w : World) (b : Bool) (s : Checked) (f : FuncTree) → (check_signature w b s f).locals ≡ (entered_at w s f).locals
+signature_locals : (w : World) (b : Bool) (s : FoundSoFar) (f : FuncTree) → (check_signature w b s f).locals ≡ (entered_at w s f).locals
 unfolding check_signature
 signature_locals w b s f = refl
 
-entered_stays : (w : World) (s : Checked) (f : FuncTree) (p : ℕ) → HasToken s.faults p → HasToken (entered_at w s f).faults p
+entered_stays : (w : World) (s : FoundSoFar) (f : FuncTree) (p : ℕ) → HasToken s.faults p → HasToken (entered_at w s f).faults p
 entered_stays w s f p h = let o = optional_receiver_told w in
     let i = items_told (param_told w) in
     i.stays (check_optional_receiver w s f.receiver) f.params p (o.stays s f.receiver p h)
 
-signature_stays : (w : World) (b : Bool) (s : Checked) (f : FuncTree) (p : ℕ) → HasToken (entered_at w s f).faults p → HasToken (check_signature w b s f).faults p
+signature_stays : (w : World) (b : Bool) (s : FoundSoFar) (f : FuncTree) (p : ℕ) → HasToken (entered_at w s f).faults p → HasToken (check_signature w b s f).faults p
 signature_stays w b s f p h = subst (λ z. HasToken z p) (sym (signature_faults_are w b s f)) (holds_left (entered_at w s f).faults (header_added w b f) p h)
 
-function_stays : (w : World) (b : Bool) (s : Checked) (f : FuncTree) (p : ℕ) → HasToken s.faults p → HasToken (check_function w b s f).faults p
+function_stays : (w : World) (b : Bool) (s : FoundSoFar) (f : FuncTree) (p : ℕ) → HasToken s.faults p → HasToken (check_function w b s f).faults p
 unfolding check_function
 function_stays w b s f p h = block_stays w (judge_results w f.result).wanted (check_signature w b s f) f.body p (signature_stays w b s f p
     (entered_stays w s f p h))
 
-function_leads : (w : World) (b : Bool) (s : Checked) (f : FuncTree) → FunctionDeclares w s.locals f (check_function w b s f).locals
+function_leads : (w : World) (b : Bool) (s : FoundSoFar) (f : FuncTree) → FunctionDeclares w s.locals f (check_function w b s f).locals
 unfolding check_function
 function_leads w b s f = let o = optional_receiver_told w in
     let i = items_told (param_told w) in
@@ -355,20 +355,20 @@ function_leads w b s f = let o = optional_receiver_told w in
     (check_signature w b s f) f.body))
 
 -- the locals before the body of a function
-entered_only : (w : World) (s : Checked) (f : FuncTree) {received entered : Locals} → IfPresent ReceiverTree (ReceiverDeclares w) s.locals f.receiver received →
+entered_only : (w : World) (s : FoundSoFar) (f : FuncTree) {received entered : Locals} → IfPresent ReceiverTree (ReceiverDeclares w) s.locals f.receiver received →
     InTurn ParamTree (ParamDeclares w) received f.params entered → (entered_at w s f).locals ≡ entered
 entered_only w s f {received} {entered} r q = let o = optional_receiver_told w in
     let i = items_told (param_told w) in
     i.only (check_optional_receiver w s f.receiver) f.params entered (subst (λ z. InTurn ParamTree (ParamDeclares w) z f.params entered)
     (sym (o.only s f.receiver received r)) q)
 
-function_only : (w : World) (b : Bool) (s : Checked) (f : FuncTree) (after : Locals) → FunctionDeclares w s.locals f after →
+function_only : (w : World) (b : Bool) (s : FoundSoFar) (f : FuncTree) (after : Locals) → FunctionDeclares w s.locals f after →
     (check_function w b s f).locals ≡ after
 unfolding check_function
 function_only w b s f after (behind_function r q body) = block_only w (judge_results w f.result).wanted (check_signature w b s f) f.body after (subst
     (λ z. BlockDeclares w z f.body after) (sym (signature_locals w b s f ∙ entered_only w s f r q)) body)
 
-entered_found : (w : World) (b : Bool) (s : Checked) (f : FuncTree) (p : ℕ) → HasToken (entered_at w s f).faults p →
+entered_found : (w : World) (b : Bool) (s : FoundSoFar) (f : FuncTree) (p : ℕ) → HasToken (entered_at w s f).faults p →
     HasToken s.faults p ⊎ FunctionBreaksAt w b s.locals f p
 entered_found w b s f p h = let o = optional_receiver_told w in
     let i = items_told (param_told w) in
@@ -383,14 +383,14 @@ header_found w b locals f p h = let t = header_places w b f in elim (t.found p h
   | inr a ↦ at_place (FunctionBreaksAt w b locals f) (λ c. no_init c.0 c.1 c.2) p a
 ]
 
-signature_found : (w : World) (b : Bool) (s : Checked) (f : FuncTree) (p : ℕ) → HasToken (check_signature w b s f).faults p → HasToken s.faults p ⊎
+signature_found : (w : World) (b : Bool) (s : FoundSoFar) (f : FuncTree) (p : ℕ) → HasToken (check_signature w b s f).faults p → HasToken s.faults p ⊎
     FunctionBreaksAt w b s.locals f p
 signature_found w b s f p h = elim (holds_cases (entered_at w s f).faults (header_added w b f) p (subst (λ z. HasToken z p) (signature_faults_are w b s f) h)) [
   | inl x ↦ entered_found w b s f p x
   | inr y ↦ inr (header_found w b s.locals f p y)
 ]
 
-function_found : (w : World) (b : Bool) (s : Checked) (f : FuncTree) (p : ℕ) → HasToken (check_function w b s f).faults p → HasToken s.faults p ⊎
+function_found : (w : World) (b : Bool) (s : FoundSoFar) (f : FuncTree) (p : ℕ) → HasToken (check_function w b s f).faults p → HasToken s.faults p ⊎
     FunctionBreaksAt w b s.locals f p
 unfolding check_function
 function_found w b s f p h = let q = results_found w f.result in
@@ -402,17 +402,17 @@ function_found w b s f p h = let q = results_found w f.result in
           (λ z. BlockBreaksAt w q.types z f.body p) (signature_locals w b s f) y))
     ]
 
-signature_stands : (w : World) (b : Bool) (s : Checked) (f : FuncTree) (p : ℕ) → HasToken (check_signature w b s f).faults p →
+signature_stands : (w : World) (b : Bool) (s : FoundSoFar) (f : FuncTree) (p : ℕ) → HasToken (check_signature w b s f).faults p →
     HasToken (check_function w b s f).faults p
 unfolding check_function
 signature_stands w b s f p h = block_stays w (judge_results w f.result).wanted (check_signature w b s f) f.body p h
 
-header_stands : (w : World) (b : Bool) (s : Checked) (f : FuncTree) (p : ℕ) → (ResultBreaksAt w f.result p ⊎ At f.name (IsBadInit w b f) p) →
+header_stands : (w : World) (b : Bool) (s : FoundSoFar) (f : FuncTree) (p : ℕ) → (ResultBreaksAt w f.result p ⊎ At f.name (IsBadInit w b f) p) →
     HasToken (check_signature w b s f).faults p
 header_stands w b s f p h = let t = header_places w b f in subst (λ z. HasToken z p) (sym (signature_faults_are w b s f)) (holds_right (entered_at w s f).faults
     (header_added w b f) p (t.stands p h))
 
-function_stands : (w : World) (b : Bool) (s : Checked) (f : FuncTree) (p : ℕ) → FunctionBreaksAt w b s.locals f p → HasToken (check_function w b s f).faults p
+function_stands : (w : World) (b : Bool) (s : FoundSoFar) (f : FuncTree) (p : ℕ) → FunctionBreaksAt w b s.locals f p → HasToken (check_function w b s f).faults p
 unfolding check_function
 function_stands w b s f p (in_receiver c) = let o = optional_receiver_told w in
     let i = items_told (param_told w) in

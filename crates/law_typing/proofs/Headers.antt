@@ -8,7 +8,7 @@ use Rattle.types_expr.specs.Types.{PlainType, BasicType, Defined, Pointer, Slice
 use Rattle.types_expr.specs.Types.{BuiltinName, Package, Results, Broken, points}
 use Rattle.types_expr.specs.World.{World, Locals, Bound, Local, Means, BrokenVariable, BrokenFunction, BrokenType}
 use Rattle.types_expr.specs.Judge.{TypeJudged, judge_type, good_type, no_type_at, named_type}
-use Rattle.types_stmt.specs.Checked.{Checked, fault_if, check_items}
+use Rattle.types_stmt.specs.Checked.{FoundSoFar, fault_if, check_items}
 use Rattle.types_stmt.specs.Sides.{Target, Wants, named as named_of, with_locals}
 use Rattle.types_stmt.specs.Headers.{may_receive, receiver_or_fault, received, receiver_base, starred, judge_receiver, check_receiver, check_optional_receiver}
 use Rattle.types_stmt.specs.Headers.{check_param, ResultsJudged, with_result, judge_types, judge_results, is_empty_list, is_bad_init, check_signature}
@@ -65,7 +65,7 @@ unfolding judge_receiver receiver_base named_type
 receiver_type w r {s} e n b = ap (λ z. starred r.star (received w r.type_name (named_type z r.type_name))) e
     ∙ (ap (starred r.star) (base_true w r.type_name s n) ∙ star_true b)
 
-pub receiver_true : (w : World) (s : Checked) (r : ReceiverTree) (after : Locals) → s.faults ≡ [] → ReceiverIsTyped w s.locals r after →
+pub receiver_true : (w : World) (s : FoundSoFar) (r : ReceiverTree) (after : Locals) → s.faults ≡ [] → ReceiverIsTyped w s.locals r after →
     IsAt (check_receiver w s r) after
 unfolding check_receiver
 receiver_true w s r after h (a_receiver e n b d) = let q = receiver_type w r e n b in
@@ -123,7 +123,7 @@ pub star_found : (o : Option ℕ) (j : TypeJudged) (s : Symbol) → j.type_of �
 star_found None j s e = (Defined s, no_star, e)
 star_found (Some p) j s e = (Pointer (Defined s), a_star, ap (option_map Pointer) e)
 
-receiver_found : (w : World) (s : Checked) (r : ReceiverTree) → IsBaseFound w r.type_name (receiver_base w r.type_name) →
+receiver_found : (w : World) (s : FoundSoFar) (r : ReceiverTree) → IsBaseFound w r.type_name (receiver_base w r.type_name) →
     ReceiverIsTyped w s.locals r (with_locals s.locals (named_of r.name ∷ []) ((judge_receiver w r).type_of ∷ []))
 unfolding judge_receiver
 receiver_found w s r f = let q = star_found r.star (receiver_base w r.type_name) f.symbol f.type_is in
@@ -134,7 +134,7 @@ receiver_parts : (w : World) (r : ReceiverTree) → (judge_receiver w r).faults 
 unfolding judge_receiver receiver_base
 receiver_parts w r h = base_settled w r.type_name (w.bound r.type_name) refl (sym (star_faults r.star (receiver_base w r.type_name)) ∙ h)
 
-receiver_settled : (w : World) (s : Checked) (r : ReceiverTree) → (check_receiver w s r).faults ≡ [] →
+receiver_settled : (w : World) (s : FoundSoFar) (r : ReceiverTree) → (check_receiver w s r).faults ≡ [] →
     IsSettled (ReceiverIsTyped w) (ReceiverIsExcused w) s r (check_receiver w s r)
 unfolding check_receiver
 receiver_settled w s r h = (
@@ -145,12 +145,12 @@ receiver_settled w s r h = (
   ],
 )
 
-optional_receiver_true : (w : World) (s : Checked) {o : Option ReceiverTree} {before after : Locals} → IsAt s before →
+optional_receiver_true : (w : World) (s : FoundSoFar) {o : Option ReceiverTree} {before after : Locals} → IsAt s before →
     IfPresent ReceiverTree (ReceiverIsTyped w) before o after → IsAt (check_optional_receiver w s o) after
 optional_receiver_true w s a absent = a
 optional_receiver_true w s a (present {after = after} {x = x} r) = receiver_true w s x after a.faultless (held (ReceiverIsTyped w) a r)
 
-optional_receiver_settled : (w : World) (s : Checked) (o : Option ReceiverTree) → (check_optional_receiver w s o).faults ≡ [] →
+optional_receiver_settled : (w : World) (s : FoundSoFar) (o : Option ReceiverTree) → (check_optional_receiver w s o).faults ≡ [] →
     (s.faults ≡ []) × (IfPresent ReceiverTree (ReceiverIsTyped w) s.locals o (check_optional_receiver w s o).locals ⊎ ExcusedIfPresent ReceiverTree
     (ReceiverIsExcused w) s.locals o)
 optional_receiver_settled w s None h = (h, inl absent)
@@ -158,11 +158,11 @@ optional_receiver_settled w s (Some r) h = let q = receiver_settled w s r h in (
 
 -- parameters
 
-pub param_true : (w : World) (s : Checked) (p : ParamTree) (after : Locals) → s.faults ≡ [] → ParamIsTyped w s.locals p after → IsAt (check_param w s p) after
+pub param_true : (w : World) (s : FoundSoFar) (p : ParamTree) (after : Locals) → s.faults ≡ [] → ParamIsTyped w s.locals p after → IsAt (check_param w s p) after
 unfolding check_param
 param_true w s p after h (a_param i d) = typed_names w s p.names h i d
 
-param_settled : (w : World) (s : Checked) (p : ParamTree) → (check_param w s p).faults ≡ [] →
+param_settled : (w : World) (s : FoundSoFar) (p : ParamTree) → (check_param w s p).faults ≡ [] →
     IsSettled (ParamIsTyped w) (ParamIsExcused w) s p (check_param w s p)
 unfolding check_param
 param_settled w s p h = (
@@ -278,10 +278,10 @@ init_settled b f targets ts e h = init_cases b f f.receiver f.params ts refl ref
 
 -- functions
 
-abbrev entered_at : World → Checked → FuncTree → Checked
+abbrev entered_at : World → FoundSoFar → FuncTree → FoundSoFar
 entered_at w s f = check_items (check_param w) (check_optional_receiver w s f.receiver) f.params
 
-signature_true : (w : World) (b : Bool) (s : Checked) (f : FuncTree) {entered : Locals} {ts : List PlainType} → IsAt (entered_at w s f) entered →
+signature_true : (w : World) (b : Bool) (s : FoundSoFar) (f : FuncTree) {entered : Locals} {ts : List PlainType} → IsAt (entered_at w s f) entered →
     AreResults w f.result ts → KeepsInit b f ts → IsAt (check_signature w b s f) entered
 unfolding check_signature
 signature_true w b s f a r k = let q = results_true w r in
@@ -289,19 +289,19 @@ signature_true w b s f a r k = let q = results_true w r in
     (empty_both (judge_results w f.result).faults (fault_if (is_bad_init b f (judge_results w f.result).wanted) f.name) q.faultless (ap
     (λ z. fault_if z f.name) (init_true b f q.wanted k))) a.locals_are
 
-pub function_true : (w : World) (b : Bool) (s : Checked) (f : FuncTree) (after : Locals) → s.faults ≡ [] → FunctionIsTyped w b s.locals f after →
+pub function_true : (w : World) (b : Bool) (s : FoundSoFar) (f : FuncTree) (after : Locals) → s.faults ≡ [] → FunctionIsTyped w b s.locals f after →
     IsAt (check_function w b s f) after
 unfolding check_function
 function_true w b s f after h (a_function {ts = ts} r p rs k body) =
     let a = items_true (ParamIsTyped w) (check_param w) (param_true w) p (check_optional_receiver w s f.receiver) (optional_receiver_true w s (here s h) r) in
     block_true w ts (judge_results w f.result).wanted (results_true w rs).wanted body (check_signature w b s f) (signature_true w b s f a rs k)
 
-record IsSignatureFound (w : World) (b : Bool) (s : Checked) (f : FuncTree) : Type 0 where
+record IsSignatureFound (w : World) (b : Bool) (s : FoundSoFar) (f : FuncTree) : Type 0 where
   before : (entered_at w s f).faults ≡ []
   results : (judge_results w f.result).faults ≡ []
   plain : fault_if (is_bad_init b f (judge_results w f.result).wanted) f.name ≡ []
 
-signature_parts : (w : World) (b : Bool) (s : Checked) (f : FuncTree) → (check_signature w b s f).faults ≡ [] → IsSignatureFound w b s f
+signature_parts : (w : World) (b : Bool) (s : FoundSoFar) (f : FuncTree) → (check_signature w b s f).faults ≡ [] → IsSignatureFound w b s f
 unfolding check_signature
 signature_parts w b s f h = let i = fault_if (is_bad_init b f (judge_results w f.result).wanted) f.name in
     let q = empty_second (entered_at w s f).faults ((judge_results w f.result).faults ++ i) h in
@@ -311,14 +311,14 @@ signature_parts w b s f h = let i = fault_if (is_bad_init b f (judge_results w f
       plain = empty_second (judge_results w f.result).faults i q;
     }
 
-signature_locals : (w : World) (b : Bool) (s : Checked) (f : FuncTree) → (check_signature w b s f).locals ≡ (entered_at w s f).locals
+signature_locals : (w : World) (b : Bool) (s : FoundSoFar) (f : FuncTree) → (check_signature w b s f).locals ≡ (entered_at w s f).locals
 unfolding check_signature
 signature_locals w b s f = refl
 
-abbrev IsFunctionSettled : World → Bool → Checked → FuncTree → Checked → Type 0
+abbrev IsFunctionSettled : World → Bool → FoundSoFar → FuncTree → FoundSoFar → Type 0
 IsFunctionSettled w b s f after = FunctionIsTyped w b s.locals f after.locals ⊎ FunctionIsExcused w s.locals f
 
-with_results : (w : World) (b : Bool) (s : Checked) (f : FuncTree) → (check_block w (judge_results w f.result).wanted
+with_results : (w : World) (b : Bool) (s : FoundSoFar) (f : FuncTree) → (check_block w (judge_results w f.result).wanted
     (check_signature w b s f) f.body).faults ≡ [] → IsSignatureFound w b s f →
     {received : Locals} → IfPresent ReceiverTree (ReceiverIsTyped w) s.locals f.receiver received →
     InTurn ParamTree (ParamIsTyped w) received f.params (entered_at w s f).locals →
@@ -332,7 +332,7 @@ with_results w b s f h g r p rs = let q = block_settled w rs.types (judge_result
       | inr u ↦ inr (in_body r p rs.typed (subst (λ z. BlockIsExcused w rs.types z f.body) l u))
     ]
 
-pub function_settled : (w : World) (b : Bool) (s : Checked) (f : FuncTree) → (check_function w b s f).faults ≡ [] →
+pub function_settled : (w : World) (b : Bool) (s : FoundSoFar) (f : FuncTree) → (check_function w b s f).faults ≡ [] →
     IsSettled (FunctionIsTyped w b) (FunctionIsExcused w) s f (check_function w b s f)
 unfolding check_function
 function_settled w b s f h = let g = signature_parts w b s f (block_first w (judge_results w f.result).wanted f.body (check_signature w b s f) h) in

@@ -2,24 +2,24 @@
 use Rattle.std.proofs.Common.{ℕ, ◌≡◌, Bool, true, false, List, [], ◌∷◌, ◌++◌, Option, Some, refl, sym, ap, ◌∙◌, subst}
 use Rattle.go_ast.specs.Tree.{ExprTree}
 use Rattle.types_expr.specs.Places.{place_of}
-use Rattle.types_expr.specs.Types.{PlainType, Kind, Signature, Meaning, Value, TypeName, Function, BuiltinName, Package, Results, Broken}
+use Rattle.types_expr.specs.Types.{PlainType, ValueKind, Signature, Meaning, Value, TypeName, Function, BuiltinName, Package, Results, Broken}
 use Rattle.types_expr.specs.Judge.{Judged, MemberUse, means, means_or_wrong, followed, with_use, as_value, value_at, value_kind, wrong_if_whole}
-use Rattle.law_typing.specs.Names.{IsWhole}
+use Rattle.law_typing.specs.Names.{IsNotBroken}
 use Rattle.law_typing.specs.IsJudgedAs.{IsJudgedAs}
 
-pub value_whole : {k : Kind} {a : Bool} → IsWhole (Value k a)
+pub value_whole : {k : ValueKind} {a : Bool} → IsNotBroken (Value k a)
 value_whole {k} {a} h = cc
 
-pub function_whole : {s : Signature} → IsWhole (Function s)
+pub function_whole : {s : Signature} → IsNotBroken (Function s)
 function_whole {s} h = cc
 
-pub results_whole : {ts : List PlainType} → IsWhole (Results ts)
+pub results_whole : {ts : List PlainType} → IsNotBroken (Results ts)
 results_whole {ts} h = cc
 
 pub agrees_as : {j k : Judged} {m : Meaning} → j ≡ k → IsJudgedAs k m → IsJudgedAs j m
 agrees_as {j} {k} {m} e a = subst (λ (x : Judged). IsJudgedAs x m) (sym e) a
 
-pub means_it : {m : Meaning} → IsWhole m → IsJudgedAs (means m) m
+pub means_it : {m : Meaning} → IsNotBroken m → IsJudgedAs (means m) m
 means_it n = record { meaning = refl; faultless = refl; whole = n }
 
 pub followed_agrees : {j : Judged} {m n : Meaning} (rule : Meaning → Judged) → IsJudgedAs j m → IsJudgedAs (rule m) n → IsJudgedAs (followed j rule) n
@@ -32,18 +32,18 @@ followed_agrees {j} {m} {n} rule a b = record {
 pub used_agrees : {j : Judged} {m : Meaning} (u : MemberUse) → IsJudgedAs j m → IsJudgedAs (with_use u j) m
 used_agrees u a = record { meaning = a.meaning; faultless = a.faultless; whole = a.whole }
 
-pub chosen_agrees : {o : Option Meaning} {m : Meaning} (place : ℕ) → o ≡ Some m → IsWhole m → IsJudgedAs (means_or_wrong o place) m
+pub chosen_agrees : {o : Option Meaning} {m : Meaning} (place : ℕ) → o ≡ Some m → IsNotBroken m → IsJudgedAs (means_or_wrong o place) m
 chosen_agrees place e n = agrees_as (ap (λ x. means_or_wrong x place) e) (means_it n)
 
-pub value_agrees : (place : ℕ) {k : Kind} {a : Bool} → IsJudgedAs (as_value place (Value k a)) (Value k a)
+pub value_agrees : (place : ℕ) {k : ValueKind} {a : Bool} → IsJudgedAs (as_value place (Value k a)) (Value k a)
 unfolding as_value
 value_agrees place = means_it value_whole
 
-pub value_at_agrees : (e : ExprTree) {j : Judged} {k : Kind} {a : Bool} → IsJudgedAs j (Value k a) → IsJudgedAs (value_at e j) (Value k a)
+pub value_at_agrees : (e : ExprTree) {j : Judged} {k : ValueKind} {a : Bool} → IsJudgedAs j (Value k a) → IsJudgedAs (value_at e j) (Value k a)
 value_at_agrees e h = followed_agrees (as_value (place_of e)) h (value_agrees (place_of e))
 
 -- an expression that is judged to be one where a value is required is a value
-pub only_value : (place : ℕ) (m : Meaning) → IsWhole (as_value place m).meaning → (k : Kind) × (a : Bool) × (m ≡ Value k a)
+pub only_value : (place : ℕ) (m : Meaning) → IsNotBroken (as_value place m).meaning → (k : ValueKind) × (a : Bool) × (m ≡ Value k a)
 unfolding as_value
 only_value place (Value k a) n = (k, a, refl)
 only_value place (TypeName t) n = absurd (n refl)
@@ -53,15 +53,15 @@ only_value place Package n = absurd (n refl)
 only_value place (Results ts) n = absurd (n refl)
 only_value place Broken n = absurd (n refl)
 
-pub value_kept : (place : ℕ) {m : Meaning} {k : Kind} {a : Bool} → m ≡ Value k a → (as_value place m).meaning ≡ Value k a
+pub value_kept : (place : ℕ) {m : Meaning} {k : ValueKind} {a : Bool} → m ≡ Value k a → (as_value place m).meaning ≡ Value k a
 unfolding as_value
 value_kept place e = ap (λ x. (as_value place x).meaning) e
 
-pub kind_known : {m : Meaning} {k : Kind} {a : Bool} → m ≡ Value k a → value_kind m ≡ Some k
+pub kind_known : {m : Meaning} {k : ValueKind} {a : Bool} → m ≡ Value k a → value_kind m ≡ Some k
 unfolding value_kind
 kind_known e = ap value_kind e
 
-pub known_kind : (m : Meaning) (k : Kind) → value_kind m ≡ Some k → (a : Bool) × (m ≡ Value k a)
+pub known_kind : (m : Meaning) (k : ValueKind) → value_kind m ≡ Some k → (a : Bool) × (m ≡ Value k a)
 unfolding value_kind
 known_kind (Value j a) k h = let e : j ≡ k = cc in (a, ap (λ x. Value x a) e)
 known_kind (TypeName t) k h = cc

@@ -3,7 +3,7 @@ use Rattle.std.proofs.Common.{ℕ, ◌≡◌, Bool, true, false, if◌then◌els
 use Rattle.go_ast.specs.Tree.{Item, ExprTree}
 use Rattle.go_ast.specs.Tree as tree
 use Rattle.types_expr.specs.Places.{place_of}
-use Rattle.types_expr.specs.Types.{PlainType, Kind, Typed, Untyped, Nil, Meaning, Value, TypeName, Function, BuiltinName, Package, Results, Broken}
+use Rattle.types_expr.specs.Types.{PlainType, ValueKind, Typed, Untyped, Nil, Meaning, Value, TypeName, Function, BuiltinName, Package, Results, Broken}
 use Rattle.types_expr.specs.World.{World, Locals, Local}
 use Rattle.types_expr.specs.Judge.{Judged, judge, judge_value, as_value, followed}
 use Rattle.types_stmt.specs.Sides.{Target, Wants, Lefts, left_side, own_type, assignable, judge_operand, assigned_one, assigned, declares}
@@ -13,13 +13,13 @@ use Rattle.law_typing.specs.Meanings.{HasMeaning}
 use Rattle.law_typing.proofs.Tests.{none_is_some}
 use Rattle.law_typing.proofs.Completeness.{complete, has_value}
 use Rattle.law_typing.specs.Assignments.{Taker, Fresh, OfType}
-use Rattle.law_typing.specs.Excused.{IsBlank, underscored, IsNewName, bound_to_itself}
+use Rattle.law_typing.specs.Excused.{IsBlank, underscored, IsDeclaredName, bound_to_itself}
 use Rattle.law_typing.proofs.Values.{value_true, operand_true}
 use Rattle.law_typing.proofs.Lefts.{assigned_cases, own_test, test_own, own_not}
 use Rattle.law_typing.specs.ExpressionFaults.{ValueBreaksAt}
 use Rattle.law_typing.specs.AssignmentFaults.{AssignedTakes, a_blank, a_variable, no_variable, NamesValueOf, an_old_name, DefinedTakes, an_underscore, a_new_name}
 use Rattle.law_typing.specs.AssignmentFaults.{a_known_name, no_name, EachTakes, no_side, one_side}
-use Rattle.law_typing.specs.DeclaredLocals.{NewNames, no_names, no_new_name}
+use Rattle.law_typing.specs.DeclaredLocals.{DeclaresNames, no_names, no_new_name}
 use Rattle.law_typing.specs.DeclaredLocals as lead
 use Rattle.law_typing.specs.SimpleFaults.{OperandBreaksAt, AnyBreaksAt, DefinedBreaksAt, in_old_name, defines_no_name}
 use Rattle.law_typing.proofs.FaultLists.{AreExactly, none_told, both_told, told_as, At, at_place, nothing_at, fault_at, some_same}
@@ -156,24 +156,24 @@ sort_of w locals (tree.Blank p) = blank_sort refl
 sort_of w locals (tree.Name p) = name_sort refl
 sort_of w locals e = other_sort (λ b. elim b [ ]) (λ p h. cc) refl refl
 
-new_bound : {w : World} {p : ℕ} → IsNewName w (tree.Name p) → w.bound p ≡ Local p
+new_bound : {w : World} {p : ℕ} → IsDeclaredName w (tree.Name p) → w.bound p ≡ Local p
 new_bound (bound_to_itself b) = b
 
-new_name_at : {w : World} {e : ExprTree} → IsNewName w e → (p : ℕ) × (e ≡ tree.Name p)
+new_name_at : {w : World} {e : ExprTree} → IsDeclaredName w e → (p : ℕ) × (e ≡ tree.Name p)
 new_name_at (bound_to_itself {p = p} b) = (p, refl)
 
 -- a name that declares, and one that does not
-declares_new : (w : World) (p : ℕ) → declares w p ≡ true → IsNewName w (tree.Name p)
+declares_new : (w : World) (p : ℕ) → declares w p ≡ true → IsDeclaredName w (tree.Name p)
 declares_new w p h = bound_to_itself (test_own (w.bound p) p h)
 
-declares_none : (w : World) (p : ℕ) → declares w p ≡ false → IsNewName w (tree.Name p) → ⊥
+declares_none : (w : World) (p : ℕ) → declares w p ≡ false → IsDeclaredName w (tree.Name p) → ⊥
 declares_none w p h n = own_not w p h (new_bound n)
 
-new_declares : (w : World) (p : ℕ) (b : Bool) → declares w p ≡ b → IsNewName w (tree.Name p) → b ≡ true
+new_declares : (w : World) (p : ℕ) (b : Bool) → declares w p ≡ b → IsDeclaredName w (tree.Name p) → b ≡ true
 new_declares w p true h n = refl
 new_declares w p false h n = absurd (declares_none w p h n)
 
-none_declares : (w : World) (p : ℕ) (b : Bool) → declares w p ≡ b → (IsNewName w (tree.Name p) → ⊥) → b ≡ false
+none_declares : (w : World) (p : ℕ) (b : Bool) → declares w p ≡ b → (IsDeclaredName w (tree.Name p) → ⊥) → b ≡ false
 none_declares w p true h n = absurd (n (declares_new w p h))
 none_declares w p false h n = refl
 
@@ -208,7 +208,7 @@ names_none w locals p (Some t) h n = absurd (n t (names_value w locals p t h))
 value_name_at : {w : World} {locals : Locals} {e : ExprTree} {t : PlainType} → NamesValueOf w locals e t → (p : ℕ) × (e ≡ tree.Name p)
 value_name_at (an_old_name {p = p} h) = (p, refl)
 
-renewed_by : (w : World) (locals : Locals) (p : ℕ) → (IsNewName w (tree.Name p) → ⊥) → (o : Option PlainType) → own_type (judge_value w locals
+renewed_by : (w : World) (locals : Locals) (p : ℕ) → (IsDeclaredName w (tree.Name p) → ⊥) → (o : Option PlainType) → own_type (judge_value w locals
     (tree.Name p)).meaning ≡ o → IsTaking (DefinedTakes w locals) (tree.Name p) (Wants o ∷ [])
 renewed_by w locals p n None h = record {
   taker = None;
@@ -309,7 +309,7 @@ blank_told : (w : World) (locals : Locals) (p : ℕ) → AreExactly (defined_one
 unfolding defined_one
 blank_told w locals p = none_told (λ q b. blank_breaks w locals b)
 
-name_breaks : {w : World} {locals : Locals} {p q : ℕ} → DefinedBreaksAt w locals (tree.Name p) q → (IsNewName w (tree.Name p) →
+name_breaks : {w : World} {locals : Locals} {p q : ℕ} → DefinedBreaksAt w locals (tree.Name p) q → (IsDeclaredName w (tree.Name p) →
     ⊥) × ValueBreaksAt w locals (tree.Name p) q
 name_breaks (in_old_name n b) = (n, b)
 name_breaks {p = p} (defines_no_name n h) = absurd (n p refl)
@@ -324,11 +324,11 @@ unfolding defined_one
 name_told w locals p = name_by w locals p (declares w p) refl
 
 record IsValueHere (w : World) (locals : Locals) (e : ExprTree) : Type 0 where
-  kind : Kind
+  kind : ValueKind
   addressable : Bool
   means : HasMeaning w locals e (Value kind addressable)
 
-value_here : (place here : ℕ) (m : Meaning) {C : Type 0} → ((k : Kind) (a : Bool) → m ≡ Value k a → C) → (C → (k : Kind) × (a : Bool) × (m ≡ Value k a)) →
+value_here : (place here : ℕ) (m : Meaning) {C : Type 0} → ((k : ValueKind) (a : Bool) → m ≡ Value k a → C) → (C → (k : ValueKind) × (a : Bool) × (m ≡ Value k a)) →
     AreExactly (judged_name place (as_value here m).meaning).faults (At place C)
 unfolding judged_name as_value
 value_here place here (Value k a) f g = fault_at place (f k a refl)
@@ -368,11 +368,11 @@ defined_told w locals (i ∷ is) = any_told (DefinedBreaksAt w locals) i is (def
 
 -- which names declare
 
-not_new : {w : World} {e : ExprTree} {p : ℕ} → e ≡ tree.Name p → (IsNewName w (tree.Name p) → ⊥) → IsNewName w e → ⊥
-not_new {w} e n h = n (subst (λ z. IsNewName w z) e h)
+not_new : {w : World} {e : ExprTree} {p : ℕ} → e ≡ tree.Name p → (IsDeclaredName w (tree.Name p) → ⊥) → IsDeclaredName w e → ⊥
+not_new {w} e n h = n (subst (λ z. IsDeclaredName w z) e h)
 
-named_as : (w : World) (i : Item ExprTree) (is : List (Item ExprTree)) (ns : List (Option ℕ)) (p : ℕ) → i.value ≡ tree.Name p → NewNames w is ns → (b : Bool) →
-    declares w p ≡ b → NewNames w (i ∷ is) ((if b then Some p else None) ∷ ns)
+named_as : (w : World) (i : Item ExprTree) (is : List (Item ExprTree)) (ns : List (Option ℕ)) (p : ℕ) → i.value ≡ tree.Name p → DeclaresNames w is ns → (b : Bool) →
+    declares w p ≡ b → DeclaresNames w (i ∷ is) ((if b then Some p else None) ∷ ns)
 named_as w i is ns p e more true h = lead.a_new_name e (test_own (w.bound p) p h) more
 named_as w i is ns p e more false h = no_new_name (not_new e (declares_none w p h)) more
 
@@ -384,30 +384,30 @@ blank_name : (w : World) {e : ExprTree} {p : ℕ} → e ≡ tree.Blank p → def
 unfolding defined_name
 blank_name w e = ap (defined_name w) e
 
-name_found : (w : World) (locals : Locals) (i : Item ExprTree) (is : List (Item ExprTree)) (ns : List (Option ℕ)) → NewNames w is ns →
-    NewNames w (i ∷ is) (defined_name w i.value ∷ ns)
+name_found : (w : World) (locals : Locals) (i : Item ExprTree) (is : List (Item ExprTree)) (ns : List (Option ℕ)) → DeclaresNames w is ns →
+    DeclaresNames w (i ∷ is) (defined_name w i.value ∷ ns)
 name_found w locals i is ns more = elim (sort_of w locals i.value) [
-  | blank_sort {p} h ↦ subst (λ z. NewNames w (i ∷ is) (z ∷ ns)) (sym (blank_name w h)) (no_new_name (λ n. let q = new_name_at n in
+  | blank_sort {p} h ↦ subst (λ z. DeclaresNames w (i ∷ is) (z ∷ ns)) (sym (blank_name w h)) (no_new_name (λ n. let q = new_name_at n in
       let c : tree.Blank p ≡ tree.Name q.0 = sym h ∙ q.1 in cc) more)
-  | name_sort {p} h ↦ subst (λ z. NewNames w (i ∷ is) (z ∷ ns)) (sym (name_of w h)) (named_as w i is ns p h more (declares w p) refl)
-  | other_sort n m d c ↦ subst (λ z. NewNames w (i ∷ is) (z ∷ ns)) (sym c) (no_new_name (λ h. let q = new_name_at h in m q.0 q.1) more)
+  | name_sort {p} h ↦ subst (λ z. DeclaresNames w (i ∷ is) (z ∷ ns)) (sym (name_of w h)) (named_as w i is ns p h more (declares w p) refl)
+  | other_sort n m d c ↦ subst (λ z. DeclaresNames w (i ∷ is) (z ∷ ns)) (sym c) (no_new_name (λ h. let q = new_name_at h in m q.0 q.1) more)
 ]
 
-pub names_found : (w : World) (locals : Locals) (xs : List (Item ExprTree)) → NewNames w xs (defined_names w xs)
+pub names_found : (w : World) (locals : Locals) (xs : List (Item ExprTree)) → DeclaresNames w xs (defined_names w xs)
 names_found w locals [] = no_names
 names_found w locals (i ∷ is) = name_found w locals i is (defined_names w is) (names_found w locals is)
 
 new_name_is : (w : World) {e : ExprTree} {p : ℕ} → e ≡ tree.Name p → w.bound p ≡ Local p → defined_name w e ≡ Some p
 new_name_is w {p = p} e h = name_of w e ∙ ap (λ c. if c then Some p else None) (own_test (w.bound p) p h)
 
-other_name_is : (w : World) (locals : Locals) (e : ExprTree) → (IsNewName w e → ⊥) → defined_name w e ≡ None
+other_name_is : (w : World) (locals : Locals) (e : ExprTree) → (IsDeclaredName w e → ⊥) → defined_name w e ≡ None
 other_name_is w locals e n = elim (sort_of w locals e) [
   | blank_sort h ↦ blank_name w h
-  | name_sort {p} h ↦ name_of w h ∙ ap (λ c. if c then Some p else None) (none_declares w p (declares w p) refl (λ q. n (subst (λ z. IsNewName w z) (sym h) q)))
+  | name_sort {p} h ↦ name_of w h ∙ ap (λ c. if c then Some p else None) (none_declares w p (declares w p) refl (λ q. n (subst (λ z. IsDeclaredName w z) (sym h) q)))
   | other_sort k m d c ↦ c
 ]
 
-pub names_only : (w : World) (locals : Locals) {xs : List (Item ExprTree)} {ns : List (Option ℕ)} → NewNames w xs ns → defined_names w xs ≡ ns
+pub names_only : (w : World) (locals : Locals) {xs : List (Item ExprTree)} {ns : List (Option ℕ)} → DeclaresNames w xs ns → defined_names w xs ≡ ns
 names_only w locals no_names = refl
 names_only w locals (lead.a_new_name {is = is} {p = p} e h more) = ap (λ z. z ∷ defined_names w is) (new_name_is w e h) ∙ ap (λ z. Some p ∷ z)
     (names_only w locals more)

@@ -4,13 +4,13 @@ use Rattle.std.proofs.Common.{◌⊎◌, inl, inr, eq-eqb, eqb-true}
 use Rattle.go_ast.specs.Tree.{Item, ExprTree}
 use Rattle.go_ast.specs.Tree as tree
 use Rattle.types_expr.specs.Places.{place_of}
-use Rattle.types_expr.specs.Types.{PlainType, Kind, Typed, Untyped, Nil, Meaning, Value, Broken}
+use Rattle.types_expr.specs.Types.{PlainType, ValueKind, Typed, Untyped, Nil, Meaning, Value, Broken}
 use Rattle.types_expr.specs.World.{World, Locals, Bound, Local, Means, BrokenVariable, BrokenFunction, BrokenType}
 use Rattle.types_expr.specs.Judge.{Judged, judge, judge_value}
 use Rattle.types_stmt.specs.Sides.{Target, Wants, Lefts, left_side, join_lefts, own_type, judge_operand, assigned_one, assigned, is_own, declares, no_name}
 use Rattle.types_stmt.specs.Sides.{reassigned, defined_one, defined, defined_name, defined_names}
 use Rattle.types_stmt.specs.Sides as sides
-use Rattle.law_typing.specs.Names.{IsWhole}
+use Rattle.law_typing.specs.Names.{IsNotBroken}
 use Rattle.law_typing.specs.Operators.{IsUntyped, a_constant, a_nil}
 use Rattle.law_typing.specs.Meanings.{HasMeaning}
 use Rattle.law_typing.specs.BrokenUses.{UsesBroken}
@@ -19,7 +19,7 @@ use Rattle.law_typing.proofs.BrokenRules.{no_fault}
 use Rattle.law_typing.proofs.Soundness.{sound}
 use Rattle.law_typing.specs.Assignments.{Taker, Fresh, OfType}
 use Rattle.law_typing.specs.Simple.{AreAssigned, no_left, a_blank, an_operand, AreDefined, no_definition, an_underscore, a_new_name, an_old_name}
-use Rattle.law_typing.specs.Excused.{without_type, constant, IsBlank, IsNewName, bound_to_itself, AssignedIsExcused, assigned_uses}
+use Rattle.law_typing.specs.Excused.{without_type, constant, IsBlank, IsDeclaredName, bound_to_itself, AssignedIsExcused, assigned_uses}
 use Rattle.law_typing.specs.Excused.{assigned_without_type, later_assigned, DefinedIsExcused, defined_uses, defined_no_variable, later_defined}
 use Rattle.law_typing.proofs.Values.{value_true, value_settled, IsOperandFound, operand_true, operand_settled}
 use Rattle.law_typing.proofs.Assignments.{aim, AreNew}
@@ -40,7 +40,7 @@ left_then {a} {b} {t} {ts} h more = record {
   faultless = empty_both a.faults b.faults h.faultless more.faultless;
 }
 
-typed_or_not : (k : Kind) → ((t : PlainType) × (k ≡ Typed t)) ⊎ IsUntyped k
+typed_or_not : (k : ValueKind) → ((t : PlainType) × (k ≡ Typed t)) ⊎ IsUntyped k
 typed_or_not (Typed t) = inl (t, refl)
 typed_or_not (Untyped b) = inr a_constant
 typed_or_not Nil = inr a_nil
@@ -59,7 +59,7 @@ blank_left : (w : World) (locals : Locals) (p : ℕ) → IsLeft (assigned_one w 
 unfolding assigned_one
 blank_left w locals p = fresh_left
 
-other_left : (w : World) (locals : Locals) (e : ExprTree) → IsWhole (judge w locals e).meaning →
+other_left : (w : World) (locals : Locals) (e : ExprTree) → IsNotBroken (judge w locals e).meaning →
     assigned_one w locals e ≡ left_side (Wants (own_type (judge_operand w locals e).meaning)) (judge_operand w locals e)
 unfolding assigned_one judge
 other_left w locals (tree.Blank p) n = absurd (n refl)
@@ -246,16 +246,16 @@ abbrev IsOneSettled : World → Locals → Item ExprTree → Lefts → Option �
 IsOneSettled w locals i l n = IsDefinedFound w locals i l.targets n ⊎ IsDefinedExcused w locals i
 
 -- a name that is not bound to itself is no new one
-new_bound : {w : World} {p : ℕ} → IsNewName w (tree.Name p) → w.bound p ≡ Local p
+new_bound : {w : World} {p : ℕ} → IsDeclaredName w (tree.Name p) → w.bound p ≡ Local p
 new_bound (bound_to_itself b) = b
 
-not_new : (w : World) (i : Item ExprTree) (p : ℕ) → i.value ≡ tree.Name p → (w.bound p ≡ Local p → ⊥) → IsNewName w i.value → ⊥
-not_new w i p e n h = n (new_bound (subst (λ z. IsNewName w z) e h))
+not_new : (w : World) (i : Item ExprTree) (p : ℕ) → i.value ≡ tree.Name p → (w.bound p ≡ Local p → ⊥) → IsDeclaredName w i.value → ⊥
+not_new w i p e n h = n (new_bound (subst (λ z. IsDeclaredName w z) e h))
 
 pub own_not : (w : World) (p : ℕ) → declares w p ≡ false → w.bound p ≡ Local p → ⊥
 own_not w p d q = true≢false (sym (own_test (w.bound p) p q) ∙ d)
 
-old_found : (w : World) (locals : Locals) (i : Item ExprTree) (p : ℕ) → i.value ≡ tree.Name p → (w.bound p ≡ Local p → ⊥) → (k : Kind) (a : Bool) →
+old_found : (w : World) (locals : Locals) (i : Item ExprTree) (p : ℕ) → i.value ≡ tree.Name p → (w.bound p ≡ Local p → ⊥) → (k : ValueKind) (a : Bool) →
     (judge_value w locals (tree.Name p)).meaning ≡ Value k a →
     HasMeaning w locals (tree.Name p) (Value k a) → IsOneSettled w locals i (reassigned w locals p) None
 unfolding own_type
@@ -283,11 +283,11 @@ name_settled w locals i p e false d h = elim (value_settled w locals (tree.Name 
       (sym e) u))
 ]
 
-no_name_fault : {A : Type 0} (place : ℕ) {m : Meaning} {k : Kind} {a : Bool} → m ≡ Value k a → (no_name place m).faults ≡ [] → A
+no_name_fault : {A : Type 0} (place : ℕ) {m : Meaning} {k : ValueKind} {a : Bool} → m ≡ Value k a → (no_name place m).faults ≡ [] → A
 unfolding no_name
 no_name_fault place e h = no_fault (ap (λ m. (no_name place m).faults) (sym e) ∙ h)
 
-others_excused : (w : World) (locals : Locals) (i : Item ExprTree) → (IsBlank i.value → ⊥) → (IsNewName w i.value → ⊥) →
+others_excused : (w : World) (locals : Locals) (i : Item ExprTree) → (IsBlank i.value → ⊥) → (IsDeclaredName w i.value → ⊥) →
     (place : ℕ) (l : Lefts) (n : Option ℕ) →
     (judge_value w locals i.value).faults ++ (no_name place (judge_value w locals i.value).meaning).faults ≡ [] → IsOneSettled w locals i l n
 others_excused w locals i n m place l name h = elim (value_settled w locals i.value (empty_first (judge_value w locals i.value).faults (no_name place
@@ -300,7 +300,7 @@ others_excused w locals i n m place l name h = elim (value_settled w locals i.va
 data Sort (w : World) (locals : Locals) (e : ExprTree) : Type 0 where
   blank_sort : {p : ℕ} → e ≡ tree.Blank p → Sort w locals e
   name_sort : {p : ℕ} → e ≡ tree.Name p → Sort w locals e
-  other_sort : (IsBlank e → ⊥) → (IsNewName w e → ⊥) → ((defined_one w locals e).faults ≡ (judge_value w locals e).faults ++ (no_name (place_of e)
+  other_sort : (IsBlank e → ⊥) → (IsDeclaredName w e → ⊥) → ((defined_one w locals e).faults ≡ (judge_value w locals e).faults ++ (no_name (place_of e)
       (judge_value w locals e).meaning).faults) →
       Sort w locals e
 

@@ -3,14 +3,14 @@ use Rattle.std.proofs.Common.{ℕ, ◌≡◌, Bool, true, false, if◌then◌els
 use Rattle.go_ast.specs.Tree.{ExprTree}
 use Rattle.types_expr.specs.declared.types.Basic.TheVariants as basic
 use Rattle.types_expr.specs.Places.{place_of}
-use Rattle.types_expr.specs.Types.{PlainType, SliceOf, Kind, Typed, Untyped, Nil, Meaning, Value, TypeName, Function, BuiltinName, Package, Results, Broken}
+use Rattle.types_expr.specs.Types.{PlainType, SliceOf, ValueKind, Typed, Untyped, Nil, Meaning, Value, TypeName, Function, BuiltinName, Package, Results, Broken}
 use Rattle.types_expr.specs.World.{World, Locals, underlying}
 use Rattle.types_expr.specs.Operations.{class_of, is_int, element_of_kind}
 use Rattle.types_expr.specs.Judge.{as_value, value_kind, means_or_wrong, member_meaning, select, select_member, bad_index, indexed, index_of, element_meaning}
 use Rattle.types_expr.specs.Judge.{index_rule, judge, judge_value}
 use Rattle.law_typing.specs.Operators.{IsBasic}
-use Rattle.law_typing.specs.Names.{IsWhole}
-use Rattle.law_typing.specs.Links.{Selects, Indexes, element}
+use Rattle.law_typing.specs.Names.{IsNotBroken}
+use Rattle.law_typing.specs.Links.{SelectsMember, Indexes, element}
 use Rattle.law_typing.specs.Meanings.{HasMeaning}
 use Rattle.law_typing.specs.BrokenUses.{SelectsBroken, a_method, of_package}
 use Rattle.law_typing.specs.Faults.{IsNoValue, IsNoOperand}
@@ -39,7 +39,7 @@ status_is Package h = some_same h
 status_is (Results ts) h = some_same h
 status_is Broken h = none_is_some _ h
 
-pub status_whole : (m : Meaning) {n : Meaning} → status m ≡ Some n → IsWhole m
+pub status_whole : (m : Meaning) {n : Meaning} → status m ≡ Some n → IsNotBroken m
 status_whole m h e = none_some (ap status e) h
 
 pub status_none : (m : Meaning) → status m ≡ None → m ≡ Broken
@@ -47,8 +47,8 @@ status_none m h = elim (whole_or_broken m) [ inl n ↦ absurd (none_some h (whol
 
 -- the rule R relates m to r, where r is not broken, and m to nothing else
 pub record IsRule (R : Meaning → Meaning → Type 0) (m r : Meaning) : Type 0 where
-  pub only : (s : Meaning) → R m s → (r ≡ s) × IsWhole s
-  pub holds : IsWhole r → IsWhole m × R m r
+  pub only : (s : Meaning) → R m s → (r ≡ s) × IsNotBroken s
+  pub holds : IsNotBroken r → IsNotBroken m × R m r
 
 pub next_found : (R : Meaning → Meaning → Type 0) (m r : Meaning) → IsRule R m r → NextMeaning R (status m) (status r)
 next_found R m r f = elim (whole_or_broken r) [
@@ -81,7 +81,7 @@ selects_rule w locals place n m = record {
 
 -- a selector after an operand of a given meaning breaks a rule at this token
 pub data SelectorBreaks (w : World) (locals : Locals) (place n : ℕ) : Option Meaning → ℕ → Type 0 where
-  misses : {k : Kind} {a : Bool} → ((s : Meaning) → Selects w locals (Value k a) n s → ⊥) → (SelectsBroken w locals (Value k a) n → ⊥) →
+  misses : {k : ValueKind} {a : Bool} → ((s : Meaning) → SelectsMember w locals (Value k a) n s → ⊥) → (SelectsBroken w locals (Value k a) n → ⊥) →
       SelectorBreaks w locals place n (Some (Value k a)) n
   no_operand : {m : Meaning} → IsNoOperand m → SelectorBreaks w locals place n (Some m) place
 
@@ -90,11 +90,11 @@ unfolding select select_member
 broken_silent w locals place (a_method {t} {a} {name} e) = ap (λ z. (means_or_wrong (member_meaning w t a z) name).faults) e
 broken_silent w locals place (of_package n) = refl
 
-value_place : {w : World} {locals : Locals} {place n p : ℕ} {k : Kind} {a : Bool} → SelectorBreaks w locals place n (Some (Value k a)) p → n ≡ p
+value_place : {w : World} {locals : Locals} {place n p : ℕ} {k : ValueKind} {a : Bool} → SelectorBreaks w locals place n (Some (Value k a)) p → n ≡ p
 value_place (misses f g) = refl
 value_place {k = k} {a = a} (no_operand i) = absurd (i.0 k a refl)
 
-value_misses : (w : World) (locals : Locals) (place n : ℕ) (k : Kind) (a : Bool) → (select w locals place n (Value k a)).faults ≡ n ∷ [] →
+value_misses : (w : World) (locals : Locals) (place n : ℕ) (k : ValueKind) (a : Bool) → (select w locals place n (Value k a)).faults ≡ n ∷ [] →
     AreExactly (n ∷ []) (SelectorBreaks w locals place n (Some (Value k a)))
 value_misses w locals place n k a e = record {
   found = λ p h. elim h [
@@ -105,7 +105,7 @@ value_misses w locals place n k a e = record {
   stands = λ p b. inl (value_place b);
 }
 
-silent_hits : {w : World} {locals : Locals} {place n p : ℕ} {k : Kind} {a : Bool} → (select w locals place n (Value k a)).faults ≡ [] →
+silent_hits : {w : World} {locals : Locals} {place n p : ℕ} {k : ValueKind} {a : Bool} → (select w locals place n (Value k a)).faults ≡ [] →
     SelectorBreaks w locals place n (Some (Value k a)) p → ⊥
 silent_hits {w} {locals} {place} {n} {k = k} {a = a} e (misses f g) = elim (select_or_broken w locals place n (Value k a) value_whole e) [
   | inl q ↦ let s = true_selects w locals place n (Value k a) q in f (select w locals place n (Value k a)).meaning s.1
@@ -147,11 +147,11 @@ selector_told w locals place n Broken = none_told (λ p b. elim b [ ])
 
 -- indexes
 
-indexes_value : {w : World} {m s : Meaning} {k : Kind} → Indexes w m k s → (j : Kind) × (b : Bool) × (m ≡ Value j b)
+indexes_value : {w : World} {m s : Meaning} {k : ValueKind} → Indexes w m k s → (j : ValueKind) × (b : Bool) × (m ≡ Value j b)
 indexes_value (element {t} {a = a} e i) = (Typed t, a, refl)
 
 indexed_only : (w : World) (locals : Locals) (start place : ℕ) (e : ExprTree) (m s : Meaning) → IndexedBy w locals e m s →
-    (index_of w start (place_of e) (as_value place m).meaning (judge_value w locals e).meaning).meaning ≡ s × IsWhole s
+    (index_of w start (place_of e) (as_value place m).meaning (judge_value w locals e).meaning).meaning ≡ s × IsNotBroken s
 indexed_only w locals start place e m s (by_index {k} {a} h i) = let v = indexes_value i in
     let t = indexes_true w start (place_of e) a i in
     let x = value_true w locals e h in (
@@ -173,9 +173,9 @@ indexes_rule w locals start place e m = record {
 pub data IndexBreaks (w : World) (locals : Locals) (start place : ℕ) (e : ExprTree) : Option Meaning → ℕ → Type 0 where
   no_value_there : {m : Meaning} → IsNoValue m → IndexBreaks w locals start place e (Some m) place
   inside : {m : Option Meaning} {p : ℕ} → ValueBreaksAt w locals e p → IndexBreaks w locals start place e m p
-  no_int_there : {m : Option Meaning} {k : Kind} {a : Bool} → HasMeaning w locals e (Value k a) → (IsBasic w k basic.Int → ⊥) →
+  no_int_there : {m : Option Meaning} {k : ValueKind} {a : Bool} → HasMeaning w locals e (Value k a) → (IsBasic w k basic.Int → ⊥) →
       IndexBreaks w locals start place e m (place_of e)
-  no_slice_there : {j k : Kind} {a b : Bool} → HasMeaning w locals e (Value k a) → IsBasic w k basic.Int → ((s : Meaning) → Indexes w (Value j b) k s → ⊥) →
+  no_slice_there : {j k : ValueKind} {a b : Bool} → HasMeaning w locals e (Value k a) → IsBasic w k basic.Int → ((s : Meaning) → Indexes w (Value j b) k s → ⊥) →
       IndexBreaks w locals start place e (Some (Value j b)) start
 
 record IsKnownNoValue (m : Meaning) : Type 0 where
@@ -184,16 +184,16 @@ record IsKnownNoValue (m : Meaning) : Type 0 where
   is_none : IsNoValue meaning
 
 record IsNoInt (w : World) (locals : Locals) (e : ExprTree) : Type 0 where
-  kind : Kind
+  kind : ValueKind
   addressable : Bool
   means : HasMeaning w locals e (Value kind addressable)
   is_none : IsBasic w kind basic.Int → ⊥
 
 record IsNoSlice (w : World) (locals : Locals) (e : ExprTree) (m : Meaning) : Type 0 where
-  operand : Kind
+  operand : ValueKind
   variable : Bool
   known : status m ≡ Some (Value operand variable)
-  kind : Kind
+  kind : ValueKind
   addressable : Bool
   means : HasMeaning w locals e (Value kind addressable)
   is_int : IsBasic w kind basic.Int
@@ -204,23 +204,23 @@ unfolding indexed
 int_index w start place m true e = absurd (true≢false e)
 int_index w start place m false e = inl refl
 
-not_int : (w : World) (k : Kind) → (IsBasic w k basic.Int → ⊥) → (b : Bool) → is_int (class_of w k) ≡ b → b ≡ false
+not_int : (w : World) (k : ValueKind) → (IsBasic w k basic.Int → ⊥) → (b : Bool) → is_int (class_of w k) ≡ b → b ≡ false
 not_int w k n true e = absurd (n (is_of_int w k e))
 not_int w k n false e = refl
 
-no_int_stands : (w : World) (start place : ℕ) (m i : Meaning) {k : Kind} {a : Bool} → i ≡ Value k a → (IsBasic w k basic.Int → ⊥) →
+no_int_stands : (w : World) (start place : ℕ) (m i : Meaning) {k : ValueKind} {a : Bool} → i ≡ Value k a → (IsBasic w k basic.Int → ⊥) →
     HasToken (index_of w start place m i).faults place
 unfolding index_of bad_index value_kind
 no_int_stands w start place m i {k} {a} e n = subst (λ z. HasToken (index_of w start place m z).faults place) (sym e) (int_index w start place m (is_int
     (class_of w k))
     (not_int w k n (is_int (class_of w k)) refl))
 
-slice_of_kind : (w : World) (j : Kind) (u : PlainType) → element_of_kind w j ≡ Some u → (t : PlainType) × (j ≡ Typed t) × (underlying w t ≡ SliceOf u)
+slice_of_kind : (w : World) (j : ValueKind) (u : PlainType) → element_of_kind w j ≡ Some u → (t : PlainType) × (j ≡ Typed t) × (underlying w t ≡ SliceOf u)
 slice_of_kind w (Typed t) u e = (t, refl, element_slice (underlying w t) u e)
 slice_of_kind w (Untyped b) u e = none_is_some u e
 slice_of_kind w Nil u e = none_is_some u e
 
-no_element_of : (w : World) (start : ℕ) (j k : Kind) (b : Bool) → IsBasic w k basic.Int → ((s : Meaning) → Indexes w (Value j b) k s → ⊥) →
+no_element_of : (w : World) (start : ℕ) (j k : ValueKind) (b : Bool) → IsBasic w k basic.Int → ((s : Meaning) → Indexes w (Value j b) k s → ⊥) →
     (o : Option PlainType) →
     element_of_kind w j ≡ o → HasToken (element_meaning o start).faults start
 no_element_of w start j k b i n None e = inl refl
@@ -228,13 +228,13 @@ no_element_of w start j k b i n (Some u) e = let q = slice_of_kind w j u e in ab
     (Typed u) true))
     (sym q.1) (element q.2 i)))
 
-slice_index : (w : World) (start place : ℕ) (j k : Kind) (b : Bool) (c : Bool) → c ≡ true → HasToken (element_meaning (element_of_kind w j) start).faults start →
+slice_index : (w : World) (start place : ℕ) (j k : ValueKind) (b : Bool) (c : Bool) → c ≡ true → HasToken (element_meaning (element_of_kind w j) start).faults start →
     HasToken (indexed w start (if c then [] else (place ∷ [])) true (Value j b)).faults start
 unfolding indexed
 slice_index w start place j k b true e h = h
 slice_index w start place j k b false e h = absurd (true≢false (sym e))
 
-no_slice_stands : (w : World) (start place : ℕ) (m i : Meaning) {j k : Kind} {a b : Bool} → m ≡ Value j b → i ≡ Value k a → IsBasic w k basic.Int →
+no_slice_stands : (w : World) (start place : ℕ) (m i : Meaning) {j k : ValueKind} {a b : Bool} → m ≡ Value j b → i ≡ Value k a → IsBasic w k basic.Int →
     ((s : Meaning) → Indexes w (Value j b) k s → ⊥) → HasToken (index_of w start place m i).faults start
 unfolding index_of bad_index value_kind
 no_slice_stands w start place m i {j} {k} {a} {b} e f t n = subst (λ z. HasToken (index_of w start place z i).faults start) (sym e) (subst
@@ -314,7 +314,7 @@ index_breaks w locals start place e m p (inr (inl c)) = at_place (IndexBreaks w 
 index_breaks w locals start place e m p (inr (inr c)) = at_place (IndexBreaks w locals start place e (status m)) (λ x. subst
     (λ z. IndexBreaks w locals start place e z start) (sym x.known) (no_slice_there x.means x.is_int x.is_none)) p c
 
-known_no_value : (m : Meaning) → IsKnownNoValue m → IsWhole m × IsNoValue m
+known_no_value : (m : Meaning) → IsKnownNoValue m → IsNotBroken m × IsNoValue m
 known_no_value m c = (status_whole m c.known, subst (λ z. IsNoValue z) (sym (status_is m c.known)) c.is_none)
 
 pub index_told : (w : World) (locals : Locals) (start place : ℕ) (e : ExprTree) (m : Meaning) →

@@ -4,7 +4,7 @@ use Rattle.go_ast.specs.Tree.{Item, IdentTree, TypeTree, ExprTree, LocalTree}
 use Rattle.types_expr.specs.Types.{PlainType}
 use Rattle.types_expr.specs.World.{World, Locals}
 use Rattle.types_expr.specs.Judge.{ListValue, judge_type}
-use Rattle.types_stmt.specs.Checked.{Checked}
+use Rattle.types_stmt.specs.Checked.{FoundSoFar}
 use Rattle.types_stmt.specs.Sides.{Wants, rhs, given_faults, all_named, first_of_idents, with_inferred}
 use Rattle.types_stmt.specs.Sides as sides
 use Rattle.types_stmt.specs.Simple.{check_local, check_local_of, check_typed_local, check_untyped_local, written_locals, written_targets, name_targets}
@@ -141,7 +141,7 @@ local_places_of w ls l None None e f = none_told (λ p b. neither_cases e f b)
 local_places : (w : World) (ls : Locals) (l : LocalTree) → AreExactly (local_added w ls l) (LocalBreaksAt w ls l)
 local_places w ls l = local_places_of w ls l l.type_use l.values refl refl
 
-faults_of : (w : World) (s : Checked) (names : List (Item IdentTree)) (t : Option TypeTree) (v : Values) → (check_local_of w s names t v).faults ≡ s.faults ++
+faults_of : (w : World) (s : FoundSoFar) (names : List (Item IdentTree)) (t : Option TypeTree) (v : Values) → (check_local_of w s names t v).faults ≡ s.faults ++
     local_added_of w s.locals names t v
 unfolding check_typed_local check_untyped_local
 faults_of w s names (Some x) None = refl
@@ -149,13 +149,13 @@ faults_of w s names (Some x) (Some v) = refl
 faults_of w s names None (Some v) = refl
 faults_of w s names None None = refl
 
-local_faults_are : (w : World) (s : Checked) (l : LocalTree) → (check_local w s l).faults ≡ s.faults ++ local_added w s.locals l
+local_faults_are : (w : World) (s : FoundSoFar) (l : LocalTree) → (check_local w s l).faults ≡ s.faults ++ local_added w s.locals l
 unfolding check_local
 local_faults_are w s l = faults_of w s l.names l.type_use l.values
 
 -- locals
 
-leads_of : (w : World) (s : Checked) (l : LocalTree) (t : Option TypeTree) (v : Values) → l.type_use ≡ t → l.values ≡ v →
+leads_of : (w : World) (s : FoundSoFar) (l : LocalTree) (t : Option TypeTree) (v : Values) → l.type_use ≡ t → l.values ≡ v →
     LocalDeclares w s.locals l (check_local_of w s l.names t v).locals
 unfolding check_typed_local check_untyped_local
 leads_of w s l (Some x) None e f = of_type e (type_found w x) (written_found l.names (judge_type w x).type_of s.locals)
@@ -163,7 +163,7 @@ leads_of w s l (Some x) (Some v) e f = of_type e (type_found w x) (written_found
 leads_of w s l None (Some v) e f = of_values e f (sides_found w s.locals v.1) (taken_found s.locals (all_named l.names) (rhs w s.locals v.1).values)
 leads_of w s l None None e f = of_neither e f (untyped_found s.locals (all_named l.names))
 
-local_leads : (w : World) (s : Checked) (l : LocalTree) → LocalDeclares w s.locals l (check_local w s l).locals
+local_leads : (w : World) (s : FoundSoFar) (l : LocalTree) → LocalDeclares w s.locals l (check_local w s l).locals
 unfolding check_local
 local_leads w s l = leads_of w s l l.type_use l.values refl refl
 
@@ -189,7 +189,7 @@ neither_leads w before after l e f (of_type g i d) = absurd (none_some e g)
 neither_leads w before after l e f (of_values g h s d) = absurd (none_some f h)
 neither_leads w before after l e f (of_neither g h d) = untyped_only d
 
-only_of : (w : World) (s : Checked) (l : LocalTree) (after : Locals) (t : Option TypeTree) (v : Values) → l.type_use ≡ t → l.values ≡ v →
+only_of : (w : World) (s : FoundSoFar) (l : LocalTree) (after : Locals) (t : Option TypeTree) (v : Values) → l.type_use ≡ t → l.values ≡ v →
     LocalDeclares w s.locals l after → (check_local_of w s l.names t v).locals ≡ after
 unfolding check_typed_local check_untyped_local
 only_of w s l after (Some x) None e f r = type_leads w s.locals after l x e r
@@ -197,7 +197,7 @@ only_of w s l after (Some x) (Some v) e f r = type_leads w s.locals after l x e 
 only_of w s l after None (Some v) e f r = values_lead w s.locals after l v e f r
 only_of w s l after None None e f r = neither_leads w s.locals after l e f r
 
-local_only : (w : World) (s : Checked) (l : LocalTree) (after : Locals) → LocalDeclares w s.locals l after → (check_local w s l).locals ≡ after
+local_only : (w : World) (s : FoundSoFar) (l : LocalTree) (after : Locals) → LocalDeclares w s.locals l after → (check_local w s l).locals ≡ after
 unfolding check_local
 local_only w s l after r = only_of w s l after l.type_use l.values refl refl r
 

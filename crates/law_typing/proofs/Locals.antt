@@ -4,7 +4,7 @@ use Rattle.go_ast.specs.Tree.{Item, IdentTree, TypeTree, ExprTree, LocalTree}
 use Rattle.types_expr.specs.Types.{PlainType}
 use Rattle.types_expr.specs.World.{World, Locals}
 use Rattle.types_expr.specs.Judge.{TypeJudged, judge_type, good_type}
-use Rattle.types_stmt.specs.Checked.{Checked, with_declared}
+use Rattle.types_stmt.specs.Checked.{FoundSoFar, with_declared}
 use Rattle.types_stmt.specs.Sides.{Wants, rhs, all_named, first_of_idents, with_inferred}
 use Rattle.types_stmt.specs.Sides as sides
 use Rattle.types_stmt.specs.Simple.{check_local, check_local_of, check_typed_local, check_untyped_local, written_locals, written_targets, name_targets}
@@ -44,29 +44,29 @@ written_lefts names {j} {t} e = record {
   faultless = ap (λ (z : TypeJudged). z.faults) e;
 }
 
-written_true : (w : World) (s : Checked) (names : List (Item IdentTree)) {j : TypeJudged} {t : PlainType} {after : Locals} → j ≡ good_type t →
+written_true : (w : World) (s : FoundSoFar) (names : List (Item IdentTree)) {j : TypeJudged} {t : PlainType} {after : Locals} → j ≡ good_type t →
     DeclareAs t s.locals (all_named names) after → written_locals s.locals names j.type_of ≡ after
 written_true w s names e d = ap (λ (z : TypeJudged). written_locals s.locals names z.type_of) e ∙ declare_as_true names d
 
-pub typed_names : (w : World) (s : Checked) (names : List (Item IdentTree)) {x : TypeTree} {t : PlainType} {after : Locals} → s.faults ≡ [] →
+pub typed_names : (w : World) (s : FoundSoFar) (names : List (Item IdentTree)) {x : TypeTree} {t : PlainType} {after : Locals} → s.faults ≡ [] →
     IsType w x t → DeclareAs t s.locals (all_named names) after →
     IsAt (with_declared s (written_locals s.locals names (judge_type w x).type_of) (judge_type w x).faults []) after
 typed_names w s names {x} h i d = let e = type_true w i in reached s (judge_type w x).faults [] h (ap (λ (z : TypeJudged). z.faults) e)
     (written_true w s names e d)
 
-chosen : (w : World) (s : Checked) (l : LocalTree) {t : Option TypeTree} {v : Option (ℕ × List (Item ExprTree))} {after : Locals} → l.type_use ≡ t →
+chosen : (w : World) (s : FoundSoFar) (l : LocalTree) {t : Option TypeTree} {v : Option (ℕ × List (Item ExprTree))} {after : Locals} → l.type_use ≡ t →
     l.values ≡ v → IsAt (check_local_of w s l.names t v) after → IsAt (check_local w s l) after
 unfolding check_local
 chosen w s l {t} {v} {after} e f a = subst (λ z. IsAt (check_local_of w s l.names z l.values) after) (sym e) (subst (λ z. IsAt
     (check_local_of w s l.names t z) after) (sym f) a)
 
-only_written : (w : World) (s : Checked) (names : List (Item IdentTree)) {x : TypeTree} {t : PlainType} {after : Locals} → s.faults ≡ [] → IsType w x t →
+only_written : (w : World) (s : FoundSoFar) (names : List (Item IdentTree)) {x : TypeTree} {t : PlainType} {after : Locals} → s.faults ≡ [] → IsType w x t →
     DeclareAs t s.locals (all_named names) after →
     IsAt (check_local_of w s names (Some x) None) after
 unfolding check_typed_local
 only_written w s names h i d = typed_names w s names h i d
 
-pub local_true : (w : World) (s : Checked) (l : LocalTree) (after : Locals) → s.faults ≡ [] → LocalIsTyped w s.locals l after → IsAt (check_local w s l) after
+pub local_true : (w : World) (s : FoundSoFar) (l : LocalTree) (after : Locals) → s.faults ≡ [] → LocalIsTyped w s.locals l after → IsAt (check_local w s l) after
 unfolding check_typed_local check_untyped_local
 local_true w s l after h (of_type e f i d) = chosen w s l e f (only_written w s l.names h i d)
 local_true w s l after h (of_type_with_values {x = x} {v = v} e f i g t d) = let q = type_true w i in
@@ -82,10 +82,10 @@ pub found_as : (names : List (Item IdentTree)) (t : PlainType) (before : Locals)
     DeclareAs t before (all_named names) (written_locals before names o)
 found_as names t before e = subst (λ z. DeclareAs t before (all_named names) (written_locals before names z)) (sym e) (declare_as_found names t before)
 
-abbrev IsLocalSettled : World → Checked → LocalTree → Checked → Type 0
+abbrev IsLocalSettled : World → FoundSoFar → LocalTree → FoundSoFar → Type 0
 IsLocalSettled w s l after = IsSettled (LocalIsTyped w) (LocalIsExcused w) s l after
 
-written_settled : (w : World) (s : Checked) (l : LocalTree) (x : TypeTree) → l.type_use ≡ Some x → l.values ≡ None →
+written_settled : (w : World) (s : FoundSoFar) (l : LocalTree) (x : TypeTree) → l.type_use ≡ Some x → l.values ≡ None →
     (check_typed_local w s l.names (judge_type w x) None).faults ≡ [] → IsLocalSettled w s l (check_typed_local w s l.names (judge_type w x) None)
 unfolding check_typed_local
 written_settled w s l x e f h = (
@@ -96,7 +96,7 @@ written_settled w s l x e f h = (
   ],
 )
 
-values_settled : (w : World) (s : Checked) (l : LocalTree) (x : TypeTree) (v : ℕ × List (Item ExprTree)) → l.type_use ≡ Some x → l.values ≡ Some v →
+values_settled : (w : World) (s : FoundSoFar) (l : LocalTree) (x : TypeTree) (v : ℕ × List (Item ExprTree)) → l.type_use ≡ Some x → l.values ≡ Some v →
     (check_typed_local w s l.names (judge_type w x) (Some v)).faults ≡ [] →
     IsLocalSettled w s l (check_typed_local w s l.names (judge_type w x) (Some v))
 unfolding check_typed_local
@@ -115,7 +115,7 @@ values_settled w s l x v e f h =
       ],
     )
 
-unwritten_settled : (w : World) (s : Checked) (l : LocalTree) (v : ℕ × List (Item ExprTree)) → l.type_use ≡ None → l.values ≡ Some v →
+unwritten_settled : (w : World) (s : FoundSoFar) (l : LocalTree) (v : ℕ × List (Item ExprTree)) → l.type_use ≡ None → l.values ≡ Some v →
     (check_untyped_local w s l.names (Some v)).faults ≡ [] →
     IsLocalSettled w s l (check_untyped_local w s l.names (Some v))
 unfolding check_untyped_local
@@ -131,12 +131,12 @@ unwritten_settled w s l v e f h =
       ],
     )
 
-nothing_settled : (w : World) (s : Checked) (l : LocalTree) → l.type_use ≡ None → l.values ≡ None → (check_untyped_local w s l.names None).faults ≡ [] →
+nothing_settled : (w : World) (s : FoundSoFar) (l : LocalTree) → l.type_use ≡ None → l.values ≡ None → (check_untyped_local w s l.names None).faults ≡ [] →
     IsLocalSettled w s l (check_untyped_local w s l.names None)
 unfolding check_untyped_local
 nothing_settled w s l e f h = (empty_first s.faults [] h, inr (of_nothing e f))
 
-local_of_settled : (w : World) (s : Checked) (l : LocalTree) (t : Option TypeTree) (v : Option (ℕ × List (Item ExprTree))) → l.type_use ≡ t →
+local_of_settled : (w : World) (s : FoundSoFar) (l : LocalTree) (t : Option TypeTree) (v : Option (ℕ × List (Item ExprTree))) → l.type_use ≡ t →
     l.values ≡ v → (check_local_of w s l.names t v).faults ≡ [] →
     IsLocalSettled w s l (check_local_of w s l.names t v)
 local_of_settled w s l (Some x) None e f h = written_settled w s l x e f h
@@ -144,6 +144,6 @@ local_of_settled w s l (Some x) (Some v) e f h = values_settled w s l x v e f h
 local_of_settled w s l None (Some v) e f h = unwritten_settled w s l v e f h
 local_of_settled w s l None None e f h = nothing_settled w s l e f h
 
-pub local_settled : (w : World) (s : Checked) (l : LocalTree) → (check_local w s l).faults ≡ [] → IsLocalSettled w s l (check_local w s l)
+pub local_settled : (w : World) (s : FoundSoFar) (l : LocalTree) → (check_local w s l).faults ≡ [] → IsLocalSettled w s l (check_local w s l)
 unfolding check_local
 local_settled w s l h = local_of_settled w s l l.type_use l.values refl refl h

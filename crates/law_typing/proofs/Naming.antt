@@ -5,23 +5,23 @@ use Rattle.go_ast.specs.Tree as tree
 use Rattle.types_expr.specs.Types.{PlainType, Pointer, Slice, Meaning, Value, TypeName, Function, BuiltinName, Package, Results, Broken}
 use Rattle.types_expr.specs.World.{World, Locals, Bound, Local, Means, BrokenVariable, BrokenFunction, BrokenType, variable, meaning_of_bound, name_meaning}
 use Rattle.types_expr.specs.Judge.{judge_type, named_type, named_meaning, imported_type, imported_meaning, good_type, under}
-use Rattle.law_typing.specs.Names.{IsWhole, NameMeans, a_local, a_bound, IsType, named, imported, pointer, slice}
+use Rattle.law_typing.specs.Names.{IsNotBroken, NameMeans, a_local, a_bound, IsType, named, imported, pointer, slice}
 use Rattle.law_typing.proofs.Judgements.{value_whole}
 
 pub name_true : (w : World) (locals : Locals) {p : ℕ} {m : Meaning} → NameMeans w locals p m → name_meaning w locals p ≡ m
 name_true w locals (a_local e f) = ap (meaning_of_bound locals) e ∙ ap variable f
 name_true w locals (a_bound e n) = ap (meaning_of_bound locals) e
 
-pub name_whole : (w : World) (locals : Locals) {p : ℕ} {m : Meaning} → NameMeans w locals p m → IsWhole m
+pub name_whole : (w : World) (locals : Locals) {p : ℕ} {m : Meaning} → NameMeans w locals p m → IsNotBroken m
 name_whole w locals (a_local e f) = value_whole
 name_whole w locals (a_bound e n) = n
 
-local_name : (w : World) (locals : Locals) (p d : ℕ) → w.bound p ≡ Local d → (o : Option PlainType) → locals d ≡ o → IsWhole (variable o) →
+local_name : (w : World) (locals : Locals) (p d : ℕ) → w.bound p ≡ Local d → (o : Option PlainType) → locals d ≡ o → IsNotBroken (variable o) →
     NameMeans w locals p (variable o)
 local_name w locals p d e None f n = absurd (n refl)
 local_name w locals p d e (Some t) f n = a_local e f
 
-bound_name : (w : World) (locals : Locals) (p : ℕ) (b : Bound) → w.bound p ≡ b → IsWhole (meaning_of_bound locals b) →
+bound_name : (w : World) (locals : Locals) (p : ℕ) (b : Bound) → w.bound p ≡ b → IsNotBroken (meaning_of_bound locals b) →
     NameMeans w locals p (meaning_of_bound locals b)
 bound_name w locals p (Local d) e n = local_name w locals p d e (locals d) refl n
 bound_name w locals p (Means m) e n = a_bound e n
@@ -29,7 +29,7 @@ bound_name w locals p BrokenVariable e n = absurd (n refl)
 bound_name w locals p BrokenFunction e n = absurd (n refl)
 bound_name w locals p BrokenType e n = absurd (n refl)
 
-pub true_name : (w : World) (locals : Locals) (p : ℕ) → IsWhole (name_meaning w locals p) → NameMeans w locals p (name_meaning w locals p)
+pub true_name : (w : World) (locals : Locals) (p : ℕ) → IsNotBroken (name_meaning w locals p) → NameMeans w locals p (name_meaning w locals p)
 true_name w locals p n = bound_name w locals p (w.bound p) refl n
 
 pub type_true : (w : World) {x : TypeTree} {t : PlainType} → IsType w x t → judge_type w x ≡ good_type t

@@ -3,13 +3,13 @@ use Rattle.std.proofs.Common.{ℕ, ◌≡◌, Bool, true, false, List, [], ◌�
 use Rattle.go_ast.specs.Tree.{TypeTree, ArgumentTrees}
 use Rattle.go_ast.specs.Tree as tree
 use Rattle.types_expr.specs.Places.{place_of}
-use Rattle.types_expr.specs.Types.{PlainType, Underlying, Plain, PointerTo, SliceOf, Struct, Kind, Meaning, Value, TypeName, Function, BuiltinName, Package}
+use Rattle.types_expr.specs.Types.{PlainType, Underlying, Plain, PointerTo, SliceOf, Struct, ValueKind, Meaning, Value, TypeName, Function, BuiltinName, Package}
 use Rattle.types_expr.specs.Types.{Results, Broken, element_of}
 use Rattle.types_expr.specs.World.{World, Locals, Bound, Local, Means, BrokenVariable, BrokenFunction, BrokenType}
 use Rattle.types_expr.specs.Operations.{fits}
-use Rattle.types_expr.specs.Judge.{Key, FieldKey, WrongKey, BrokenKey, as_value, value_kind, judge, judge_arguments, judge_type, named_type, imported_type}
+use Rattle.types_expr.specs.Judge.{KeyMeaning, FieldKey, WrongKey, BrokenKey, as_value, value_kind, judge, judge_arguments, judge_type, named_type, imported_type}
 use Rattle.types_expr.specs.Judge.{misfit, misfits, all_misfits, misfit_if, key_faults}
-use Rattle.law_typing.specs.Fits.{Fits}
+use Rattle.law_typing.specs.Fits.{FitsType}
 use Rattle.law_typing.specs.Faults.{NamesNoType, NamesValue, a_local, a_value, a_broken_variable, IsNoType, by_name, behind_package, behind_value, no_package}
 use Rattle.law_typing.specs.Faults.{in_pointer, in_slice, IsMisfit, this_argument, other_argument, IsMisfitOf, this_value, other_value, AreAsMany, no_more}
 use Rattle.law_typing.specs.Faults.{one_more}
@@ -142,13 +142,13 @@ type_each P w (tree.Slice o c x) f = type_each P w x (λ p h. f p (in_slice h))
 
 -- values that do not fit
 
-test_misfit : (P : ℕ → Type 0) (w : World) (place : ℕ) (k : Kind) (t : PlainType) (b : Bool) → fits w k t ≡ b → ((Fits w k t → ⊥) → P place) →
+test_misfit : (P : ℕ → Type 0) (w : World) (place : ℕ) (k : ValueKind) (t : PlainType) (b : Bool) → fits w k t ≡ b → ((FitsType w k t → ⊥) → P place) →
     Each P (if b then [] else (place ∷ []))
 test_misfit P w place k t true e f = tt
 test_misfit P w place k t false e f = (f (λ h. true≢false (sym (fits_true w h) ∙ e)), tt)
 
 pub misfit_each : (P : ℕ → Type 0) (w : World) (here place : ℕ) (m : Meaning) (t : PlainType) →
-    ((k : Kind) (a : Bool) → m ≡ Value k a → (Fits w k t → ⊥) → P place) → Each P (misfit w place (value_kind (as_value here m).meaning) t)
+    ((k : ValueKind) (a : Bool) → m ≡ Value k a → (FitsType w k t → ⊥) → P place) → Each P (misfit w place (value_kind (as_value here m).meaning) t)
 unfolding misfit value_kind as_value
 misfit_each P w here place (Value k a) t f = test_misfit P w place k t (fits w k t) refl (f k a refl)
 misfit_each P w here place (TypeName u) t f = tt
@@ -159,7 +159,7 @@ misfit_each P w here place (Results ts) t f = tt
 misfit_each P w here place Broken t f = tt
 
 pub wanted_each : (P : ℕ → Type 0) (w : World) (here place : ℕ) (m : Meaning) (wanted : Option PlainType) →
-    ((t : PlainType) → wanted ≡ Some t → (k : Kind) (a : Bool) → m ≡ Value k a → (Fits w k t → ⊥) → P place) →
+    ((t : PlainType) → wanted ≡ Some t → (k : ValueKind) (a : Bool) → m ≡ Value k a → (FitsType w k t → ⊥) → P place) →
     Each P (misfit_if w place (value_kind (as_value here m).meaning) wanted)
 wanted_each P w here place m None f = tt
 wanted_each P w here place m (Some t) f = misfit_each P w here place m t (f t refl)
@@ -198,7 +198,7 @@ as_many_arguments w locals (tree.argument e c rest) (t ∷ ts) h = let m : lengt
 
 -- keys
 
-pub key_each : (P : ℕ → Type 0) (k : Key) (place : ℕ) → (k ≡ WrongKey → P place) → Each P (key_faults k place)
+pub key_each : (P : ℕ → Type 0) (k : KeyMeaning) (place : ℕ) → (k ≡ WrongKey → P place) → Each P (key_faults k place)
 key_each P WrongKey place f = (f refl, tt)
 key_each P BrokenKey place f = tt
 key_each P (FieldKey rank t) place f = tt

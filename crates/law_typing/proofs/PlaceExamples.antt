@@ -4,7 +4,7 @@ use Rattle.go_ast.specs.declared.syntax.StepOp.TheVariants as step
 use Rattle.go_ast.specs.Tree as tree
 use Rattle.types_expr.specs.declared.types.Basic.TheVariants as basic
 use Rattle.types_expr.specs.Places.{place_of, first_token}
-use Rattle.types_expr.specs.Types.{PlainType, BasicType, Struct, Kind, Value, Meaning, Broken}
+use Rattle.types_expr.specs.Types.{PlainType, BasicType, Struct, ValueKind, Value, Meaning, Broken}
 use Rattle.types_expr.specs.World.{World, Locals, Local, Means, no_locals, declared}
 use Rattle.law_typing.specs.Names.{a_local, a_bound}
 use Rattle.law_typing.specs.Meanings.{HasMeaning, number, name}
@@ -16,7 +16,7 @@ use Rattle.law_typing.specs.StatementFaults.{StatementBreaksAt, no_return}
 abbrev world : World
 world = record { bound = λ p. if p == 6 then Local 0 else Means Broken; member = λ n t. None; definition = λ s. Struct s }
 
-constant : {j k : Kind} → Value j false ≡ Value k true → ⊥
+constant : {j k : ValueKind} → Value j false ≡ Value k true → ⊥
 constant h = let q : false ≡ true = cc in true≢false (sym q)
 
 -- `2++` breaks its rule at the number

@@ -4,9 +4,9 @@ use Rattle.std.specs.List.{Contains}
 use Rattle.go_ast.specs.Tree.{ExprTree, FileTree}
 use Rattle.types_expr.specs.World.{World, Locals}
 use Rattle.types_expr.specs.Judge.{judge}
-use Rattle.types_stmt.specs.Checked.{Checked}
+use Rattle.types_stmt.specs.Checked.{FoundSoFar}
 use Rattle.types_stmt.specs.Declarations.{check_file}
-use Rattle.law_typing.specs.Sequences.{Rule}
+use Rattle.law_typing.specs.Sequences.{PartRule}
 use Rattle.law_typing.specs.Declarations.{FileIsTyped}
 use Rattle.law_typing.specs.Excused.{FileIsExcused}
 use Rattle.law_typing.proofs.Declarations.{file_true, file_settled}
@@ -22,13 +22,13 @@ contained : {C : Type 0} (xs : List ℕ) (p : ℕ) → HasToken xs p ⊎ C → C
 contained xs p (inl h) = inl (holds_contains xs p h)
 contained xs p (inr b) = inr b
 
-stands_in : {X : Type 0} {R : Rule X} {B : FaultRule X} {check : Checked → X → Checked} → IsExact X R B check → (s : Checked) (x : X) (p : ℕ) →
+stands_in : {X : Type 0} {R : PartRule X} {B : FaultRule X} {check : FoundSoFar → X → FoundSoFar} → IsExact X R B check → (s : FoundSoFar) (x : X) (p : ℕ) →
     Contains s.faults p ⊎ B s.locals x p → HasToken (check s x).faults p
 stands_in t s x p (inl h) = t.stays s x p (contains_holds s.faults p h)
 stands_in t s x p (inr b) = t.stands s x p b
 
 -- the faults after a check are those before it and those at tokens where a rule is broken
-pub places : {X : Type 0} {R : Rule X} {B : FaultRule X} {check : Checked → X → Checked} → IsExact X R B check → (s : Checked) (x : X) (p : ℕ) →
+pub places : {X : Type 0} {R : PartRule X} {B : FaultRule X} {check : FoundSoFar → X → FoundSoFar} → IsExact X R B check → (s : FoundSoFar) (x : X) (p : ℕ) →
     Contains (check s x).faults p ↔ (Contains s.faults p ⊎ B s.locals x p)
 places {check = check} t s x p = (
   λ h. contained s.faults p (t.found s x p (contains_holds (check s x).faults p h)),
@@ -36,7 +36,7 @@ places {check = check} t s x p = (
 )
 
 -- the locals after a check are those that the part declares
-pub outcomes : {X : Type 0} {R : Rule X} {B : FaultRule X} {check : Checked → X → Checked} → IsExact X R B check → (s : Checked) (x : X) (after : Locals) →
+pub outcomes : {X : Type 0} {R : PartRule X} {B : FaultRule X} {check : FoundSoFar → X → FoundSoFar} → IsExact X R B check → (s : FoundSoFar) (x : X) (after : Locals) →
     R s.locals x after ↔ ((check s x).locals ≡ after)
 outcomes {R = R} t s x after = (λ r. t.only s x after r, λ e. subst (λ z. R s.locals x z) e (t.leads s x))
 

@@ -9,7 +9,7 @@ use Rattle.go_ast.specs.Tree as tree
 use Rattle.types_expr.specs.declared.types.Basic.TheVariants as basic
 use Rattle.types_expr.specs.declared.types.Builtin.{Builtin}
 use Rattle.types_expr.specs.declared.types.Builtin.TheVariants as builtin
-use Rattle.types_expr.specs.Types.{PlainType, BasicType, Underlying, Plain, PointerTo, SliceOf, Struct, Kind, Typed, Untyped, Nil, Signature, Meaning, Value}
+use Rattle.types_expr.specs.Types.{PlainType, BasicType, Underlying, Plain, PointerTo, SliceOf, Struct, ValueKind, Typed, Untyped, Nil, Signature, Meaning, Value}
 use Rattle.types_expr.specs.Types.{TypeName, Function, BuiltinName, Package, Results, Broken, element_of}
 use Rattle.types_expr.specs.World.{World, Locals, underlying}
 use Rattle.types_expr.specs.Operations.{operate, prefixed, converts, class_of, is_int, element_of_kind}
@@ -18,8 +18,8 @@ use Rattle.types_expr.specs.Judge.{all_whole, unless_faults, wrong_if_whole, bad
 use Rattle.types_expr.specs.Judge.{all_misfits, result_meaning, call_function, convert, convert_one, append, append_first, append_to, len_fits, all_printed}
 use Rattle.types_expr.specs.Judge.{call_builtin, call_of}
 use Rattle.law_typing.specs.Operators.{IsBasic, Operates, Prefixes}
-use Rattle.law_typing.specs.Names.{IsWhole}
-use Rattle.law_typing.specs.Links.{Selects, Indexes, element}
+use Rattle.law_typing.specs.Names.{IsNotBroken}
+use Rattle.law_typing.specs.Links.{SelectsMember, Indexes, element}
 use Rattle.law_typing.specs.Meanings.{HasMeaning}
 use Rattle.law_typing.specs.Faults.{IsNoValue, MeaningOrNone, meant, unmeant, LinksHaveFault, no_member, no_selection, behind_selector, behind_no_selector}
 use Rattle.law_typing.specs.Faults.{IsNoCallee, a_package, a_call}
@@ -54,7 +54,7 @@ status Package = Some Package
 status (Results ts) = Some (Results ts)
 status Broken = None
 
-pub whole_status : (m : Meaning) → IsWhole m → status m ≡ Some m
+pub whole_status : (m : Meaning) → IsNotBroken m → status m ≡ Some m
 whole_status (Value k a) n = refl
 whole_status (TypeName t) n = refl
 whole_status (Function s) n = refl
@@ -63,7 +63,7 @@ whole_status Package n = refl
 whole_status (Results ts) n = refl
 whole_status Broken n = absurd (n refl)
 
-pub operand_status : {w : World} {locals : Locals} {e : ExprTree} (m : Meaning) → (IsWhole m → HasMeaning w locals e m) → MeaningOrNone w locals e (status m)
+pub operand_status : {w : World} {locals : Locals} {e : ExprTree} (m : Meaning) → (IsNotBroken m → HasMeaning w locals e m) → MeaningOrNone w locals e (status m)
 operand_status (Value k a) f = meant (f value_whole)
 operand_status (TypeName t) f = meant (f (λ h. cc))
 operand_status (Function s) f = meant (f function_whole)
@@ -74,7 +74,7 @@ operand_status Broken f = unmeant
 
 -- values
 
-pub as_value_each : (P : ℕ → Type 0) (place : ℕ) (m : Meaning) → (IsWhole m → IsNoValue m → P place) → Each P (as_value place m).faults
+pub as_value_each : (P : ℕ → Type 0) (place : ℕ) (m : Meaning) → (IsNotBroken m → IsNoValue m → P place) → Each P (as_value place m).faults
 unfolding as_value
 as_value_each P place (Value k a) f = tt
 as_value_each P place (TypeName t) f = (f (λ h. cc) (λ k a h. cc), tt)
@@ -86,13 +86,13 @@ as_value_each P place Broken f = tt
 
 -- operators
 
-prefix_chosen : (P : ℕ → Type 0) (w : World) (o : PrefixOp) (p : ℕ) (k : Kind) (r : Option Meaning) → prefixed w o k ≡ r →
+prefix_chosen : (P : ℕ → Type 0) (w : World) (o : PrefixOp) (p : ℕ) (k : ValueKind) (r : Option Meaning) → prefixed w o k ≡ r →
     (((m : Meaning) → Prefixes w o k m → ⊥) → P p) → Each P (means_or_wrong r p).faults
 prefix_chosen P w o p k None e f = (f (λ m h. let c : None ≡ Some m = sym e ∙ prefixes_true w h in cc), tt)
 prefix_chosen P w o p k (Some m) e f = tt
 
 pub prefix_each : (P : ℕ → Type 0) (w : World) (o : PrefixOp) (p place : ℕ) (m : Meaning) →
-    ((k : Kind) (a : Bool) → m ≡ Value k a → ((r : Meaning) → Prefixes w o k r → ⊥) → P p) → Each P (prefix_of w o p (as_value place m).meaning).faults
+    ((k : ValueKind) (a : Bool) → m ≡ Value k a → ((r : Meaning) → Prefixes w o k r → ⊥) → P p) → Each P (prefix_of w o p (as_value place m).meaning).faults
 unfolding prefix_of as_value
 prefix_each P w o p place (Value k a) f = prefix_chosen P w o p k (prefixed w o k) refl (f k a refl)
 prefix_each P w o p place (TypeName t) f = tt
@@ -102,13 +102,13 @@ prefix_each P w o p place Package f = tt
 prefix_each P w o p place (Results ts) f = tt
 prefix_each P w o p place Broken f = tt
 
-operation_chosen : (P : ℕ → Type 0) (w : World) (o : BinaryOp) (start : ℕ) (j k : Kind) (r : Option Kind) → operate w o j k ≡ r →
-    (((l : Kind) → Operates w o j k l → ⊥) → P start) → Each P (value_or_wrong r start).faults
+operation_chosen : (P : ℕ → Type 0) (w : World) (o : BinaryOp) (start : ℕ) (j k : ValueKind) (r : Option ValueKind) → operate w o j k ≡ r →
+    (((l : ValueKind) → Operates w o j k l → ⊥) → P start) → Each P (value_or_wrong r start).faults
 operation_chosen P w o start j k None e f = (f (λ l h. let c : None ≡ Some l = sym e ∙ operates_true w h in cc), tt)
 operation_chosen P w o start j k (Some l) e f = tt
 
 pub operation_each : (P : ℕ → Type 0) (w : World) (o : BinaryOp) (start place : ℕ) (m n : Meaning) →
-    ((j k : Kind) (a b : Bool) → m ≡ Value j a → n ≡ Value k b → ((l : Kind) → Operates w o j k l → ⊥) → P start) →
+    ((j k : ValueKind) (a b : Bool) → m ≡ Value j a → n ≡ Value k b → ((l : ValueKind) → Operates w o j k l → ⊥) → P start) →
     Each P (operation w o start m (as_value place n).meaning).faults
 unfolding operation value_kind as_value
 operation_each P w o start place (Value j a) (Value k b) f = operation_chosen P w o start j k (operate w o j k) refl (f j k a b refl refl)
@@ -128,7 +128,7 @@ operation_each P w o start place Broken n f = tt
 -- selectors
 
 refused_selection : (w : World) (locals : Locals) (place name : ℕ) (m s : Meaning) → (select w locals place name m).meaning ≡ Broken →
-    Selects w locals m name s → ⊥
+    SelectsMember w locals m name s → ⊥
 refused_selection w locals place name m s e h = let g = selects_true w locals place h in g.whole (sym g.meaning ∙ e)
 
 no_names : {A : Type 0} (name : ℕ) → (name ∷ []) ≡ [] → A
@@ -175,13 +175,13 @@ behind_select w locals start place d n p rest m h = elim (whole_or_broken (selec
 
 -- indexes
 
-slice_or_not : (P : ℕ → Type 0) (w : World) (start : ℕ) (s : Kind) (b : Bool) (o : Option PlainType) → (o ≡ None → P start) →
+slice_or_not : (P : ℕ → Type 0) (w : World) (start : ℕ) (s : ValueKind) (b : Bool) (o : Option PlainType) → (o ≡ None → P start) →
     Each P (element_meaning o start).faults
 slice_or_not P w start s b None f = (f refl, tt)
 slice_or_not P w start s b (Some t) f = tt
 
 int_or_not : (P : ℕ → Type 0) (w : World) (start place : ℕ) (m : Meaning) (b : Bool) → (b ≡ false → P place) →
-    ((s : Kind) (x : Bool) → b ≡ true → m ≡ Value s x → element_of_kind w s ≡ None → P start) →
+    ((s : ValueKind) (x : Bool) → b ≡ true → m ≡ Value s x → element_of_kind w s ≡ None → P start) →
     Each P (indexed w start (if b then [] else (place ∷ [])) true m).faults
 unfolding indexed
 int_or_not P w start place m false f g = (f refl, tt)
@@ -197,16 +197,16 @@ nothing_indexed : (P : ℕ → Type 0) (w : World) (start : ℕ) (m : Meaning) �
 unfolding indexed
 nothing_indexed P w start m = tt
 
-not_of_int : (w : World) (k : Kind) → is_int (class_of w k) ≡ false → IsBasic w k basic.Int → ⊥
+not_of_int : (w : World) (k : ValueKind) → is_int (class_of w k) ≡ false → IsBasic w k basic.Int → ⊥
 not_of_int w k e i = true≢false (sym (ap is_int (class_true w i)) ∙ e)
 
-pub no_slice_here : {w : World} {m : Meaning} {k : Kind} {r : Meaning} → Indexes w m k r → (s : Kind) (x : Bool) → m ≡ Value s x →
+pub no_slice_here : {w : World} {m : Meaning} {k : ValueKind} {r : Meaning} → Indexes w m k r → (s : ValueKind) (x : Bool) → m ≡ Value s x →
     element_of_kind w s ≡ None → ⊥
 no_slice_here {w} (element {t} {u} {a} e i) s x same none = let q : Typed t ≡ s = cc in
     let c : Some u ≡ None = sym (ap element_of e) ∙ (ap (element_of_kind w) q ∙ none) in cc
 
-pub index_each : (P : ℕ → Type 0) (w : World) (start place : ℕ) (m i : Meaning) → ((k : Kind) (a : Bool) → i ≡ Value k a → (IsBasic w k basic.Int → ⊥) → P place) →
-    ((s k : Kind) (x a : Bool) → m ≡ Value s x → i ≡ Value k a → IsBasic w k basic.Int → element_of_kind w s ≡ None → P start) →
+pub index_each : (P : ℕ → Type 0) (w : World) (start place : ℕ) (m i : Meaning) → ((k : ValueKind) (a : Bool) → i ≡ Value k a → (IsBasic w k basic.Int → ⊥) → P place) →
+    ((s k : ValueKind) (x a : Bool) → m ≡ Value s x → i ≡ Value k a → IsBasic w k basic.Int → element_of_kind w s ≡ None → P start) →
     Each P (index_of w start place m i).faults
 unfolding index_of bad_index value_kind
 index_each P w start place m (Value k a) f g = int_or_not P w start place m (is_int (class_of w k)) (λ e. f k a refl (not_of_int w k e))
@@ -253,7 +253,7 @@ converts_each : (P : ℕ → Type 0) (start : ℕ) (t : PlainType) (b : Bool) �
 converts_each P start t true f = tt
 converts_each P start t false f = (f refl, tt)
 
-one_each : (P : ℕ → Type 0) (w : World) (start : ℕ) (t : PlainType) (o : Option Kind) →
+one_each : (P : ℕ → Type 0) (w : World) (start : ℕ) (t : PlainType) (o : Option ValueKind) →
     (is_whole o ≡ true → (convert_one w start t o).meaning ≡ Broken → P start) → Each P (convert_one w start t o).faults
 one_each P w start t None f = tt
 one_each P w start t (Some k) f = converts_each P start t (converts w k t) (f refl)
@@ -277,7 +277,7 @@ abbrev pub ElementsMisfit : (ℕ → Type 0) → World → List ListValue → Ty
 ElementsMisfit P w [] = Unit {0}
 ElementsMisfit P w (v ∷ vs) = (t u : PlainType) → v.kind ≡ Some (Typed t) → underlying w t ≡ SliceOf u → Each P (all_misfits w vs u)
 
-element_each : (P : ℕ → Type 0) (w : World) (start : ℕ) (k : Kind) (vs : List ListValue) (u : Underlying) →
+element_each : (P : ℕ → Type 0) (w : World) (start : ℕ) (k : ValueKind) (vs : List ListValue) (u : Underlying) →
     ((x : PlainType) → u ≡ SliceOf x → Each P (all_misfits w vs x)) →
     (((x : PlainType) → u ≡ SliceOf x → ⊥) → all_whole vs ≡ true → (append_to w start k (element_of u) vs).meaning ≡ Broken → P start) →
     Each P (append_to w start k (element_of u) vs).faults
@@ -289,7 +289,7 @@ element_each P w start k vs (Struct s) f g = whole_each P (all_whole vs) start (
 underlying_along : (w : World) (t y : PlainType) {u : PlainType} → Some (Typed t) ≡ Some (Typed y) → underlying w y ≡ SliceOf u → underlying w t ≡ SliceOf u
 underlying_along w t y h e = let same : t ≡ y = cc in ap (underlying w) same ∙ e
 
-first_each : (P : ℕ → Type 0) (w : World) (start : ℕ) (vs : List ListValue) (o : Option Kind) →
+first_each : (P : ℕ → Type 0) (w : World) (start : ℕ) (vs : List ListValue) (o : Option ValueKind) →
     ((t u : PlainType) → o ≡ Some (Typed t) → underlying w t ≡ SliceOf u → Each P (all_misfits w vs u)) →
     (((t u : PlainType) → o ≡ Some (Typed t) → underlying w t ≡ SliceOf u → ⊥) → is_whole o ≡ true → all_whole vs ≡ true →
     (append_first w start o vs).meaning ≡ Broken → P start) → Each P (append_first w start o vs).faults
@@ -318,7 +318,7 @@ builtin_each P w start builtin.Println vs f g = fine_each P (all_printed w vs) (
 pub call_each : (P : ℕ → Type 0) (w : World) (start place : ℕ) (vs : List ListValue) (m : Meaning) → (IsNoCallee m → P place) →
     ((s : Signature) → m ≡ Function s → length vs ≡ length s.parameters → Each P (misfits w vs s.parameters)) →
     (m ≡ BuiltinName builtin.Append → ElementsMisfit P w vs) →
-    (IsWhole m → IsWrong w vs m → all_whole vs ≡ true → (call_of w start place vs m).meaning ≡ Broken → P start) → Each P (call_of w start place vs m).faults
+    (IsNotBroken m → IsWrong w vs m → all_whole vs ≡ true → (call_of w start place vs m).meaning ≡ Broken → P start) → Each P (call_of w start place vs m).faults
 unfolding call_of call_function
 call_each P w start place vs (Function s) f g h i =
     count_each P w start s vs (length vs == length s.parameters) (λ e. g s refl (eqb-true (length vs) (length s.parameters) e))

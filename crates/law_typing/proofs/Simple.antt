@@ -7,11 +7,11 @@ use Rattle.go_ast.specs.Tree.{Item, ExprTree, SimpleTree}
 use Rattle.go_ast.specs.Tree as tree
 use Rattle.types_expr.specs.declared.types.Basic.TheVariants as basic
 use Rattle.types_expr.specs.Places.{place_of, first_token}
-use Rattle.types_expr.specs.Types.{Kind, Typed, Untyped, Nil, Meaning, Value}
+use Rattle.types_expr.specs.Types.{ValueKind, Typed, Untyped, Nil, Meaning, Value}
 use Rattle.types_expr.specs.World.{World, Locals}
 use Rattle.types_expr.specs.Operations.{operate, class_of, is_int, is_bool}
 use Rattle.types_expr.specs.Judge.{JudgedList, ListValue, judge, judge_value, value_kind}
-use Rattle.types_stmt.specs.Checked.{Checked}
+use Rattle.types_stmt.specs.Checked.{FoundSoFar}
 use Rattle.types_stmt.specs.Sides.{rhs, Target, Lefts, judge_operand, assigned, defined, given_faults, defined_names, first_of_exprs, with_inferred}
 use Rattle.types_stmt.specs.Simple.{check_simple, check_expr_statement, check_step, check_update, check_assign, check_define, check_condition, condition_faults}
 use Rattle.types_stmt.specs.Simple.{step_faults, update_faults, fault_if_none, statement_faults, is_statement, binary_of, with_given}
@@ -42,15 +42,15 @@ test_silent false place h = no_fault h
 
 -- conditions
 
-bool_silent : (w : World) (place : ℕ) {o : Option Kind} {k : Kind} → o ≡ Some k → IsBasic w k basic.Bool → condition_faults w place o ≡ []
+bool_silent : (w : World) (place : ℕ) {o : Option ValueKind} {k : ValueKind} → o ≡ Some k → IsBasic w k basic.Bool → condition_faults w place o ≡ []
 unfolding condition_faults
 bool_silent w place e i = ap (condition_faults w place) e ∙ ap (λ c. if is_bool c then [] else (place ∷ [])) (class_true w i)
 
-silent_bool : (w : World) (place : ℕ) {o : Option Kind} {k : Kind} → o ≡ Some k → condition_faults w place o ≡ [] → IsBasic w k basic.Bool
+silent_bool : (w : World) (place : ℕ) {o : Option ValueKind} {k : ValueKind} → o ≡ Some k → condition_faults w place o ≡ [] → IsBasic w k basic.Bool
 unfolding condition_faults
 silent_bool w place {k = k} e h = is_of_bool w k (test_silent (is_bool (class_of w k)) place (ap (condition_faults w place) (sym e) ∙ h))
 
-pub condition_true : (w : World) (s : Checked) (e : ExprTree) (after : Locals) → s.faults ≡ [] → ConditionIsTyped w s.locals e after →
+pub condition_true : (w : World) (s : FoundSoFar) (e : ExprTree) (after : Locals) → s.faults ≡ [] → ConditionIsTyped w s.locals e after →
     IsAt (check_condition w s e) after
 unfolding check_condition
 condition_true w s e after h (a_condition c i) = let a = value_true w s.locals e c in
@@ -68,7 +68,7 @@ condition_parts w ls e h = elim (value_settled w ls e (empty_first (judge_value 
       | inr u ↦ inr u
     ]
 
-pub condition_settled : (w : World) (s : Checked) (e : ExprTree) → (check_condition w s e).faults ≡ [] →
+pub condition_settled : (w : World) (s : FoundSoFar) (e : ExprTree) → (check_condition w s e).faults ≡ [] →
     IsSettled (ConditionIsTyped w) (UsesBroken w) s e (check_condition w s e)
 unfolding check_condition
 condition_settled w s e h = let f = (judge_value w s.locals e).faults ++ condition_faults w (place_of e) (value_kind (judge_value w s.locals e).meaning) in
@@ -76,7 +76,7 @@ condition_settled w s e h = let f = (judge_value w s.locals e).faults ++ conditi
 
 -- calls
 
-alone_true : (w : World) (s : Checked) {e : ExprTree} {m : Meaning} → s.faults ≡ [] → HasMeaning w s.locals e m → is_statement w s.locals e ≡ true →
+alone_true : (w : World) (s : FoundSoFar) {e : ExprTree} {m : Meaning} → s.faults ≡ [] → HasMeaning w s.locals e m → is_statement w s.locals e ≡ true →
     IsAt (check_expr_statement w s e) s.locals
 unfolding check_expr_statement
 alone_true w s {e} h v t = let a = sound w s.locals v in
@@ -98,7 +98,7 @@ alone_parts w ls e h = elim (settle w ls e (empty_first (judge w ls e).faults (s
   | inr u ↦ inr (in_call u)
 ]
 
-alone_settled : (w : World) (s : Checked) (e : ExprTree) → (check_expr_statement w s e).faults ≡ [] →
+alone_settled : (w : World) (s : FoundSoFar) (e : ExprTree) → (check_expr_statement w s e).faults ≡ [] →
     IsSettled (SimpleIsTyped w) (SimpleIsExcused w) s (tree.Alone e) (check_expr_statement w s e)
 unfolding check_expr_statement
 alone_settled w s e h = let f = (judge w s.locals e).faults ++ statement_faults (place_of e) (is_statement w s.locals e) (judge w s.locals e).meaning in
@@ -106,15 +106,15 @@ alone_settled w s e h = let f = (judge w s.locals e).faults ++ statement_faults 
 
 -- `++` and `--`
 
-int_silent : (w : World) (place : ℕ) {o : Option Kind} {k : Kind} → o ≡ Some k → IsBasic w k basic.Int → step_faults w place o ≡ []
+int_silent : (w : World) (place : ℕ) {o : Option ValueKind} {k : ValueKind} → o ≡ Some k → IsBasic w k basic.Int → step_faults w place o ≡ []
 unfolding step_faults
 int_silent w place e i = ap (step_faults w place) e ∙ ap (λ c. if is_int c then [] else (place ∷ [])) (class_true w i)
 
-silent_int : (w : World) (place : ℕ) {o : Option Kind} {k : Kind} → o ≡ Some k → step_faults w place o ≡ [] → IsBasic w k basic.Int
+silent_int : (w : World) (place : ℕ) {o : Option ValueKind} {k : ValueKind} → o ≡ Some k → step_faults w place o ≡ [] → IsBasic w k basic.Int
 unfolding step_faults
 silent_int w place {k = k} e h = is_of_int w k (test_silent (is_int (class_of w k)) place (ap (step_faults w place) (sym e) ∙ h))
 
-step_true : (w : World) (s : Checked) {e : ExprTree} {k : Kind} → s.faults ≡ [] → HasMeaning w s.locals e (Value k true) → IsBasic w k basic.Int →
+step_true : (w : World) (s : FoundSoFar) {e : ExprTree} {k : ValueKind} → s.faults ≡ [] → HasMeaning w s.locals e (Value k true) → IsBasic w k basic.Int →
     IsAt (check_step w s e) s.locals
 unfolding check_step
 step_true w s {e} h v i = let a = operand_true w s.locals e v in
@@ -133,7 +133,7 @@ step_parts w ls e o p h = elim (operand_settled w ls e (empty_first (judge_opera
       | inr u ↦ inr (in_step u)
     ]
 
-step_settled : (w : World) (s : Checked) (e : ExprTree) (o : StepOp) (p : ℕ) → (check_step w s e).faults ≡ [] →
+step_settled : (w : World) (s : FoundSoFar) (e : ExprTree) (o : StepOp) (p : ℕ) → (check_step w s e).faults ≡ [] →
     IsSettled (SimpleIsTyped w) (SimpleIsExcused w) s (tree.Step e o p) (check_step w s e)
 unfolding check_step
 step_settled w s e o p h = let f = (judge_operand w s.locals e).faults ++ step_faults w (place_of e) (value_kind (judge_operand w s.locals e).meaning) in
@@ -141,24 +141,24 @@ step_settled w s e o p h = let f = (judge_operand w s.locals e).faults ++ step_f
 
 -- `x op= y`
 
-update_silent : (w : World) (start : ℕ) (b : BinaryOp) {x y : Option Kind} {j k l : Kind} → x ≡ Some j → y ≡ Some k → Operates w b j k l →
+update_silent : (w : World) (start : ℕ) (b : BinaryOp) {x y : Option ValueKind} {j k l : ValueKind} → x ≡ Some j → y ≡ Some k → Operates w b j k l →
     update_faults w start b x y ≡ []
 unfolding update_faults
 update_silent w start b {x} {y} {j} e f o = ap (λ z. update_faults w start b z y) e ∙ (ap (λ z. update_faults w start b (Some j) z) f
     ∙ ap (λ z. fault_if_none z start) (operates_true w o))
 
-one_or_fault : (start : ℕ) (o : Option Kind) → fault_if_none o start ≡ [] → (l : Kind) × (o ≡ Some l)
+one_or_fault : (start : ℕ) (o : Option ValueKind) → fault_if_none o start ≡ [] → (l : ValueKind) × (o ≡ Some l)
 one_or_fault start None h = no_fault h
 one_or_fault start (Some l) h = (l, refl)
 
-silent_update : (w : World) (start : ℕ) (b : BinaryOp) (x y : Option Kind) {j k : Kind} → x ≡ Some j → y ≡ Some k → update_faults w start b x y ≡ [] →
-    (l : Kind) × Operates w b j k l
+silent_update : (w : World) (start : ℕ) (b : BinaryOp) (x y : Option ValueKind) {j k : ValueKind} → x ≡ Some j → y ≡ Some k → update_faults w start b x y ≡ [] →
+    (l : ValueKind) × Operates w b j k l
 unfolding update_faults
 silent_update w start b x y {j} {k} e f h = let q = one_or_fault start (operate w b j k) (ap (λ z. update_faults w start b (Some j) z) (sym f)
     ∙ (ap (λ z. update_faults w start b z y) (sym e) ∙ h)) in
     (q.0, true_operates w b j k q.0 q.1)
 
-update_true : (w : World) (s : Checked) {x y : ExprTree} {b : BinaryOp} {j k l : Kind} {a : Bool} → s.faults ≡ [] →
+update_true : (w : World) (s : FoundSoFar) {x y : ExprTree} {b : BinaryOp} {j k l : ValueKind} {a : Bool} → s.faults ≡ [] →
     HasMeaning w s.locals x (Value j true) → HasMeaning w s.locals y (Value k a) → Operates w b j k l →
     IsAt (check_update w s b x y) s.locals
 unfolding check_update
@@ -172,7 +172,7 @@ update_true w s {x} {y} {b} h v u o = let p = operand_true w s.locals x v in let
 abbrev IsSimpleSettled : World → Locals → SimpleTree → Locals → Type 0
 IsSimpleSettled w ls s after = SimpleIsTyped w ls s after ⊎ SimpleIsExcused w ls s
 
-typed_update : (w : World) (ls : Locals) (x y : ExprTree) (o : UpdateOp) (p : ℕ) (j k l : Kind) (a : Bool) → HasMeaning w ls x (Value j true) →
+typed_update : (w : World) (ls : Locals) (x y : ExprTree) (o : UpdateOp) (p : ℕ) (j k l : ValueKind) (a : Bool) → HasMeaning w ls x (Value j true) →
     HasMeaning w ls y (Value k a) → Operates w (binary_of o) j k l →
     IsSimpleSettled w ls (tree.Update x o p y) ls
 typed_update w ls x y o p (Typed t) k l a v u q = inl (an_update (is_update o) v u q (update_fits (is_update o) q))
@@ -196,7 +196,7 @@ update_parts w ls x y o p h = let f = update_faults w (first_token x) (binary_of
       | inr e ↦ inr (in_updated e)
     ]
 
-update_settled : (w : World) (s : Checked) (x y : ExprTree) (o : UpdateOp) (p : ℕ) → (check_update w s (binary_of o) x y).faults ≡ [] →
+update_settled : (w : World) (s : FoundSoFar) (x y : ExprTree) (o : UpdateOp) (p : ℕ) → (check_update w s (binary_of o) x y).faults ≡ [] →
     IsSettled (SimpleIsTyped w) (SimpleIsExcused w) s (tree.Update x o p y) (check_update w s (binary_of o) x y)
 unfolding check_update
 update_settled w s x y o p h = let f = (judge_operand w s.locals x).faults ++ ((judge_value w s.locals y).faults
@@ -205,7 +205,7 @@ update_settled w s x y o p h = let f = (judge_operand w s.locals x).faults ++ ((
 
 -- values given to targets
 
-pub giving_at : (w : World) (s : Checked) (place : ℕ) (locals : Locals) (l : Lefts) (r : JudgedList) {after : Locals} {ks : List Kind} {ts : List Taker} →
+pub giving_at : (w : World) (s : FoundSoFar) (place : ℕ) (locals : Locals) (l : Lefts) (r : JudgedList) {after : Locals} {ks : List ValueKind} {ts : List Taker} →
     s.faults ≡ [] → AreLefts l ts → AreGiven r ks → TakenInTurn w ks ts →
     locals ≡ after → IsAt (with_given w s place locals l r) after
 giving_at w s place locals l r {ts = ts} h a g t e = reached s (l.faults ++ (r.faults ++ given_faults w place r.values l.targets)) (l.uses ++ r.uses) h
@@ -213,13 +213,13 @@ giving_at w s place locals l r {ts = ts} h a g t e = reached s (l.faults ++ (r.f
     (ap (given_faults w place r.values) a.targets ∙ given_silent w place r.values g.kinds t))) e
 
 -- values given to targets without a fault
-pub record IsGiving (w : World) (s : Checked) (place : ℕ) (l : Lefts) (r : JudgedList) : Type 0 where
+pub record IsGiving (w : World) (s : FoundSoFar) (place : ℕ) (l : Lefts) (r : JudgedList) : Type 0 where
   pub before : s.faults ≡ []
   pub lefts : l.faults ≡ []
   pub rhs : r.faults ≡ []
   pub given : given_faults w place r.values l.targets ≡ []
 
-pub giving_parts : (w : World) (s : Checked) (place : ℕ) (locals : Locals) (l : Lefts) (r : JudgedList) → (with_given w s place locals l r).faults ≡ [] →
+pub giving_parts : (w : World) (s : FoundSoFar) (place : ℕ) (locals : Locals) (l : Lefts) (r : JudgedList) → (with_given w s place locals l r).faults ≡ [] →
     IsGiving w s place l r
 giving_parts w s place locals l r h = let f = r.faults ++ given_faults w place r.values l.targets in
     let q = empty_second s.faults (l.faults ++ f) h in
@@ -231,11 +231,11 @@ giving_parts w s place locals l r h = let f = r.faults ++ given_faults w place r
       given = empty_second r.faults (given_faults w place r.values l.targets) g;
     }
 
-pub taken_found : (w : World) (place : ℕ) (vs : List ListValue) (ks : List Kind) {targets : List Target} (ts : List Taker) → AreOf vs ks →
+pub taken_found : (w : World) (place : ℕ) (vs : List ListValue) (ks : List ValueKind) {targets : List Target} (ts : List Taker) → AreOf vs ks →
     targets ≡ map aim ts → given_faults w place vs targets ≡ [] → TakenInTurn w ks ts
 taken_found w place vs ks ts a e h = silent_given w place vs ks ts a (ap (given_faults w place vs) (sym e) ∙ h)
 
-assign_settled : (w : World) (s : Checked) (xs : List (Item ExprTree)) (p : ℕ) (ys : List (Item ExprTree)) → (check_assign w s xs ys).faults ≡ [] →
+assign_settled : (w : World) (s : FoundSoFar) (xs : List (Item ExprTree)) (p : ℕ) (ys : List (Item ExprTree)) → (check_assign w s xs ys).faults ≡ [] →
     IsSettled (SimpleIsTyped w) (SimpleIsExcused w) s (tree.Assign xs p ys) (check_assign w s xs ys)
 unfolding check_assign
 assign_settled w s xs p ys h = let g = giving_parts w s (first_of_exprs xs) s.locals (assigned w s.locals xs) (rhs w s.locals ys) h in (
@@ -250,7 +250,7 @@ assign_settled w s xs p ys h = let g = giving_parts w s (first_of_exprs xs) s.lo
   ],
 )
 
-define_settled : (w : World) (s : Checked) (xs : List (Item ExprTree)) (p : ℕ) (ys : List (Item ExprTree)) → (check_define w s xs ys).faults ≡ [] →
+define_settled : (w : World) (s : FoundSoFar) (xs : List (Item ExprTree)) (p : ℕ) (ys : List (Item ExprTree)) → (check_define w s xs ys).faults ≡ [] →
     IsSettled (SimpleIsTyped w) (SimpleIsExcused w) s (tree.Define xs p ys) (check_define w s xs ys)
 unfolding check_define
 define_settled w s xs p ys h = let locals = with_inferred s.locals (defined_names w xs) (rhs w s.locals ys).values in
@@ -269,7 +269,7 @@ define_settled w s xs p ys h = let locals = with_inferred s.locals (defined_name
 
 -- simple statements
 
-pub simple_true : (w : World) (s : Checked) (a : SimpleTree) (after : Locals) → s.faults ≡ [] → SimpleIsTyped w s.locals a after →
+pub simple_true : (w : World) (s : FoundSoFar) (a : SimpleTree) (after : Locals) → s.faults ≡ [] → SimpleIsTyped w s.locals a after →
     IsAt (check_simple w s a) after
 unfolding check_simple check_assign check_define
 simple_true w s a after h (a_call v c u m) = alone_true w s h v (statement_true w s.locals c u m)
@@ -283,7 +283,7 @@ simple_true w s a after h (a_definition {xs = xs} {ys = ys} l g t d) = let n = d
     (rhs w s.locals ys) h n.lefts r t
     (ap (λ z. with_inferred s.locals z (rhs w s.locals ys).values) n.names ∙ declare_true (rhs w s.locals ys).values r.kinds d)
 
-pub simple_settled : (w : World) (s : Checked) (a : SimpleTree) → (check_simple w s a).faults ≡ [] →
+pub simple_settled : (w : World) (s : FoundSoFar) (a : SimpleTree) → (check_simple w s a).faults ≡ [] →
     IsSettled (SimpleIsTyped w) (SimpleIsExcused w) s a (check_simple w s a)
 unfolding check_simple
 simple_settled w s (tree.Alone e) h = alone_settled w s e h

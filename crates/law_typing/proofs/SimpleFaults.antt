@@ -7,15 +7,15 @@ use Rattle.go_ast.specs.Tree.{Item, ExprTree, SimpleTree}
 use Rattle.go_ast.specs.Tree as tree
 use Rattle.types_expr.specs.declared.types.Basic.TheVariants as basic
 use Rattle.types_expr.specs.Places.{place_of, first_token}
-use Rattle.types_expr.specs.Types.{Kind, Meaning, Value, TypeName, Function, BuiltinName, Package, Results, Broken}
+use Rattle.types_expr.specs.Types.{ValueKind, Meaning, Value, TypeName, Function, BuiltinName, Package, Results, Broken}
 use Rattle.types_expr.specs.World.{World, Locals}
 use Rattle.types_expr.specs.Operations.{operate, class_of, is_int, is_bool}
 use Rattle.types_expr.specs.Judge.{ListValue, judge, judge_value, value_kind}
-use Rattle.types_stmt.specs.Checked.{Checked}
+use Rattle.types_stmt.specs.Checked.{FoundSoFar}
 use Rattle.types_stmt.specs.Sides.{rhs, Target, Lefts, judge_operand, assigned, defined, given_faults, defined_names, first_of_exprs, with_inferred}
 use Rattle.types_stmt.specs.Simple.{check_simple, check_expr_statement, check_step, check_update, check_assign, check_define, check_condition, condition_faults}
 use Rattle.types_stmt.specs.Simple.{step_faults, update_faults, fault_if_none, statement_faults, is_statement, binary_of}
-use Rattle.law_typing.specs.Names.{IsWhole}
+use Rattle.law_typing.specs.Names.{IsNotBroken}
 use Rattle.law_typing.specs.Operators.{IsBasic, Operates}
 use Rattle.law_typing.specs.Meanings.{HasMeaning}
 use Rattle.law_typing.proofs.Tests.{none_is_some}
@@ -43,8 +43,8 @@ use Rattle.law_typing.proofs.SequenceFaults.{IsExact, added_found, added_stands}
 
 -- conditions
 
-bool_told : (w : World) (place : ℕ) (o : Option Kind) {C : Type 0} → ((k : Kind) → o ≡ Some k → (IsBasic w k basic.Bool → ⊥) → C) → (C →
-    (k : Kind) × (o ≡ Some k) ×
+bool_told : (w : World) (place : ℕ) (o : Option ValueKind) {C : Type 0} → ((k : ValueKind) → o ≡ Some k → (IsBasic w k basic.Bool → ⊥) → C) → (C →
+    (k : ValueKind) × (o ≡ Some k) ×
     (IsBasic w k basic.Bool → ⊥)) → AreExactly (condition_faults w place o) (At place C)
 unfolding condition_faults
 bool_told w place None f g = nothing_at place (λ c. let q = g c in none_is_some q.0 q.1)
@@ -52,7 +52,7 @@ bool_told w place (Some k) f g = test_told (is_bool (class_of w k)) place (λ t 
     (is_of_bool w k t))) (λ t. f k refl (λ i. true≢false (sym (ap is_bool (class_true w i)) ∙ t)))
 
 record IsNoBool (w : World) (locals : Locals) (e : ExprTree) : Type 0 where
-  kind : Kind
+  kind : ValueKind
   addressable : Bool
   means : HasMeaning w locals e (Value kind addressable)
   is_none : IsBasic w kind basic.Bool → ⊥
@@ -76,21 +76,21 @@ condition_places w locals e = both_told (judge_value w locals e).faults (conditi
 pub data Keeps : Locals → ExprTree → Locals → Type 0 where
   keeps : {locals : Locals} {e : ExprTree} → Keeps locals e locals
 
-condition_leads : (w : World) (s : Checked) (e : ExprTree) → Keeps s.locals e (check_condition w s e).locals
+condition_leads : (w : World) (s : FoundSoFar) (e : ExprTree) → Keeps s.locals e (check_condition w s e).locals
 unfolding check_condition
 condition_leads w s e = keeps
 
-condition_only : (w : World) (s : Checked) (e : ExprTree) (after : Locals) → Keeps s.locals e after → (check_condition w s e).locals ≡ after
+condition_only : (w : World) (s : FoundSoFar) (e : ExprTree) (after : Locals) → Keeps s.locals e after → (check_condition w s e).locals ≡ after
 unfolding check_condition
 condition_only w s e after keeps = refl
 
-condition_faults_are : (w : World) (s : Checked) (e : ExprTree) → (check_condition w s e).faults ≡ s.faults ++ condition_added w s.locals e
+condition_faults_are : (w : World) (s : FoundSoFar) (e : ExprTree) → (check_condition w s e).faults ≡ s.faults ++ condition_added w s.locals e
 unfolding check_condition
 condition_faults_are w s e = refl
 
-pub told_of : (X : Type 0) (R : (Locals → X → Locals → Type 0)) (B : (Locals → X → ℕ → Type 0)) (check : Checked → X → Checked) (added : Locals → X → List ℕ) →
-    ((s : Checked) (x : X) → R s.locals x (check s x).locals) → ((s : Checked) (x : X) (after : Locals) → R s.locals x after → (check s x).locals ≡ after) →
-    ((s : Checked) (x : X) → (check s x).faults ≡ s.faults ++ added s.locals x) → ((locals : Locals) (x : X) → AreExactly (added locals x) (B locals x)) →
+pub told_of : (X : Type 0) (R : (Locals → X → Locals → Type 0)) (B : (Locals → X → ℕ → Type 0)) (check : FoundSoFar → X → FoundSoFar) (added : Locals → X → List ℕ) →
+    ((s : FoundSoFar) (x : X) → R s.locals x (check s x).locals) → ((s : FoundSoFar) (x : X) (after : Locals) → R s.locals x after → (check s x).locals ≡ after) →
+    ((s : FoundSoFar) (x : X) → (check s x).faults ≡ s.faults ++ added s.locals x) → ((locals : Locals) (x : X) → AreExactly (added locals x) (B locals x)) →
     IsExact X R B check
 told_of X R B check added leads only faults t = record {
   leads = leads;
@@ -106,7 +106,7 @@ condition_told w = told_of ExprTree Keeps (ConditionBreaksAt w) (check_condition
 
 -- calls
 
-stands_told : (place : ℕ) (b : Bool) (m : Meaning) {C : Type 0} → (IsWhole m → b ≡ false → C) → (C → IsWhole m × (b ≡ false)) →
+stands_told : (place : ℕ) (b : Bool) (m : Meaning) {C : Type 0} → (IsNotBroken m → b ≡ false → C) → (C → IsNotBroken m × (b ≡ false)) →
     AreExactly (statement_faults place b m) (At place C)
 unfolding statement_faults
 stands_told place true m f g = nothing_at place (λ c. let q = g c in true≢false q.1)
@@ -148,7 +148,7 @@ alone_places w locals e = both_told (judge w locals e).faults (statement_faults 
 
 -- `++` and `--`
 
-int_told : (w : World) (place : ℕ) (o : Option Kind) {C : Type 0} → ((k : Kind) → o ≡ Some k → (IsBasic w k basic.Int → ⊥) → C) → (C → (k : Kind) × (o ≡ Some k) ×
+int_told : (w : World) (place : ℕ) (o : Option ValueKind) {C : Type 0} → ((k : ValueKind) → o ≡ Some k → (IsBasic w k basic.Int → ⊥) → C) → (C → (k : ValueKind) × (o ≡ Some k) ×
     (IsBasic w k basic.Int → ⊥)) → AreExactly (step_faults w place o) (At place C)
 unfolding step_faults
 int_told w place None f g = nothing_at place (λ c. let q = g c in none_is_some q.0 q.1)
@@ -156,7 +156,7 @@ int_told w place (Some k) f g = test_told (is_int (class_of w k)) place (λ t c.
     (is_of_int w k t))) (λ t. f k refl (λ i. true≢false (sym (ap is_int (class_true w i)) ∙ t)))
 
 record IsNoInt (w : World) (locals : Locals) (e : ExprTree) : Type 0 where
-  kind : Kind
+  kind : ValueKind
   means : HasMeaning w locals e (Value kind true)
   is_none : IsBasic w kind basic.Int → ⊥
 
@@ -175,16 +175,16 @@ step_places w locals e o q = both_told (judge_operand w locals e).faults (step_f
 
 -- `x op= y`
 
-abbrev CannotOperate : World → BinaryOp → Option Kind → Option Kind → Type 0
-CannotOperate w b x y = (j : Kind) × (k : Kind) × (x ≡ Some j) × (y ≡ Some k) × ((l : Kind) → Operates w b j k l → ⊥)
+abbrev CannotOperate : World → BinaryOp → Option ValueKind → Option ValueKind → Type 0
+CannotOperate w b x y = (j : ValueKind) × (k : ValueKind) × (x ≡ Some j) × (y ≡ Some k) × ((l : ValueKind) → Operates w b j k l → ⊥)
 
-operated : (w : World) (b : BinaryOp) (start : ℕ) (j k : Kind) (r : Option Kind) → operate w b j k ≡ r → {C : Type 0} → (((l : Kind) → Operates w b j k l →
+operated : (w : World) (b : BinaryOp) (start : ℕ) (j k : ValueKind) (r : Option ValueKind) → operate w b j k ≡ r → {C : Type 0} → (((l : ValueKind) → Operates w b j k l →
     ⊥) → C) →
-    (C → (l : Kind) → Operates w b j k l → ⊥) → AreExactly (fault_if_none r start) (At start C)
+    (C → (l : ValueKind) → Operates w b j k l → ⊥) → AreExactly (fault_if_none r start) (At start C)
 operated w b start j k None e f g = fault_at start (f (λ l o. none_is_some l (sym e ∙ operates_true w o)))
 operated w b start j k (Some l) e f g = nothing_at start (λ c. g c l (true_operates w b j k l e))
 
-update_told : (w : World) (b : BinaryOp) (start : ℕ) (x y : Option Kind) {C : Type 0} → (CannotOperate w b x y → C) → (C → CannotOperate w b x y) →
+update_told : (w : World) (b : BinaryOp) (start : ℕ) (x y : Option ValueKind) {C : Type 0} → (CannotOperate w b x y → C) → (C → CannotOperate w b x y) →
     AreExactly (update_faults w start b x y) (At start C)
 unfolding update_faults
 update_told w b start None y f g = nothing_at start (λ c. let q = g c in none_is_some q.0 q.2)
@@ -193,12 +193,12 @@ update_told w b start (Some j) (Some k) f g = operated w b start j k (operate w 
     (λ z. Operates w b z q.1 l) (some_same q.2) (subst (λ z. Operates w b j z l) (some_same q.3) o)))
 
 record IsNoUpdate (w : World) (locals : Locals) (b : BinaryOp) (x y : ExprTree) : Type 0 where
-  left : Kind
-  right : Kind
+  left : ValueKind
+  right : ValueKind
   addressable : Bool
   left_means : HasMeaning w locals x (Value left true)
   right_means : HasMeaning w locals y (Value right addressable)
-  is_none : (l : Kind) → Operates w b left right l → ⊥
+  is_none : (l : ValueKind) → Operates w b left right l → ⊥
 
 update_cases : {w : World} {locals : Locals} {x y : ExprTree} {o : UpdateOp} {q p : ℕ} → SimpleBreaksAt w locals (tree.Update x o q y) p →
     OperandBreaksAt w locals x p ⊎ (ValueBreaksAt w locals y p ⊎ At (first_token x) (IsNoUpdate w locals (binary_of o) x y) p)
@@ -328,7 +328,7 @@ simple_places w locals (tree.Update x o q y) = update_places w locals x y o q
 simple_places w locals (tree.Assign xs q ys) = assign_places w locals xs q ys
 simple_places w locals (tree.Define xs q ys) = define_places w locals xs q ys
 
-simple_faults_are : (w : World) (s : Checked) (a : SimpleTree) → (check_simple w s a).faults ≡ s.faults ++ simple_added w s.locals a
+simple_faults_are : (w : World) (s : FoundSoFar) (a : SimpleTree) → (check_simple w s a).faults ≡ s.faults ++ simple_added w s.locals a
 unfolding check_simple check_expr_statement check_step check_update check_assign check_define
 simple_faults_are w s (tree.Alone e) = refl
 simple_faults_are w s (tree.Step e o q) = refl
@@ -336,7 +336,7 @@ simple_faults_are w s (tree.Update x o q y) = refl
 simple_faults_are w s (tree.Assign xs q ys) = refl
 simple_faults_are w s (tree.Define xs q ys) = refl
 
-simple_leads : (w : World) (s : Checked) (a : SimpleTree) → SimpleDeclares w s.locals a (check_simple w s a).locals
+simple_leads : (w : World) (s : FoundSoFar) (a : SimpleTree) → SimpleDeclares w s.locals a (check_simple w s a).locals
 unfolding check_simple check_expr_statement check_step check_update check_assign check_define
 simple_leads w s (tree.Alone e) = behind_call
 simple_leads w s (tree.Step e o q) = behind_step
@@ -345,7 +345,7 @@ simple_leads w s (tree.Assign xs q ys) = behind_assignment
 simple_leads w s (tree.Define xs q ys) = behind_definition (names_found w s.locals xs) (sides_found w s.locals ys) (taken_found s.locals (defined_names w xs)
     (rhs w s.locals ys).values)
 
-simple_only : (w : World) (s : Checked) (a : SimpleTree) (after : Locals) → SimpleDeclares w s.locals a after → (check_simple w s a).locals ≡ after
+simple_only : (w : World) (s : FoundSoFar) (a : SimpleTree) (after : Locals) → SimpleDeclares w s.locals a after → (check_simple w s a).locals ≡ after
 unfolding check_simple check_expr_statement check_step check_update check_assign check_define
 simple_only w s (tree.Alone e) after behind_call = refl
 simple_only w s (tree.Step e o q) after behind_step = refl

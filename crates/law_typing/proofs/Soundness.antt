@@ -5,13 +5,13 @@ use Rattle.go_ast.specs.declared.syntax.PrefixOp.{PrefixOp}
 use Rattle.go_ast.specs.Tree.{ExprTree, LinkTrees, OperandTrees, ArgumentTrees, LiteralTree, ElementTrees}
 use Rattle.types_expr.specs.declared.symbol.Symbol.{Symbol}
 use Rattle.types_expr.specs.Places.{first_token, first_of_type, place_of}
-use Rattle.types_expr.specs.Types.{PlainType, SliceOf, Struct, Kind, Typed, Meaning, Value, element_of}
+use Rattle.types_expr.specs.Types.{PlainType, SliceOf, Struct, ValueKind, Typed, Meaning, Value, element_of}
 use Rattle.types_expr.specs.World.{World, Locals, underlying}
 use Rattle.types_expr.specs.Judge.{Judged, JudgedList, JudgedElements, Seen, means, value_or_wrong, followed, value_at, value_kind, select, index_rule}
 use Rattle.types_expr.specs.Judge.{index_of, call_rule, call_of, operation, prefix_of, address_of, judge, judge_links, judge_operands, judge_arguments}
-use Rattle.types_expr.specs.Judge.{judge_literal, judge_elements, judge_key, seen_with, with_element, no_key, none_seen, misfit_if, Key, FieldKey}
+use Rattle.types_expr.specs.Judge.{judge_literal, judge_elements, judge_key, seen_with, with_element, no_key, none_seen, misfit_if, KeyMeaning, FieldKey}
 use Rattle.law_typing.specs.Operators.{Operates, Prefixes}
-use Rattle.law_typing.specs.Links.{Indexes, Calls}
+use Rattle.law_typing.specs.Links.{Indexes, CallGives}
 use Rattle.law_typing.specs.Links.{element as slice_element}
 use Rattle.law_typing.specs.Meanings.{HasMeaning, number, text, name, composite, paren, prefix, address, chain, binary, LinksMean, no_link, selector, index}
 use Rattle.law_typing.specs.Meanings.{call, OperandsMean, no_operand, operand, AreValues, no_argument, argument, IsLiteralOf, struct_literal, slice_literal}
@@ -25,27 +25,27 @@ use Rattle.law_typing.proofs.Arguments.{AreOf, fit_silent}
 use Rattle.law_typing.proofs.Calling.{calls_true}
 use Rattle.law_typing.proofs.Elements.{is_taken, new_free, field_key, IsWholeElement, element_whole, literal_agrees, struct_ends, slice_ends}
 
-prefix_agrees : (w : World) {o : PrefixOp} {k : Kind} {m : Meaning} (p : ℕ) (a : Bool) → Prefixes w o k m → IsJudgedAs (prefix_of w o p (Value k a)) m
+prefix_agrees : (w : World) {o : PrefixOp} {k : ValueKind} {m : Meaning} (p : ℕ) (a : Bool) → Prefixes w o k m → IsJudgedAs (prefix_of w o p (Value k a)) m
 unfolding prefix_of
 prefix_agrees w p a q = chosen_agrees p (prefixes_true w q) (prefix_whole q)
 
-operation_agrees : (w : World) {o : BinaryOp} {j k l : Kind} (start : ℕ) (a b : Bool) → Operates w o j k l →
+operation_agrees : (w : World) {o : BinaryOp} {j k l : ValueKind} (start : ℕ) (a b : Bool) → Operates w o j k l →
     IsJudgedAs (operation w o start (Value j a) (Value k b)) (Value l false)
 unfolding operation value_kind
 operation_agrees w start a b q = agrees_as (ap (λ z. value_or_wrong z start) (operates_true w q)) (means_it value_whole)
 
-pub index_agrees : (w : World) (start place : ℕ) (e : ExprTree) {m s : Meaning} {k : Kind} {a : Bool} {i : Judged} → Indexes w m k s → IsJudgedAs i (Value k a) →
+pub index_agrees : (w : World) (start place : ℕ) (e : ExprTree) {m s : Meaning} {k : ValueKind} {a : Bool} {i : Judged} → Indexes w m k s → IsJudgedAs i (Value k a) →
     IsJudgedAs (index_rule w start place e i m) s
 index_agrees w start place e {a = a} {i} (slice_element {t} {a = b} h j) v =
     followed_agrees (λ s. followed i (index_of w start (place_of e) s)) (value_agrees place)
     (followed_agrees (index_of w start (place_of e) (Value (Typed t) b)) v (indexes_true w start (place_of e) a (slice_element h j)))
 
 -- arguments as the judgement finds them
-pub record AreFound (js : JudgedList) (ks : List Kind) : Type 0 where
+pub record AreFound (js : JudgedList) (ks : List ValueKind) : Type 0 where
   pub values : AreOf js.values ks
   pub faultless : js.faults ≡ []
 
-pub call_agrees : (w : World) (start place : ℕ) {js : JudgedList} {ks : List Kind} {m s : Meaning} → AreFound js ks → Calls w m ks s →
+pub call_agrees : (w : World) (start place : ℕ) {js : JudgedList} {ks : List ValueKind} {m s : Meaning} → AreFound js ks → CallGives w m ks s →
     IsJudgedAs (call_rule w start place js m) s
 call_agrees w start place {js} {ks} {m} a c = let r = calls_true w start place js.values a.values c in
     record { meaning = r.meaning; faultless = empty_both js.faults (call_of w start place js.values m).faults a.faultless r.faultless; whole = r.whole }
@@ -86,7 +86,7 @@ mutual
       (followed_agrees (λ z. followed (value_at e (judge w locals e)) (operation w o start z)) h
       (followed_agrees (operation w o start (Value x a)) (value_at_agrees e (sound w locals v)) (operation_agrees w start a b q)))
 
-  pub sound_arguments : (w : World) (locals : Locals) {xs : ArgumentTrees} {ks : List Kind} → AreValues w locals xs ks →
+  pub sound_arguments : (w : World) (locals : Locals) {xs : ArgumentTrees} {ks : List ValueKind} → AreValues w locals xs ks →
       AreFound (judge_arguments w locals xs) ks
   sound_arguments w locals no_argument = record { values = tt; faultless = refl }
   sound_arguments w locals (argument {e} {rest = rest} v more) = let h = value_at_agrees e (sound w locals v) in
@@ -112,7 +112,7 @@ mutual
   sound_fields w locals no_field x i = (record { whole = refl; faultless = refl }, refl)
   sound_fields w locals (field {t} {u} {named} {key} {e} {rest = rest} {s} {k} m n v f more) x i =
       let others = sound_fields w locals more x i in
-      let F : Key → JudgedElements = λ z. with_element w (judge_key w t key.0 z) (place_of e) (value_at e (judge w locals e))
+      let F : KeyMeaning → JudgedElements = λ z. with_element w (judge_key w t key.0 z) (place_of e) (value_at e (judge w locals e))
       (judge_elements w locals (Some t) (seen_with z (is_taken named)) rest) in
       subst (λ z. IsWholeElement (F z) × ((F z).unkeyed ≡ false)) (sym (field_key (is_taken named) i m (new_free s.rank n))) (
         element_whole w (judge_key w t key.0 (FieldKey s.rank u)) (place_of e) refl refl (value_at_agrees e (sound w locals v))

@@ -6,13 +6,13 @@ use Rattle.go_ast.specs.declared.syntax.UpdateOp.TheVariants as update
 use Rattle.go_ast.specs.Tree.{ExprTree, LinkTrees}
 use Rattle.go_ast.specs.Tree as tree
 use Rattle.types_expr.specs.declared.types.Builtin.TheVariants as builtin
-use Rattle.types_expr.specs.Types.{PlainType, Kind, Typed, Meaning, Value, TypeName, Function, BuiltinName, Package, Results, Broken}
+use Rattle.types_expr.specs.Types.{PlainType, ValueKind, Typed, Meaning, Value, TypeName, Function, BuiltinName, Package, Results, Broken}
 use Rattle.types_expr.specs.World.{World, Locals}
 use Rattle.types_expr.specs.Judge.{judge}
 use Rattle.types_stmt.specs.Simple.{ends_in_call, unless_end, without_last, may_be_statement, is_statement, statement_faults, binary_of}
-use Rattle.law_typing.specs.Names.{IsWhole}
-use Rattle.law_typing.specs.Fits.{Fits, identical}
-use Rattle.law_typing.specs.Operators.{IsUntyped, HaveCommonKind, of_one_type, right_fits, left_fits, of_one_kind, IsOrder, IsEquality, IsLogic, Operates, adds}
+use Rattle.law_typing.specs.Names.{IsNotBroken}
+use Rattle.law_typing.specs.Fits.{FitsType, identical}
+use Rattle.law_typing.specs.Operators.{IsUntyped, HaveCommonKind, of_one_type, right_fits, left_fits, of_one_kind, IsOrderOperator, IsEquality, IsLogic, Operates, adds}
 use Rattle.law_typing.specs.Operators.{computes, orders, connects, compares, compares_with_nil}
 use Rattle.law_typing.specs.Meanings.{HasMeaning}
 use Rattle.law_typing.proofs.BrokenRules.{no_fault}
@@ -73,7 +73,7 @@ stand_true a_panic = refl
 stand_true a_print = refl
 stand_true a_println = refl
 
-true_stand : (m : Meaning) → may_be_statement m ≡ true → MayBeStatement m × IsWhole m
+true_stand : (m : Meaning) → may_be_statement m ≡ true → MayBeStatement m × IsNotBroken m
 unfolding may_be_statement
 true_stand (Function s) h = (a_function, function_whole)
 true_stand (BuiltinName builtin.Panic) h = (a_panic, λ q. cc)
@@ -130,7 +130,7 @@ pub stands_silent : (place : ℕ) {b : Bool} (m : Meaning) → b ≡ true → st
 unfolding statement_faults
 stands_silent place m e = ap (λ z. statement_faults place z m) e
 
-pub silent_stands : (place : ℕ) (b : Bool) (m : Meaning) → IsWhole m → statement_faults place b m ≡ [] → b ≡ true
+pub silent_stands : (place : ℕ) (b : Bool) (m : Meaning) → IsNotBroken m → statement_faults place b m ≡ [] → b ≡ true
 unfolding statement_faults
 silent_stands place true m n h = refl
 silent_stands place false (Value k a) n h = no_fault h
@@ -160,13 +160,13 @@ is_update update.Remainder = by_remainder
 typed_untyped : {A : Type 0} {t : PlainType} → IsUntyped (Typed t) → A
 typed_untyped h = elim h [ ]
 
-together_typed : {w : World} {t : PlainType} {k l : Kind} → HaveCommonKind w (Typed t) k l → Fits w l t
+together_typed : {w : World} {t : PlainType} {k l : ValueKind} → HaveCommonKind w (Typed t) k l → FitsType w l t
 together_typed of_one_type = identical
 together_typed (right_fits u f) = identical
 together_typed (left_fits u f) = typed_untyped u
 together_typed (of_one_kind u) = typed_untyped u
 
-no_order : {A : Type 0} {o : UpdateOp} {b : BinaryOp} → Updates o b → IsOrder b → A
+no_order : {A : Type 0} {o : UpdateOp} {b : BinaryOp} → Updates o b → IsOrderOperator b → A
 no_order by_sum h = elim h [ ]
 no_order by_difference h = elim h [ ]
 no_order by_product h = elim h [ ]
@@ -187,7 +187,7 @@ no_logic by_product h = elim h [ ]
 no_logic by_quotient h = elim h [ ]
 no_logic by_remainder h = elim h [ ]
 
-pub update_fits : {w : World} {o : UpdateOp} {b : BinaryOp} {t : PlainType} {k l : Kind} → Updates o b → Operates w b (Typed t) k l → Fits w l t
+pub update_fits : {w : World} {o : UpdateOp} {b : BinaryOp} {t : PlainType} {k l : ValueKind} → Updates o b → Operates w b (Typed t) k l → FitsType w l t
 update_fits u (adds g i) = together_typed g
 update_fits u (computes a g i) = together_typed g
 update_fits u (orders a g i) = no_order u a

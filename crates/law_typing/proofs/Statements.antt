@@ -2,9 +2,9 @@
 use Rattle.std.proofs.Common.{ℕ, ◌≡◌, ◌⊎◌, inl, inr, List, [], ◌++◌, map, Option, Some, None, refl, sym, ap, ◌∙◌, subst}
 use Rattle.go_ast.specs.Tree.{Item, ExprTree, SimpleTree, InitTree, ForTree, StatementTree, BlockTree, StatementTrees, IfTree, ElseTree}
 use Rattle.go_ast.specs.Tree as tree
-use Rattle.types_expr.specs.Types.{PlainType, Kind}
+use Rattle.types_expr.specs.Types.{PlainType, ValueKind}
 use Rattle.types_expr.specs.World.{World, Locals}
-use Rattle.types_stmt.specs.Checked.{Checked}
+use Rattle.types_stmt.specs.Checked.{FoundSoFar}
 use Rattle.types_stmt.specs.Sides.{Target, rhs}
 use Rattle.types_stmt.specs.Simple.{check_optional_simple, check_condition, check_optional_condition, check_local}
 use Rattle.types_stmt.specs.Statements.{returned, check_return, check_init, check_for_header, check_statement, check_block, check_statements, check_if, check_else}
@@ -33,22 +33,22 @@ AreTargets targets results = targets ≡ map aim (map OfType results)
 
 -- parts of headers
 
-pub optional_true : (w : World) (s : Checked) {o : Option SimpleTree} {before after : Locals} → IsAt s before →
+pub optional_true : (w : World) (s : FoundSoFar) {o : Option SimpleTree} {before after : Locals} → IsAt s before →
     IfPresent SimpleTree (SimpleIsTyped w) before o after → IsAt (check_optional_simple w s o) after
 optional_true w s a absent = a
 optional_true w s a (present {after = after} {x = x} r) = simple_true w s x after a.faultless (held (SimpleIsTyped w) a r)
 
-pub optional_condition_true : (w : World) (s : Checked) {o : Option ExprTree} {before after : Locals} → IsAt s before →
+pub optional_condition_true : (w : World) (s : FoundSoFar) {o : Option ExprTree} {before after : Locals} → IsAt s before →
     IfPresent ExprTree (ConditionIsTyped w) before o after → IsAt (check_optional_condition w s o) after
 optional_condition_true w s a absent = a
 optional_condition_true w s a (present {after = after} {x = x} r) = condition_true w s x after a.faultless (held (ConditionIsTyped w) a r)
 
-pub init_true : (w : World) (s : Checked) {o : Option InitTree} {before after : Locals} → IsAt s before → IfPresent InitTree (InitIsTyped w) before o after →
+pub init_true : (w : World) (s : FoundSoFar) {o : Option InitTree} {before after : Locals} → IsAt s before → IfPresent InitTree (InitIsTyped w) before o after →
     IsAt (check_init w s o) after
 init_true w s a absent = a
 init_true w s a (present (an_init r)) = optional_true w s a r
 
-pub header_true : (w : World) (s : Checked) {h : ForTree} {before after : Locals} → IsAt s before → HeaderIsTyped w before h after →
+pub header_true : (w : World) (s : FoundSoFar) {h : ForTree} {before after : Locals} → IsAt s before → HeaderIsTyped w before h after →
     IsAt (check_for_header w s h) after
 unfolding check_for_header
 header_true w s a endless = a
@@ -57,19 +57,19 @@ header_true w s a (with_clauses {init = init} {condition = condition} i c p) =
     optional_true w (check_optional_condition w (check_optional_simple w s init) condition) (optional_condition_true w (check_optional_simple w s init)
     (optional_true w s a i) c) p
 
-optional_settled : (w : World) (s : Checked) (o : Option SimpleTree) → (check_optional_simple w s o).faults ≡ [] →
+optional_settled : (w : World) (s : FoundSoFar) (o : Option SimpleTree) → (check_optional_simple w s o).faults ≡ [] →
     (s.faults ≡ []) × (IfPresent SimpleTree (SimpleIsTyped w) s.locals o (check_optional_simple w s o).locals ⊎ ExcusedIfPresent SimpleTree
     (SimpleIsExcused w) s.locals o)
 optional_settled w s None h = (h, inl absent)
 optional_settled w s (Some a) h = let q = simple_settled w s a h in (q.0, elim q.1 [ inl r ↦ inl (present r) | inr e ↦ inr (excused_present e) ])
 
-optional_condition_settled : (w : World) (s : Checked) (o : Option ExprTree) → (check_optional_condition w s o).faults ≡ [] →
+optional_condition_settled : (w : World) (s : FoundSoFar) (o : Option ExprTree) → (check_optional_condition w s o).faults ≡ [] →
     (s.faults ≡ []) × (IfPresent ExprTree (ConditionIsTyped w) s.locals o (check_optional_condition w s o).locals ⊎ ExcusedIfPresent ExprTree
     (UsesBroken w) s.locals o)
 optional_condition_settled w s None h = (h, inl absent)
 optional_condition_settled w s (Some e) h = let q = condition_settled w s e h in (q.0, elim q.1 [ inl r ↦ inl (present r) | inr u ↦ inr (excused_present u) ])
 
-init_settled : (w : World) (s : Checked) (o : Option InitTree) → (check_init w s o).faults ≡ [] →
+init_settled : (w : World) (s : FoundSoFar) (o : Option InitTree) → (check_init w s o).faults ≡ [] →
     (s.faults ≡ []) × (IfPresent InitTree (InitIsTyped w) s.locals o (check_init w s o).locals ⊎ ExcusedIfPresent InitTree (InitIsExcused w) s.locals o)
 init_settled w s None h = (h, inl absent)
 init_settled w s (Some i) h = let q = optional_settled w s i.simple h in (
@@ -81,7 +81,7 @@ init_settled w s (Some i) h = let q = optional_settled w s i.simple h in (
   ],
 )
 
-header_settled : (w : World) (s : Checked) (h : ForTree) → (check_for_header w s h).faults ≡ [] →
+header_settled : (w : World) (s : FoundSoFar) (h : ForTree) → (check_for_header w s h).faults ≡ [] →
     (s.faults ≡ []) × (HeaderIsTyped w s.locals h (check_for_header w s h).locals ⊎ HeaderIsExcused w s.locals h)
 unfolding check_for_header
 header_settled w s tree.forever h = (h, inl endless)
@@ -99,7 +99,7 @@ header_settled w s (tree.clauses init p condition q post) h = let c = optional_s
 
 -- returns
 
-return_true : (w : World) (s : Checked) (p : ℕ) (targets : List Target) (results : List PlainType) (es : List (Item ExprTree)) {ks : List Kind} →
+return_true : (w : World) (s : FoundSoFar) (p : ℕ) (targets : List Target) (results : List PlainType) (es : List (Item ExprTree)) {ks : List ValueKind} →
     AreTargets targets results → s.faults ≡ [] → GiveKinds w s.locals es ks →
     TakenInTurn w ks (map OfType results) → IsAt (check_return w s p targets es) s.locals
 unfolding check_return
@@ -108,7 +108,7 @@ return_true w s p targets results es e h g t = let r = rights_given w s.locals g
     (empty_both (rhs w s.locals es).faults (returned w p (rhs w s.locals es).values targets) r.faultless
     (ap (λ z. returned w p (rhs w s.locals es).values z) e ∙ return_silent w p (rhs w s.locals es).values r.kinds t)) refl
 
-return_settled : (w : World) (s : Checked) (p : ℕ) (targets : List Target) (results : List PlainType) (es : List (Item ExprTree)) →
+return_settled : (w : World) (s : FoundSoFar) (p : ℕ) (targets : List Target) (results : List PlainType) (es : List (Item ExprTree)) →
     AreTargets targets results → (check_return w s p targets es).faults ≡ [] →
     (s.faults ≡ []) × (StatementIsTyped w results s.locals (tree.Return p es)
     (check_return w s p targets es).locals ⊎ StatementIsExcused w results s.locals (tree.Return p es))
@@ -130,7 +130,7 @@ mutual
   unfolding check_statement
 
   pub statement_true : (w : World) (results : List PlainType) (targets : List Target) → AreTargets targets results →
-      {before after : Locals} {x : StatementTree} → StatementIsTyped w results before x after → (s : Checked) → IsAt s before →
+      {before after : Locals} {x : StatementTree} → StatementIsTyped w results before x after → (s : FoundSoFar) → IsAt s before →
       IsAt (check_statement w targets s x) after
   statement_true w results targets e nothing s a = a
   statement_true w results targets e (a_declaration g) s a = group_true (LocalIsTyped w) (check_local w) (local_true w) g s a
@@ -145,19 +145,19 @@ mutual
       (sym a.locals_are) g) t)
 
   pub block_true : (w : World) (results : List PlainType) (targets : List Target) → AreTargets targets results → {before after : Locals} {x : BlockTree} →
-      BlockIsTyped w results before x after → (s : Checked) → IsAt s before →
+      BlockIsTyped w results before x after → (s : FoundSoFar) → IsAt s before →
       IsAt (check_block w targets s x) after
   block_true w results targets e (a_block ss) s a = statements_true w results targets e ss s a
 
   statements_true : (w : World) (results : List PlainType) (targets : List Target) → AreTargets targets results →
-      {before after : Locals} {x : StatementTrees} → StatementsAreTyped w results before x after → (s : Checked) → IsAt s before →
+      {before after : Locals} {x : StatementTrees} → StatementsAreTyped w results before x after → (s : FoundSoFar) → IsAt s before →
       IsAt (check_statements w targets s x) after
   statements_true w results targets e no_more s a = a
   statements_true w results targets e (one_more {s = x} r more) s a = statements_true w results targets e more (check_statement w targets s x)
       (statement_true w results targets e r s a)
 
   if_true : (w : World) (results : List PlainType) (targets : List Target) → AreTargets targets results → {before after : Locals} {x : IfTree} →
-      IfIsTyped w results before x after → (s : Checked) → IsAt s before →
+      IfIsTyped w results before x after → (s : FoundSoFar) → IsAt s before →
       IsAt (check_if w targets s x) after
   if_true w results targets e (an_if {tested = tested} {init = init} {e = c} {b = b} i r t o) s a = let entered = init_true w s a i in
       else_true w results targets e o (check_block w targets (check_condition w (check_init w s init) c) b)
@@ -165,7 +165,7 @@ mutual
       (held (ConditionIsTyped w) entered r)))
 
   else_true : (w : World) (results : List PlainType) (targets : List Target) → AreTargets targets results → {before after : Locals} {x : ElseTree} →
-      ElseIsTyped w results before x after → (s : Checked) → IsAt s before →
+      ElseIsTyped w results before x after → (s : FoundSoFar) → IsAt s before →
       IsAt (check_else w targets s x) after
   else_true w results targets e without_else s a = a
   else_true w results targets e (an_else_if i) s a = if_true w results targets e i s a
@@ -175,7 +175,7 @@ mutual
   unfolding check_statement
 
   pub statement_settled : (w : World) (results : List PlainType) (targets : List Target) → AreTargets targets results →
-      (x : StatementTree) (s : Checked) → (check_statement w targets s x).faults ≡ [] →
+      (x : StatementTree) (s : FoundSoFar) → (check_statement w targets s x).faults ≡ [] →
       (s.faults ≡ []) × (StatementIsTyped w results s.locals x (check_statement w targets s x).locals ⊎ StatementIsExcused w results s.locals x)
   statement_settled w results targets e tree.Empty s h = (h, inl nothing)
   statement_settled w results targets e (tree.Var p g) s h = let q = group_settled (LocalIsTyped w) (LocalIsExcused w) (check_local w)
@@ -200,13 +200,13 @@ mutual
   statement_settled w results targets e (tree.Continue p) s h = (h, inl a_continue)
   statement_settled w results targets e (tree.Return p es) s h = return_settled w s p targets results es e h
 
-  pub block_settled : (w : World) (results : List PlainType) (targets : List Target) → AreTargets targets results → (x : BlockTree) (s : Checked) →
+  pub block_settled : (w : World) (results : List PlainType) (targets : List Target) → AreTargets targets results → (x : BlockTree) (s : FoundSoFar) →
       (check_block w targets s x).faults ≡ [] →
       (s.faults ≡ []) × (BlockIsTyped w results s.locals x (check_block w targets s x).locals ⊎ BlockIsExcused w results s.locals x)
   block_settled w results targets e (tree.block o ss c) s h = let q = statements_settled w results targets e ss s h in
       (q.0, elim q.1 [ inl r ↦ inl (a_block r) | inr u ↦ inr (in_block u) ])
 
-  statements_settled : (w : World) (results : List PlainType) (targets : List Target) → AreTargets targets results → (x : StatementTrees) (s : Checked) →
+  statements_settled : (w : World) (results : List PlainType) (targets : List Target) → AreTargets targets results → (x : StatementTrees) (s : FoundSoFar) →
       (check_statements w targets s x).faults ≡ [] →
       (s.faults ≡ []) × (StatementsAreTyped w results s.locals x (check_statements w targets s x).locals ⊎ StatementsAreExcused w results s.locals x)
   statements_settled w results targets e tree.no_statement s h = (h, inl no_more)
@@ -215,7 +215,7 @@ mutual
       let r = statement_settled w results targets e x s q.0 in
       (r.0, elim r.1 [ inl y ↦ elim q.1 [ inl z ↦ inl (one_more y z) | inr u ↦ inr (later_statement y u) ] | inr u ↦ inr (this_statement u) ])
 
-  if_settled : (w : World) (results : List PlainType) (targets : List Target) → AreTargets targets results → (x : IfTree) (s : Checked) →
+  if_settled : (w : World) (results : List PlainType) (targets : List Target) → AreTargets targets results → (x : IfTree) (s : FoundSoFar) →
       (check_if w targets s x).faults ≡ [] →
       (s.faults ≡ []) × (IfIsTyped w results s.locals x (check_if w targets s x).locals ⊎ IfIsExcused w results s.locals x)
   if_settled w results targets e (tree.if_tree p init c b otherwise) s h =
@@ -233,7 +233,7 @@ mutual
         ],
       )
 
-  else_settled : (w : World) (results : List PlainType) (targets : List Target) → AreTargets targets results → (x : ElseTree) (s : Checked) →
+  else_settled : (w : World) (results : List PlainType) (targets : List Target) → AreTargets targets results → (x : ElseTree) (s : FoundSoFar) →
       (check_else w targets s x).faults ≡ [] →
       (s.faults ≡ []) × (ElseIsTyped w results s.locals x (check_else w targets s x).locals ⊎ ElseIsExcused w results s.locals x)
   else_settled w results targets e tree.no_else s h = (h, inl without_else)
@@ -244,7 +244,7 @@ mutual
 
 -- faults found before a statement stay, whatever the results of the function are
 
-return_first : (w : World) (s : Checked) (p : ℕ) (targets : List Target) (es : List (Item ExprTree)) → (check_return w s p targets es).faults ≡ [] →
+return_first : (w : World) (s : FoundSoFar) (p : ℕ) (targets : List Target) (es : List (Item ExprTree)) → (check_return w s p targets es).faults ≡ [] →
     s.faults ≡ []
 unfolding check_return
 return_first w s p targets es h = empty_first s.faults ((rhs w s.locals es).faults ++ returned w p (rhs w s.locals es).values targets) h
@@ -252,7 +252,7 @@ return_first w s p targets es h = empty_first s.faults ((rhs w s.locals es).faul
 mutual
   unfolding check_statement
 
-  statement_first : (w : World) (targets : List Target) (x : StatementTree) (s : Checked) → (check_statement w targets s x).faults ≡ [] → s.faults ≡ []
+  statement_first : (w : World) (targets : List Target) (x : StatementTree) (s : FoundSoFar) → (check_statement w targets s x).faults ≡ [] → s.faults ≡ []
   statement_first w targets tree.Empty s h = h
   statement_first w targets (tree.Var p g) s h = let q = group_settled (LocalIsTyped w) (LocalIsExcused w) (check_local w) (local_settled w) g s h in q.0
   statement_first w targets (tree.Simple x) s h = let q = simple_settled w s x h in q.0
@@ -263,21 +263,21 @@ mutual
   statement_first w targets (tree.Continue p) s h = h
   statement_first w targets (tree.Return p es) s h = return_first w s p targets es h
 
-  pub block_first : (w : World) (targets : List Target) (x : BlockTree) (s : Checked) → (check_block w targets s x).faults ≡ [] → s.faults ≡ []
+  pub block_first : (w : World) (targets : List Target) (x : BlockTree) (s : FoundSoFar) → (check_block w targets s x).faults ≡ [] → s.faults ≡ []
   block_first w targets (tree.block o ss c) s h = statements_first w targets ss s h
 
-  statements_first : (w : World) (targets : List Target) (x : StatementTrees) (s : Checked) → (check_statements w targets s x).faults ≡ [] → s.faults ≡ []
+  statements_first : (w : World) (targets : List Target) (x : StatementTrees) (s : FoundSoFar) → (check_statements w targets s x).faults ≡ [] → s.faults ≡ []
   statements_first w targets tree.no_statement s h = h
   statements_first w targets (tree.statement x p rest) s h = statement_first w targets x s (statements_first w targets rest (check_statement w targets s x) h)
 
-  if_first : (w : World) (targets : List Target) (x : IfTree) (s : Checked) → (check_if w targets s x).faults ≡ [] → s.faults ≡ []
+  if_first : (w : World) (targets : List Target) (x : IfTree) (s : FoundSoFar) → (check_if w targets s x).faults ≡ [] → s.faults ≡ []
   if_first w targets (tree.if_tree p init c b otherwise) s h =
       let r = condition_settled w (check_init w s init) c (block_first w targets b (check_condition w (check_init w s init) c)
       (else_first w targets otherwise (check_block w targets (check_condition w (check_init w s init) c) b) h)) in
       let i = init_settled w s init r.0 in
       i.0
 
-  else_first : (w : World) (targets : List Target) (x : ElseTree) (s : Checked) → (check_else w targets s x).faults ≡ [] → s.faults ≡ []
+  else_first : (w : World) (targets : List Target) (x : ElseTree) (s : FoundSoFar) → (check_else w targets s x).faults ≡ [] → s.faults ≡ []
   else_first w targets tree.no_else s h = h
   else_first w targets (tree.else_if p i) s h = if_first w targets i s h
   else_first w targets (tree.else_block p b) s h = block_first w targets b s h

@@ -2,9 +2,9 @@
 use Rattle.std.proofs.Common.{ℕ, ◌≡◌, Bool, List, [], ◌∷◌, Option, Some, None, refl, sym, ap, ◌∙◌, subst}
 use Rattle.go_ast.specs.Tree.{Item, Group, TypeTree, ExprTree, SimpleTree, InitTree, StatementTree, BlockTree, StatementTrees, IfTree, ElseTree, ParamTree}
 use Rattle.go_ast.specs.Tree.{ResultTree, FuncTree, FieldTree, BodyTree, DeclTree, FileTree}
-use Rattle.types_expr.specs.Types.{PlainType, Kind}
+use Rattle.types_expr.specs.Types.{PlainType, ValueKind}
 use Rattle.types_expr.specs.World.{World, Locals}
-use Rattle.types_stmt.specs.Checked.{Checked}
+use Rattle.types_stmt.specs.Checked.{FoundSoFar}
 use Rattle.types_stmt.specs.Sides.{Wants}
 use Rattle.types_stmt.specs.Simple.{check_simple, check_condition, check_local}
 use Rattle.types_stmt.specs.Statements.{check_statement, check_block}
@@ -13,7 +13,7 @@ use Rattle.types_stmt.specs.Declarations.{check_global, check_type, check_decl}
 use Rattle.law_typing.specs.Names.{IsType}
 use Rattle.law_typing.specs.BrokenUses.{UsesBroken, IsBrokenType}
 use Rattle.law_typing.specs.IsFaultlessWith.{typed_targets}
-use Rattle.law_typing.specs.Sequences.{Rule, InTurn, no_item, then_item, InGroup, alone, together, IfPresent, absent, present, Excuse, ExcusedInTurn}
+use Rattle.law_typing.specs.Sequences.{PartRule, InTurn, no_item, then_item, InGroup, alone, together, IfPresent, absent, present, Excuse, ExcusedInTurn}
 use Rattle.law_typing.specs.Sequences.{this_item, later_item, ExcusedInGroup, excused_alone, excused_together, ExcusedIfPresent, excused_present}
 use Rattle.law_typing.specs.Assignments.{GiveKinds}
 use Rattle.law_typing.specs.Simple.{ConditionIsTyped, a_condition, SimpleIsTyped, LocalIsTyped, of_type, of_type_with_values, of_values}
@@ -46,31 +46,31 @@ use Rattle.law_typing.proofs.SimpleNotExcused.{gives_unbroken, simple_not}
 
 -- one outcome
 
-abbrev pub start : Locals → Checked
+abbrev pub start : Locals → FoundSoFar
 start before = record { locals = before; faults = []; uses = [] }
 
 at_start : (before : Locals) → IsAt (start before) before
 at_start before = record { locals_are = refl; faultless = refl }
 
 -- the rule R determines the locals after a part
-abbrev LeadsToOne : {X : Type 0} → Rule X → Type 0
+abbrev LeadsToOne : {X : Type 0} → PartRule X → Type 0
 LeadsToOne {X} R = (before after other : Locals) (x : X) → R before x after → R before x other → after ≡ other
 
 -- the rule R types no part that is excused by E
-abbrev Excludes : {X : Type 0} → Rule X → Excuse X → Type 0
+abbrev Excludes : {X : Type 0} → PartRule X → Excuse X → Type 0
 Excludes {X} R E = (before after : Locals) (x : X) → R before x after → E before x → ⊥
 
-found_one : {X : Type 0} (R : Rule X) (check : Checked → X → Checked) → ((s : Checked) (x : X) (after : Locals) → s.faults ≡ [] → R s.locals x after →
+found_one : {X : Type 0} (R : PartRule X) (check : FoundSoFar → X → FoundSoFar) → ((s : FoundSoFar) (x : X) (after : Locals) → s.faults ≡ [] → R s.locals x after →
     IsAt (check s x) after) → LeadsToOne R
 found_one R check f before after other x h k = let a = f (start before) x after refl h in let b = f (start before) x other refl k in
     sym a.locals_are ∙ b.locals_are
 
-present_one : {X : Type 0} (R : Rule X) → LeadsToOne R → {before after other : Locals} {o : Option X} → IfPresent X R before o after →
+present_one : {X : Type 0} (R : PartRule X) → LeadsToOne R → {before after other : Locals} {o : Option X} → IfPresent X R before o after →
     IfPresent X R before o other → after ≡ other
 present_one R f absent absent = refl
 present_one R f (present {before} {after} {x} r) (present {after = other} q) = f before after other x r q
 
-items_one : {X : Type 0} (R : Rule X) → LeadsToOne R → {before after other : Locals} {is : List (Item X)} → InTurn X R before is after →
+items_one : {X : Type 0} (R : PartRule X) → LeadsToOne R → {before after other : Locals} {is : List (Item X)} → InTurn X R before is after →
     InTurn X R before is other → after ≡ other
 items_one R f no_item no_item = refl
 items_one {X} R f (then_item {before} {inside} {i = i} {is = is} r more) (then_item {inside = inner} {after = other} q others) =
@@ -78,19 +78,19 @@ items_one {X} R f (then_item {before} {inside} {i = i} {is = is} r more) (then_i
 
 -- parts in turn
 
-present_not : {X : Type 0} (R : Rule X) (E : Excuse X) → Excludes R E → {before after : Locals} {o : Option X} → IfPresent X R before o after →
+present_not : {X : Type 0} (R : PartRule X) (E : Excuse X) → Excludes R E → {before after : Locals} {o : Option X} → IfPresent X R before o after →
     ExcusedIfPresent X E before o → ⊥
 present_not R E f absent e = elim e [ ]
 present_not R E f (present {before} {after} {x} r) (excused_present e) = f before after x r e
 
-items_not : {X : Type 0} (R : Rule X) (E : Excuse X) → LeadsToOne R → Excludes R E → {before after : Locals} {is : List (Item X)} →
+items_not : {X : Type 0} (R : PartRule X) (E : Excuse X) → LeadsToOne R → Excludes R E → {before after : Locals} {is : List (Item X)} →
     InTurn X R before is after → ExcusedInTurn X R E before is → ⊥
 items_not R E o f no_item e = elim e [ ]
 items_not R E o f (then_item {before} {inside} {i = i} r more) (this_item e) = f before inside i.value r e
 items_not {X} R E o f (then_item {before} {inside} {i = i} {is = is} r more) (later_item {inside = inner} q e) =
     items_not R E o f more (subst (λ z. ExcusedInTurn X R E z is) (o before inner inside i.value q r) e)
 
-group_not : {X : Type 0} (R : Rule X) (E : Excuse X) → LeadsToOne R → Excludes R E → {before after : Locals} {g : Group X} →
+group_not : {X : Type 0} (R : PartRule X) (E : Excuse X) → LeadsToOne R → Excludes R E → {before after : Locals} {g : Group X} →
     InGroup X R before g after → ExcusedInGroup X R E before g → ⊥
 group_not R E o f (alone {before} {after} {x} r) (excused_alone e) = f before after x r e
 group_not R E o f (together r) (excused_together e) = items_not R E o f r e
@@ -121,7 +121,7 @@ none_or_one e f = cc
 broken_type : (w : World) {o : Option TypeTree} {x y : TypeTree} {t : PlainType} → o ≡ Some x → o ≡ Some y → IsType w x t → IsBrokenType w y → ⊥
 broken_type w {t = t} e f i b = no_type w b (subst (λ z. IsType w z t) (same_one e f) i)
 
-broken_value : (w : World) (locals : Locals) {o : Option (ℕ × List (Item ExprTree))} {v u : ℕ × List (Item ExprTree)} {ks : List Kind} → o ≡ Some v →
+broken_value : (w : World) (locals : Locals) {o : Option (ℕ × List (Item ExprTree))} {v u : ℕ × List (Item ExprTree)} {ks : List ValueKind} → o ≡ Some v →
     o ≡ Some u → GiveKinds w locals v.1 ks → AnyUsesBroken w locals u.1 → ⊥
 broken_value w locals {ks = ks} e f g b = gives_unbroken w locals b (subst (λ (z : ℕ × List (Item ExprTree)). GiveKinds w locals z.1 ks) (same_one e f) g)
 

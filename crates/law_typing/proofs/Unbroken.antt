@@ -1,12 +1,12 @@
 -- An expression with a meaning uses nothing broken.
 use Rattle.std.proofs.Common.{ℕ, ◌≡◌, Bool, true, List, [], ◌∷◌, Some, refl, sym, ap, ◌∙◌, subst}
 use Rattle.go_ast.specs.Tree.{TypeTree, ExprTree, LinkTrees, OperandTrees, ArgumentTrees, LiteralTree, ElementTrees}
-use Rattle.types_expr.specs.Types.{PlainType, Kind, Typed, Meaning, Value}
+use Rattle.types_expr.specs.Types.{PlainType, ValueKind, Typed, Meaning, Value}
 use Rattle.types_expr.specs.World.{World, Locals}
 use Rattle.types_expr.specs.Judge.{ListValue, TypeJudged, good_type}
 use Rattle.law_typing.specs.Names.{IsType}
 use Rattle.law_typing.specs.Names as names
-use Rattle.law_typing.specs.Links.{Selects, Indexes, Calls}
+use Rattle.law_typing.specs.Links.{SelectsMember, Indexes, CallGives}
 use Rattle.law_typing.specs.Links as links
 use Rattle.law_typing.specs.Meanings.{HasMeaning, LinksMean, OperandsMean, AreValues, IsLiteralOf, AreFields, AreElements}
 use Rattle.law_typing.specs.Meanings as means
@@ -21,29 +21,29 @@ use Rattle.law_typing.proofs.ExpressionLaws.{has_one_meaning}
 
 -- the rules determine the meaning
 
-one_selection : (w : World) (locals : Locals) {m s r : Meaning} {n : ℕ} → Selects w locals m n s → Selects w locals m n r → s ≡ r
+one_selection : (w : World) (locals : Locals) {m s r : Meaning} {n : ℕ} → SelectsMember w locals m n s → SelectsMember w locals m n r → s ≡ r
 one_selection w locals a b = let x = selects_true w locals 0 a in let y = selects_true w locals 0 b in sym x.meaning ∙ y.meaning
 
-one_element : (w : World) {m s r : Meaning} {j k : Kind} → Indexes w m j s → Indexes w m k r → s ≡ r
+one_element : (w : World) {m s r : Meaning} {j k : ValueKind} → Indexes w m j s → Indexes w m k r → s ≡ r
 one_element w (links.element {u = u} e i) (links.element {u = v} f j) = let q : u ≡ v = cc in ap (λ z. Value (Typed z) true) q
 
-values_at : List Kind → List ListValue
+values_at : List ValueKind → List ListValue
 values_at [] = []
 values_at (k ∷ ks) = record { place = 0; kind = Some k } ∷ values_at ks
 
-values_are : (ks : List Kind) → AreOf (values_at ks) ks
+values_are : (ks : List ValueKind) → AreOf (values_at ks) ks
 unfolding values_at
 values_are [] = tt
 values_are (k ∷ ks) = (refl, values_are ks)
 
-one_call : (w : World) {m s r : Meaning} {ks : List Kind} → Calls w m ks s → Calls w m ks r → s ≡ r
+one_call : (w : World) {m s r : Meaning} {ks : List ValueKind} → CallGives w m ks s → CallGives w m ks r → s ≡ r
 one_call w {ks = ks} a b = let x = calls_true w 0 0 (values_at ks) (values_are ks) a in let y = calls_true w 0 0 (values_at ks) (values_are ks) b in
     sym x.meaning ∙ y.meaning
 
-one_kind : {j k : Kind} {a b : Bool} → Value j a ≡ Value k b → j ≡ k
+one_kind : {j k : ValueKind} {a b : Bool} → Value j a ≡ Value k b → j ≡ k
 one_kind e = cc
 
-one_list : (w : World) (locals : Locals) {xs : ArgumentTrees} {js ks : List Kind} → AreValues w locals xs js → AreValues w locals xs ks → js ≡ ks
+one_list : (w : World) (locals : Locals) {xs : ArgumentTrees} {js ks : List ValueKind} → AreValues w locals xs js → AreValues w locals xs ks → js ≡ ks
 one_list w locals means.no_argument means.no_argument = refl
 one_list w locals (means.argument {e} {k = j} {a = a} {ks = js} v more) (means.argument {k = k} {a = b} u others) =
     ap (λ z. z ∷ js) (one_kind (has_one_meaning w locals e (Value j a) (Value k b) v u)) ∙ ap (λ z. k ∷ z) (one_list w locals more others)
@@ -60,7 +60,7 @@ no_type w (uses.imported e f) (names.imported g h) = cc
 no_type w (uses.pointer b) (names.pointer i) = no_type w b i
 no_type w (uses.slice b) (names.slice i) = no_type w b i
 
-no_selection : (w : World) (locals : Locals) {m s : Meaning} {n : ℕ} → SelectsBroken w locals m n → Selects w locals m n s → ⊥
+no_selection : (w : World) (locals : Locals) {m s : Meaning} {n : ℕ} → SelectsBroken w locals m n → SelectsMember w locals m n s → ⊥
 no_selection w locals (uses.a_method e) (links.field f p) = cc
 no_selection w locals (uses.a_method e) (links.field_through_pointer f p) = cc
 no_selection w locals (uses.a_method e) (links.method f) = cc
@@ -91,13 +91,13 @@ mutual
   no_links_use w locals (uses.behind_index g j u) (means.index {rest = rest} {r = r} v i more) = no_links_use w locals u (subst
       (λ z. LinksMean w locals z rest r) (one_element w i j) more)
   no_links_use w locals (uses.behind_call {m = m} {s = t} gs d u) (means.call {rest = rest} {r = r} vs c more) =
-      no_links_use w locals u (subst (λ z. LinksMean w locals z rest r) (one_call w c (subst (λ z. Calls w m z t) (one_list w locals gs vs) d)) more)
+      no_links_use w locals u (subst (λ z. LinksMean w locals z rest r) (one_call w c (subst (λ z. CallGives w m z t) (one_list w locals gs vs) d)) more)
 
   no_operands_use : (w : World) (locals : Locals) {m r : Meaning} {rest : OperandTrees} → OperandsUseBroken w locals rest → OperandsMean w locals m rest r → ⊥
   no_operands_use w locals (uses.this_operand u) (means.operand v q c) = no_use w locals u v
   no_operands_use w locals (uses.other_operand u) (means.operand v q c) = no_operands_use w locals u c
 
-  no_arguments_use : (w : World) (locals : Locals) {xs : ArgumentTrees} {ks : List Kind} → ArgumentsUseBroken w locals xs → AreValues w locals xs ks → ⊥
+  no_arguments_use : (w : World) (locals : Locals) {xs : ArgumentTrees} {ks : List ValueKind} → ArgumentsUseBroken w locals xs → AreValues w locals xs ks → ⊥
   no_arguments_use w locals (uses.this_argument u) (means.argument v more) = no_use w locals u v
   no_arguments_use w locals (uses.other_argument u) (means.argument v more) = no_arguments_use w locals u more
 

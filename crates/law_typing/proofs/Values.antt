@@ -2,11 +2,11 @@
 use Rattle.std.proofs.Common.{ℕ, ◌≡◌, Bool, true, false, ◌⊎◌, inl, inr, List, [], ◌∷◌, map, refl, sym, ap, subst}
 use Rattle.go_ast.specs.Tree.{Item, ExprTree}
 use Rattle.types_expr.specs.Places.{place_of}
-use Rattle.types_expr.specs.Types.{PlainType, Kind, Typed, Meaning, Value, TypeName, Function, BuiltinName, Package, Results, Broken}
+use Rattle.types_expr.specs.Types.{PlainType, ValueKind, Typed, Meaning, Value, TypeName, Function, BuiltinName, Package, Results, Broken}
 use Rattle.types_expr.specs.World.{World, Locals}
 use Rattle.types_expr.specs.Judge.{Judged, ListValue, JudgedList, judge, judge_value, value_kind, as_value}
 use Rattle.types_stmt.specs.Sides.{rhs, judge_each, values_of, list_followed, results_at, assignable, judge_operand}
-use Rattle.law_typing.specs.Names.{IsWhole}
+use Rattle.law_typing.specs.Names.{IsNotBroken}
 use Rattle.law_typing.specs.Meanings.{HasMeaning}
 use Rattle.law_typing.specs.IsJudgedAs.{IsJudgedAs}
 use Rattle.law_typing.specs.BrokenUses.{UsesBroken}
@@ -21,17 +21,17 @@ use Rattle.law_typing.specs.Excused.{AnyUsesBroken, this_one, a_later_one}
 
 -- an expression that is judged to be a value, and is one by the rules
 pub record IsValueFound (w : World) (locals : Locals) (e : ExprTree) (m : Meaning) : Type 0 where
-  pub kind : Kind
+  pub kind : ValueKind
   pub addressable : Bool
   pub found : m ≡ Value kind addressable
   pub means : HasMeaning w locals e (Value kind addressable)
 
-pub value_true : (w : World) (locals : Locals) (e : ExprTree) {k : Kind} {a : Bool} → HasMeaning w locals e (Value k a) →
+pub value_true : (w : World) (locals : Locals) (e : ExprTree) {k : ValueKind} {a : Bool} → HasMeaning w locals e (Value k a) →
     IsJudgedAs (judge_value w locals e) (Value k a)
 value_true w locals e h = value_at_agrees e (sound w locals h)
 
 whole_value : (w : World) (locals : Locals) (e : ExprTree) → (as_value (place_of e) (judge w locals e).meaning).faults ≡ [] →
-    IsWhole (judge w locals e).meaning → IsValueFound w locals e (judge_value w locals e).meaning
+    IsNotBroken (judge w locals e).meaning → IsValueFound w locals e (judge_value w locals e).meaning
 whole_value w locals e h n = let v = value_or_fault (place_of e) (judge w locals e).meaning n h in
     record { kind = v.0; addressable = v.1; found = value_kept (place_of e) v.2; means = has_value (λ q. complete w locals e q) v.2 }
 
@@ -45,19 +45,19 @@ value_settled w locals e h = elim (settle w locals e (empty_first (judge w local
 -- operands that are assigned
 
 pub record IsOperandFound (w : World) (locals : Locals) (e : ExprTree) (m : Meaning) : Type 0 where
-  pub kind : Kind
+  pub kind : ValueKind
   pub found : m ≡ Value kind true
   pub means : HasMeaning w locals e (Value kind true)
 
-assigns : (place : ℕ) {k : Kind} → IsJudgedAs (assignable place (Value k true)) (Value k true)
+assigns : (place : ℕ) {k : ValueKind} → IsJudgedAs (assignable place (Value k true)) (Value k true)
 unfolding assignable
 assigns place = means_it value_whole
 
-pub operand_true : (w : World) (locals : Locals) (e : ExprTree) {k : Kind} → HasMeaning w locals e (Value k true) →
+pub operand_true : (w : World) (locals : Locals) (e : ExprTree) {k : ValueKind} → HasMeaning w locals e (Value k true) →
     IsJudgedAs (judge_operand w locals e) (Value k true)
 operand_true w locals e h = followed_agrees (assignable (place_of e)) (sound w locals h) (assigns (place_of e))
 
-assigned_or_fault : (w : World) (locals : Locals) (e : ExprTree) (place : ℕ) (m : Meaning) → IsWhole m → (assignable place m).faults ≡ [] →
+assigned_or_fault : (w : World) (locals : Locals) (e : ExprTree) (place : ℕ) (m : Meaning) → IsNotBroken m → (assignable place m).faults ≡ [] →
     HasMeaning w locals e m → IsOperandFound w locals e (assignable place m).meaning
 unfolding assignable
 assigned_or_fault w locals e place (Value k true) n h v = record { kind = k; found = refl; means = v }
@@ -79,11 +79,11 @@ operand_settled w locals e h = elim (settle w locals e (empty_first (judge w loc
 
 -- right sides
 
-pub record AreGiven (js : JudgedList) (ks : List Kind) : Type 0 where
+pub record AreGiven (js : JudgedList) (ks : List ValueKind) : Type 0 where
   pub kinds : AreOf js.values ks
   pub faultless : js.faults ≡ []
 
-each_given : (w : World) (locals : Locals) {is : List (Item ExprTree)} {ks : List Kind} → AreEachValues w locals is ks → AreGiven (judge_each w locals is) ks
+each_given : (w : World) (locals : Locals) {is : List (Item ExprTree)} {ks : List ValueKind} → AreEachValues w locals is ks → AreGiven (judge_each w locals is) ks
 unfolding judge_each
 each_given w locals no_expression = record { kinds = tt; faultless = refl }
 each_given w locals (also_value {i} {is} h more) = let a = value_true w locals i.value h in
@@ -98,7 +98,7 @@ results_are : (place : ℕ) (ts : List PlainType) → AreOf (results_at place ts
 results_are place [] = tt
 results_are place (t ∷ ts) = (refl, results_are place ts)
 
-one_given : (j : Judged) (place : ℕ) {k : Kind} {a : Bool} → IsJudgedAs j (Value k a) → AreGiven (list_followed j (values_of place)) (k ∷ [])
+one_given : (j : Judged) (place : ℕ) {k : ValueKind} {a : Bool} → IsJudgedAs j (Value k a) → AreGiven (list_followed j (values_of place)) (k ∷ [])
 unfolding values_of as_value value_kind
 one_given j place {k} {a} h = record {
   kinds = subst (λ m. AreOf (values_of place m).values (k ∷ [])) (sym h.meaning) (refl, tt);
@@ -112,7 +112,7 @@ call_given j place {ts} h = record {
   faultless = empty_both j.faults (values_of place j.meaning).faults h.faultless (ap (λ m. (values_of place m).faults) h.meaning);
 }
 
-pub rights_given : (w : World) (locals : Locals) {is : List (Item ExprTree)} {ks : List Kind} → GiveKinds w locals is ks → AreGiven (rhs w locals is) ks
+pub rights_given : (w : World) (locals : Locals) {is : List (Item ExprTree)} {ks : List ValueKind} → GiveKinds w locals is ks → AreGiven (rhs w locals is) ks
 unfolding rhs
 rights_given w locals (values no_expression) = each_given w locals no_expression
 rights_given w locals (values (also_value {i} h no_expression)) = one_given (judge w locals i.value) (place_of i.value) (sound w locals h)
@@ -120,8 +120,8 @@ rights_given w locals (values (also_value h (also_value g more))) = each_given w
 rights_given w locals (results {i} h) = call_given (judge w locals i.value) (place_of i.value) (sound w locals h)
 
 -- right sides without a fault: the values that they give
-pub record AreGivenBy (R : List Kind → Type 0) (vs : List ListValue) : Type 0 where
-  pub kinds : List Kind
+pub record AreGivenBy (R : List ValueKind → Type 0) (vs : List ListValue) : Type 0 where
+  pub kinds : List ValueKind
   pub given : R kinds
   pub found : AreOf vs kinds
 
@@ -144,7 +144,7 @@ each_settled w locals (i ∷ is) h = elim (value_settled w locals i.value (empty
   | inr u ↦ inr (this_one u)
 ]
 
-one_settled : (w : World) (locals : Locals) (i : Item ExprTree) (place : ℕ) (m : Meaning) → IsWhole m → (values_of place m).faults ≡ [] →
+one_settled : (w : World) (locals : Locals) (i : Item ExprTree) (place : ℕ) (m : Meaning) → IsNotBroken m → (values_of place m).faults ≡ [] →
     HasMeaning w locals i.value m → AreGivenBy (GiveKinds w locals (i ∷ [])) (values_of place m).values
 unfolding values_of as_value value_kind
 one_settled w locals i place (Value k a) n h v = record { kinds = k ∷ []; given = values (also_value v no_expression); found = (refl, tt) }

@@ -4,29 +4,29 @@ use Rattle.std.specs.Prelude.{◌≡◌, ℕ, Bool, true, List, [], ◌∷◌, O
 use Rattle.go_ast.specs.Tree.{Item, ExprTree}
 use Rattle.go_ast.specs.Tree as tree
 use Rattle.types_expr.specs.Places.{place_of}
-use Rattle.types_expr.specs.Types.{PlainType, Kind, Typed, Value, Results}
+use Rattle.types_expr.specs.Types.{PlainType, ValueKind, Typed, Value, Results}
 use Rattle.types_expr.specs.World.{World, Locals}
 use Rattle.types_expr.specs.Judge.{ListValue}
 use Rattle.law_typing.specs.Meanings.{HasMeaning}
 use Rattle.types_stmt.specs.Sides.{Target, Wants}
-use Rattle.law_typing.specs.Assignments.{Taker, Fresh, OfType, Takes}
-use Rattle.law_typing.specs.Excused.{IsBlank, IsNewName}
+use Rattle.law_typing.specs.Assignments.{Taker, Fresh, OfType, TakesValue}
+use Rattle.law_typing.specs.Excused.{IsBlank, IsDeclaredName}
 
 -- Right sides
 
 -- a value of kind k, none where it is broken, that reports its faults at `place`
-abbrev pub given_at : ℕ → Option Kind → ListValue
+abbrev pub given_at : ℕ → Option ValueKind → ListValue
 given_at place k = record { place = place; kind = k }
 
 -- k is the kind of the value of expression e, none where e is no value
-pub data GivesKind (w : World) (locals : Locals) (e : ExprTree) : Option Kind → Type 0 where
-  a_value : {k : Kind} {a : Bool} → HasMeaning w locals e (Value k a) → GivesKind w locals e (Some k)
-  not_a_value : ((k : Kind) (a : Bool) → HasMeaning w locals e (Value k a) → ⊥) → GivesKind w locals e None
+pub data GivesKind (w : World) (locals : Locals) (e : ExprTree) : Option ValueKind → Type 0 where
+  a_value : {k : ValueKind} {a : Bool} → HasMeaning w locals e (Value k a) → GivesKind w locals e (Some k)
+  not_a_value : ((k : ValueKind) (a : Bool) → HasMeaning w locals e (Value k a) → ⊥) → GivesKind w locals e None
 
 -- each expression gives the value at its position
 pub data EachGives (w : World) (locals : Locals) : List (Item ExprTree) → List ListValue → Type 0 where
   none_left : EachGives w locals [] []
-  one_more : {i : Item ExprTree} {is : List (Item ExprTree)} {k : Option Kind} {vs : List ListValue} → GivesKind w locals i.value k → EachGives w locals is vs →
+  one_more : {i : Item ExprTree} {is : List (Item ExprTree)} {k : Option ValueKind} {vs : List ListValue} → GivesKind w locals i.value k → EachGives w locals is vs →
       EachGives w locals (i ∷ is) (given_at (place_of i.value) k ∷ vs)
 
 -- Right sides or returned expressions give these values. A single call with several results, or with none, gives these, each at the place
@@ -35,7 +35,7 @@ pub data SidesGive (w : World) (locals : Locals) : List (Item ExprTree) → List
   nothing_given : SidesGive w locals [] []
   a_call : {i : Item ExprTree} {ts : List PlainType} → HasMeaning w locals i.value (Results ts) →
       SidesGive w locals (i ∷ []) (map (λ t. given_at (place_of i.value) (Some (Typed t))) ts)
-  one_given : {i : Item ExprTree} {k : Option Kind} → ((ts : List PlainType) → HasMeaning w locals i.value (Results ts) → ⊥) → GivesKind w locals i.value k →
+  one_given : {i : Item ExprTree} {k : Option ValueKind} → ((ts : List PlainType) → HasMeaning w locals i.value (Results ts) → ⊥) → GivesKind w locals i.value k →
       SidesGive w locals (i ∷ []) (given_at (place_of i.value) k ∷ [])
   several_given : {i j : Item ExprTree} {is : List (Item ExprTree)} {vs : List ListValue} → EachGives w locals (i ∷ j ∷ is) vs → SidesGive w locals (i ∷ j ∷ is) vs
 
@@ -54,9 +54,9 @@ pub data NamesValueOf (w : World) (locals : Locals) : ExprTree → PlainType →
 -- a left side of `:=` as a target: `_`, a new name, or the name of a value; none for anything else
 pub data DefinedTakes (w : World) (locals : Locals) (e : ExprTree) : Option Taker → Type 0 where
   an_underscore : IsBlank e → DefinedTakes w locals e (Some Fresh)
-  a_new_name : IsNewName w e → DefinedTakes w locals e (Some Fresh)
-  a_known_name : {t : PlainType} → (IsNewName w e → ⊥) → NamesValueOf w locals e t → DefinedTakes w locals e (Some (OfType t))
-  no_name : (IsBlank e → ⊥) → (IsNewName w e → ⊥) → ((t : PlainType) → NamesValueOf w locals e t → ⊥) → DefinedTakes w locals e None
+  a_new_name : IsDeclaredName w e → DefinedTakes w locals e (Some Fresh)
+  a_known_name : {t : PlainType} → (IsDeclaredName w e → ⊥) → NamesValueOf w locals e t → DefinedTakes w locals e (Some (OfType t))
+  no_name : (IsBlank e → ⊥) → (IsDeclaredName w e → ⊥) → ((t : PlainType) → NamesValueOf w locals e t → ⊥) → DefinedTakes w locals e None
 
 -- each left side is the target at its position, where R gives the target of one
 pub data EachTakes (R : ExprTree → Option Taker → Type 0) : List (Item ExprTree) → List (Option Taker) → Type 0 where
@@ -75,8 +75,8 @@ as_targets results = map (λ t. Wants t) results
 -- Values that are refused
 
 -- the target does not take the value; neither is broken
-pub data Refuses (w : World) : Option Kind → Option Taker → Type 0 where
-  refuses : {k : Kind} {t : Taker} → (Takes w k t → ⊥) → Refuses w (Some k) (Some t)
+pub data Refuses (w : World) : Option ValueKind → Option Taker → Type 0 where
+  refuses : {k : ValueKind} {t : Taker} → (TakesValue w k t → ⊥) → Refuses w (Some k) (Some t)
 
 -- one of the values, at this token, is refused by the target at its position
 pub data RefusedInTurn (w : World) : List ListValue → List (Option Taker) → ℕ → Type 0 where
@@ -87,7 +87,7 @@ pub data RefusedInTurn (w : World) : List ListValue → List (Option Taker) → 
 -- none of the values is broken
 pub data AllHaveKinds : List ListValue → Type 0 where
   all_given : AllHaveKinds []
-  also_given : {v : ListValue} {vs : List ListValue} {k : Kind} → v.kind ≡ Some k → AllHaveKinds vs → AllHaveKinds (v ∷ vs)
+  also_given : {v : ListValue} {vs : List ListValue} {k : ValueKind} → v.kind ≡ Some k → AllHaveKinds vs → AllHaveKinds (v ∷ vs)
 
 -- none of the targets is broken
 pub data AllTake : List (Option Taker) → Type 0 where

@@ -2,14 +2,14 @@
 use Rattle.std.specs.Prelude.{ℕ, Bool, List, [], ◌∷◌, Option, Some, None, map}
 use Rattle.go_ast.specs.Tree.{Item, ExprTree}
 use Rattle.types_expr.specs.declared.types.Basic.{Basic}
-use Rattle.types_expr.specs.Types.{PlainType, BasicType, Kind, Typed, Untyped, Value, Results}
+use Rattle.types_expr.specs.Types.{PlainType, BasicType, ValueKind, Typed, Untyped, Value, Results}
 use Rattle.types_expr.specs.World.{World, Locals, declared}
-use Rattle.law_typing.specs.Fits.{Fits}
+use Rattle.law_typing.specs.Fits.{FitsType}
 use Rattle.law_typing.specs.Meanings.{HasMeaning}
 
 -- a name without a written type takes type t from a value of kind k: the value's own type, or the default type of a constant; nil gives
 -- none
-pub data DefaultsTo : Kind → PlainType → Type 0 where
+pub data DefaultsTo : ValueKind → PlainType → Type 0 where
   own : {t : PlainType} → DefaultsTo (Typed t) t
   by_default : {b : Basic} → DefaultsTo (Untyped b) (BasicType b)
 
@@ -19,32 +19,32 @@ pub data Taker : Type 0 where
   OfType : PlainType → Taker
 
 -- a target takes a value of kind k: a new name can have it, or it fits the target's type
-pub data Takes (w : World) : Kind → Taker → Type 0 where
-  fresh : {k : Kind} {t : PlainType} → DefaultsTo k t → Takes w k Fresh
-  fitting : {k : Kind} {t : PlainType} → Fits w k t → Takes w k (OfType t)
+pub data TakesValue (w : World) : ValueKind → Taker → Type 0 where
+  fresh : {k : ValueKind} {t : PlainType} → DefaultsTo k t → TakesValue w k Fresh
+  fitting : {k : ValueKind} {t : PlainType} → FitsType w k t → TakesValue w k (OfType t)
 
 -- there are as many values as targets, and each value is taken by the target at its position
-pub data TakenInTurn (w : World) : List Kind → List Taker → Type 0 where
+pub data TakenInTurn (w : World) : List ValueKind → List Taker → Type 0 where
   none_given : TakenInTurn w [] []
-  also_given : {k : Kind} {t : Taker} {ks : List Kind} {ts : List Taker} → Takes w k t → TakenInTurn w ks ts → TakenInTurn w (k ∷ ks) (t ∷ ts)
+  also_given : {k : ValueKind} {t : Taker} {ks : List ValueKind} {ts : List Taker} → TakesValue w k t → TakenInTurn w ks ts → TakenInTurn w (k ∷ ks) (t ∷ ts)
 
 -- each expression is one value, of the kind at its position
-pub data AreEachValues (w : World) (locals : Locals) : List (Item ExprTree) → List Kind → Type 0 where
+pub data AreEachValues (w : World) (locals : Locals) : List (Item ExprTree) → List ValueKind → Type 0 where
   no_expression : AreEachValues w locals [] []
-  also_value : {i : Item ExprTree} {is : List (Item ExprTree)} {k : Kind} {a : Bool} {ks : List Kind} → HasMeaning w locals i.value (Value k a) →
+  also_value : {i : Item ExprTree} {is : List (Item ExprTree)} {k : ValueKind} {a : Bool} {ks : List ValueKind} → HasMeaning w locals i.value (Value k a) →
       AreEachValues w locals is ks → AreEachValues w locals (i ∷ is) (k ∷ ks)
 
 -- right sides or returned expressions give values of these kinds: one each; or they are a single call, which gives its results
-pub data GiveKinds (w : World) (locals : Locals) : List (Item ExprTree) → List Kind → Type 0 where
-  values : {is : List (Item ExprTree)} {ks : List Kind} → AreEachValues w locals is ks → GiveKinds w locals is ks
+pub data GiveKinds (w : World) (locals : Locals) : List (Item ExprTree) → List ValueKind → Type 0 where
+  values : {is : List (Item ExprTree)} {ks : List ValueKind} → AreEachValues w locals is ks → GiveKinds w locals is ks
   results : {i : Item ExprTree} {ts : List PlainType} → HasMeaning w locals i.value (Results ts) → GiveKinds w locals (i ∷ []) (map Typed ts)
 
 -- Names declare locals whose types they take from values: the locals before, the names, the kinds of the values, the locals after. A name
 -- is given by its token, and is none where it declares no local.
-pub data Declare : Locals → List (Option ℕ) → List Kind → Locals → Type 0 where
+pub data Declare : Locals → List (Option ℕ) → List ValueKind → Locals → Type 0 where
   no_name : {before : Locals} → Declare before [] [] before
-  no_local : {before after : Locals} {k : Kind} {ns : List (Option ℕ)} {ks : List Kind} → Declare before ns ks after → Declare before (None ∷ ns) (k ∷ ks) after
-  new_local : {before after : Locals} {p : ℕ} {k : Kind} {t : PlainType} {ns : List (Option ℕ)} {ks : List Kind} → DefaultsTo k t →
+  no_local : {before after : Locals} {k : ValueKind} {ns : List (Option ℕ)} {ks : List ValueKind} → Declare before ns ks after → Declare before (None ∷ ns) (k ∷ ks) after
+  new_local : {before after : Locals} {p : ℕ} {k : ValueKind} {t : PlainType} {ns : List (Option ℕ)} {ks : List ValueKind} → DefaultsTo k t →
       Declare (declared before p (Some t)) ns ks after →
       Declare before (Some p ∷ ns) (k ∷ ks) after
 

@@ -6,10 +6,10 @@ use Rattle.go_ast.specs.declared.syntax.PrefixOp.{PrefixOp}
 use Rattle.go_ast.specs.Tree.{TypeTree, ExprTree, LinkTrees, OperandTrees, ArgumentTrees, LiteralTree, ElementTrees}
 use Rattle.go_ast.specs.Tree as tree
 use Rattle.types_expr.specs.declared.symbol.Symbol.{Symbol}
-use Rattle.types_expr.specs.Types.{PlainType, Kind, Typed, Meaning, Value, Package}
+use Rattle.types_expr.specs.Types.{PlainType, ValueKind, Typed, Meaning, Value, Package}
 use Rattle.types_expr.specs.World.{World, Locals, Means, BrokenType, ABrokenMethod}
 use Rattle.law_typing.specs.Names.{NameMeans, IsType}
-use Rattle.law_typing.specs.Links.{Selects, Indexes, Calls}
+use Rattle.law_typing.specs.Links.{SelectsMember, Indexes, CallGives}
 use Rattle.law_typing.specs.Meanings.{HasMeaning, AreValues}
 
 -- a written type names a type definition that is broken
@@ -46,13 +46,13 @@ mutual
     in_index : {o c : ℕ} {e : ExprTree} {rest : LinkTrees} {m : Meaning} → UsesBroken w locals e → LinksUseBroken w locals m (tree.index o e c rest)
     in_call : {o c : ℕ} {arguments : ArgumentTrees} {rest : LinkTrees} {m : Meaning} → ArgumentsUseBroken w locals arguments →
         LinksUseBroken w locals m (tree.call o arguments c rest)
-    behind_selector : {d n : ℕ} {rest : LinkTrees} {m s : Meaning} → Selects w locals m n s → LinksUseBroken w locals s rest →
+    behind_selector : {d n : ℕ} {rest : LinkTrees} {m s : Meaning} → SelectsMember w locals m n s → LinksUseBroken w locals s rest →
         LinksUseBroken w locals m (tree.selector d n rest)
-    behind_index : {o c : ℕ} {e : ExprTree} {rest : LinkTrees} {m s : Meaning} {k : Kind} {a : Bool} → HasMeaning w locals e (Value k a) → Indexes w m k s →
+    behind_index : {o c : ℕ} {e : ExprTree} {rest : LinkTrees} {m s : Meaning} {k : ValueKind} {a : Bool} → HasMeaning w locals e (Value k a) → Indexes w m k s →
         LinksUseBroken w locals s rest →
         LinksUseBroken w locals m (tree.index o e c rest)
-    behind_call : {o c : ℕ} {arguments : ArgumentTrees} {rest : LinkTrees} {m s : Meaning} {ks : List Kind} → AreValues w locals arguments ks →
-        Calls w m ks s → LinksUseBroken w locals s rest →
+    behind_call : {o c : ℕ} {arguments : ArgumentTrees} {rest : LinkTrees} {m s : Meaning} {ks : List ValueKind} → AreValues w locals arguments ks →
+        CallGives w m ks s → LinksUseBroken w locals s rest →
         LinksUseBroken w locals m (tree.call o arguments c rest)
 
   -- one of the operands uses something broken

@@ -8,7 +8,7 @@ use Rattle.types_expr.specs.declared.types.Basic.TheVariants as basic
 use Rattle.types_expr.specs.declared.symbol.Symbol.{Symbol}
 use Rattle.types_expr.specs.Types.{PlainType, Untyped}
 use Rattle.types_expr.specs.World.{World, Locals, BrokenType, no_locals}
-use Rattle.law_typing.specs.Fits.{Fits}
+use Rattle.law_typing.specs.Fits.{FitsType}
 use Rattle.law_typing.specs.Names.{IsType}
 use Rattle.law_typing.specs.Faults.{IsNoType}
 use Rattle.types_stmt.specs.Declarations.{first_name}
@@ -68,8 +68,8 @@ pub data FunctionBreaksAt (w : World) (is_init : Bool) : Locals → FuncTree →
 
 -- one of the literals, at this token, does not fit type t
 pub data LiteralMisfits (w : World) (t : PlainType) : List (Item BasicTree) → ℕ → Type 0 where
-  no_int : {i : Item BasicTree} {is : List (Item BasicTree)} {n : ℕ} → i.value ≡ Integer n → (Fits w (Untyped basic.Int) t → ⊥) → LiteralMisfits w t (i ∷ is) n
-  no_string : {i : Item BasicTree} {is : List (Item BasicTree)} {n : ℕ} → i.value ≡ String n → (Fits w (Untyped basic.String) t → ⊥) →
+  no_int : {i : Item BasicTree} {is : List (Item BasicTree)} {n : ℕ} → i.value ≡ Integer n → (FitsType w (Untyped basic.Int) t → ⊥) → LiteralMisfits w t (i ∷ is) n
+  no_string : {i : Item BasicTree} {is : List (Item BasicTree)} {n : ℕ} → i.value ≡ String n → (FitsType w (Untyped basic.String) t → ⊥) →
       LiteralMisfits w t (i ∷ is) n
   later_literal : {i : Item BasicTree} {is : List (Item BasicTree)} {p : ℕ} → LiteralMisfits w t is p → LiteralMisfits w t (i ∷ is) p
 

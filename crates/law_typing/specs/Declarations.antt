@@ -5,7 +5,7 @@ use Rattle.go_ast.specs.Tree.{BodyTree, TypeSpecTree, DeclTree, FileTree}
 use Rattle.go_ast.specs.Tree as tree
 use Rattle.types_expr.specs.declared.types.Basic.TheVariants as basic
 use Rattle.types_expr.specs.declared.symbol.Symbol.{Symbol}
-use Rattle.types_expr.specs.Types.{PlainType, Defined, Pointer, PointerTo, Kind, Untyped, TypeName}
+use Rattle.types_expr.specs.Types.{PlainType, Defined, Pointer, PointerTo, ValueKind, Untyped, TypeName}
 use Rattle.types_expr.specs.World.{World, Locals, Means, no_locals}
 use Rattle.law_typing.specs.Names.{IsType}
 use Rattle.types_stmt.specs.Sides.{named, all_named}
@@ -57,17 +57,17 @@ pub data FunctionIsTyped (w : World) (is_init : Bool) : Locals → FuncTree → 
       BlockIsTyped w ts entered f.body after → FunctionIsTyped w is_init before f after
 
 -- literals have these kinds
-pub data AreLiterals : List (Item BasicTree) → List Kind → Type 0 where
+pub data AreLiterals : List (Item BasicTree) → List ValueKind → Type 0 where
   no_literal : AreLiterals [] []
-  an_integer : {i : Item BasicTree} {is : List (Item BasicTree)} {p : ℕ} {ks : List Kind} → i.value ≡ Integer p → AreLiterals is ks →
+  an_integer : {i : Item BasicTree} {is : List (Item BasicTree)} {p : ℕ} {ks : List ValueKind} → i.value ≡ Integer p → AreLiterals is ks →
       AreLiterals (i ∷ is) (Untyped basic.Int ∷ ks)
-  a_string : {i : Item BasicTree} {is : List (Item BasicTree)} {p : ℕ} {ks : List Kind} → i.value ≡ String p → AreLiterals is ks →
+  a_string : {i : Item BasicTree} {is : List (Item BasicTree)} {p : ℕ} {ks : List ValueKind} → i.value ≡ String p → AreLiterals is ks →
       AreLiterals (i ∷ is) (Untyped basic.String ∷ ks)
 
 -- Package-level variables of one type are typed: they have no values, or as many literals that fit the type. They declare no local.
 pub data GlobalIsTyped (w : World) : Locals → GlobalTree → Locals → Type 0 where
   without_values : {locals : Locals} {g : GlobalTree} {t : PlainType} → IsType w g.type_use t → g.values ≡ None → GlobalIsTyped w locals g locals
-  with_literals : {locals : Locals} {g : GlobalTree} {t : PlainType} {v : ℕ × List (Item BasicTree)} {ks : List Kind} → IsType w g.type_use t →
+  with_literals : {locals : Locals} {g : GlobalTree} {t : PlainType} {v : ℕ × List (Item BasicTree)} {ks : List ValueKind} → IsType w g.type_use t →
       g.values ≡ Some v → AreLiterals v.1 ks →
       TakenInTurn w ks (map (λ i. OfType t) g.names) → GlobalIsTyped w locals g locals
 

@@ -7,7 +7,7 @@ use Rattle.go_ast.specs.Tree.{Item, Group, TypeTree, ExprTree, SimpleTree, Local
 use Rattle.go_ast.specs.Tree.{ElseTree, ReceiverTree, ParamTree, FuncTree}
 use Rattle.go_ast.specs.Tree as tree
 use Rattle.types_expr.specs.declared.symbol.Symbol.{Symbol}
-use Rattle.types_expr.specs.Types.{PlainType, Defined, PointerTo, Kind, Nil, TypeName}
+use Rattle.types_expr.specs.Types.{PlainType, Defined, PointerTo, ValueKind, Nil, TypeName}
 use Rattle.types_expr.specs.World.{World, Locals, Means, Local, declared}
 use Rattle.types_expr.specs.Judge.{ListValue}
 use Rattle.law_typing.specs.Names.{IsType}
@@ -15,14 +15,14 @@ use Rattle.types_stmt.specs.Sides.{named, all_named}
 use Rattle.law_typing.specs.Sequences.{InTurn, InGroup, IfPresent}
 use Rattle.law_typing.specs.Assignments.{DefaultsTo}
 use Rattle.law_typing.specs.Declarations.{IsBehindStar}
-use Rattle.law_typing.specs.Excused.{IsNewName}
+use Rattle.law_typing.specs.Excused.{IsDeclaredName}
 use Rattle.law_typing.specs.AssignmentFaults.{SidesGive}
 
 -- Names
 
 -- the type that a name without a written type takes from a value; none where the value is nil, or is none
-pub data InfersType : Option Kind → Option PlainType → Type 0 where
-  from_value : {k : Kind} {t : PlainType} → DefaultsTo k t → InfersType (Some k) (Some t)
+pub data InfersType : Option ValueKind → Option PlainType → Type 0 where
+  from_value : {k : ValueKind} {t : PlainType} → DefaultsTo k t → InfersType (Some k) (Some t)
   from_nil : InfersType (Some Nil) None
   from_nothing : InfersType None None
 
@@ -47,12 +47,12 @@ pub data DeclareInferred : Locals → List (Option ℕ) → List ListValue → L
       DeclareInferred before ns vs after
 
 -- the names that left sides of `:=` declare, by their tokens; none for a left side that declares no local
-pub data NewNames (w : World) : List (Item ExprTree) → List (Option ℕ) → Type 0 where
-  no_names : NewNames w [] []
-  a_new_name : {i : Item ExprTree} {is : List (Item ExprTree)} {p : ℕ} {ns : List (Option ℕ)} → i.value ≡ tree.Name p → w.bound p ≡ Local p → NewNames w is ns →
-      NewNames w (i ∷ is) (Some p ∷ ns)
-  no_new_name : {i : Item ExprTree} {is : List (Item ExprTree)} {ns : List (Option ℕ)} → (IsNewName w i.value → ⊥) → NewNames w is ns →
-      NewNames w (i ∷ is) (None ∷ ns)
+pub data DeclaresNames (w : World) : List (Item ExprTree) → List (Option ℕ) → Type 0 where
+  no_names : DeclaresNames w [] []
+  a_new_name : {i : Item ExprTree} {is : List (Item ExprTree)} {p : ℕ} {ns : List (Option ℕ)} → i.value ≡ tree.Name p → w.bound p ≡ Local p → DeclaresNames w is ns →
+      DeclaresNames w (i ∷ is) (Some p ∷ ns)
+  no_new_name : {i : Item ExprTree} {is : List (Item ExprTree)} {ns : List (Option ℕ)} → (IsDeclaredName w i.value → ⊥) → DeclaresNames w is ns →
+      DeclaresNames w (i ∷ is) (None ∷ ns)
 
 -- the type that is written; none where no type is written
 pub data WrittenTypeIs (w : World) (x : TypeTree) : Option PlainType → Type 0 where
@@ -67,7 +67,7 @@ pub data SimpleDeclares (w : World) : Locals → SimpleTree → Locals → Type 
   behind_step : {locals : Locals} {e : ExprTree} {o : StepOp} {p : ℕ} → SimpleDeclares w locals (tree.Step e o p) locals
   behind_update : {locals : Locals} {x y : ExprTree} {o : UpdateOp} {p : ℕ} → SimpleDeclares w locals (tree.Update x o p y) locals
   behind_assignment : {locals : Locals} {xs ys : List (Item ExprTree)} {p : ℕ} → SimpleDeclares w locals (tree.Assign xs p ys) locals
-  behind_definition : {before after : Locals} {xs ys : List (Item ExprTree)} {p : ℕ} {ns : List (Option ℕ)} {vs : List ListValue} → NewNames w xs ns →
+  behind_definition : {before after : Locals} {xs ys : List (Item ExprTree)} {p : ℕ} {ns : List (Option ℕ)} {vs : List ListValue} → DeclaresNames w xs ns →
       SidesGive w before ys vs → DeclareInferred before ns vs after → SimpleDeclares w before (tree.Define xs p ys) after
 
 -- a declaration of locals: with a written type; with values alone; with neither, which no parsed file has

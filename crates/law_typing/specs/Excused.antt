@@ -7,7 +7,7 @@ use Rattle.go_ast.specs.declared.syntax.UpdateOp.{UpdateOp}
 use Rattle.go_ast.specs.Tree.{Item, Group, TypeTree, ExprTree, SimpleTree, LocalTree, InitTree, ForTree, StatementTree, BlockTree, StatementTrees, IfTree}
 use Rattle.go_ast.specs.Tree.{ElseTree, ReceiverTree, ParamTree, ResultTree, FuncTree, GlobalTree, FieldTree, BodyTree, TypeSpecTree, DeclTree, FileTree}
 use Rattle.go_ast.specs.Tree as tree
-use Rattle.types_expr.specs.Types.{PlainType, Kind, Value}
+use Rattle.types_expr.specs.Types.{PlainType, ValueKind, Value}
 use Rattle.types_expr.specs.World.{World, Locals, Local, BrokenType, no_locals}
 use Rattle.law_typing.specs.Operators.{IsUntyped}
 use Rattle.law_typing.specs.Meanings.{HasMeaning}
@@ -18,9 +18,9 @@ use Rattle.law_typing.specs.Statements.{InitIsTyped, HeaderIsTyped, StatementIsT
 use Rattle.law_typing.specs.Declarations.{ReceiverIsTyped, ParamIsTyped, AreResults, GlobalIsTyped, TypeIsTyped, DeclIsTyped}
 
 -- a value of kind k, addressable or not, is no variable with a type: it has no type, or is not addressable
-pub data IsNoVariable : Kind → Bool → Type 0 where
-  without_type : {k : Kind} {a : Bool} → IsUntyped k → IsNoVariable k a
-  constant : {k : Kind} → IsNoVariable k false
+pub data IsNoVariable : ValueKind → Bool → Type 0 where
+  without_type : {k : ValueKind} {a : Bool} → IsUntyped k → IsNoVariable k a
+  constant : {k : ValueKind} → IsNoVariable k false
 
 -- one of the expressions uses something broken
 pub data AnyUsesBroken (w : World) (locals : Locals) : List (Item ExprTree) → Type 0 where
@@ -32,21 +32,21 @@ pub data IsBlank : ExprTree → Type 0 where
   underscored : {p : ℕ} → IsBlank (tree.Blank p)
 
 -- the expression is a name that declares a local: it is bound to itself
-pub data IsNewName (w : World) : ExprTree → Type 0 where
-  bound_to_itself : {p : ℕ} → w.bound p ≡ Local p → IsNewName w (tree.Name p)
+pub data IsDeclaredName (w : World) : ExprTree → Type 0 where
+  bound_to_itself : {p : ℕ} → w.bound p ≡ Local p → IsDeclaredName w (tree.Name p)
 
 -- one of the left sides of `=`, and not `_`, uses something broken or is a variable without a type
 pub data AssignedIsExcused (w : World) (locals : Locals) : List (Item ExprTree) → Type 0 where
   assigned_uses : {i : Item ExprTree} {is : List (Item ExprTree)} → (IsBlank i.value → ⊥) → UsesBroken w locals i.value → AssignedIsExcused w locals (i ∷ is)
-  assigned_without_type : {i : Item ExprTree} {is : List (Item ExprTree)} {k : Kind} → HasMeaning w locals i.value (Value k true) → IsUntyped k →
+  assigned_without_type : {i : Item ExprTree} {is : List (Item ExprTree)} {k : ValueKind} → HasMeaning w locals i.value (Value k true) → IsUntyped k →
       AssignedIsExcused w locals (i ∷ is)
   later_assigned : {i : Item ExprTree} {is : List (Item ExprTree)} → AssignedIsExcused w locals is → AssignedIsExcused w locals (i ∷ is)
 
 -- A left side of `:=` uses something broken or is no variable with a type. It is neither `_` nor a name that declares a local.
 pub data DefinedIsExcused (w : World) (locals : Locals) : List (Item ExprTree) → Type 0 where
-  defined_uses : {i : Item ExprTree} {is : List (Item ExprTree)} → (IsBlank i.value → ⊥) → (IsNewName w i.value → ⊥) → UsesBroken w locals i.value →
+  defined_uses : {i : Item ExprTree} {is : List (Item ExprTree)} → (IsBlank i.value → ⊥) → (IsDeclaredName w i.value → ⊥) → UsesBroken w locals i.value →
       DefinedIsExcused w locals (i ∷ is)
-  defined_no_variable : {i : Item ExprTree} {is : List (Item ExprTree)} {k : Kind} {a : Bool} → (IsNewName w i.value → ⊥) →
+  defined_no_variable : {i : Item ExprTree} {is : List (Item ExprTree)} {k : ValueKind} {a : Bool} → (IsDeclaredName w i.value → ⊥) →
       HasMeaning w locals i.value (Value k a) → IsNoVariable k a → DefinedIsExcused w locals (i ∷ is)
   later_defined : {i : Item ExprTree} {is : List (Item ExprTree)} → DefinedIsExcused w locals is → DefinedIsExcused w locals (i ∷ is)
 
@@ -56,7 +56,7 @@ pub data SimpleIsExcused (w : World) : Locals → SimpleTree → Type 0 where
   in_step : {locals : Locals} {e : ExprTree} {o : StepOp} {p : ℕ} → UsesBroken w locals e → SimpleIsExcused w locals (tree.Step e o p)
   in_updated : {locals : Locals} {x y : ExprTree} {o : UpdateOp} {p : ℕ} → UsesBroken w locals x → SimpleIsExcused w locals (tree.Update x o p y)
   in_update : {locals : Locals} {x y : ExprTree} {o : UpdateOp} {p : ℕ} → UsesBroken w locals y → SimpleIsExcused w locals (tree.Update x o p y)
-  updated_without_type : {locals : Locals} {x y : ExprTree} {o : UpdateOp} {p : ℕ} {k : Kind} → HasMeaning w locals x (Value k true) → IsUntyped k →
+  updated_without_type : {locals : Locals} {x y : ExprTree} {o : UpdateOp} {p : ℕ} {k : ValueKind} → HasMeaning w locals x (Value k true) → IsUntyped k →
       SimpleIsExcused w locals (tree.Update x o p y)
   in_assigned : {locals : Locals} {xs ys : List (Item ExprTree)} {p : ℕ} → AssignedIsExcused w locals xs → SimpleIsExcused w locals (tree.Assign xs p ys)
   in_assignment : {locals : Locals} {xs ys : List (Item ExprTree)} {p : ℕ} → AnyUsesBroken w locals ys → SimpleIsExcused w locals (tree.Assign xs p ys)

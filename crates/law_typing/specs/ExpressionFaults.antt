@@ -9,12 +9,12 @@ use Rattle.go_ast.specs.Tree as tree
 use Rattle.types_expr.specs.declared.types.Basic.TheVariants as basic
 use Rattle.types_expr.specs.declared.symbol.Symbol.{Symbol}
 use Rattle.types_expr.specs.Places.{first_token, first_of_type, place_of}
-use Rattle.types_expr.specs.Types.{PlainType, SliceOf, Struct, Kind, Meaning, Value}
+use Rattle.types_expr.specs.Types.{PlainType, SliceOf, Struct, ValueKind, Meaning, Value}
 use Rattle.types_expr.specs.World.{World, Locals, underlying}
-use Rattle.law_typing.specs.Fits.{Fits}
+use Rattle.law_typing.specs.Fits.{FitsType}
 use Rattle.law_typing.specs.Operators.{IsBasic, Operates, Prefixes}
 use Rattle.law_typing.specs.Names.{IsType}
-use Rattle.law_typing.specs.Links.{Selects, Indexes, Calls}
+use Rattle.law_typing.specs.Links.{SelectsMember, Indexes, CallGives}
 use Rattle.law_typing.specs.Meanings.{HasMeaning, AreValues}
 use Rattle.law_typing.specs.BrokenUses.{SelectsBroken}
 use Rattle.law_typing.specs.Faults.{IsNoValue, IsNoOperand, IsNoCallee, IsNoType, Misfits, IsKey, IsBrokenKey, HasUnkeyed}
@@ -34,20 +34,20 @@ pub data NextMeaning (R : Meaning → Meaning → Type 0) : Option Meaning → O
 
 -- the selector at token n, after an operand that means m, means s
 abbrev pub SelectsBy : World → Locals → ℕ → Meaning → Meaning → Type 0
-SelectsBy w locals n m s = Selects w locals m n s
+SelectsBy w locals n m s = SelectsMember w locals m n s
 
 -- the index e, after an operand that means m, gives an expression that means s
 pub data IndexedBy (w : World) (locals : Locals) (e : ExprTree) (m s : Meaning) : Type 0 where
-  by_index : {k : Kind} {a : Bool} → HasMeaning w locals e (Value k a) → Indexes w m k s → IndexedBy w locals e m s
+  by_index : {k : ValueKind} {a : Bool} → HasMeaning w locals e (Value k a) → Indexes w m k s → IndexedBy w locals e m s
 
 -- the call of an operand that means m with arguments xs means s
 pub data CalledWith (w : World) (locals : Locals) (xs : ArgumentTrees) (m s : Meaning) : Type 0 where
-  by_values : {ks : List Kind} → AreValues w locals xs ks → Calls w m ks s → CalledWith w locals xs m s
+  by_values : {ks : List ValueKind} → AreValues w locals xs ks → CallGives w m ks s → CalledWith w locals xs m s
 
 -- the kinds of an operation before and after one more operator o with its operand e; none where it has no kind
-pub data NextKind (w : World) (locals : Locals) (o : BinaryOp) (e : ExprTree) : Option Kind → Option Kind → Type 0 where
-  operates : {j k l : Kind} {a : Bool} → HasMeaning w locals e (Value k a) → Operates w o j k l → NextKind w locals o e (Some j) (Some l)
-  operates_on_nothing : {j : Kind} → ((k l : Kind) (a : Bool) → HasMeaning w locals e (Value k a) → Operates w o j k l → ⊥) →
+pub data NextKind (w : World) (locals : Locals) (o : BinaryOp) (e : ExprTree) : Option ValueKind → Option ValueKind → Type 0 where
+  operates : {j k l : ValueKind} {a : Bool} → HasMeaning w locals e (Value k a) → Operates w o j k l → NextKind w locals o e (Some j) (Some l)
+  operates_on_nothing : {j : ValueKind} → ((k l : ValueKind) (a : Bool) → HasMeaning w locals e (Value k a) → Operates w o j k l → ⊥) →
       NextKind w locals o e (Some j) None
   nothing_operated : NextKind w locals o e None None
 
@@ -55,10 +55,10 @@ pub data NextKind (w : World) (locals : Locals) (o : BinaryOp) (e : ExprTree) : 
 -- that no earlier key named, and its value fits it.
 pub data AreWhole (w : World) (locals : Locals) (t : PlainType) : List ℕ → ElementTrees → Type 0 where
   no_element_left : {named : List ℕ} → AreWhole w locals t named tree.no_element
-  whole_value : {named : List ℕ} {e : ExprTree} {c : Option ℕ} {rest : ElementTrees} {k : Kind} {a : Bool} → HasMeaning w locals e (Value k a) →
+  whole_value : {named : List ℕ} {e : ExprTree} {c : Option ℕ} {rest : ElementTrees} {k : ValueKind} {a : Bool} → HasMeaning w locals e (Value k a) →
       AreWhole w locals t named rest → AreWhole w locals t named (tree.element None e c rest)
-  whole_field : {named : List ℕ} {key : ℕ × ℕ} {e : ExprTree} {c : Option ℕ} {rest : ElementTrees} {s : Symbol} {u : PlainType} {k : Kind} {a : Bool} →
-      IsKey w t named key.0 s u → HasMeaning w locals e (Value k a) → Fits w k u → AreWhole w locals t (s.rank ∷ named) rest →
+  whole_field : {named : List ℕ} {key : ℕ × ℕ} {e : ExprTree} {c : Option ℕ} {rest : ElementTrees} {s : Symbol} {u : PlainType} {k : ValueKind} {a : Bool} →
+      IsKey w t named key.0 s u → HasMeaning w locals e (Value k a) → FitsType w k u → AreWhole w locals t (s.rank ∷ named) rest →
       AreWhole w locals t named (tree.element (Some key) e c rest)
 
 mutual
@@ -68,13 +68,13 @@ mutual
     in_address : {q p : ℕ} {l : LiteralTree} → LiteralBreaksAt w locals l p → BreaksAt w locals (tree.Address q l) p
     in_paren : {o c p : ℕ} {e : ExprTree} → ValueBreaksAt w locals e p → BreaksAt w locals (tree.Paren o e c) p
     in_prefix : {o : PrefixOp} {q p : ℕ} {e : ExprTree} → ValueBreaksAt w locals e p → BreaksAt w locals (tree.Prefix o q e) p
-    no_prefix : {o : PrefixOp} {q : ℕ} {e : ExprTree} {k : Kind} {a : Bool} → HasMeaning w locals e (Value k a) → ((m : Meaning) → Prefixes w o k m → ⊥) →
+    no_prefix : {o : PrefixOp} {q : ℕ} {e : ExprTree} {k : ValueKind} {a : Bool} → HasMeaning w locals e (Value k a) → ((m : Meaning) → Prefixes w o k m → ⊥) →
         BreaksAt w locals (tree.Prefix o q e) q
     in_chain : {e : ExprTree} {links : LinkTrees} {p : ℕ} → BreaksAt w locals e p → BreaksAt w locals (tree.Chain e links) p
     in_links : {e : ExprTree} {links : LinkTrees} {m : Option Meaning} {p : ℕ} → MeaningIs w locals e m →
         LinksBreakAt w locals (first_token e) (place_of e) m links p → BreaksAt w locals (tree.Chain e links) p
     in_binary : {e : ExprTree} {rest : OperandTrees} {p : ℕ} → ValueBreaksAt w locals e p → BreaksAt w locals (tree.Binary e rest) p
-    in_operands : {e : ExprTree} {rest : OperandTrees} {k : Option Kind} {p : ℕ} → GivesKind w locals e k →
+    in_operands : {e : ExprTree} {rest : OperandTrees} {k : Option ValueKind} {p : ℕ} → GivesKind w locals e k →
         OperandsBreakAt w locals (first_token e) k rest p → BreaksAt w locals (tree.Binary e rest) p
 
   -- the expression, where a value is required, breaks a rule at this token: a part of it does, or it is no value
@@ -85,7 +85,7 @@ mutual
   -- Links break a rule at the last token. The chain begins at the first token, and the operand before the links has the given meaning and
   -- reports its faults at the second.
   pub data LinksBreakAt (w : World) (locals : Locals) : ℕ → ℕ → Option Meaning → LinkTrees → ℕ → Type 0 where
-    no_member : {start place d n : ℕ} {rest : LinkTrees} {k : Kind} {a : Bool} → ((s : Meaning) → Selects w locals (Value k a) n s → ⊥) →
+    no_member : {start place d n : ℕ} {rest : LinkTrees} {k : ValueKind} {a : Bool} → ((s : Meaning) → SelectsMember w locals (Value k a) n s → ⊥) →
         (SelectsBroken w locals (Value k a) n → ⊥) → LinksBreakAt w locals start place (Some (Value k a)) (tree.selector d n rest) n
     no_selection : {start place d n : ℕ} {rest : LinkTrees} {m : Meaning} → IsNoOperand m →
         LinksBreakAt w locals start place (Some m) (tree.selector d n rest) place
@@ -95,9 +95,9 @@ mutual
         LinksBreakAt w locals start place (Some m) (tree.index o e c rest) place
     in_index : {start place o c p : ℕ} {e : ExprTree} {rest : LinkTrees} {m : Option Meaning} → ValueBreaksAt w locals e p →
         LinksBreakAt w locals start place m (tree.index o e c rest) p
-    no_int : {start place o c : ℕ} {e : ExprTree} {rest : LinkTrees} {m : Option Meaning} {k : Kind} {a : Bool} → HasMeaning w locals e (Value k a) →
+    no_int : {start place o c : ℕ} {e : ExprTree} {rest : LinkTrees} {m : Option Meaning} {k : ValueKind} {a : Bool} → HasMeaning w locals e (Value k a) →
         (IsBasic w k basic.Int → ⊥) → LinksBreakAt w locals start place m (tree.index o e c rest) (place_of e)
-    no_slice : {start place o c : ℕ} {e : ExprTree} {rest : LinkTrees} {j k : Kind} {a b : Bool} → HasMeaning w locals e (Value k a) → IsBasic w k basic.Int →
+    no_slice : {start place o c : ℕ} {e : ExprTree} {rest : LinkTrees} {j k : ValueKind} {a b : Bool} → HasMeaning w locals e (Value k a) → IsBasic w k basic.Int →
         ((s : Meaning) → Indexes w (Value j b) k s → ⊥) → LinksBreakAt w locals start place (Some (Value j b)) (tree.index o e c rest) start
     behind_index : {start place o c p : ℕ} {e : ExprTree} {rest : LinkTrees} {m s : Option Meaning} → NextMeaning (IndexedBy w locals e) m s →
         LinksBreakAt w locals start start s rest p → LinksBreakAt w locals start place m (tree.index o e c rest) p
@@ -107,20 +107,20 @@ mutual
         LinksBreakAt w locals start place m (tree.call o xs c rest) p
     misfit : {start place o c p : ℕ} {xs : ArgumentTrees} {rest : LinkTrees} {m : Meaning} → Misfits w locals m xs p →
         LinksBreakAt w locals start place (Some m) (tree.call o xs c rest) p
-    no_call : {start place o c : ℕ} {xs : ArgumentTrees} {rest : LinkTrees} {m : Meaning} {ks : List Kind} → (IsNoCallee m → ⊥) → AreValues w locals xs ks →
-        ((s : Meaning) → Calls w m ks s → ⊥) → ((p : ℕ) → Misfits w locals m xs p → ⊥) →
+    no_call : {start place o c : ℕ} {xs : ArgumentTrees} {rest : LinkTrees} {m : Meaning} {ks : List ValueKind} → (IsNoCallee m → ⊥) → AreValues w locals xs ks →
+        ((s : Meaning) → CallGives w m ks s → ⊥) → ((p : ℕ) → Misfits w locals m xs p → ⊥) →
         LinksBreakAt w locals start place (Some m) (tree.call o xs c rest) start
     behind_call : {start place o c p : ℕ} {xs : ArgumentTrees} {rest : LinkTrees} {m s : Option Meaning} → NextMeaning (CalledWith w locals xs) m s →
         LinksBreakAt w locals start start s rest p → LinksBreakAt w locals start place m (tree.call o xs c rest) p
 
   -- Operators and operands break a rule at the last token. The operation begins at the first token, and its part before them has the given
   -- kind.
-  pub data OperandsBreakAt (w : World) (locals : Locals) : ℕ → Option Kind → OperandTrees → ℕ → Type 0 where
-    in_operand : {start q p : ℕ} {o : BinaryOp} {e : ExprTree} {rest : OperandTrees} {k : Option Kind} → ValueBreaksAt w locals e p →
+  pub data OperandsBreakAt (w : World) (locals : Locals) : ℕ → Option ValueKind → OperandTrees → ℕ → Type 0 where
+    in_operand : {start q p : ℕ} {o : BinaryOp} {e : ExprTree} {rest : OperandTrees} {k : Option ValueKind} → ValueBreaksAt w locals e p →
         OperandsBreakAt w locals start k (tree.operand o q e rest) p
-    no_operation : {start q : ℕ} {o : BinaryOp} {e : ExprTree} {rest : OperandTrees} {j k : Kind} {a : Bool} → HasMeaning w locals e (Value k a) →
-        ((l : Kind) → Operates w o j k l → ⊥) → OperandsBreakAt w locals start (Some j) (tree.operand o q e rest) start
-    behind_operation : {start q p : ℕ} {o : BinaryOp} {e : ExprTree} {rest : OperandTrees} {k l : Option Kind} → NextKind w locals o e k l →
+    no_operation : {start q : ℕ} {o : BinaryOp} {e : ExprTree} {rest : OperandTrees} {j k : ValueKind} {a : Bool} → HasMeaning w locals e (Value k a) →
+        ((l : ValueKind) → Operates w o j k l → ⊥) → OperandsBreakAt w locals start (Some j) (tree.operand o q e rest) start
+    behind_operation : {start q p : ℕ} {o : BinaryOp} {e : ExprTree} {rest : OperandTrees} {k l : Option ValueKind} → NextKind w locals o e k l →
         OperandsBreakAt w locals start l rest p → OperandsBreakAt w locals start k (tree.operand o q e rest) p
 
   -- one of the arguments breaks a rule at this token
@@ -157,13 +157,13 @@ mutual
     no_key : {t : PlainType} {named : List ℕ} {key : ℕ × ℕ} {e : ExprTree} {c : Option ℕ} {rest : ElementTrees} →
         ((s : Symbol) (u : PlainType) → IsKey w t named key.0 s u → ⊥) → (IsBrokenKey w t key.0 → ⊥) →
         ElementsBreakAt w locals t named (tree.element (Some key) e c rest) key.0
-    field_misfit : {t : PlainType} {named : List ℕ} {key : ℕ × ℕ} {e : ExprTree} {c : Option ℕ} {rest : ElementTrees} {s : Symbol} {u : PlainType} {k : Kind}
+    field_misfit : {t : PlainType} {named : List ℕ} {key : ℕ × ℕ} {e : ExprTree} {c : Option ℕ} {rest : ElementTrees} {s : Symbol} {u : PlainType} {k : ValueKind}
         {a : Bool} →
-        IsKey w t named key.0 s u → HasMeaning w locals e (Value k a) → (Fits w k u → ⊥) →
+        IsKey w t named key.0 s u → HasMeaning w locals e (Value k a) → (FitsType w k u → ⊥) →
         ElementsBreakAt w locals t named (tree.element (Some key) e c rest) (place_of e)
     element_misfit : {t : PlainType} {named : List ℕ} {key : Option
-        (ℕ × ℕ)} {e : ExprTree} {c : Option ℕ} {rest : ElementTrees} {u : PlainType} {k : Kind} {a : Bool} →
-        underlying w t ≡ SliceOf u → HasMeaning w locals e (Value k a) → (Fits w k u → ⊥) →
+        (ℕ × ℕ)} {e : ExprTree} {c : Option ℕ} {rest : ElementTrees} {u : PlainType} {k : ValueKind} {a : Bool} →
+        underlying w t ≡ SliceOf u → HasMeaning w locals e (Value k a) → (FitsType w k u → ⊥) →
         ElementsBreakAt w locals t named (tree.element key e c rest) (place_of e)
     behind_value : {t : PlainType} {named : List ℕ} {e : ExprTree} {c : Option ℕ} {rest : ElementTrees} {p : ℕ} → ElementsBreakAt w locals t named rest p →
         ElementsBreakAt w locals t named (tree.element None e c rest) p

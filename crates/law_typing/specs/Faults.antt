@@ -10,18 +10,18 @@ use Rattle.types_expr.specs.declared.types.Basic.TheVariants as basic
 use Rattle.types_expr.specs.declared.types.Builtin.TheVariants as builtin
 use Rattle.types_expr.specs.declared.symbol.Symbol.{Symbol}
 use Rattle.types_expr.specs.Places.{first_token, first_of_type, place_of}
-use Rattle.types_expr.specs.Types.{PlainType, SliceOf, Struct, Kind, Typed, Signature, Meaning, Value, TypeName, Function, BuiltinName, Package, Results}
+use Rattle.types_expr.specs.Types.{PlainType, SliceOf, Struct, ValueKind, Typed, Signature, Meaning, Value, TypeName, Function, BuiltinName, Package, Results}
 use Rattle.types_expr.specs.World.{World, Locals, Local, Means, BrokenVariable, BrokenType, AField, ABrokenMethod, underlying}
-use Rattle.law_typing.specs.Fits.{Fits}
+use Rattle.law_typing.specs.Fits.{FitsType}
 use Rattle.law_typing.specs.Operators.{IsBasic, Operates, Prefixes}
 use Rattle.law_typing.specs.Names.{IsType}
-use Rattle.law_typing.specs.Links.{Selects, Indexes, Calls}
+use Rattle.law_typing.specs.Links.{SelectsMember, Indexes, CallGives}
 use Rattle.law_typing.specs.Meanings.{IsNew, HasMeaning, AreValues}
 use Rattle.law_typing.specs.BrokenUses.{SelectsBroken}
 
 -- m is not the meaning of a value: it is that of a type, a function, a builtin, a package, or a call without exactly one result
 abbrev pub IsNoValue : Meaning → Type 0
-IsNoValue m = (k : Kind) (a : Bool) → m ≡ Value k a → ⊥
+IsNoValue m = (k : ValueKind) (a : Bool) → m ≡ Value k a → ⊥
 
 -- Types
 
@@ -33,7 +33,7 @@ pub record NamesNoType (w : World) (name : ℕ) : Type 0 where
 -- the name at token `name`, before the dot of a qualified type, denotes a variable or another value
 pub data NamesValue (w : World) (name : ℕ) : Type 0 where
   a_local : {place : ℕ} → w.bound name ≡ Local place → NamesValue w name
-  a_value : {k : Kind} {a : Bool} → w.bound name ≡ Means (Value k a) → NamesValue w name
+  a_value : {k : ValueKind} {a : Bool} → w.bound name ≡ Means (Value k a) → NamesValue w name
   a_broken_variable : w.bound name ≡ BrokenVariable → NamesValue w name
 
 -- A written type denotes no type, which is a fault at this token. In `p.n` it is n where p is a package or a value, and p where it is
@@ -50,15 +50,15 @@ pub data IsNoType (w : World) : TypeTree → ℕ → Type 0 where
 
 -- an argument that is a value does not fit the type at its position; this is its token
 pub data IsMisfit (w : World) (locals : Locals) : ArgumentTrees → List PlainType → ℕ → Type 0 where
-  this_argument : {e : ExprTree} {c : Option ℕ} {rest : ArgumentTrees} {t : PlainType} {ts : List PlainType} {k : Kind} {a : Bool} →
-      HasMeaning w locals e (Value k a) → (Fits w k t → ⊥) →
+  this_argument : {e : ExprTree} {c : Option ℕ} {rest : ArgumentTrees} {t : PlainType} {ts : List PlainType} {k : ValueKind} {a : Bool} →
+      HasMeaning w locals e (Value k a) → (FitsType w k t → ⊥) →
       IsMisfit w locals (tree.argument e c rest) (t ∷ ts) (place_of e)
   other_argument : {e : ExprTree} {c : Option ℕ} {rest : ArgumentTrees} {t : PlainType} {ts : List PlainType} {p : ℕ} → IsMisfit w locals rest ts p →
       IsMisfit w locals (tree.argument e c rest) (t ∷ ts) p
 
 -- an argument that is a value does not fit type t; this is its token
 pub data IsMisfitOf (w : World) (locals : Locals) (t : PlainType) : ArgumentTrees → ℕ → Type 0 where
-  this_value : {e : ExprTree} {c : Option ℕ} {rest : ArgumentTrees} {k : Kind} {a : Bool} → HasMeaning w locals e (Value k a) → (Fits w k t → ⊥) →
+  this_value : {e : ExprTree} {c : Option ℕ} {rest : ArgumentTrees} {k : ValueKind} {a : Bool} → HasMeaning w locals e (Value k a) → (FitsType w k t → ⊥) →
       IsMisfitOf w locals t (tree.argument e c rest) (place_of e)
   other_value : {e : ExprTree} {c : Option ℕ} {rest : ArgumentTrees} {p : ℕ} → IsMisfitOf w locals t rest p → IsMisfitOf w locals t (tree.argument e c rest) p
 
@@ -104,7 +104,7 @@ pub data IsBrokenKey (w : World) (t : PlainType) (key : ℕ) : Type 0 where
 -- each element is a value
 pub data HaveValues (w : World) (locals : Locals) : ElementTrees → Type 0 where
   no_value_left : HaveValues w locals tree.no_element
-  one_value_more : {key : Option (ℕ × ℕ)} {e : ExprTree} {c : Option ℕ} {rest : ElementTrees} {k : Kind} {a : Bool} → HasMeaning w locals e (Value k a) →
+  one_value_more : {key : Option (ℕ × ℕ)} {e : ExprTree} {c : Option ℕ} {rest : ElementTrees} {k : ValueKind} {a : Bool} → HasMeaning w locals e (Value k a) →
       HaveValues w locals rest →
       HaveValues w locals (tree.element key e c rest)
 
@@ -120,7 +120,7 @@ mutual
     in_address : {q p : ℕ} {l : LiteralTree} → LiteralHasFault w locals l p → HasFault w locals (tree.Address q l) p
     in_paren : {o c p : ℕ} {e : ExprTree} → ValueHasFault w locals e p → HasFault w locals (tree.Paren o e c) p
     in_prefix : {o : PrefixOp} {q p : ℕ} {e : ExprTree} → ValueHasFault w locals e p → HasFault w locals (tree.Prefix o q e) p
-    no_prefix : {o : PrefixOp} {q : ℕ} {e : ExprTree} {k : Kind} {a : Bool} → HasMeaning w locals e (Value k a) → ((m : Meaning) → Prefixes w o k m → ⊥) →
+    no_prefix : {o : PrefixOp} {q : ℕ} {e : ExprTree} {k : ValueKind} {a : Bool} → HasMeaning w locals e (Value k a) → ((m : Meaning) → Prefixes w o k m → ⊥) →
         HasFault w locals (tree.Prefix o q e) q
     in_chain : {e : ExprTree} {links : LinkTrees} {p : ℕ} → HasFault w locals e p → HasFault w locals (tree.Chain e links) p
     in_links : {e : ExprTree} {links : LinkTrees} {m : Option Meaning} {p : ℕ} → MeaningOrNone w locals e m →
@@ -137,12 +137,12 @@ mutual
   -- Links have a fault at the last token. The chain begins at the first token, and the operand before the links has the given meaning and
   -- reports its faults at the second.
   pub data LinksHaveFault (w : World) (locals : Locals) : ℕ → ℕ → Option Meaning → LinkTrees → ℕ → Type 0 where
-    no_member : {start place d n : ℕ} {rest : LinkTrees} {k : Kind} {a : Bool} → ((s : Meaning) → Selects w locals (Value k a) n s → ⊥) →
+    no_member : {start place d n : ℕ} {rest : LinkTrees} {k : ValueKind} {a : Bool} → ((s : Meaning) → SelectsMember w locals (Value k a) n s → ⊥) →
         (SelectsBroken w locals (Value k a) n → ⊥) →
         LinksHaveFault w locals start place (Some (Value k a)) (tree.selector d n rest) n
     no_selection : {start place d n : ℕ} {rest : LinkTrees} {m : Meaning} → IsNoOperand m →
         LinksHaveFault w locals start place (Some m) (tree.selector d n rest) place
-    behind_selector : {start place d n p : ℕ} {rest : LinkTrees} {m s : Meaning} → Selects w locals m n s → LinksHaveFault w locals start n (Some s) rest p →
+    behind_selector : {start place d n p : ℕ} {rest : LinkTrees} {m s : Meaning} → SelectsMember w locals m n s → LinksHaveFault w locals start n (Some s) rest p →
         LinksHaveFault w locals start place (Some m) (tree.selector d n rest) p
     behind_no_selector : {start place d n p : ℕ} {rest : LinkTrees} {m : Option Meaning} → LinksHaveFault w locals start n None rest p →
         LinksHaveFault w locals start place m (tree.selector d n rest) p
@@ -150,13 +150,13 @@ mutual
         LinksHaveFault w locals start place (Some m) (tree.index o e c rest) place
     in_index : {start place o c p : ℕ} {e : ExprTree} {rest : LinkTrees} {m : Option Meaning} → ValueHasFault w locals e p →
         LinksHaveFault w locals start place m (tree.index o e c rest) p
-    no_int : {start place o c : ℕ} {e : ExprTree} {rest : LinkTrees} {m : Option Meaning} {k : Kind} {a : Bool} → HasMeaning w locals e (Value k a) →
+    no_int : {start place o c : ℕ} {e : ExprTree} {rest : LinkTrees} {m : Option Meaning} {k : ValueKind} {a : Bool} → HasMeaning w locals e (Value k a) →
         (IsBasic w k basic.Int → ⊥) →
         LinksHaveFault w locals start place m (tree.index o e c rest) (place_of e)
-    no_slice : {start place o c : ℕ} {e : ExprTree} {rest : LinkTrees} {j k : Kind} {a b : Bool} → HasMeaning w locals e (Value k a) → IsBasic w k basic.Int →
+    no_slice : {start place o c : ℕ} {e : ExprTree} {rest : LinkTrees} {j k : ValueKind} {a b : Bool} → HasMeaning w locals e (Value k a) → IsBasic w k basic.Int →
         ((s : Meaning) → Indexes w (Value j b) k s → ⊥) →
         LinksHaveFault w locals start place (Some (Value j b)) (tree.index o e c rest) start
-    behind_index : {start place o c p : ℕ} {e : ExprTree} {rest : LinkTrees} {m s : Meaning} {k : Kind} {a : Bool} → HasMeaning w locals e (Value k a) →
+    behind_index : {start place o c p : ℕ} {e : ExprTree} {rest : LinkTrees} {m s : Meaning} {k : ValueKind} {a : Bool} → HasMeaning w locals e (Value k a) →
         Indexes w m k s → LinksHaveFault w locals start start (Some s) rest p →
         LinksHaveFault w locals start place (Some m) (tree.index o e c rest) p
     behind_no_index : {start place o c p : ℕ} {e : ExprTree} {rest : LinkTrees} {m : Option Meaning} → LinksHaveFault w locals start start None rest p →
@@ -167,11 +167,11 @@ mutual
         LinksHaveFault w locals start place m (tree.call o xs c rest) p
     misfit : {start place o c p : ℕ} {xs : ArgumentTrees} {rest : LinkTrees} {m : Meaning} → Misfits w locals m xs p →
         LinksHaveFault w locals start place (Some m) (tree.call o xs c rest) p
-    no_call : {start place o c : ℕ} {xs : ArgumentTrees} {rest : LinkTrees} {m : Meaning} {ks : List Kind} → AreValues w locals xs ks →
-        ((s : Meaning) → Calls w m ks s → ⊥) → ((p : ℕ) → Misfits w locals m xs p → ⊥) →
+    no_call : {start place o c : ℕ} {xs : ArgumentTrees} {rest : LinkTrees} {m : Meaning} {ks : List ValueKind} → AreValues w locals xs ks →
+        ((s : Meaning) → CallGives w m ks s → ⊥) → ((p : ℕ) → Misfits w locals m xs p → ⊥) →
         LinksHaveFault w locals start place (Some m) (tree.call o xs c rest) start
-    behind_call : {start place o c p : ℕ} {xs : ArgumentTrees} {rest : LinkTrees} {m s : Meaning} {ks : List Kind} → AreValues w locals xs ks →
-        Calls w m ks s → LinksHaveFault w locals start start (Some s) rest p →
+    behind_call : {start place o c p : ℕ} {xs : ArgumentTrees} {rest : LinkTrees} {m s : Meaning} {ks : List ValueKind} → AreValues w locals xs ks →
+        CallGives w m ks s → LinksHaveFault w locals start start (Some s) rest p →
         LinksHaveFault w locals start place (Some m) (tree.call o xs c rest) p
     behind_no_call : {start place o c p : ℕ} {xs : ArgumentTrees} {rest : LinkTrees} {m : Option Meaning} →
         LinksHaveFault w locals start start None rest p → LinksHaveFault w locals start place m (tree.call o xs c rest) p
@@ -181,10 +181,10 @@ mutual
   pub data OperandsHaveFault (w : World) (locals : Locals) : ℕ → Option Meaning → OperandTrees → ℕ → Type 0 where
     in_operand : {start q p : ℕ} {o : BinaryOp} {e : ExprTree} {rest : OperandTrees} {m : Option Meaning} → ValueHasFault w locals e p →
         OperandsHaveFault w locals start m (tree.operand o q e rest) p
-    no_operation : {start q : ℕ} {o : BinaryOp} {e : ExprTree} {rest : OperandTrees} {j k : Kind} {a b : Bool} → HasMeaning w locals e (Value k b) →
-        ((l : Kind) → Operates w o j k l → ⊥) →
+    no_operation : {start q : ℕ} {o : BinaryOp} {e : ExprTree} {rest : OperandTrees} {j k : ValueKind} {a b : Bool} → HasMeaning w locals e (Value k b) →
+        ((l : ValueKind) → Operates w o j k l → ⊥) →
         OperandsHaveFault w locals start (Some (Value j a)) (tree.operand o q e rest) start
-    behind_operation : {start q p : ℕ} {o : BinaryOp} {e : ExprTree} {rest : OperandTrees} {j k l : Kind} {a b : Bool} → HasMeaning w locals e (Value k b) →
+    behind_operation : {start q p : ℕ} {o : BinaryOp} {e : ExprTree} {rest : OperandTrees} {j k l : ValueKind} {a b : Bool} → HasMeaning w locals e (Value k b) →
         Operates w o j k l →
         OperandsHaveFault w locals start (Some (Value l false)) rest p → OperandsHaveFault w locals start (Some (Value j a)) (tree.operand o q e rest) p
     behind_no_operation : {start q p : ℕ} {o : BinaryOp} {e : ExprTree} {rest : OperandTrees} {m : Option Meaning} →
@@ -224,12 +224,12 @@ mutual
     no_key : {t : PlainType} {named : List ℕ} {key : ℕ × ℕ} {e : ExprTree} {c : Option ℕ} {rest : ElementTrees} →
         ((s : Symbol) (u : PlainType) → IsKey w t named key.0 s u → ⊥) → (IsBrokenKey w t key.0 → ⊥) →
         ElementsHaveFault w locals t named (tree.element (Some key) e c rest) key.0
-    field_misfit : {t u : PlainType} {named : List ℕ} {key : ℕ × ℕ} {e : ExprTree} {c : Option ℕ} {rest : ElementTrees} {s : Symbol} {k : Kind} {a : Bool} →
+    field_misfit : {t u : PlainType} {named : List ℕ} {key : ℕ × ℕ} {e : ExprTree} {c : Option ℕ} {rest : ElementTrees} {s : Symbol} {k : ValueKind} {a : Bool} →
         IsKey w t named key.0 s u → HasMeaning w locals e (Value k a) →
-        (Fits w k u → ⊥) → ElementsHaveFault w locals t named (tree.element (Some key) e c rest) (place_of e)
-    element_misfit : {t u : PlainType} {named : List ℕ} {key : Option (ℕ × ℕ)} {e : ExprTree} {c : Option ℕ} {rest : ElementTrees} {k : Kind} {a : Bool} →
+        (FitsType w k u → ⊥) → ElementsHaveFault w locals t named (tree.element (Some key) e c rest) (place_of e)
+    element_misfit : {t u : PlainType} {named : List ℕ} {key : Option (ℕ × ℕ)} {e : ExprTree} {c : Option ℕ} {rest : ElementTrees} {k : ValueKind} {a : Bool} →
         underlying w t ≡ SliceOf u → HasMeaning w locals e (Value k a) →
-        (Fits w k u → ⊥) → ElementsHaveFault w locals t named (tree.element key e c rest) (place_of e)
+        (FitsType w k u → ⊥) → ElementsHaveFault w locals t named (tree.element key e c rest) (place_of e)
     behind_field : {t u : PlainType} {named : List ℕ} {key : ℕ × ℕ} {e : ExprTree} {c : Option ℕ} {rest : ElementTrees} {s : Symbol} {p : ℕ} →
         IsKey w t named key.0 s u →
         ElementsHaveFault w locals t (s.rank ∷ named) rest p → ElementsHaveFault w locals t named (tree.element (Some key) e c rest) p

@@ -2,11 +2,11 @@
 use Rattle.std.specs.Prelude.{◌≡◌, List, [], Some, map}
 use Rattle.types_expr.specs.Types.{PlainType}
 use Rattle.types_expr.specs.World.{Locals}
-use Rattle.types_stmt.specs.Checked.{Checked}
+use Rattle.types_stmt.specs.Checked.{FoundSoFar}
 use Rattle.types_stmt.specs.Sides.{Target, Wants}
 
 -- the check s has found no fault, and its locals are `after`
-pub record IsFaultlessWith (s : Checked) (after : Locals) : Type 0 where
+pub record IsFaultlessWith (s : FoundSoFar) (after : Locals) : Type 0 where
   pub locals : s.locals ≡ after
   pub faultless : s.faults ≡ []
 

@@ -4,7 +4,7 @@ use Rattle.types_expr.specs.declared.types.Basic.{Basic}
 use Rattle.types_expr.specs.declared.types.Basic.TheVariants as basic
 use Rattle.types_expr.specs.declared.types.Builtin.TheVariants as builtin
 use Rattle.types_expr.specs.declared.symbol.Symbol.{Symbol}
-use Rattle.types_expr.specs.Types.{PlainType, BasicType, Pointer, PointerTo, SliceOf, Kind, Typed, Signature, Meaning, Value, TypeName, Function, BuiltinName}
+use Rattle.types_expr.specs.Types.{PlainType, BasicType, Pointer, PointerTo, SliceOf, ValueKind, Typed, Signature, Meaning, Value, TypeName, Function, BuiltinName}
 use Rattle.types_expr.specs.Types.{Package, Results}
 use Rattle.types_expr.specs.World.{World, Locals, AField, AMethod, underlying}
 use Rattle.law_typing.specs.Fits.{Converts, FitInTurn, EachFits}
@@ -14,25 +14,25 @@ use Rattle.law_typing.specs.Names.{NameMeans}
 -- The selector at this token, after an operand of the first meaning, has the second. A field is addressable where the operand is, and
 -- always through a pointer. A method of T is selected from a T or `*T`; a method of `*T` from a `*T` or an addressable T. After a package
 -- it is a qualified identifier.
-pub data Selects (w : World) (locals : Locals) : Meaning → ℕ → Meaning → Type 0 where
+pub data SelectsMember (w : World) (locals : Locals) : Meaning → ℕ → Meaning → Type 0 where
   field : {t u : PlainType} {a : Bool} {name : ℕ} {s : Symbol} → w.member name t ≡ Some (AField s u) →
       ((target : PlainType) → underlying w t ≡ PointerTo target → ⊥) →
-      Selects w locals (Value (Typed t) a) name (Value (Typed u) a)
+      SelectsMember w locals (Value (Typed t) a) name (Value (Typed u) a)
   field_through_pointer : {t u target : PlainType} {a : Bool} {name : ℕ} {s : Symbol} → w.member name t ≡ Some (AField s u) →
       underlying w t ≡ PointerTo target →
-      Selects w locals (Value (Typed t) a) name (Value (Typed u) true)
+      SelectsMember w locals (Value (Typed t) a) name (Value (Typed u) true)
   method : {t : PlainType} {a : Bool} {name : ℕ} {s : Symbol} {signature : Signature} → w.member name t ≡ Some (AMethod s false signature) →
-      Selects w locals (Value (Typed t) a) name (Function signature)
+      SelectsMember w locals (Value (Typed t) a) name (Function signature)
   method_on_pointer : {t : PlainType} {a : Bool} {name : ℕ} {s : Symbol} {signature : Signature} → w.member name (Pointer t) ≡ Some (AMethod s true signature) →
-      Selects w locals (Value (Typed (Pointer t)) a) name (Function signature)
+      SelectsMember w locals (Value (Typed (Pointer t)) a) name (Function signature)
   method_on_variable : {t : PlainType} {name : ℕ} {s : Symbol} {signature : Signature} → w.member name t ≡ Some (AMethod s true signature) →
-      Selects w locals (Value (Typed t) true) name (Function signature)
-  of_package : {name : ℕ} {m : Meaning} → NameMeans w locals name m → Selects w locals Package name m
+      SelectsMember w locals (Value (Typed t) true) name (Function signature)
+  of_package : {name : ℕ} {m : Meaning} → NameMeans w locals name m → SelectsMember w locals Package name m
 
 -- An index of this kind, after an operand of the first meaning, gives the second: an int gives the element of a slice, which is
 -- addressable.
-pub data Indexes (w : World) : Meaning → Kind → Meaning → Type 0 where
-  element : {t u : PlainType} {a : Bool} {i : Kind} → underlying w t ≡ SliceOf u → IsBasic w i basic.Int → Indexes w (Value (Typed t) a) i (Value (Typed u) true)
+pub data Indexes (w : World) : Meaning → ValueKind → Meaning → Type 0 where
+  element : {t u : PlainType} {a : Bool} {i : ValueKind} → underlying w t ≡ SliceOf u → IsBasic w i basic.Int → Indexes w (Value (Typed t) a) i (Value (Typed u) true)
 
 -- a call of a function with these results has this meaning: a value, where it has exactly one result
 pub data ResultsMean : List PlainType → Meaning → Type 0 where
@@ -41,23 +41,23 @@ pub data ResultsMean : List PlainType → Meaning → Type 0 where
   several : {t u : PlainType} {ts : List PlainType} → ResultsMean (t ∷ u ∷ ts) (Results (t ∷ u ∷ ts))
 
 -- `len` takes a value of kind k: a string or a slice
-pub data HasLength (w : World) : Kind → Type 0 where
-  a_string : {k : Kind} → IsBasic w k basic.String → HasLength w k
+pub data HasLength (w : World) : ValueKind → Type 0 where
+  a_string : {k : ValueKind} → IsBasic w k basic.String → HasLength w k
   a_slice : {t u : PlainType} → underlying w t ≡ SliceOf u → HasLength w (Typed t)
 
 -- `print` and `println` take values of these kinds: bools, ints and strings
-pub data ArePrinted (w : World) : List Kind → Type 0 where
+pub data ArePrinted (w : World) : List ValueKind → Type 0 where
   none : ArePrinted w []
-  also : {k : Kind} {b : Basic} {ks : List Kind} → IsBasic w k b → ArePrinted w ks → ArePrinted w (k ∷ ks)
+  also : {k : ValueKind} {b : Basic} {ks : List ValueKind} → IsBasic w k b → ArePrinted w ks → ArePrinted w (k ∷ ks)
 
 -- A call of an operand of the first meaning, with values of these kinds, has the second meaning. A function or method has as many arguments
 -- as parameters, each of which fits. A conversion has one value. The predeclared functions have rules of their own.
-pub data Calls (w : World) : Meaning → List Kind → Meaning → Type 0 where
-  function : {s : Signature} {ks : List Kind} {m : Meaning} → FitInTurn w ks s.parameters → ResultsMean s.results m → Calls w (Function s) ks m
-  conversion : {k : Kind} {t : PlainType} → Converts w k t → Calls w (TypeName t) (k ∷ []) (Value (Typed t) false)
-  len : {k : Kind} → HasLength w k → Calls w (BuiltinName builtin.Len) (k ∷ []) (Value (Typed (BasicType basic.Int)) false)
-  append : {t u : PlainType} {ks : List Kind} → underlying w t ≡ SliceOf u → EachFits w u ks →
-      Calls w (BuiltinName builtin.Append) (Typed t ∷ ks) (Value (Typed t) false)
-  panic : {k : Kind} → Calls w (BuiltinName builtin.Panic) (k ∷ []) (Results [])
-  print : {ks : List Kind} → ArePrinted w ks → Calls w (BuiltinName builtin.Print) ks (Results [])
-  println : {ks : List Kind} → ArePrinted w ks → Calls w (BuiltinName builtin.Println) ks (Results [])
+pub data CallGives (w : World) : Meaning → List ValueKind → Meaning → Type 0 where
+  function : {s : Signature} {ks : List ValueKind} {m : Meaning} → FitInTurn w ks s.parameters → ResultsMean s.results m → CallGives w (Function s) ks m
+  conversion : {k : ValueKind} {t : PlainType} → Converts w k t → CallGives w (TypeName t) (k ∷ []) (Value (Typed t) false)
+  len : {k : ValueKind} → HasLength w k → CallGives w (BuiltinName builtin.Len) (k ∷ []) (Value (Typed (BasicType basic.Int)) false)
+  append : {t u : PlainType} {ks : List ValueKind} → underlying w t ≡ SliceOf u → EachFits w u ks →
+      CallGives w (BuiltinName builtin.Append) (Typed t ∷ ks) (Value (Typed t) false)
+  panic : {k : ValueKind} → CallGives w (BuiltinName builtin.Panic) (k ∷ []) (Results [])
+  print : {ks : List ValueKind} → ArePrinted w ks → CallGives w (BuiltinName builtin.Print) ks (Results [])
+  println : {ks : List ValueKind} → ArePrinted w ks → CallGives w (BuiltinName builtin.Println) ks (Results [])

@@ -6,14 +6,14 @@ use Rattle.types_expr.specs.Types.{PlainType, Pointer, Slice, Typed, Meaning, Va
 use Rattle.types_expr.specs.World.{World, Locals, Local, Means}
 
 -- the meaning m is not broken
-abbrev pub IsWhole : Meaning → Type 0
-IsWhole m = m ≡ Broken → ⊥
+abbrev pub IsNotBroken : Meaning → Type 0
+IsNotBroken m = m ≡ Broken → ⊥
 
 -- The name at token `name` has this meaning: that of a local variable with a type, or of anything else that it is bound to. A name that is
 -- bound to nothing, or whose declaration is broken, has none.
 pub data NameMeans (w : World) (locals : Locals) (name : ℕ) : Meaning → Type 0 where
   a_local : {declaration : ℕ} {t : PlainType} → w.bound name ≡ Local declaration → locals declaration ≡ Some t → NameMeans w locals name (Value (Typed t) true)
-  a_bound : {m : Meaning} → w.bound name ≡ Means m → IsWhole m → NameMeans w locals name m
+  a_bound : {m : Meaning} → w.bound name ≡ Means m → IsNotBroken m → NameMeans w locals name m
 
 -- The written type denotes type t: by the name of a type, by a qualified identifier of one, or as `*T` or `[]T`.
 pub data IsType (w : World) : TypeTree → PlainType → Type 0 where

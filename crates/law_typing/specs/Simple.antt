@@ -9,9 +9,9 @@ use Rattle.go_ast.specs.Tree.{Item, TypeTree, ExprTree, LinkTrees, ArgumentTrees
 use Rattle.go_ast.specs.Tree as tree
 use Rattle.types_expr.specs.declared.types.Basic.TheVariants as basic
 use Rattle.types_expr.specs.declared.types.Builtin.TheVariants as builtin
-use Rattle.types_expr.specs.Types.{PlainType, Kind, Typed, Signature, Meaning, Value, Function, BuiltinName}
+use Rattle.types_expr.specs.Types.{PlainType, ValueKind, Typed, Signature, Meaning, Value, Function, BuiltinName}
 use Rattle.types_expr.specs.World.{World, Locals, Local}
-use Rattle.law_typing.specs.Fits.{Fits}
+use Rattle.law_typing.specs.Fits.{FitsType}
 use Rattle.law_typing.specs.Operators.{IsBasic, Operates}
 use Rattle.law_typing.specs.Names.{IsType}
 use Rattle.law_typing.specs.Meanings.{HasMeaning}
@@ -20,7 +20,7 @@ use Rattle.law_typing.specs.Assignments.{Taker, Fresh, OfType, TakenInTurn, Give
 
 -- a condition is typed: a value whose underlying type is bool
 pub data ConditionIsTyped (w : World) : Locals → ExprTree → Locals → Type 0 where
-  a_condition : {locals : Locals} {e : ExprTree} {k : Kind} {a : Bool} → HasMeaning w locals e (Value k a) → IsBasic w k basic.Bool →
+  a_condition : {locals : Locals} {e : ExprTree} {k : ValueKind} {a : Bool} → HasMeaning w locals e (Value k a) → IsBasic w k basic.Bool →
       ConditionIsTyped w locals e locals
 
 -- the assignment operator `op=` applies the binary operator op
@@ -71,15 +71,15 @@ pub data AreDefined (w : World) (locals : Locals) : List (Item ExprTree) → Lis
 pub data SimpleIsTyped (w : World) : Locals → SimpleTree → Locals → Type 0 where
   a_call : {locals : Locals} {e : ExprTree} {links front : LinkTrees} {m f : Meaning} → HasMeaning w locals (tree.Chain e links) m → EndsInCall links front →
       HasMeaning w locals (tree.Chain e front) f → MayBeStatement f → SimpleIsTyped w locals (tree.Alone (tree.Chain e links)) locals
-  a_step : {locals : Locals} {e : ExprTree} {o : StepOp} {p : ℕ} {k : Kind} → HasMeaning w locals e (Value k true) → IsBasic w k basic.Int →
+  a_step : {locals : Locals} {e : ExprTree} {o : StepOp} {p : ℕ} {k : ValueKind} → HasMeaning w locals e (Value k true) → IsBasic w k basic.Int →
       SimpleIsTyped w locals (tree.Step e o p) locals
-  an_update : {locals : Locals} {x y : ExprTree} {o : UpdateOp} {b : BinaryOp} {p : ℕ} {t : PlainType} {k l : Kind} {a : Bool} → Updates o b →
+  an_update : {locals : Locals} {x y : ExprTree} {o : UpdateOp} {b : BinaryOp} {p : ℕ} {t : PlainType} {k l : ValueKind} {a : Bool} → Updates o b →
       HasMeaning w locals x (Value (Typed t) true) →
-      HasMeaning w locals y (Value k a) → Operates w b (Typed t) k l → Fits w l t → SimpleIsTyped w locals (tree.Update x o p y) locals
-  an_assignment : {locals : Locals} {xs ys : List (Item ExprTree)} {p : ℕ} {ts : List Taker} {ks : List Kind} → AreAssigned w locals xs ts →
+      HasMeaning w locals y (Value k a) → Operates w b (Typed t) k l → FitsType w l t → SimpleIsTyped w locals (tree.Update x o p y) locals
+  an_assignment : {locals : Locals} {xs ys : List (Item ExprTree)} {p : ℕ} {ts : List Taker} {ks : List ValueKind} → AreAssigned w locals xs ts →
       GiveKinds w locals ys ks → TakenInTurn w ks ts →
       SimpleIsTyped w locals (tree.Assign xs p ys) locals
-  a_definition : {before after : Locals} {xs ys : List (Item ExprTree)} {p : ℕ} {ts : List Taker} {ns : List (Option ℕ)} {ks : List Kind} →
+  a_definition : {before after : Locals} {xs ys : List (Item ExprTree)} {p : ℕ} {ts : List Taker} {ns : List (Option ℕ)} {ks : List ValueKind} →
       AreDefined w before xs ts ns → GiveKinds w before ys ks →
       TakenInTurn w ks ts → Declare before ns ks after → SimpleIsTyped w before (tree.Define xs p ys) after
 
@@ -88,9 +88,9 @@ pub data LocalIsTyped (w : World) : Locals → LocalTree → Locals → Type 0 w
   of_type : {before after : Locals} {l : LocalTree} {x : TypeTree} {t : PlainType} → l.type_use ≡ Some x → l.values ≡ None → IsType w x t →
       DeclareAs t before (all_named l.names) after →
       LocalIsTyped w before l after
-  of_type_with_values : {before after : Locals} {l : LocalTree} {x : TypeTree} {t : PlainType} {v : ℕ × List (Item ExprTree)} {ks : List Kind} →
+  of_type_with_values : {before after : Locals} {l : LocalTree} {x : TypeTree} {t : PlainType} {v : ℕ × List (Item ExprTree)} {ks : List ValueKind} →
       l.type_use ≡ Some x → l.values ≡ Some v → IsType w x t →
       GiveKinds w before v.1 ks → TakenInTurn w ks (map (λ i. OfType t) l.names) → DeclareAs t before (all_named l.names) after → LocalIsTyped w before l after
-  of_values : {before after : Locals} {l : LocalTree} {v : ℕ × List (Item ExprTree)} {ks : List Kind} → l.type_use ≡ None → l.values ≡ Some v →
+  of_values : {before after : Locals} {l : LocalTree} {v : ℕ × List (Item ExprTree)} {ks : List ValueKind} → l.type_use ≡ None → l.values ≡ Some v →
       GiveKinds w before v.1 ks →
       TakenInTurn w ks (map (λ i. Fresh) l.names) → Declare before (all_named l.names) ks after → LocalIsTyped w before l after

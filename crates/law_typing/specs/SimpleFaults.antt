@@ -8,7 +8,7 @@ use Rattle.go_ast.specs.Tree.{Item, TypeTree, ExprTree, SimpleTree, LocalTree}
 use Rattle.go_ast.specs.Tree as tree
 use Rattle.types_expr.specs.declared.types.Basic.TheVariants as basic
 use Rattle.types_expr.specs.Places.{place_of, first_token}
-use Rattle.types_expr.specs.Types.{PlainType, Kind, Meaning, Value, Results}
+use Rattle.types_expr.specs.Types.{PlainType, ValueKind, Meaning, Value, Results}
 use Rattle.types_expr.specs.World.{World, Locals}
 use Rattle.types_expr.specs.Judge.{ListValue}
 use Rattle.law_typing.specs.Operators.{IsBasic, Operates}
@@ -17,7 +17,7 @@ use Rattle.law_typing.specs.Faults.{IsNoValue, IsNoType}
 use Rattle.types_stmt.specs.Sides.{first_of_exprs, first_of_idents}
 use Rattle.law_typing.specs.Assignments.{Taker, Fresh}
 use Rattle.law_typing.specs.Simple.{SimpleIsTyped, Updates}
-use Rattle.law_typing.specs.Excused.{IsNewName}
+use Rattle.law_typing.specs.Excused.{IsDeclaredName}
 use Rattle.law_typing.specs.ExpressionFaults.{BreaksAt, ValueBreaksAt}
 use Rattle.law_typing.specs.AssignmentFaults.{SidesGive, AssignedTakes, DefinedTakes, EachTakes, taker_of, IsAssignmentFault}
 use Rattle.law_typing.specs.DeclaredLocals.{WrittenTypeIs}
@@ -25,12 +25,12 @@ use Rattle.law_typing.specs.DeclaredLocals.{WrittenTypeIs}
 -- an operand that is assigned breaks a rule at this token: a part of it does, or it is not addressable
 pub data OperandBreaksAt (w : World) (locals : Locals) : ExprTree → ℕ → Type 0 where
   in_operand : {e : ExprTree} {p : ℕ} → BreaksAt w locals e p → OperandBreaksAt w locals e p
-  not_assignable : {e : ExprTree} {m : Meaning} → HasMeaning w locals e m → ((k : Kind) → m ≡ Value k true → ⊥) → OperandBreaksAt w locals e (place_of e)
+  not_assignable : {e : ExprTree} {m : Meaning} → HasMeaning w locals e m → ((k : ValueKind) → m ≡ Value k true → ⊥) → OperandBreaksAt w locals e (place_of e)
 
 -- a condition breaks a rule at this token: a part of it does, or it is no bool
 pub data ConditionBreaksAt (w : World) (locals : Locals) : ExprTree → ℕ → Type 0 where
   in_condition : {e : ExprTree} {p : ℕ} → ValueBreaksAt w locals e p → ConditionBreaksAt w locals e p
-  no_bool : {e : ExprTree} {k : Kind} {a : Bool} → HasMeaning w locals e (Value k a) → (IsBasic w k basic.Bool → ⊥) → ConditionBreaksAt w locals e (place_of e)
+  no_bool : {e : ExprTree} {k : ValueKind} {a : Bool} → HasMeaning w locals e (Value k a) → (IsBasic w k basic.Bool → ⊥) → ConditionBreaksAt w locals e (place_of e)
 
 -- A single right side breaks a rule at this token: a part of it does, or it is neither a value nor a call with several results or none.
 pub data SingleBreaksAt (w : World) (locals : Locals) : ExprTree → ℕ → Type 0 where
@@ -51,8 +51,8 @@ pub data SidesBreakAt (w : World) (locals : Locals) : List (Item ExprTree) → �
 
 -- A left side of `:=` that declares no local breaks a rule at this token: a part of it does, or it is a value but no name.
 pub data DefinedBreaksAt (w : World) (locals : Locals) : ExprTree → ℕ → Type 0 where
-  in_old_name : {e : ExprTree} {p : ℕ} → (IsNewName w e → ⊥) → ValueBreaksAt w locals e p → DefinedBreaksAt w locals e p
-  defines_no_name : {e : ExprTree} {k : Kind} {a : Bool} → ((p : ℕ) → e ≡ tree.Name p → ⊥) → HasMeaning w locals e (Value k a) →
+  in_old_name : {e : ExprTree} {p : ℕ} → (IsDeclaredName w e → ⊥) → ValueBreaksAt w locals e p → DefinedBreaksAt w locals e p
+  defines_no_name : {e : ExprTree} {k : ValueKind} {a : Bool} → ((p : ℕ) → e ≡ tree.Name p → ⊥) → HasMeaning w locals e (Value k a) →
       DefinedBreaksAt w locals e (place_of e)
 
 -- a simple statement breaks a rule at this token
@@ -61,12 +61,12 @@ pub data SimpleBreaksAt (w : World) (locals : Locals) : SimpleTree → ℕ → T
   no_statement : {e : ExprTree} {m : Meaning} → HasMeaning w locals e m → ((after : Locals) → SimpleIsTyped w locals (tree.Alone e) after → ⊥) →
       SimpleBreaksAt w locals (tree.Alone e) (place_of e)
   in_step : {e : ExprTree} {o : StepOp} {q p : ℕ} → OperandBreaksAt w locals e p → SimpleBreaksAt w locals (tree.Step e o q) p
-  no_step : {e : ExprTree} {o : StepOp} {q : ℕ} {k : Kind} → HasMeaning w locals e (Value k true) → (IsBasic w k basic.Int → ⊥) →
+  no_step : {e : ExprTree} {o : StepOp} {q : ℕ} {k : ValueKind} → HasMeaning w locals e (Value k true) → (IsBasic w k basic.Int → ⊥) →
       SimpleBreaksAt w locals (tree.Step e o q) (place_of e)
   in_updated : {x y : ExprTree} {o : UpdateOp} {q p : ℕ} → OperandBreaksAt w locals x p → SimpleBreaksAt w locals (tree.Update x o q y) p
   in_update : {x y : ExprTree} {o : UpdateOp} {q p : ℕ} → ValueBreaksAt w locals y p → SimpleBreaksAt w locals (tree.Update x o q y) p
-  no_update : {x y : ExprTree} {o : UpdateOp} {b : BinaryOp} {q : ℕ} {j k : Kind} {a : Bool} → Updates o b → HasMeaning w locals x (Value j true) →
-      HasMeaning w locals y (Value k a) → ((l : Kind) → Operates w b j k l → ⊥) → SimpleBreaksAt w locals (tree.Update x o q y) (first_token x)
+  no_update : {x y : ExprTree} {o : UpdateOp} {b : BinaryOp} {q : ℕ} {j k : ValueKind} {a : Bool} → Updates o b → HasMeaning w locals x (Value j true) →
+      HasMeaning w locals y (Value k a) → ((l : ValueKind) → Operates w b j k l → ⊥) → SimpleBreaksAt w locals (tree.Update x o q y) (first_token x)
   in_assigned : {xs ys : List (Item ExprTree)} {q p : ℕ} → AnyBreaksAt (OperandBreaksAt w locals) xs p → SimpleBreaksAt w locals (tree.Assign xs q ys) p
   in_assignment : {xs ys : List (Item ExprTree)} {q p : ℕ} → SidesBreakAt w locals ys p → SimpleBreaksAt w locals (tree.Assign xs q ys) p
   no_assignment : {xs ys : List (Item ExprTree)} {q p : ℕ} {vs : List ListValue} {ts : List (Option Taker)} → SidesGive w locals ys vs →

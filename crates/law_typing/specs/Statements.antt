@@ -3,7 +3,7 @@
 use Rattle.std.specs.Prelude.{ℕ, List, Option, map}
 use Rattle.go_ast.specs.Tree.{Item, Group, ExprTree, SimpleTree, LocalTree, InitTree, ForTree, StatementTree, BlockTree, StatementTrees, IfTree, ElseTree}
 use Rattle.go_ast.specs.Tree as tree
-use Rattle.types_expr.specs.Types.{PlainType, Kind}
+use Rattle.types_expr.specs.Types.{PlainType, ValueKind}
 use Rattle.types_expr.specs.World.{World, Locals}
 use Rattle.law_typing.specs.Sequences.{InGroup, IfPresent}
 use Rattle.law_typing.specs.Assignments.{OfType, TakenInTurn, GiveKinds}
@@ -36,7 +36,7 @@ mutual
         StatementIsTyped w results before (tree.For p h b) after
     a_break : {locals : Locals} {p : ℕ} → StatementIsTyped w results locals (tree.Break p) locals
     a_continue : {locals : Locals} {p : ℕ} → StatementIsTyped w results locals (tree.Continue p) locals
-    a_return : {locals : Locals} {p : ℕ} {es : List (Item ExprTree)} {ks : List Kind} → GiveKinds w locals es ks → TakenInTurn w ks (map OfType results) →
+    a_return : {locals : Locals} {p : ℕ} {es : List (Item ExprTree)} {ks : List ValueKind} → GiveKinds w locals es ks → TakenInTurn w ks (map OfType results) →
         StatementIsTyped w results locals (tree.Return p es) locals
 
   -- a block is typed

@@ -5,7 +5,7 @@ ghost use Rattle.go_ast.specs.Tree.{ExprTree, SimpleTree, StatementTree, BlockTr
 ghost use Rattle.types_expr.specs.Types.{PlainType};
 ghost use Rattle.types_expr.specs.World.{World, Locals};
 ghost use Rattle.types_expr.specs.Judge.{judge};
-ghost use Rattle.types_stmt.specs.Checked.{Checked};
+ghost use Rattle.types_stmt.specs.Checked.{FoundSoFar};
 ghost use Rattle.types_stmt.specs.Simple.{check_simple};
 ghost use Rattle.types_stmt.specs.Statements.{check_statement, check_block};
 ghost use Rattle.types_stmt.specs.Headers.{check_function};
@@ -26,43 +26,43 @@ pub fn faults_of_expressions_stand_at_broken_rules()
 
 /// A simple statement adds faults at exactly the tokens where it breaks a rule, and drops none that was found before it.
 pub fn faults_of_simple_statements_stand_at_broken_rules()
-    ensures { (w : World) → (s : Checked) → (a : SimpleTree) → (p : ℕ) → Contains (check_simple w s a).faults p ↔ (Contains s.faults p ⊎ SimpleBreaksAt w s.locals a p) }
+    ensures { (w : World) → (s : FoundSoFar) → (a : SimpleTree) → (p : ℕ) → Contains (check_simple w s a).faults p ↔ (Contains s.faults p ⊎ SimpleBreaksAt w s.locals a p) }
 {}
 
 /// The locals that are found after a simple statement, typed or not, are exactly those that it declares.
 pub fn simple_statements_declare_what_is_found()
-    ensures { (w : World) → (s : Checked) → (a : SimpleTree) → (after : Locals) → SimpleDeclares w s.locals a after ↔ ((check_simple w s a).locals ≡ after) }
+    ensures { (w : World) → (s : FoundSoFar) → (a : SimpleTree) → (after : Locals) → SimpleDeclares w s.locals a after ↔ ((check_simple w s a).locals ≡ after) }
 {}
 
 /// A statement adds faults at exactly the tokens where it breaks a rule. `results` are the types of the function's results; a broken one
 /// has none.
 pub fn faults_of_statements_stand_at_broken_rules()
-    ensures { (w : World) → (results : List (Option PlainType)) → (s : Checked) → (x : StatementTree) → (p : ℕ) → Contains (check_statement w (as_targets results) s x).faults p ↔ (Contains s.faults p ⊎ StatementBreaksAt w results s.locals x p) }
+    ensures { (w : World) → (results : List (Option PlainType)) → (s : FoundSoFar) → (x : StatementTree) → (p : ℕ) → Contains (check_statement w (as_targets results) s x).faults p ↔ (Contains s.faults p ⊎ StatementBreaksAt w results s.locals x p) }
 {}
 
 /// The locals that are found after a statement, typed or not, are exactly those that it declares.
 pub fn statements_declare_what_is_found()
-    ensures { (w : World) → (results : List (Option PlainType)) → (s : Checked) → (x : StatementTree) → (after : Locals) → StatementDeclares w s.locals x after ↔ ((check_statement w (as_targets results) s x).locals ≡ after) }
+    ensures { (w : World) → (results : List (Option PlainType)) → (s : FoundSoFar) → (x : StatementTree) → (after : Locals) → StatementDeclares w s.locals x after ↔ ((check_statement w (as_targets results) s x).locals ≡ after) }
 {}
 
 /// A block adds faults at exactly the tokens where it breaks a rule.
 pub fn faults_of_blocks_stand_at_broken_rules()
-    ensures { (w : World) → (results : List (Option PlainType)) → (s : Checked) → (x : BlockTree) → (p : ℕ) → Contains (check_block w (as_targets results) s x).faults p ↔ (Contains s.faults p ⊎ BlockBreaksAt w results s.locals x p) }
+    ensures { (w : World) → (results : List (Option PlainType)) → (s : FoundSoFar) → (x : BlockTree) → (p : ℕ) → Contains (check_block w (as_targets results) s x).faults p ↔ (Contains s.faults p ⊎ BlockBreaksAt w results s.locals x p) }
 {}
 
 /// A function adds faults at exactly the tokens where it breaks a rule.
 pub fn faults_of_functions_stand_at_broken_rules()
-    ensures { (w : World) → (is_init : Bool) → (s : Checked) → (f : FuncTree) → (p : ℕ) → Contains (check_function w is_init s f).faults p ↔ (Contains s.faults p ⊎ FunctionBreaksAt w is_init s.locals f p) }
+    ensures { (w : World) → (is_init : Bool) → (s : FoundSoFar) → (f : FuncTree) → (p : ℕ) → Contains (check_function w is_init s f).faults p ↔ (Contains s.faults p ⊎ FunctionBreaksAt w is_init s.locals f p) }
 {}
 
 /// The locals that are found after a function, typed or not, are exactly those that it declares.
 pub fn functions_declare_what_is_found()
-    ensures { (w : World) → (is_init : Bool) → (s : Checked) → (f : FuncTree) → (after : Locals) → FunctionDeclares w s.locals f after ↔ ((check_function w is_init s f).locals ≡ after) }
+    ensures { (w : World) → (is_init : Bool) → (s : FoundSoFar) → (f : FuncTree) → (after : Locals) → FunctionDeclares w s.locals f after ↔ ((check_function w is_init s f).locals ≡ after) }
 {}
 
 /// A package-level declaration adds faults at exactly the tokens where it breaks a rule.
 pub fn faults_of_declarations_stand_at_broken_rules()
-    ensures { (w : World) → (is_init : ℕ → Bool) → (s : Checked) → (d : DeclTree) → (p : ℕ) → Contains (check_decl w is_init s d).faults p ↔ (Contains s.faults p ⊎ DeclBreaksAt w is_init s.locals d p) }
+    ensures { (w : World) → (is_init : ℕ → Bool) → (s : FoundSoFar) → (d : DeclTree) → (p : ℕ) → Contains (check_decl w is_init s d).faults p ↔ (Contains s.faults p ⊎ DeclBreaksAt w is_init s.locals d p) }
 {}
 
 /// A type fault is found in a file at exactly the tokens where the file breaks a rule.

@@ -6,7 +6,7 @@ ghost use Rattle.types_expr.specs.Types.{PlainType, Meaning};
 ghost use Rattle.types_expr.specs.World.{World, Locals};
 ghost use Rattle.law_typing.specs.Meanings.{HasMeaning};
 ghost use Rattle.law_typing.specs.BrokenUses.{UsesBroken};
-ghost use Rattle.types_stmt.specs.Checked.{Checked};
+ghost use Rattle.types_stmt.specs.Checked.{FoundSoFar};
 ghost use Rattle.types_stmt.specs.Simple.{check_simple};
 ghost use Rattle.types_stmt.specs.Statements.{check_statement, check_block};
 ghost use Rattle.types_stmt.specs.Headers.{check_function};
@@ -24,12 +24,12 @@ pub fn expressions_with_meanings_use_nothing_broken()
 
 /// In a typed simple statement no fault is found, and the locals found after it are those of the typing rules.
 pub fn typed_simple_statements_have_no_fault()
-    ensures { (w : World) → (s : Checked) → (a : SimpleTree) → (after : Locals) → s.faults ≡ [] → SimpleIsTyped w s.locals a after → IsFaultlessWith (check_simple w s a) after }
+    ensures { (w : World) → (s : FoundSoFar) → (a : SimpleTree) → (after : Locals) → s.faults ≡ [] → SimpleIsTyped w s.locals a after → IsFaultlessWith (check_simple w s a) after }
 {}
 
 /// A simple statement in which no fault is found is typed or excused.
 pub fn simple_statements_without_fault_are_typed()
-    ensures { (w : World) → (s : Checked) → (a : SimpleTree) → (check_simple w s a).faults ≡ [] → SimpleIsTyped w s.locals a (check_simple w s a).locals ⊎ SimpleIsExcused w s.locals a }
+    ensures { (w : World) → (s : FoundSoFar) → (a : SimpleTree) → (check_simple w s a).faults ≡ [] → SimpleIsTyped w s.locals a (check_simple w s a).locals ⊎ SimpleIsExcused w s.locals a }
 {}
 
 /// A typed simple statement is not excused.
@@ -39,12 +39,12 @@ pub fn typed_simple_statements_are_not_excused()
 
 /// In a typed statement no fault is found, and the locals found after it are those of the typing rules.
 pub fn typed_statements_have_no_fault()
-    ensures { (w : World) → (results : List PlainType) → (s : Checked) → (x : StatementTree) → (after : Locals) → s.faults ≡ [] → StatementIsTyped w results s.locals x after → IsFaultlessWith (check_statement w (typed_targets results) s x) after }
+    ensures { (w : World) → (results : List PlainType) → (s : FoundSoFar) → (x : StatementTree) → (after : Locals) → s.faults ≡ [] → StatementIsTyped w results s.locals x after → IsFaultlessWith (check_statement w (typed_targets results) s x) after }
 {}
 
 /// A statement in which no fault is found is typed or excused.
 pub fn statements_without_fault_are_typed()
-    ensures { (w : World) → (results : List PlainType) → (s : Checked) → (x : StatementTree) → (check_statement w (typed_targets results) s x).faults ≡ [] → StatementIsTyped w results s.locals x (check_statement w (typed_targets results) s x).locals ⊎ StatementIsExcused w results s.locals x }
+    ensures { (w : World) → (results : List PlainType) → (s : FoundSoFar) → (x : StatementTree) → (check_statement w (typed_targets results) s x).faults ≡ [] → StatementIsTyped w results s.locals x (check_statement w (typed_targets results) s x).locals ⊎ StatementIsExcused w results s.locals x }
 {}
 
 /// The typing rules determine the locals after a statement.
@@ -59,12 +59,12 @@ pub fn typed_statements_are_not_excused()
 
 /// In a typed block no fault is found, and the locals found after it are those of the typing rules.
 pub fn typed_blocks_have_no_fault()
-    ensures { (w : World) → (results : List PlainType) → (s : Checked) → (x : BlockTree) → (after : Locals) → s.faults ≡ [] → BlockIsTyped w results s.locals x after → IsFaultlessWith (check_block w (typed_targets results) s x) after }
+    ensures { (w : World) → (results : List PlainType) → (s : FoundSoFar) → (x : BlockTree) → (after : Locals) → s.faults ≡ [] → BlockIsTyped w results s.locals x after → IsFaultlessWith (check_block w (typed_targets results) s x) after }
 {}
 
 /// A block in which no fault is found is typed or excused.
 pub fn blocks_without_fault_are_typed()
-    ensures { (w : World) → (results : List PlainType) → (s : Checked) → (x : BlockTree) → (check_block w (typed_targets results) s x).faults ≡ [] → BlockIsTyped w results s.locals x (check_block w (typed_targets results) s x).locals ⊎ BlockIsExcused w results s.locals x }
+    ensures { (w : World) → (results : List PlainType) → (s : FoundSoFar) → (x : BlockTree) → (check_block w (typed_targets results) s x).faults ≡ [] → BlockIsTyped w results s.locals x (check_block w (typed_targets results) s x).locals ⊎ BlockIsExcused w results s.locals x }
 {}
 
 /// A typed block is not excused.
@@ -74,12 +74,12 @@ pub fn typed_blocks_are_not_excused()
 
 /// In a typed function no fault is found, and the locals found after it are those of the typing rules.
 pub fn typed_functions_have_no_fault()
-    ensures { (w : World) → (is_init : Bool) → (s : Checked) → (f : FuncTree) → (after : Locals) → s.faults ≡ [] → FunctionIsTyped w is_init s.locals f after → IsFaultlessWith (check_function w is_init s f) after }
+    ensures { (w : World) → (is_init : Bool) → (s : FoundSoFar) → (f : FuncTree) → (after : Locals) → s.faults ≡ [] → FunctionIsTyped w is_init s.locals f after → IsFaultlessWith (check_function w is_init s f) after }
 {}
 
 /// A function in which no fault is found is typed or excused.
 pub fn functions_without_fault_are_typed()
-    ensures { (w : World) → (is_init : Bool) → (s : Checked) → (f : FuncTree) → (check_function w is_init s f).faults ≡ [] → FunctionIsTyped w is_init s.locals f (check_function w is_init s f).locals ⊎ FunctionIsExcused w s.locals f }
+    ensures { (w : World) → (is_init : Bool) → (s : FoundSoFar) → (f : FuncTree) → (check_function w is_init s f).faults ≡ [] → FunctionIsTyped w is_init s.locals f (check_function w is_init s f).locals ⊎ FunctionIsExcused w s.locals f }
 {}
 
 /// A typed function is not excused.
@@ -89,12 +89,12 @@ pub fn typed_functions_are_not_excused()
 
 /// In a typed package-level declaration no fault is found, and the locals found after it are those of the typing rules.
 pub fn typed_declarations_have_no_fault()
-    ensures { (w : World) → (is_init : ℕ → Bool) → (s : Checked) → (d : DeclTree) → (after : Locals) → s.faults ≡ [] → DeclIsTyped w is_init s.locals d after → IsFaultlessWith (check_decl w is_init s d) after }
+    ensures { (w : World) → (is_init : ℕ → Bool) → (s : FoundSoFar) → (d : DeclTree) → (after : Locals) → s.faults ≡ [] → DeclIsTyped w is_init s.locals d after → IsFaultlessWith (check_decl w is_init s d) after }
 {}
 
 /// A package-level declaration in which no fault is found is typed or excused.
 pub fn declarations_without_fault_are_typed()
-    ensures { (w : World) → (is_init : ℕ → Bool) → (s : Checked) → (d : DeclTree) → (check_decl w is_init s d).faults ≡ [] → DeclIsTyped w is_init s.locals d (check_decl w is_init s d).locals ⊎ DeclIsExcused w s.locals d }
+    ensures { (w : World) → (is_init : ℕ → Bool) → (s : FoundSoFar) → (d : DeclTree) → (check_decl w is_init s d).faults ≡ [] → DeclIsTyped w is_init s.locals d (check_decl w is_init s d).locals ⊎ DeclIsExcused w s.locals d }
 {}
 
 /// A typed package-level declaration is not excused.

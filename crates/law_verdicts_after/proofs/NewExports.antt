@@ -18,7 +18,7 @@ use Rattle.workspace_check.specs.Verdicts.{Verdicts, AreVerdicts}
 use Rattle.workspace_check.proofs.OnePackage.{layout_formed, files_in_order}
 use Rattle.refs_binding.specs.declared.declaration.Declaration.{Declaration}
 use Rattle.refs_binding.specs.declared.declaration.Declaration.TheVariants.{Declared}
-use Rattle.refs_binding.specs.Uses.{IsPackage}
+use Rattle.refs_binding.specs.Uses.{IsCheckedPackage}
 use Rattle.law_faultless.proofs.Meanings.{meant}
 use Rattle.law_faultless.proofs.PackageWorlds.{strings_known, broken_decided}
 use Rattle.law_same_bindings.proofs.Alike.{Alike, turned}
@@ -41,7 +41,7 @@ export_of BrokenVariable = None
 export_of BrokenFunction = None
 export_of BrokenType = None
 
-module _ (w : Workspace) (sound : ListsFaults w []) (before : Verdicts) (right : AreVerdicts w before) (p : Package) (is : IsPackage w before p) where
+module _ (w : Workspace) (sound : ListsFaults w []) (before : Verdicts) (right : AreVerdicts w before) (p : Package) (is : IsCheckedPackage w before p) where
   formed : WellFormed p.layout
   formed = layout_formed w before p.path p is.is_checked
 

@@ -31,7 +31,7 @@ use Rattle.workspace_check.specs.Verdicts.{Verdicts}
 use Rattle.workspace_check.proofs.OnePackage.{layout_formed}
 use Rattle.refs_binding.specs.Binding.{field_place}
 use Rattle.refs_binding.specs.DeclaringPlaces.{TokenBegins}
-use Rattle.refs_binding.specs.Uses.{IsPackage}
+use Rattle.refs_binding.specs.Uses.{IsCheckedPackage}
 use Rattle.refactor_after.specs.NamesAfter.{HasNameAfter, IsFieldAfter, IsMethodAfter}
 use Rattle.law_faultless.proofs.Deciding.{Decided, some}
 use Rattle.law_faultless.proofs.TypesDecided.{token_bound, rank}
@@ -88,7 +88,7 @@ one_method p d m n name f g a b = elim (cases_lt m n) [
   | inr ge ↦ elim (cases_lt n m) [ inl less ↦ absurd (a.first n g less b.is_method) | inr more ↦ omega arith ]
 ]
 
-module _ (w : Workspace) (before : Verdicts) (r : Revision) (p : Package) (is : IsPackage w before p) where
+module _ (w : Workspace) (before : Verdicts) (r : Revision) (p : Package) (is : IsCheckedPackage w before p) where
   formed : WellFormed p.layout
   formed = layout_formed w before p.path p is.is_checked
 

@@ -24,7 +24,7 @@ use Rattle.workspace_check.specs.FaultLists.{ListsFaults}
 use Rattle.workspace_check.specs.Verdicts.{Verdict, Verdicts, AreVerdicts, AreVerdictsBelow, BuildsOn, IsVerdictBy, IsVerdict, follows}
 use Rattle.workspace_check.proofs.SameImports.{imports_back, builds_by}
 use Rattle.refs_binding.specs.declared.declaration.Declaration.{Declaration}
-use Rattle.refs_binding.specs.Uses.{IsPackage}
+use Rattle.refs_binding.specs.Uses.{IsCheckedPackage}
 use Rattle.refs_lookup.proofs.Faultless.{no_fault_later}
 use Rattle.refactor_conflict.specs.Staying.{NoneIsLost}
 use Rattle.law_same_bindings.proofs.Alike.{Alike, of_bound}
@@ -72,7 +72,7 @@ module _ (w : Workspace) (before : Verdicts) (d : Declaration) (name : List ℕ)
 
   -- the export data of a package after the rename
 
-  module _ (p : Package) (was : IsPackage w before p) (i : ExportData) where
+  module _ (p : Package) (was : IsCheckedPackage w before p) (i : ExportData) where
     abbrev by_type : ℕ → Option PlacedType → Definition
     by_type rank None = i.definition rank
     by_type rank (Some t) = new_definition w before r p was (i.definition rank) rank
@@ -138,14 +138,14 @@ module _ (w : Workspace) (before : Verdicts) (d : Declaration) (name : List ℕ)
   abbrev IsRight : List ℕ → Type 0
   IsRight path = IsVerdict x path (after path) × IsMovedVerdict w before after r path
 
-  module _ (p : Package) (was : IsPackage w before p) (below : (q : List ℕ) → BuildsOn w p.path q → IsRight q) where
+  module _ (p : Package) (was : IsCheckedPackage w before p) (below : (q : List ℕ) → BuildsOn w p.path q → IsRight q) where
     right : AreVerdictsBelow x p.path after
     right q on = (below q (builds_then p.path q on)).0
 
     moved_below : (q : List ℕ) → BuildsOn w p.path q → IsMovedVerdict w before after r q
     moved_below q on = (below q on).1
 
-    abbrev relaid : (q : Package) × (IsPackage x after q × IsRelaid r p q)
+    abbrev relaid : (q : Package) × (IsCheckedPackage x after q × IsRelaid r p q)
     relaid = along_imports.relaid own_renames others_stay seen_follow exported no_fault_by w before after d name s plain none p was right moved_below
 
     abbrev q : Package
@@ -204,7 +204,7 @@ module _ (w : Workspace) (before : Verdicts) (d : Declaration) (name : List ℕ)
         along_imports.moved own_renames others_stay seen_follow exported no_fault_by w before after d name s plain none p was right moved_below is
 
   module _ (path : List ℕ) (has : Contains (package_paths w) path) (below : (q : List ℕ) → BuildsOn w path q → IsRight q) where
-    abbrev there : (h : Contains (package_paths w) path) → (p : Package) × (IsPackage w before p × (p.path ≡ path))
+    abbrev there : (h : Contains (package_paths w) path) → (p : Package) × (IsCheckedPackage w before p × (p.path ≡ path))
     there h = package_there w sound before was_right path h
 
     below_there : (h : Contains (package_paths w) path) → (q : List ℕ) → BuildsOn w (there h).0.path q → IsRight q

@@ -20,7 +20,7 @@ use Rattle.workspace_check.proofs.OnePackage.{layout_formed}
 use Rattle.refs_binding.specs.declared.declaration.Declaration.{Declaration}
 use Rattle.refs_binding.specs.declared.declaration.Declaration.TheVariants.{Predeclared, Declared, Field, Method}
 use Rattle.refs_binding.specs.Steps.{IsDeclarationResult}
-use Rattle.refs_binding.specs.Uses.{IsPackage}
+use Rattle.refs_binding.specs.Uses.{IsCheckedPackage}
 use Rattle.refs_binding.specs.Workspaces.{known_in}
 use Rattle.refs_binding.proofs.Units.{one_package}
 use Rattle.base_edits.specs.Revisions.{Revision}
@@ -72,30 +72,30 @@ mapped_in Known path P Q to h = record { inside = h.inside; is_package = h.is_pa
 
 module _ (w : Workspace) (known : Verdicts) where
   -- A relation that holds of the package at a path holds of each package that has the path.
-  pub of_one : (p : Package) → IsPackage w known p → (path : List ℕ) → p.path ≡ path → (P : Package → Type 0) → InPackage (IsPackage w known) path P → P p
+  pub of_one : (p : Package) → IsCheckedPackage w known p → (path : List ℕ) → p.path ≡ path → (P : Package → Type 0) → InPackage (IsCheckedPackage w known) path P → P p
   of_one p is path e P h = subst P (one_package w known h.inside p h.is_package is (h.of_path ∙ sym e)) h.holds
 
-  pub found_in : (p : Package) → IsPackage w known p → (path : List ℕ) → p.path ≡ path → (P : Package → ℕ → Type 0) → (o : Option ℕ) → IsRankFound (P p) o →
-      IsRankFound (λ n. InPackage (IsPackage w known) path (λ q. P q n)) o
+  pub found_in : (p : Package) → IsCheckedPackage w known p → (path : List ℕ) → p.path ≡ path → (P : Package → ℕ → Type 0) → (o : Option ℕ) → IsRankFound (P p) o →
+      IsRankFound (λ n. InPackage (IsCheckedPackage w known) path (λ q. P q n)) o
   found_in p is path e P None h = λ rank k. h rank (of_one p is path e (λ q. P q rank) k)
   found_in p is path e P (Some rank) h = record { inside = p; is_package = is; of_path = e; holds = h }
 
-  pub true_in : (p : Package) → IsPackage w known p → (path : List ℕ) → p.path ≡ path → (P : Package → Type 0) → (b : Bool) → IsTrue b ↔ P p →
-      IsTrue b ↔ InPackage (IsPackage w known) path P
+  pub true_in : (p : Package) → IsCheckedPackage w known p → (path : List ℕ) → p.path ≡ path → (P : Package → Type 0) → (b : Bool) → IsTrue b ↔ P p →
+      IsTrue b ↔ InPackage (IsCheckedPackage w known) path P
   true_in p is path e P b h = ((λ t. record { inside = p; is_package = is; of_path = e; holds = h.0 t }), (λ k. h.1 (of_one p is path e P k)))
 
   -- the values of a definition have a field
-  pub has_no_field : (r : Revision) (p : Package) → IsPackage w known p → (rank : ℕ) (name : List ℕ) → IsStructFound p rank None →
-      HasFieldAfter (IsPackage w known) r p rank name → ⊥
+  pub has_no_field : (r : Revision) (p : Package) → IsCheckedPackage w known p → (rank : ℕ) (name : List ℕ) → IsStructFound p rank None →
+      HasFieldAfter (IsCheckedPackage w known) r p rank name → ⊥
   has_no_field r p is rank name h k = none-some k.struct (found_struct p (layout_formed w known p.path p is.is_checked) rank None k.struct h k.underlying)
 
-  pub has_the_field : (r : Revision) (p : Package) → IsPackage w known p → (rank : ℕ) (name : List ℕ) (s : Symbol) → IsStructFound p rank (Some s) →
+  pub has_the_field : (r : Revision) (p : Package) → IsCheckedPackage w known p → (rank : ℕ) (name : List ℕ) (s : Symbol) → IsStructFound p rank (Some s) →
       (o : Option ℕ) →
-      IsRankFound (IsFieldIn (IsPackage w known) r p.path name s) o → (b : Bool) → b ≡ is_some o → IsTrue b ↔ HasFieldAfter (IsPackage w known) r p rank name
+      IsRankFound (IsFieldIn (IsCheckedPackage w known) r p.path name s) o → (b : Bool) → b ≡ is_some o → IsTrue b ↔ HasFieldAfter (IsCheckedPackage w known) r p rank name
   has_the_field r p is rank name s h o found b e = (from o found e, to o found e)
     where
-      from : (x : Option ℕ) → IsRankFound (IsFieldIn (IsPackage w known) r p.path name s) x → b ≡ is_some x → IsTrue b →
-          HasFieldAfter (IsPackage w known) r p rank name
+      from : (x : Option ℕ) → IsRankFound (IsFieldIn (IsCheckedPackage w known) r p.path name s) x → b ≡ is_some x → IsTrue b →
+          HasFieldAfter (IsCheckedPackage w known) r p rank name
       from None k e t = absurd (false≢true (sym e ∙ t))
       from (Some n) k e t = record {
         struct = s;
@@ -114,12 +114,12 @@ module _ (w : Workspace) (known : Verdicts) where
         has = k;
       }
 
-      to : (x : Option ℕ) → IsRankFound (IsFieldIn (IsPackage w known) r p.path name s) x → b ≡ is_some x →
-          HasFieldAfter (IsPackage w known) r p rank name → IsTrue b
+      to : (x : Option ℕ) → IsRankFound (IsFieldIn (IsCheckedPackage w known) r p.path name s) x → b ≡ is_some x →
+          HasFieldAfter (IsCheckedPackage w known) r p rank name → IsTrue b
       to None none e k =
           let same : s ≡ k.struct = same_Some s k.struct (found_struct p (layout_formed w known p.path p is.is_checked) rank (Some s) k.struct h
           k.underlying) in
-          absurd (none k.rank (subst (λ z. IsFieldIn (IsPackage w known) r p.path name z k.rank) (sym same) k.has))
+          absurd (none k.rank (subst (λ z. IsFieldIn (IsCheckedPackage w known) r p.path name z k.rank) (sym same) k.has))
       to (Some n) found e k = e
 
 -- where a name is seen
@@ -155,19 +155,19 @@ method_first Known r path d name none (Some rank) h =
     (λ p is e m. record { no_field = none p is e; has = m }) h
 
 pub one_method : (w : Workspace) (known : Verdicts) (r : Revision) (path : List ℕ) (d : ℕ) (name : List ℕ) (o : Option ℕ) →
-    IsRankFound (λ rank. InPackage (IsPackage w known) path (λ p. IsFirstMethod (IsPackage w known) r p d name rank)) o →
-    (rank : ℕ) (b : Bool) → IsTrue b ↔ (o ≡ Some rank) → IsTrue b ↔ InPackage (IsPackage w known) path (λ p. IsFirstMethod (IsPackage w known) r p d name rank)
+    IsRankFound (λ rank. InPackage (IsCheckedPackage w known) path (λ p. IsFirstMethod (IsCheckedPackage w known) r p d name rank)) o →
+    (rank : ℕ) (b : Bool) → IsTrue b ↔ (o ≡ Some rank) → IsTrue b ↔ InPackage (IsCheckedPackage w known) path (λ p. IsFirstMethod (IsCheckedPackage w known) r p d name rank)
 one_method w known r path d name o h rank b is = (
-  (λ t. subst (IsRankFound (λ n. InPackage (IsPackage w known) path (λ p. IsFirstMethod (IsPackage w known) r p d name n))) (is.0 t) h),
+  (λ t. subst (IsRankFound (λ n. InPackage (IsCheckedPackage w known) path (λ p. IsFirstMethod (IsCheckedPackage w known) r p d name n))) (is.0 t) h),
   (λ k. is.1 (found o h k)),
 )
   where
-    found : (x : Option ℕ) → IsRankFound (λ n. InPackage (IsPackage w known) path (λ p. IsFirstMethod (IsPackage w known) r p d name n)) x →
-        InPackage (IsPackage w known) path (λ p. IsFirstMethod (IsPackage w known) r p d name rank) → x ≡ Some rank
+    found : (x : Option ℕ) → IsRankFound (λ n. InPackage (IsCheckedPackage w known) path (λ p. IsFirstMethod (IsCheckedPackage w known) r p d name n)) x →
+        InPackage (IsCheckedPackage w known) path (λ p. IsFirstMethod (IsCheckedPackage w known) r p d name rank) → x ≡ Some rank
     found None none k = absurd (none rank k)
     found (Some other) f k =
-        let here : IsFirstMethod (IsPackage w known) r k.inside d name other = of_one w known k.inside k.is_package path k.of_path
-        (λ p. IsFirstMethod (IsPackage w known) r p d name other) f in
+        let here : IsFirstMethod (IsCheckedPackage w known) r k.inside d name other = of_one w known k.inside k.is_package path k.of_path
+        (λ p. IsFirstMethod (IsCheckedPackage w known) r p d name other) f in
         ap Some (one_first (IsMethodAfter r k.inside d name) other rank here.has k.holds.has)
 
 -- by the type before
@@ -277,12 +277,12 @@ module _ (Known : Package → Type 0) (r : Revision) (p : Package) (m : NewMembe
       (subst (λ d. IsFirstMethod Known r p d k.name rank) (sym had.of_definition ∙ ap (λ (z : NewName). z.definition) same) k.first)
 
 pub method_counts : (w : Workspace) (known : Verdicts) (r : Revision) (m : NewMembers) (path : List ℕ) (rank : ℕ) (new : NewName) →
-    InPackage (IsPackage w known) path (λ p. AreNewMembers r p m) →
+    InPackage (IsCheckedPackage w known) path (λ p. AreNewMembers r p m) →
     Some new ≡ option_flatten (slice_get m.methods.names.items rank) → (b : Bool) →
-    IsTrue b ↔ InPackage (IsPackage w known) path (λ p. IsFirstMethod (IsPackage w known) r p new.definition new.name.items rank) →
-    IsTrue b ↔ InPackage (IsPackage w known) path (λ p. MethodCounts (IsPackage w known) r p rank)
+    IsTrue b ↔ InPackage (IsCheckedPackage w known) path (λ p. IsFirstMethod (IsCheckedPackage w known) r p new.definition new.name.items rank) →
+    IsTrue b ↔ InPackage (IsCheckedPackage w known) path (λ p. MethodCounts (IsCheckedPackage w known) r p rank)
 method_counts w known r m path rank new are e b h =
-    let Known = IsPackage w known in (
+    let Known = IsCheckedPackage w known in (
       (λ t.
           mapped_in Known path (λ p. IsFirstMethod Known r p new.definition new.name.items rank) (λ p. MethodCounts Known r p rank)
           (λ p is at k. record { definition = new.definition; name = new.name.items; first = k }) (h.0 t)),

@@ -15,12 +15,12 @@ use Rattle.refs_binding.specs.declared.declaration.Declaration.{Declaration}
 use Rattle.refs_binding.specs.declared.declaration.Declaration.TheVariants.{Predeclared, Declared, Field, Method}
 use Rattle.refs_binding.specs.Binding.{IsFieldAt, IsMethodAt}
 use Rattle.refs_binding.specs.Bindings.{AddsAll, bound_place}
-use Rattle.refs_binding.specs.Uses.{IsPackage}
+use Rattle.refs_binding.specs.Uses.{IsCheckedPackage}
 use Rattle.refs_binding.specs.Workspaces.{IsPackageAt}
 use Rattle.refs_binding.proofs.AddingAll.{all_as, all_none, call_all, all_numbers, BelowAll}
 use Rattle.refs_binding.proofs.NamedPlaces.{one_field_place, one_method_place}
 use Rattle.refs_binding.proofs.Units.{numbered, number_within, one_at}
-use Rattle.refs_binding.specs.DeclaringPlaces.{InHomePackage, TokenAt, IsScopeAt, DeclaresAt, IsDeclaredAt}
+use Rattle.refs_binding.specs.DeclaringPlaces.{InHomePackage, TokenAt, IsScopeAt, HasDeclarationAt, IsDeclaredAt}
 use Rattle.refs_places.specs.DeclaredPlaces.{AreDeclaredIn, AreDeclaredAt, IsPlacedBy, IsChoice}
 use Rattle.refs_places.specs.declared.declared_places.DeclaredPlaces.{DeclaredPlaces}
 use Rattle.refs_places.proofs.Declared.{one_scope_place}
@@ -119,7 +119,7 @@ module _ (moved : Place → Place) (p : Package) (I : Package → Type 0) (is : 
     from_gone b (Predeclared n) same place h at = absurd h
     from_gone b (Declared path n) same place h at =
         let own : h.inside ≡ p = one h.inside h.is_package in
-        let x : DeclaresAt p (Declared path n) place = subst (λ (q : Package). DeclaresAt q (Declared path n) place) own h.holds in
+        let x : HasDeclarationAt p (Declared path n) place = subst (λ (q : Package). HasDeclarationAt q (Declared path n) place) own h.holds in
         let named : path ≡ p.path = sym h.of_path ∙ ap (λ (q : Package). q.path) own in
         let stands : IsPlacedBy (IsScopeAt p n) p place = record { at = x.at; is_at = x.is_at; begins = x.begins } in
         inl (inl (
@@ -129,7 +129,7 @@ module _ (moved : Place → Place) (p : Package) (I : Package → Type 0) (is : 
         ))
     from_gone b (Field s) same place h at =
         let own : h.inside ≡ p = one h.inside h.is_package in
-        let x : DeclaresAt p (Field s) place = subst (λ (q : Package). DeclaresAt q (Field s) place) own h.holds in
+        let x : HasDeclarationAt p (Field s) place = subst (λ (q : Package). HasDeclarationAt q (Field s) place) own h.holds in
         let named : s.package ≡ p.path = sym h.of_path ∙ ap (λ (q : Package). q.path) own in
         let stands : IsPlacedBy (IsFieldAt p s.rank) p place = record { at = x.at; is_at = x.is_at; begins = x.begins } in
         inl (inr (
@@ -139,7 +139,7 @@ module _ (moved : Place → Place) (p : Package) (I : Package → Type 0) (is : 
         ))
     from_gone b (Method s) same place h at =
         let own : h.inside ≡ p = one h.inside h.is_package in
-        let x : DeclaresAt p (Method s) place = subst (λ (q : Package). DeclaresAt q (Method s) place) own h.holds in
+        let x : HasDeclarationAt p (Method s) place = subst (λ (q : Package). HasDeclarationAt q (Method s) place) own h.holds in
         let named : s.package ≡ p.path = sym h.of_path ∙ ap (λ (q : Package). q.path) own in
         let stands : IsPlacedBy (IsMethodAt p s.rank) p place = record { at = x.at; is_at = x.is_at; begins = x.begins } in
         inr (
@@ -169,7 +169,7 @@ own_as I J (Declared path n) P to h = record { inside = h.inside; is_package = t
 own_as I J (Field s) P to h = record { inside = h.inside; is_package = to h.inside h.is_package; of_path = h.of_path; holds = h.holds }
 own_as I J (Method s) P to h = record { inside = h.inside; is_package = to h.inside h.is_package; of_path = h.of_path; holds = h.holds }
 
-own_numbered : (w : Workspace) (known : Verdicts) (d : Declaration) (P : Package → Type 0) → InHomePackage (IsPackage w known) d P →
+own_numbered : (w : Workspace) (known : Verdicts) (d : Declaration) (P : Package → Type 0) → InHomePackage (IsCheckedPackage w known) d P →
     (n : ℕ) × ((n < length (package_paths w)) × InHomePackage (IsPackageAt w known n) d P)
 own_numbered w known (Predeclared n) P h = absurd h
 own_numbered w known (Declared path n) P h =
@@ -183,16 +183,16 @@ own_numbered w known (Method s) P h =
     (k.0, (number_within w known k.0 h.inside k.1, record { inside = h.inside; is_package = k.1; of_path = h.of_path; holds = h.holds }))
 
 pub all_gone : (w : Workspace) (known : Verdicts) (moved : Place → Place) (count : ℕ) (a b : List BoundIdentifier) → length (package_paths w) ≤ count →
-    AddsAll a b (BelowAll (λ n. HasMovedSpot (IsPackageAt w known n) moved) count) → AddsAll a b (HasMovedSpot (IsPackage w known) moved)
+    AddsAll a b (BelowAll (λ n. HasMovedSpot (IsPackageAt w known n) moved) count) → AddsAll a b (HasMovedSpot (IsCheckedPackage w known) moved)
 all_gone w known moved count a b le h =
-    all_numbers (λ n. HasMovedSpot (IsPackageAt w known n) moved) (HasMovedSpot (IsPackage w known) moved) count a b
+    all_numbers (λ n. HasMovedSpot (IsPackageAt w known n) moved) (HasMovedSpot (IsCheckedPackage w known) moved) count a b
     (λ n x g. record {
       place = g.place;
-      declared = own_as (IsPackageAt w known n) (IsPackage w known) x.declaration (λ p. DeclaresAt p x.declaration g.place) (λ p is. is.is_package) g.declared;
+      declared = own_as (IsPackageAt w known n) (IsCheckedPackage w known) x.declaration (λ p. HasDeclarationAt p x.declaration g.place) (λ p is. is.is_package) g.declared;
       goes = g.goes;
     })
     (λ x g.
-    let k = own_numbered w known x.declaration (λ p. DeclaresAt p x.declaration g.place) g.declared in
+    let k = own_numbered w known x.declaration (λ p. HasDeclarationAt p x.declaration g.place) g.declared in
     let lt : k.0 < length (package_paths w) = k.1.0 in
     (k.0, omega arith, record { place = g.place; declared = k.1.1; goes = g.goes })) h
 

@@ -9,7 +9,7 @@ use Rattle.types_declared.specs.Package.{Package}
 use Rattle.types_declared.specs.Definitions.{IsUnderlyingOf}
 use Rattle.refs_binding.specs.declared.declaration.Declaration.{Declaration}
 use Rattle.refs_binding.specs.declared.declaration.Declaration.TheVariants.{Predeclared, Declared, Field, Method}
-use Rattle.refs_binding.specs.Uses.{IsPackage}
+use Rattle.refs_binding.specs.Uses.{IsCheckedPackage}
 use Rattle.refs_binding.specs.Workspaces.{known_in}
 use Rattle.base_edits.specs.Revisions.{Revision}
 use Rattle.refs_binding.specs.DeclaringPlaces.{InPackage}
@@ -20,7 +20,7 @@ use Rattle.refactor_after.specs.NewMembers.{AreNewMembers, AreAllNewMembers}
 
 -- The packages of the workspace before the change.
 abbrev pub known_types : TypesAfter → Package → Type 0
-known_types t = IsPackage t.workspace.now.graph (known_in t.workspace.now.findings)
+known_types t = IsCheckedPackage t.workspace.now.graph (known_in t.workspace.now.findings)
 
 -- The members are known under the names that the change gives them.
 abbrev pub KnowsMembers : Revision → TypesAfter → Type 0

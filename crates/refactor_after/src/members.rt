@@ -8,7 +8,7 @@ ghost use Rattle.go_ast.specs.SourceFile.{source_of, offset_of, spelling_of};
 ghost use Rattle.types_declared.specs.Package.{Package as Checked};
 ghost use Rattle.types_declared.specs.PackageView.{package_of, IsIndexOf};
 ghost use Rattle.base_edits.specs.RevisionsOfEdits.{new_name_at, revision_of};
-ghost use Rattle.refs_binding.specs.Packages.{ArePackages};
+ghost use Rattle.refs_binding.specs.Packages.{ArePackagesRead};
 ghost use Rattle.refs_binding.specs.Workspaces.{known_in};
 ghost use Rattle.refactor_after.specs.NamesAfter.{IsFieldAfter, IsMethodAfter};
 ghost use Rattle.refactor_after.specs.NewMembers.{IsNameAfter, AddsAfter, AreNewMembers, AreNewMembersAt, AreAllNewMembers};
@@ -161,7 +161,7 @@ fn members_at(
     number: usize,
 ) -> Result<NewMembers, AllocError>
     requires in_range { number < length (package_paths packages.now.workspace.now.graph) }
-    requires read { ArePackages packages.now }
+    requires read { ArePackagesRead packages.now }
     ensures { IfOk result (AreNewMembersAt packages.now.workspace.now.graph (known_in packages.now.workspace.now.findings) (revision_of packages.now.workspace.now.graph moves.now) number) }
 {
     let unit = packages.unit(number);
@@ -174,7 +174,7 @@ pub fn new_members(
     packages: &Packages<'_>,
     moves: &Moves<'_>,
 ) -> Result<Vec<NewMembers>, AllocError>
-    requires { ArePackages packages.now }
+    requires { ArePackagesRead packages.now }
     ensures { IfOk result (λ all. AreAllNewMembers packages.now.workspace.now.graph (known_in packages.now.workspace.now.findings) (revision_of packages.now.workspace.now.graph moves.now) all.items) }
 {
     let mut members = Vec::new(alloc);

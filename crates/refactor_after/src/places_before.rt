@@ -7,8 +7,8 @@ ghost use Rattle.refs_binding.specs.declared.bound_identifier.BoundIdentifier.{B
 ghost use Rattle.refs_binding.specs.declared.declaration.Declaration.TheVariants.{Declared};
 ghost use Rattle.refs_binding.specs.Bindings.{AddsAll, bound_place};
 ghost use Rattle.refs_binding.specs.Places.{place_cmp};
-ghost use Rattle.refs_binding.specs.Uses.{IsPackage};
-ghost use Rattle.refs_binding.specs.Packages.{ArePackages};
+ghost use Rattle.refs_binding.specs.Uses.{IsCheckedPackage};
+ghost use Rattle.refs_binding.specs.Packages.{ArePackagesRead};
 ghost use Rattle.refs_places.specs.DeclaredPlaces.{AreAllPlaces};
 ghost use Rattle.refactor_after.specs.ReadPackages.{workspace_of, verdicts_of};
 ghost use Rattle.refactor_after.specs.OldPlaces.{IsMovedSpot, IsMovedSpotOf, IsMovedSpotIn, HasMovedSpot, AreOldPlaces, field_at, method_at};
@@ -167,9 +167,9 @@ fn add_all(
     places: &[DeclaredPlaces],
     moves: &Moves<'_>,
 ) -> Result<(), AllocError>
-    requires read { ArePackages packages.now }
+    requires read { ArePackagesRead packages.now }
     requires places { AreAllPlaces (workspace_of packages.now) (verdicts_of packages.now) places.now }
-    ensures { OnOk result (AddsAll old.old.items old.new.items (HasMovedSpot (IsPackage (workspace_of packages.now) (verdicts_of packages.now)) (moved moves.now))) }
+    ensures { OnOk result (AddsAll old.old.items old.new.items (HasMovedSpot (IsCheckedPackage (workspace_of packages.now) (verdicts_of packages.now)) (moved moves.now))) }
 {
     for number in 0..packages.workspace.len() {
         let path = path_of(packages.workspace, number);
@@ -185,9 +185,9 @@ pub fn old_places(
     places: &[DeclaredPlaces],
     moves: &Moves<'_>,
 ) -> Result<Vec<BoundIdentifier>, AllocError>
-    requires read { ArePackages packages.now }
+    requires read { ArePackagesRead packages.now }
     requires places { AreAllPlaces (workspace_of packages.now) (verdicts_of packages.now) places.now }
-    ensures { IfOk result (λ old. AreOldPlaces (IsPackage (workspace_of packages.now) (verdicts_of packages.now)) (moved moves.now) old.items) }
+    ensures { IfOk result (λ old. AreOldPlaces (IsCheckedPackage (workspace_of packages.now) (verdicts_of packages.now)) (moved moves.now) old.items) }
 {
     let mut old = Vec::new(alloc);
     add_all(&mut old, packages, places, moves)?;

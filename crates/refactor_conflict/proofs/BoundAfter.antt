@@ -26,7 +26,7 @@ use Rattle.refactor_after.specs.ScopeBindings.{IsScopeUse, AreScopeBindings}
 use Rattle.refactor_after.proofs.OneScoped.{one_scoped}
 use Rattle.refactor_after.proofs.OneUse.{scoped_formed}
 use Rattle.refactor_conflict.specs.BoundAfter.{IsExportAfter}
-use Rattle.refactor_conflict.specs.ScopesAfter.{IsBindable, IsExportIn, IsExportOf}
+use Rattle.refactor_conflict.specs.ScopesAfter.{IsBindable, IsExportIn, IsNameOfExport}
 
 -- A declaration that scopes bind to counts.
 counts_of : (l : Layout) (names : Names) (u d : ℕ) → IsBoundTo l names u d → Counts l names d
@@ -88,14 +88,14 @@ one_export w r path name d e a b =
 
 -- exports
 pub export_none : (p : Package) (numbers : List ℕ → Option ℕ) (name : List ℕ) → AreExportsByName p numbers → numbers name ≡ None → (e : Declaration) →
-    IsExportOf p name e → ⊥
+    IsNameOfExport p name e → ⊥
 export_none p numbers name are none e h =
     let nothing = subst (λ o. MatchOption o ((d : ℕ) → DoesExport p d → p.names d ≡ name → ⊥) (λ d. DoesExport p d × (p.names d ≡ name))) none (are name) in
     nothing h.0 h.1.0.0 h.1.0.1
 
 pub export_some : (p : Package) (numbers : List ℕ → Option ℕ) (name : List ℕ) (d : ℕ) (path : List ℕ) → AreExportsByName p numbers → numbers name ≡ Some d →
     path ≡ p.path →
-    IsExportOf p name (Declared path d)
+    IsNameOfExport p name (Declared path d)
 export_some p numbers name d path are some same = (
   d,
   (
@@ -108,10 +108,10 @@ pub no_export : (w : Workspace) (path name : List ℕ) → ((p : Package) → Is
 no_export w path name none e h = none h.other h.is_package h.of_path
 
 pub exports_here : (w : Workspace) (path name : List ℕ) (s : PackageScopes) → IsScopedIn w (package_scoped path s) → (o : Option Declaration) →
-    IsDeclarationResult (IsExportOf (package_scoped path s) name) o → IsDeclarationResult (IsExportIn w path name) o
+    IsDeclarationResult (IsNameOfExport (package_scoped path s) name) o → IsDeclarationResult (IsExportIn w path name) o
 exports_here w path name s is o h =
     let p = package_scoped path s in
-    found_as (IsExportOf p name) (IsExportIn w path name) o
+    found_as (IsNameOfExport p name) (IsExportIn w path name) o
     (λ e x. record { other = p; is_package = is; of_path = refl; declaration = x.0; seen = x.1.0.0; named = x.1.0.1; exported = x.1.1 })
     (λ e x.
     let same : x.other ≡ p = one_scoped w x.other p x.is_package is x.of_path in

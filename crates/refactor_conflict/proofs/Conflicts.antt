@@ -24,7 +24,7 @@ use Rattle.refs_binding.specs.Binding.{BindsByScope, BindsQualified, IsFieldAt, 
 use Rattle.refs_binding.specs.Identifiers.{BeginsAt}
 use Rattle.refs_binding.specs.Members.{member_at}
 use Rattle.refs_binding.specs.Steps.{AtToken, IsDeclarationResult}
-use Rattle.refs_binding.specs.Uses.{IsPackage}
+use Rattle.refs_binding.specs.Uses.{IsCheckedPackage}
 use Rattle.refs_binding.specs.Workspaces.{ExportsAs, IsPackageAt}
 use Rattle.refs_binding.proofs.MemberParts.{file_uses}
 use Rattle.refs_binding.proofs.NamedPlaces.{found_to_name}
@@ -126,17 +126,17 @@ in_package w known r number p is c h = record { used_in = p; is_package = is.is_
 -- by scopes
 pub scope_turned : (w : Workspace) (known : Verdicts) (r : Revision) (p : Package) (u : ℕ) (old : Declaration) → BindsByScope p u old → (place : Place) →
     BeginsAt p place.path place.offset u →
-    (c : Conflict) → IsConflictOf (HasBecome w known r) (IsPackage w known) (IsBoundByScopes r place) place old c → IsConflictIn w known r p c
+    (c : Conflict) → IsConflictOf (HasBecome w known r) (IsCheckedPackage w known) (IsBoundByScopes r place) place old c → IsConflictIn w known r p c
 scope_turned w known r p u old was place begins c n = record {
   user = u;
   begins = subst (λ (x : Place). BeginsAt p x.path x.offset u) (sym n.0) begins;
-  turned = by_scope old was (subst (λ (x : Place). LostOrCaptured (HasBecome w known r) (IsPackage w known) (IsBoundByScopes r x) old c.by) (sym n.0) n.1);
+  turned = by_scope old was (subst (λ (x : Place). LostOrCaptured (HasBecome w known r) (IsCheckedPackage w known) (IsBoundByScopes r x) old c.by) (sym n.0) n.1);
 }
 
 -- Selectors of qualified identifiers.
 pub exported_binds : (w : Workspace) (known : Verdicts) (p : Package) (u : ℕ) (path : List ℕ) → IsQualifiedByPath p u path → (d : Declaration) →
     ExportsAs w known path (p.names u) d →
-    BindsQualified (IsPackage w known) p u d
+    BindsQualified (IsCheckedPackage w known) p u d
 exported_binds w known p u path behind (Predeclared n) h = h
 exported_binds w known p u path behind (Declared other n) h = record {
   behind = subst (IsQualifiedByPath p u) (sym h.0) behind;
@@ -167,12 +167,12 @@ behind_bound w r p u path only place e h =
     subst (λ q. IsExportAfter w r q (r.called place (p.names u)) e) (only h.path h.behind) h.exports
 
 pub package_turned : (w : Workspace) (known : Verdicts) (r : Revision) (p : Package) (u : ℕ) (path : List ℕ) → IsQualifiedByPath p u path →
-    ((other : List ℕ) → IsQualifiedByPath p u other → other ≡ path) → (old : Declaration) → BindsQualified (IsPackage w known) p u old →
+    ((other : List ℕ) → IsQualifiedByPath p u other → other ≡ path) → (old : Declaration) → BindsQualified (IsCheckedPackage w known) p u old →
     (place : Place) → BeginsAt p place.path place.offset u → (c : Conflict) →
-    IsConflictOf (HasBecome w known r) (IsPackage w known) (IsExportAfter w r path (r.called place (p.names u))) place old c → IsConflictIn w known r p c
+    IsConflictOf (HasBecome w known r) (IsCheckedPackage w known) (IsExportAfter w r path (r.called place (p.names u))) place old c → IsConflictIn w known r p c
 package_turned w known r p u path behind only old was place begins c n =
     let B = HasBecome w known r in
-    let I = IsPackage w known in
+    let I = IsCheckedPackage w known in
     let tells = (noted_as B I (IsExportAfter w r path (r.called place (p.names u))) (IsBoundByPackage w r place p u) place old
     (bound_behind w r p u path behind place) (behind_bound w r p u path only place) c n).1 in
     record {
@@ -201,9 +201,9 @@ among Known r ds p file uses k x at c h =
 pub member_in : (w : Workspace) (known : Verdicts) (r : Revision) (p : Package) (formed : WellFormed p.layout)
     (ds : Symbol → Definition) (are : AreDefinitions p ds) (members : List (Vec FoundUse)) →
     AreMemberUses p (map uses_in members) → (file : ℕ) (v : Vec FoundUse) → slice_get members file ≡ Some v → (c : Conflict) →
-    IsMemberConflictIn (IsPackage w known) r ds p file (uses_in v) c → IsConflictIn w known r p c
+    IsMemberConflictIn (IsCheckedPackage w known) r ds p file (uses_in v) c → IsConflictIn w known r p c
 member_in w known r p formed ds are members all file v at c h =
-    let Known = IsPackage w known in
+    let Known = IsCheckedPackage w known in
     let x = h.is_use.1 in
     let token = x.is_use.at in
     let stands = token.1.1 in
@@ -239,14 +239,14 @@ lost_at Known r p at old place is c n = (subst (AtToken p at) (sym n.0) is, n.1)
 
 pub field_in : (w : Workspace) (known : Verdicts) (r : Revision) (p : Package) (rank : ℕ) (o : Option Position) →
     MatchOption o ((at : Position) → IsFieldAt p rank at → ⊥) (λ at. IsFieldAt p rank at) →
-    (c : Conflict) → IsLostAtFound (IsPackage w known) r p o (field_at p.path rank) c → IsConflictIn w known r p c
+    (c : Conflict) → IsLostAtFound (IsCheckedPackage w known) r p o (field_at p.path rank) c → IsConflictIn w known r p c
 field_in w known r p rank o is c h =
     let n = found_to_name (IsFieldAt p) p rank o is c.used h.0 in
     record { user = n.0; begins = n.1.0; turned = by_name (field_at p.path rank) (refl, n.1.1) h.1.0 h.1.1 }
 
 pub method_in : (w : Workspace) (known : Verdicts) (r : Revision) (p : Package) (rank : ℕ) (o : Option Position) →
     MatchOption o ((at : Position) → IsMethodAt p rank at → ⊥) (λ at. IsMethodAt p rank at) →
-    (c : Conflict) → IsLostAtFound (IsPackage w known) r p o (method_at p.path rank) c → IsConflictIn w known r p c
+    (c : Conflict) → IsLostAtFound (IsCheckedPackage w known) r p o (method_at p.path rank) c → IsConflictIn w known r p c
 method_in w known r p rank o is c h =
     let n = found_to_name (IsMethodAt p) p rank o is c.used h.0 in
     record { user = n.0; begins = n.1.0; turned = by_name (method_at p.path rank) (refl, n.1.1) h.1.0 h.1.1 }

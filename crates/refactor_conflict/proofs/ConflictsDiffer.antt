@@ -6,7 +6,7 @@ use Rattle.types_declared.specs.Package.{Package}
 use Rattle.workspace_check.specs.Verdicts.{Verdicts}
 use Rattle.base_edits.specs.Revisions.{Revision}
 use Rattle.refs_binding.specs.declared.declaration.Declaration.{Declaration}
-use Rattle.refs_binding.specs.Uses.{IsPackage}
+use Rattle.refs_binding.specs.Uses.{IsCheckedPackage}
 use Rattle.refactor_conflict.specs.BoundAfter.{HasBecome, IsBoundByScopes, IsBoundByPackage, IsBoundByMember}
 use Rattle.refactor_conflict.specs.Conflicts.{LostOrCaptured, is_lost, is_captured, LosesMember, ChangesBinding, by_scope, by_package, by_member, by_name, IsConflict}
 use Rattle.refactor_conflict.specs.Staying.{StaysBound, Stays, StaysAt}
@@ -25,11 +25,11 @@ not_same Known E old (Some by) h = h.other
 turned : (w : Workspace) (known : Verdicts) (r : Revision) (p : Package) (u : ℕ) (c : Conflict) → ChangesBinding w known r p u c →
     Stays w known r p u c.used → ⊥
 turned w known r p u c (by_scope old was tells) s =
-    not_bound (HasBecome w known r) (IsPackage w known) (IsBoundByScopes r c.used) old c.by tells (s.by_scope old was)
+    not_bound (HasBecome w known r) (IsCheckedPackage w known) (IsBoundByScopes r c.used) old c.by tells (s.by_scope old was)
 turned w known r p u c (by_package old was tells) s =
-    not_bound (HasBecome w known r) (IsPackage w known) (IsBoundByPackage w r c.used p u) old c.by tells (s.by_package old was)
+    not_bound (HasBecome w known r) (IsCheckedPackage w known) (IsBoundByPackage w r c.used p u) old c.by tells (s.by_package old was)
 turned w known r p u c (by_member old was tells) s =
-    not_same (IsPackage w known) (IsBoundByMember (IsPackage w known) r c.used p u old was) old c.by tells (s.by_member old was)
+    not_same (IsCheckedPackage w known) (IsBoundByMember (IsCheckedPackage w known) r c.used p u old was) old c.by tells (s.by_member old was)
 turned w known r p u c (by_name old was not none) s = not (s.by_name old was)
 
 pub not_staying : (w : Workspace) (known : Verdicts) (r : Revision) (c : Conflict) → IsConflict w known r c → StaysAt w known r c.used → ⊥

@@ -13,14 +13,14 @@ use Rattle.types_declared.proofs.Binding.{within}
 use Rattle.workspace_check.specs.Verdicts.{Verdicts}
 use Rattle.refs_binding.specs.declared.declaration.Declaration.{Declaration}
 use Rattle.refs_binding.specs.declared.declaration.Declaration.TheVariants.{Predeclared, Declared, Field, Method}
-use Rattle.refs_binding.specs.Binding.{IsPredeclared}
+use Rattle.refs_binding.specs.Binding.{IsPredeclaredNumber}
 use Rattle.refs_binding.specs.Steps.{IsDeclarationResult}
-use Rattle.refs_binding.specs.Uses.{IsPackage}
+use Rattle.refs_binding.specs.Uses.{IsCheckedPackage}
 use Rattle.base_edits.specs.Revisions.{Revision}
 use Rattle.refactor_after.specs.ScopedPackages.{IsScopedIn}
 use Rattle.refactor_after.specs.Scopes.{package_scoped, IsNotScoped}
 use Rattle.refactor_after.specs.declared.scopes.PackageScopes.{PackageScopes}
-use Rattle.refs_binding.specs.DeclaringPlaces.{TokenAt, DeclaresAt, IsDeclaredAt}
+use Rattle.refs_binding.specs.DeclaringPlaces.{TokenAt, HasDeclarationAt, IsDeclaredAt}
 use Rattle.refs_index.specs.Corresponding.{stands}
 use Rattle.refs_places.specs.DeclaredPlaces.{IsChoice}
 use Rattle.refs_index.specs.Becoming.{IsSamePredeclared}
@@ -36,7 +36,7 @@ use Rattle.refactor_conflict.proofs.OnePlace.{only_place}
 
 -- The place of a package's own declaration.
 module _ (w : Workspace) (path : List ℕ) (d : ℕ) where
-  pub predeclared_nowhere : IsPredeclared d → (place : Place) → IsDeclaredAt (IsScopedIn w) (Declared path d) place → ⊥
+  pub predeclared_nowhere : IsPredeclaredNumber d → (place : Place) → IsDeclaredAt (IsScopedIn w) (Declared path d) place → ⊥
   predeclared_nowhere known place h = h.holds.is_at.own known
 
   pub stands_nowhere : IsNotScoped w path → (place : Place) → IsDeclaredAt (IsScopedIn w) (Declared path d) place → ⊥
@@ -51,7 +51,7 @@ module _ (w : Workspace) (path : List ℕ) (d : ℕ) where
     pub within_here : IsBindable w (Declared path d) → d < length s.table.sites
     within_here h = within s.table.sites (names_in s.table) d (Some d) (own refl (counts_here h))
 
-    to_standing : (IsPredeclared d → ⊥) → IsBindable w (Declared path d) → (place : Place) → IsDeclaringToken s d place →
+    to_standing : (IsPredeclaredNumber d → ⊥) → IsBindable w (Declared path d) → (place : Place) → IsDeclaringToken s d place →
         IsDeclaredAt (IsScopedIn w) (Declared path d) place
     to_standing not counts place t = record {
       inside = package_scoped path s;
@@ -69,10 +69,10 @@ module _ (w : Workspace) (path : List ℕ) (d : ℕ) where
     from_standing place h =
         let p = package_scoped path s in
         let same : h.inside ≡ p = one_scoped w h.inside p h.is_package is h.of_path in
-        let x : DeclaresAt p (Declared path d) place = subst (λ (q : Package). DeclaresAt q (Declared path d) place) same h.holds in
+        let x : HasDeclarationAt p (Declared path d) place = subst (λ (q : Package). HasDeclarationAt q (Declared path d) place) same h.holds in
         subst (λ (at : Position). TokenAt p at place) (sym x.is_at.stands) x.begins
 
-    pub own_standing : (IsPredeclared d → ⊥) → IsBindable w (Declared path d) → (o : Option Place) → IsChoice (IsDeclaringToken s d) o →
+    pub own_standing : (IsPredeclaredNumber d → ⊥) → IsBindable w (Declared path d) → (o : Option Place) → IsChoice (IsDeclaringToken s d) o →
         IsChoice (IsDeclaredAt (IsScopedIn w) (Declared path d)) o
     own_standing not counts o h =
         found_as (IsDeclaringToken s d) (IsDeclaredAt (IsScopedIn w) (Declared path d)) o (to_standing not counts) from_standing h
@@ -93,18 +93,18 @@ stands_if w e counts to new at told is = (
 -- whether one has become another
 module _ (w : Workspace) (known : Verdicts) (r : Revision) (old e : Declaration) (yes : Bool) (same : IsTrue yes ↔ IsSamePredeclared old e) where
   pub become_same : yes ≡ true → IsTrue true ↔ HasBecome w known r old e
-  become_same t = ((λ u. same_names (IsPackage w known) (IsScopedIn r.after) r.moved old e (same.0 t)), (λ b. refl))
+  become_same t = ((λ u. same_names (IsCheckedPackage w known) (IsScopedIn r.after) r.moved old e (same.0 t)), (λ b. refl))
 
-  both_stand : yes ≡ false → HasBecome w known r old e → StandBoth (IsPackage w known) (IsScopedIn r.after) r.moved old e
-  both_stand denied b = elim (by_cases (IsPackage w known) (IsScopedIn r.after) r.moved old e b) [
+  both_stand : yes ≡ false → HasBecome w known r old e → StandBoth (IsCheckedPackage w known) (IsScopedIn r.after) r.moved old e
+  both_stand denied b = elim (by_cases (IsCheckedPackage w known) (IsScopedIn r.after) r.moved old e b) [
     | inl names ↦ absurd (false≢true (sym denied ∙ same.1 names))
     | inr places ↦ places
   ]
 
-  pub become_nowhere : yes ≡ false → ((place : Place) → IsDeclaredAt (IsPackage w known) old place → ⊥) → IsTrue false ↔ HasBecome w known r old e
+  pub become_nowhere : yes ≡ false → ((place : Place) → IsDeclaredAt (IsCheckedPackage w known) old place → ⊥) → IsTrue false ↔ HasBecome w known r old e
   become_nowhere denied none = ((λ t. absurd (false≢true t)), (λ b. let s = both_stand denied b in absurd (none s.place s.old)))
 
-  pub become_if : yes ≡ false → (place : Place) → IsDeclaredAt (IsPackage w known) old place → (answer : Bool) →
+  pub become_if : yes ≡ false → (place : Place) → IsDeclaredAt (IsCheckedPackage w known) old place → (answer : Bool) →
       IsTrue answer ↔ IsDeclaredAt (IsScopedIn r.after) e (r.moved place) →
       IsTrue answer ↔ HasBecome w known r old e
   become_if denied place at answer is = (
@@ -126,21 +126,21 @@ not_predeclared e d is other n so = subst IsNotPredeclared (sym is ∙ so) other
 -- A declaration that is moved to the place of another has become that one, and no other one that is not predeclared has.
 module _ (w : Workspace) (known : Verdicts) (r : Revision) (e : Declaration) where
   abbrev pub Goes : Declaration → Type 0
-  Goes c = MovesToPlaceOf (IsPackage w known) (IsScopedIn r.after) r.moved c e
+  Goes c = MovesToPlaceOf (IsCheckedPackage w known) (IsScopedIn r.after) r.moved c e
 
   pub goes_there : IsBindable r.after e → (place : Place) → IsDeclaredAt (IsScopedIn r.after) e place → (o : Option Declaration) →
-      IsDeclarationResult (λ c. HasMovedTo (IsPackage w known) r.moved c place) o → IsDeclarationResult Goes o
+      IsDeclarationResult (λ c. HasMovedTo (IsCheckedPackage w known) r.moved c place) o → IsDeclarationResult Goes o
   goes_there counts place at o h =
-      found_as (λ c. HasMovedTo (IsPackage w known) r.moved c place) Goes o
+      found_as (λ c. HasMovedTo (IsCheckedPackage w known) r.moved c place) Goes o
       (λ c g. record { to = place; goes = g; stands = at })
-      (λ c g. subst (HasMovedTo (IsPackage w known) r.moved c) (only_place r.after e counts g.to place g.stands at) g.goes) h
+      (λ c g. subst (HasMovedTo (IsCheckedPackage w known) r.moved c) (only_place r.after e counts g.to place g.stands at) g.goes) h
 
   pub become_where : ((n : ℕ) → e ≡ Predeclared n → ⊥) → (o : Option Declaration) → IsDeclarationResult Goes o →
       IsDeclarationResult (λ c. HasBecome w known r c e) o
   become_where stood o h =
       found_as Goes (λ c. HasBecome w known r c e) o
       (λ c g. stands g.goes.place g.goes.declared (subst (IsDeclaredAt (IsScopedIn r.after) e) g.goes.goes g.stands))
-      (λ c b. elim (by_cases (IsPackage w known) (IsScopedIn r.after) r.moved c e b) [
+      (λ c b. elim (by_cases (IsCheckedPackage w known) (IsScopedIn r.after) r.moved c e b) [
         | inl names ↦ absurd (stood names.number names.other)
         | inr places ↦ record { to = r.moved places.place; goes = record { place = places.place; declared = places.old; goes = refl }; stands = places.new }
       ]) h

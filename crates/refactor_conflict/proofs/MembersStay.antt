@@ -29,7 +29,7 @@ use Rattle.refs_binding.specs.Binding.{DeclaresMember, IsNameOf, IsFieldAt, IsMe
 use Rattle.refs_binding.specs.Identifiers.{NameBegins, BeginsAt, file_of}
 use Rattle.refs_binding.specs.Members.{member_at}
 use Rattle.refs_binding.specs.Steps.{ArePlaces, AtToken, UsesIn}
-use Rattle.refs_binding.specs.Uses.{IsPackage}
+use Rattle.refs_binding.specs.Uses.{IsCheckedPackage}
 use Rattle.refs_binding.proofs.MemberParts.{one_list, file_uses, has_uses}
 use Rattle.refs_binding.proofs.NamedPlaces.{name_to_found, stands_once}
 use Rattle.refs_binding.specs.DeclaringPlaces.{TokenBegins, TokenAt}
@@ -110,13 +110,13 @@ abbrev pub FileStays : Workspace → Verdicts → Revision → Package → ℕ �
 FileStays w known r p file place =
     (u : ℕ) → BeginsAt p place.path place.offset u → (p.layout.place u).file ≡ file → StaysByMember w known r p u place
 
-module _ (w : Workspace) (known : Verdicts) (r : Revision) (p : Package) (is : IsPackage w known p) (formed : WellFormed p.layout)
+module _ (w : Workspace) (known : Verdicts) (r : Revision) (p : Package) (is : IsCheckedPackage w known p) (formed : WellFormed p.layout)
     (ds : Symbol → Definition) (are : AreDefinitions p ds) (members : List (Vec FoundUse)) (all : AreMemberUses p (map uses_in members)) where
   used_stays : (u : ℕ) (v : Vec FoundUse) → slice_get members (p.layout.place u).file ≡ Some v → (place : Place) →
-      UsesStay (IsPackage w known) r ds p (p.layout.place u).file (uses_in v) place → BeginsAt p place.path place.offset u →
+      UsesStay (IsCheckedPackage w known) r ds p (p.layout.place u).file (uses_in v) place → BeginsAt p place.path place.offset u →
       StaysByMember w known r p u place
   used_stays u v at place stay begins = λ old was.
-      let Known = IsPackage w known in
+      let Known = IsCheckedPackage w known in
       let f = (p.layout.place u).file in
       let t = (p.layout.place u).index in
       let x = was.found in
@@ -135,10 +135,10 @@ module _ (w : Workspace) (known : Verdicts) (r : Revision) (p : Package) (is : I
       (sym (definitions_in p formed ds are f was.uses was.judged)) now)
 
   pub file_stays : (file : ℕ) (v : Vec FoundUse) → slice_get members file ≡ Some v → (place : Place) →
-      UsesStay (IsPackage w known) r ds p file (uses_in v) place → FileStays w known r p file place
+      UsesStay (IsCheckedPackage w known) r ds p file (uses_in v) place → FileStays w known r p file place
   file_stays file v at place stay = λ u begins of_file.
       used_stays u v (subst (λ f. slice_get members f ≡ Some v) (sym of_file) at) place
-      (subst (λ f. UsesStay (IsPackage w known) r ds p f (uses_in v) place) (sym of_file) stay) begins
+      (subst (λ f. UsesStay (IsCheckedPackage w known) r ds p f (uses_in v) place) (sym of_file) stay) begins
 
   pub no_file_stays : (file : ℕ) (place : Place) → length members ≤ file → FileStays w known r p file place
   no_file_stays file place le = λ u begins of_file old was.
@@ -178,7 +178,7 @@ declaring_stays Known r p place u begins fields methods (Method s) h =
     subst (λ q. CountsAfter Known r (Method (record { «package» = q; rank = s.rank }))) (sym h.0) (methods s.rank (u, (begins, h.1)))
 
 pub declaring_names_stay : (w : Workspace) (known : Verdicts) (r : Revision) (p : Package) (first : Option Conflict) →
-    HoldsBefore (FieldsStayIn (IsPackage w known) r p) first → HoldsBefore (MethodsStayIn (IsPackage w known) r p) first →
+    HoldsBefore (FieldsStayIn (IsCheckedPackage w known) r p) first → HoldsBefore (MethodsStayIn (IsCheckedPackage w known) r p) first →
     HoldsBefore (DeclaringNamesStayIn w known r p) first
 declaring_names_stay w known r p first fields methods = λ place ahead u begins.
-    declaring_stays (IsPackage w known) r p place u begins (fields place ahead) (methods place ahead)
+    declaring_stays (IsCheckedPackage w known) r p place u begins (fields place ahead) (methods place ahead)

@@ -16,7 +16,7 @@ use Rattle.base_edits.specs.Revisions.{Revision}
 use Rattle.refs_binding.specs.declared.declaration.Declaration.{Declaration}
 use Rattle.refs_binding.specs.Members.{definitions_seen}
 use Rattle.refs_binding.specs.Steps.{IsDeclarationResult}
-use Rattle.refs_binding.specs.Uses.{IsPackage}
+use Rattle.refs_binding.specs.Uses.{IsCheckedPackage}
 use Rattle.refs_binding.specs.Workspaces.{known_in}
 use Rattle.refactor_after.specs.declared.members.NewMembers.{NewMembers}
 use Rattle.refactor_after.specs.declared.types_after.TypesAfter.{TypesAfter}
@@ -55,7 +55,7 @@ pub not_counted : (j : Judge) (t : TypesAfter) → t.workspace.now.graph ≡ j.p
     ((r : Revision) → KnowsMembers r t → IsTrue yes ↔ CountsAfter (known_types t) r old) → CountsAfter (known_packages j) (revision_in j) old → ⊥
 not_counted j t graph found members knows old {yes} e h k =
     let counts : IsTrue yes ↔ CountsAfter (known_packages j) (revision_in j) old =
-    by_types j t graph found members knows (λ w known. IsTrue yes ↔ CountsAfter (IsPackage w known) (revision_in j) old) (h (revision_in j)) in
+    by_types j t graph found members knows (λ w known. IsTrue yes ↔ CountsAfter (IsCheckedPackage w known) (revision_in j) old) (h (revision_in j)) in
     false≢true (sym e ∙ counts.1 k)
 
 -- A member that counts by these types counts under its new name.
@@ -65,7 +65,7 @@ pub counted : (j : Judge) (t : TypesAfter) → t.workspace.now.graph ≡ j.packa
     ((r : Revision) → KnowsMembers r t → IsTrue yes ↔ CountsAfter (known_types t) r old) → CountsAfter (known_packages j) (revision_in j) old
 counted j t graph found members knows old {yes} e h =
     let counts : IsTrue yes ↔ CountsAfter (known_packages j) (revision_in j) old =
-    by_types j t graph found members knows (λ w known. IsTrue yes ↔ CountsAfter (IsPackage w known) (revision_in j) old) (h (revision_in j)) in
+    by_types j t graph found members knows (λ w known. IsTrue yes ↔ CountsAfter (IsCheckedPackage w known) (revision_in j) old) (h (revision_in j)) in
     counts.0 e
 
 -- the member that a name is by these types, by the definitions that a package sees
@@ -78,6 +78,6 @@ pub member_known : (j : Judge) (t : TypesAfter) → t.workspace.now.graph ≡ j.
 member_known j t graph found members knows path own name e u v same before o h =
     let r = revision_in j in
     let here : IsDeclarationResult (IsMemberAfter (known_packages j) r path name u before) o =
-    by_types j t graph found members knows (λ w known. IsDeclarationResult (IsMemberAfter (IsPackage w known) r path name u before) o) (h r) in
+    by_types j t graph found members knows (λ w known. IsDeclarationResult (IsMemberAfter (IsCheckedPackage w known) r path name u before) o) (h r) in
     subst (λ q. IsDeclarationResult (IsMemberAfter (known_packages j) r q name v before) o) e
     (subst (λ x. IsDeclarationResult (IsMemberAfter (known_packages j) r path name x before) o) same here)

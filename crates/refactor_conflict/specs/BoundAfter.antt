@@ -13,7 +13,7 @@ use Rattle.refs_binding.specs.declared.declaration.Declaration.{Declaration}
 use Rattle.refs_binding.specs.declared.declaration.Declaration.TheVariants.{Declared}
 use Rattle.types_info.specs.QualifiedIdentifiers.{IsQualifiedByPath}
 use Rattle.refs_binding.specs.Binding.{BindsByMember}
-use Rattle.refs_binding.specs.Uses.{IsPackage}
+use Rattle.refs_binding.specs.Uses.{IsCheckedPackage}
 use Rattle.base_edits.specs.Revisions.{Revision, PackageMovesTo}
 use Rattle.refactor_after.specs.MembersAfter.{IsMemberAfter}
 use Rattle.refactor_after.specs.ScopedPackages.{IsScopedIn}
@@ -22,7 +22,7 @@ use Rattle.refactor_after.specs.ScopeBindings.{IsScopeUse}
 
 -- The declaration `c` of the workspace before the change has become the declaration `e` of the scopes after it.
 abbrev pub HasBecome : Workspace → Verdicts → Revision → Declaration → Declaration → Type 0
-HasBecome w before r c e = Corresponds (IsPackage w before) (IsScopedIn r.after) r.moved c e
+HasBecome w before r c e = Corresponds (IsCheckedPackage w before) (IsScopedIn r.after) r.moved c e
 
 -- The scopes after the change bind to `e` the identifier at the place to which `place` is moved.
 abbrev pub IsBoundByScopes : Revision → Place → Declaration → Type 0

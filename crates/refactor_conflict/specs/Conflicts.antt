@@ -17,7 +17,7 @@ use Rattle.refs_binding.specs.Identifiers.{BeginsAt}
 use Rattle.refs_binding.specs.Places.{place_cmp}
 use Rattle.refs_binding.specs.Members.{IsMemberUseOf, IsMemberUseAmong}
 use Rattle.refs_binding.specs.Steps.{AtToken, AtFound}
-use Rattle.refs_binding.specs.Uses.{IsPackage}
+use Rattle.refs_binding.specs.Uses.{IsCheckedPackage}
 use Rattle.base_edits.specs.Revisions.{Revision}
 use Rattle.refs_binding.specs.DeclaringPlaces.{IsDeclaredAt}
 use Rattle.refs_places.specs.Identified.{IsIdentifierAt}
@@ -84,13 +84,13 @@ LosesMember Known E old (Some by) = IsCapturedMember Known E old by
 --   // renaming y to x loses the declaring identifier y: of two fields of one name the first counts
 --   type T struct { x int; y int }
 pub data ChangesBinding (w : Workspace) (known : Verdicts) (r : Revision) (p : Package) (u : ℕ) (c : Conflict) : Type 0 where
-  by_scope : (old : Declaration) → BindsByScope p u old → LostOrCaptured (HasBecome w known r) (IsPackage w known) (IsBoundByScopes r c.used) old c.by →
+  by_scope : (old : Declaration) → BindsByScope p u old → LostOrCaptured (HasBecome w known r) (IsCheckedPackage w known) (IsBoundByScopes r c.used) old c.by →
       ChangesBinding w known r p u c
-  by_package : (old : Declaration) → BindsQualified (IsPackage w known) p u old →
-      LostOrCaptured (HasBecome w known r) (IsPackage w known) (IsBoundByPackage w r c.used p u) old c.by → ChangesBinding w known r p u c
+  by_package : (old : Declaration) → BindsQualified (IsCheckedPackage w known) p u old →
+      LostOrCaptured (HasBecome w known r) (IsCheckedPackage w known) (IsBoundByPackage w r c.used p u) old c.by → ChangesBinding w known r p u c
   by_member : (old : Declaration) (was : BindsByMember p u old) →
-      LosesMember (IsPackage w known) (IsBoundByMember (IsPackage w known) r c.used p u old was) old c.by → ChangesBinding w known r p u c
-  by_name : (old : Declaration) → DeclaresMember p u old → (CountsAfter (IsPackage w known) r old → ⊥) → c.by ≡ None → ChangesBinding w known r p u c
+      LosesMember (IsCheckedPackage w known) (IsBoundByMember (IsCheckedPackage w known) r c.used p u old was) old c.by → ChangesBinding w known r p u c
+  by_name : (old : Declaration) → DeclaresMember p u old → (CountsAfter (IsCheckedPackage w known) r old → ⊥) → c.by ≡ None → ChangesBinding w known r p u c
 
 -- An identifier of the package `p` begins at the place of the conflict, and the change alters what it is bound to.
 pub record IsConflictIn (w : Workspace) (known : Verdicts) (r : Revision) (p : Package) (c : Conflict) : Type 0 where
@@ -101,7 +101,7 @@ pub record IsConflictIn (w : Workspace) (known : Verdicts) (r : Revision) (p : P
 -- An identifier of some package of the workspace begins at the place of the conflict, and the change alters what it is bound to.
 pub record IsConflict (w : Workspace) (known : Verdicts) (r : Revision) (c : Conflict) : Type 0 where
   pub used_in : Package
-  pub is_package : IsPackage w known used_in
+  pub is_package : IsCheckedPackage w known used_in
   pub conflict : IsConflictIn w known r used_in c
 
 -- The conflict names the first identifier of the workspace, as lost.

@@ -11,8 +11,8 @@ use Rattle.base_edits.specs.RevisionsOfEdits.{new_name_at, revision_of}
 use Rattle.refs_binding.specs.declared.declaration.Declaration.{Declaration}
 use Rattle.refs_binding.specs.declared.packages.Packages.{Packages}
 use Rattle.refs_binding.specs.Exports.{AreExports}
-use Rattle.refs_binding.specs.Packages.{ArePackages}
-use Rattle.refs_binding.specs.Uses.{IsPackage}
+use Rattle.refs_binding.specs.Packages.{ArePackagesRead}
+use Rattle.refs_binding.specs.Uses.{IsCheckedPackage}
 use Rattle.refs_binding.specs.DeclaringPlaces.{IsDeclaredAt}
 use Rattle.refs_places.specs.DeclaredPlaces.{AreAllPlaces}
 use Rattle.refactor_after.specs.NewMembers.{AreAllNewMembers}
@@ -32,16 +32,16 @@ revision_by after s = record { after = after; moved = moved s; called = new_name
 pub record KnowsBefore (p : Packages) (s : FileChanges) (b : Before) : Type 0 where
   pub exports : AreExports (workspace_of p) (verdicts_of p) b.exports.items
   pub places : AreAllPlaces (workspace_of p) (verdicts_of p) b.places.items
-  pub old : AreOldPlaces (IsPackage (workspace_of p) (verdicts_of p)) (moved s) b.old.items
+  pub old : AreOldPlaces (IsCheckedPackage (workspace_of p) (verdicts_of p)) (moved s) b.old.items
   pub members : AreAllNewMembers (workspace_of p) (verdicts_of p) (revision_of (workspace_of p) s) b.members.items
 
 -- The judge has the exports, the places of declarations and the members under new names of the workspace before the change. Of the
 -- workspace after it it has the scopes and their bindings.
 pub record KnowsChange (j : Judge) : Type 0 where
-  pub read : ArePackages j.packages.now
+  pub read : ArePackagesRead j.packages.now
   pub exports : AreExports (workspace_of j.packages.now) (verdicts_of j.packages.now) j.exports.now
   pub places : AreAllPlaces (workspace_of j.packages.now) (verdicts_of j.packages.now) j.places.now
-  pub old : AreOldPlaces (IsPackage (workspace_of j.packages.now) (verdicts_of j.packages.now)) (moved j.moves.now) j.old.now
+  pub old : AreOldPlaces (IsCheckedPackage (workspace_of j.packages.now) (verdicts_of j.packages.now)) (moved j.moves.now) j.old.now
   pub after : j.after.now ≡ edited j.moves.now (workspace_of j.packages.now)
   pub scoped : AreAllScopes j.after.now j.scoped.now
   pub bound : AreScopeBindings j.after.now j.bound.now
@@ -57,7 +57,7 @@ known_verdicts j = verdicts_of j.packages.now
 
 -- The packages of the workspace before the change.
 abbrev pub known_packages : Judge → Package → Type 0
-known_packages j = IsPackage (workspace_in j) (known_verdicts j)
+known_packages j = IsCheckedPackage (workspace_in j) (known_verdicts j)
 
 -- The change that is judged.
 abbrev pub revision_in : Judge → Revision

@@ -37,5 +37,5 @@ pub record IsExportIn (w : Workspace) (path name : List ℕ) (e : Declaration) :
   pub exported : e ≡ Declared path declaration
 
 -- The package `p` exports `e` as `name`.
-abbrev pub IsExportOf : Package → List ℕ → Declaration → Type 0
-IsExportOf p name e = (d : ℕ) × ((DoesExport p d × (p.names d ≡ name)) × (e ≡ Declared p.path d))
+abbrev pub IsNameOfExport : Package → List ℕ → Declaration → Type 0
+IsNameOfExport p name e = (d : ℕ) × ((DoesExport p d × (p.names d ≡ name)) × (e ≡ Declared p.path d))

@@ -11,7 +11,7 @@ use Rattle.refs_binding.specs.Binding.{BindsByScope, BindsQualified, BindsByMemb
 use Rattle.refs_binding.specs.Identifiers.{BeginsAt}
 use Rattle.refs_binding.specs.Places.{place_cmp}
 use Rattle.refs_binding.specs.Steps.{UsesIn}
-use Rattle.refs_binding.specs.Uses.{IsPackage}
+use Rattle.refs_binding.specs.Uses.{IsCheckedPackage}
 use Rattle.refs_binding.specs.Workspaces.{IsPackageAt}
 use Rattle.base_edits.specs.Revisions.{Revision}
 use Rattle.refactor_after.specs.MembersAfter.{CountsAfter}
@@ -32,15 +32,15 @@ StaysByScope w known r p u place = (old : Declaration) → BindsByScope p u old 
 -- If the identifier `u` is the selector of a qualified identifier, it is bound after the change to what its declaration has become.
 abbrev pub StaysByPackage : Workspace → Verdicts → Revision → Package → ℕ → Place → Type 0
 StaysByPackage w known r p u place =
-    (old : Declaration) → BindsQualified (IsPackage w known) p u old → StaysBound (HasBecome w known r) (IsBoundByPackage w r place p u) old
+    (old : Declaration) → BindsQualified (IsCheckedPackage w known) p u old → StaysBound (HasBecome w known r) (IsBoundByPackage w r place p u) old
 
 -- If the identifier `u` is a use of a member, its new name selects this member of the same type after the change.
 abbrev pub StaysByMember : Workspace → Verdicts → Revision → Package → ℕ → Place → Type 0
-StaysByMember w known r p u place = (old : Declaration) (was : BindsByMember p u old) → IsBoundByMember (IsPackage w known) r place p u old was old
+StaysByMember w known r p u place = (old : Declaration) (was : BindsByMember p u old) → IsBoundByMember (IsCheckedPackage w known) r place p u old was old
 
 -- If the identifier `u` declares a field or method, this member counts under its new name.
 abbrev pub StaysByName : Workspace → Verdicts → Revision → Package → ℕ → Place → Type 0
-StaysByName w known r p u place = (old : Declaration) → DeclaresMember p u old → CountsAfter (IsPackage w known) r old
+StaysByName w known r p u place = (old : Declaration) → DeclaresMember p u old → CountsAfter (IsCheckedPackage w known) r old
 
 -- The identifier `u`, which begins at the place, stays bound in each way in which it was bound.
 pub record Stays (w : Workspace) (known : Verdicts) (r : Revision) (p : Package) (u : ℕ) (place : Place) : Type 0 where
@@ -63,7 +63,7 @@ StaysInNumber w known r number place = (p : Package) → IsPackageAt w known num
 
 -- Each identifier that begins at the place, in any package, stays bound.
 abbrev pub StaysAt : Workspace → Verdicts → Revision → Place → Type 0
-StaysAt w known r place = (p : Package) → IsPackage w known p → StaysIn w known r p place
+StaysAt w known r place = (p : Package) → IsCheckedPackage w known p → StaysIn w known r p place
 
 -- The change loses and captures no identifier of the workspace.
 abbrev pub NoneIsLost : Workspace → Verdicts → Revision → Type 0

@@ -14,7 +14,7 @@ ghost use Rattle.refactor_after.specs.Scopes.{package_scoped};
 ghost use Rattle.refactor_after.specs.ScopeBindings.{IsScopeUse};
 ghost use Rattle.refactor_conflict.specs.BoundAfter.{IsBoundByScopes, IsExportAfter};
 ghost use Rattle.refactor_conflict.specs.Judging.{KnowsChange, workspace_in, known_packages, revision_in};
-ghost use Rattle.refactor_conflict.specs.ScopesAfter.{IsExportIn, IsExportOf};
+ghost use Rattle.refactor_conflict.specs.ScopesAfter.{IsExportIn, IsNameOfExport};
 
 use crate::judge::Judge;
 use base_files::{Path, Place};
@@ -90,7 +90,7 @@ fn exported_in(
     name: &[u8],
 ) -> Result<Option<Declaration>, AllocError>
     requires { AreExportsByName (package_scoped path.now scopes.now) (number_named scopes.now.exports) }
-    ensures { IfOk result (IsDeclarationResult (IsExportOf (package_scoped path.now scopes.now) name.now)) }
+    ensures { IfOk result (IsDeclarationResult (IsNameOfExport (package_scoped path.now scopes.now) name.now)) }
 {
     match export_in(scopes, name) {
         None => Ok(None),

@@ -3,7 +3,7 @@ ghost use Rattle.std.specs.Prelude.{◌≡◌, ◌<◌, None, length, IsTrue, If
 ghost use Rattle.base_files.specs.Packages.{package_paths};
 ghost use Rattle.base_edits.specs.EditSet.{edited};
 ghost use Rattle.base_edits.specs.RevisionsOfEdits.{revision_of};
-ghost use Rattle.refs_binding.specs.Packages.{ArePackages};
+ghost use Rattle.refs_binding.specs.Packages.{ArePackagesRead};
 ghost use Rattle.refs_binding.specs.Workspaces.{known_in};
 ghost use Rattle.refactor_after.specs.Scopes.{AreAllScopes};
 ghost use Rattle.refactor_conflict.specs.Conflicts.{AreAfter, IsConflict, FirstLost, IsFirstConflict, Takes, HoldsBefore};
@@ -82,7 +82,7 @@ struct Before {
 impl Before {
     /// Finds the exports, the places of declarations and the members under their new names.
     fn of(alloc: Global, packages: &Packages<'_>, moves: &Moves<'_>) -> Result<Before, AllocError>
-        requires { ArePackages packages.now }
+        requires { ArePackagesRead packages.now }
         ensures { IfOk result (KnowsBefore packages.now moves.now) }
     {
         let exports = exports(alloc, packages)?;
@@ -107,7 +107,7 @@ fn first_found(
     after: &Graph,
     scoped: &[Option<PackageScopes<'_>>],
 ) -> Result<Option<Conflict>, AllocError>
-    requires read { ArePackages packages.now }
+    requires read { ArePackagesRead packages.now }
     requires before { KnowsBefore packages.now moves.now before.now }
     requires after { after.now ≡ edited moves.now (workspace_of packages.now) }
     requires scoped { AreAllScopes after.now scoped.now }
@@ -137,7 +137,7 @@ fn first_afterwards(
     moves: &Moves<'_>,
     after: &Graph,
 ) -> Result<Option<Conflict>, AllocError>
-    requires read { ArePackages packages.now }
+    requires read { ArePackagesRead packages.now }
     requires before { KnowsBefore packages.now moves.now before.now }
     requires after { after.now ≡ edited moves.now (workspace_of packages.now) }
     ensures takes { IfOk result (λ first. Takes (IsConflict (workspace_of packages.now) (verdicts_of packages.now) (revision_of (workspace_of packages.now) moves.now)) None first) }
@@ -155,7 +155,7 @@ fn judged_first(
     edits: &EditSet,
     after: &Graph,
 ) -> Result<Option<Conflict>, AllocError>
-    requires read { ArePackages packages.now }
+    requires read { ArePackagesRead packages.now }
     requires after { after.now ≡ edited edits.now (workspace_of packages.now) }
     ensures takes { IfOk result (λ first. Takes (IsConflict (workspace_of packages.now) (verdicts_of packages.now) (revision_of (workspace_of packages.now) edits.now)) None first) }
     ensures stays { IfOk result (HoldsBefore (StaysAt (workspace_of packages.now) (verdicts_of packages.now) (revision_of (workspace_of packages.now) edits.now))) }
@@ -167,7 +167,7 @@ fn judged_first(
 
 /// The first identifier of a workspace without faults, as a conflict that loses it.
 fn first_lost(alloc: Global, packages: &Packages<'_>) -> Result<Option<Conflict>, AllocError>
-    requires { ArePackages packages.now }
+    requires { ArePackagesRead packages.now }
     ensures { IfOk result (FirstLost (workspace_of packages.now) (verdicts_of packages.now)) }
 {
     match first_identifier(alloc, packages)? {
@@ -183,7 +183,7 @@ fn first_read(
     edits: &EditSet,
     after: &Graph,
 ) -> Result<Option<Conflict>, AllocError>
-    requires read { ArePackages packages.now }
+    requires read { ArePackagesRead packages.now }
     requires after { after.now ≡ edited edits.now (workspace_of packages.now) }
     ensures { IfOk result (IsFirstConflict (workspace_of packages.now) (verdicts_of packages.now) (revision_of (workspace_of packages.now) edits.now)) }
 {

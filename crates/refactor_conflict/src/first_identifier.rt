@@ -2,7 +2,7 @@
 ghost use Rattle.std.specs.Prelude.{Contains, IfOk};
 ghost use Rattle.std.specs.Option.{option_copied};
 ghost use Rattle.base_files.specs.declared.place.Place.{Place as At};
-ghost use Rattle.refs_binding.specs.Packages.{ArePackages};
+ghost use Rattle.refs_binding.specs.Packages.{ArePackagesRead};
 ghost use Rattle.refs_places.specs.Identified.{IsIdentifierAt};
 ghost use Rattle.refactor_conflict.specs.Firsts.{IsEarlier, IsFirstPlace};
 ghost use Rattle.refactor_after.specs.ReadPackages.{workspace_of, verdicts_of};
@@ -42,7 +42,7 @@ fn first_of(places: &[Place]) -> Option<&Place>
 
 /// The first identifier of a workspace without faults.
 pub fn first_identifier(alloc: Global, packages: &Packages<'_>) -> Result<Option<Place>, AllocError>
-    requires { ArePackages packages.now }
+    requires { ArePackagesRead packages.now }
     ensures { IfOk result (IsFirstPlace (IsIdentifierAt (workspace_of packages.now) (verdicts_of packages.now))) }
 {
     let sound = WorkspaceIndex::of(alloc, packages)?;

@@ -13,7 +13,7 @@ use Rattle.workspace_check.proofs.Closed.{not_on_itself}
 use Rattle.refs_binding.specs.declared.declaration.Declaration.TheVariants.{Declared}
 use Rattle.refs_binding.specs.Binding.{BindsQualified, by_scope, by_package, by_member, by_name}
 use Rattle.refs_binding.specs.Identifiers.{BeginsAt}
-use Rattle.refs_binding.specs.Uses.{IsPackage, IsBoundTo}
+use Rattle.refs_binding.specs.Uses.{IsCheckedPackage, IsBoundToDeclaration}
 use Rattle.refs_binding.proofs.Folders.{begins_in_folder}
 use Rattle.refs_binding.proofs.Units.{one_package}
 use Rattle.refs_lookup.proofs.ExportedNames.{is_found}
@@ -26,9 +26,9 @@ use Rattle.refactor_decide.specs.Turned.{TellsTurned}
 use Rattle.refactor_decide.specs.declared.turned.TurnedUses.{TurnedUses}
 use Rattle.refactor_decide.proofs.FirstOwn.{capturer_behind}
 
-module _ (w : Workspace) (sound : ListsFaults w []) (known : Verdicts) (right : AreVerdicts w known) (p : Package) (is : IsPackage w known p) where
+module _ (w : Workspace) (sound : ListsFaults w []) (known : Verdicts) (right : AreVerdicts w known) (p : Package) (is : IsCheckedPackage w known p) where
   -- no package imports itself
-  none_inside : (u d : ℕ) (place : Place) → BeginsAt p place.path place.offset u → BindsQualified (IsPackage w known) p u (Declared p.path d) → ⊥
+  none_inside : (u d : ℕ) (place : Place) → BeginsAt p place.path place.offset u → BindsQualified (IsCheckedPackage w known) p u (Declared p.path d) → ⊥
   none_inside u d place begins b =
       let checked : IsPackageIn w known p.path p = is.is_checked in
       let found : exports_in p p.path (p.names u) ≡ true = is_found w sound known right p is u begins.0 p.path b.behind in
@@ -39,19 +39,19 @@ module _ (w : Workspace) (sound : ListsFaults w []) (known : Verdicts) (right : 
       (seen_exports w known p.path p.path (p.names u) (checked.name_of p.path) (checked.export_data_of p.path) (checked.are_seen p.path) test) refl
 
   -- what is bound behind the package's name stands in another package
-  used_outside : (d : ℕ) (place : Place) (x : Package) → IsPackage w known x → (u : ℕ) → BeginsAt x place.path place.offset u →
-      BindsQualified (IsPackage w known) x u (Declared p.path d) → IsUsedOutside w known p d place
+  used_outside : (d : ℕ) (place : Place) (x : Package) → IsCheckedPackage w known x → (u : ℕ) → BeginsAt x place.path place.offset u →
+      BindsQualified (IsCheckedPackage w known) x u (Declared p.path d) → IsUsedOutside w known p d place
   used_outside d place x also u begins b = record {
     is_use = record { used_in = x; is_package = also; user = u; begins = begins; bound = by_package b };
     outside = λ inside.
         let one : x ≡ p = one_package w known x p also is (begins_in_folder w known x also place.path place.offset u begins ∙ inside) in
         none_inside u d place (subst (λ (y : Package). BeginsAt y place.path place.offset u) one begins)
-        (subst (λ (y : Package). BindsQualified (IsPackage w known) y u (Declared p.path d)) one b);
+        (subst (λ (y : Package). BindsQualified (IsCheckedPackage w known) y u (Declared p.path d)) one b);
   }
 
   -- what another package uses is bound behind the package's name
-  qualified : (d : ℕ) (place : Place) → (folder place.path ≡ p.path → ⊥) → (x : Package) → IsPackage w known x → (u : ℕ) →
-      BeginsAt x place.path place.offset u → IsBoundTo w known x u (Declared p.path d) → BindsQualified (IsPackage w known) x u (Declared p.path d)
+  qualified : (d : ℕ) (place : Place) → (folder place.path ≡ p.path → ⊥) → (x : Package) → IsCheckedPackage w known x → (u : ℕ) →
+      BeginsAt x place.path place.offset u → IsBoundToDeclaration w known x u (Declared p.path d) → BindsQualified (IsCheckedPackage w known) x u (Declared p.path d)
   qualified d place outside x also u begins (by_scope b) =
       absurd (outside (sym (begins_in_folder w known x also place.path place.offset u begins) ∙ sym b.0))
   qualified d place outside x also u begins (by_package b) = b
@@ -59,21 +59,21 @@ module _ (w : Workspace) (sound : ListsFaults w []) (known : Verdicts) (right : 
   qualified d place outside x also u begins (by_name b) = absurd b
 
   module _ (n : ℕ) (name : List ℕ) where
-    seen_so : (old : ℕ) (x : Package) (u : ℕ) → BindsQualified (IsPackage w known) x u (Declared p.path old) → DoesExport p old
+    seen_so : (old : ℕ) (x : Package) (u : ℕ) → BindsQualified (IsCheckedPackage w known) x u (Declared p.path old) → DoesExport p old
     seen_so old x u b = subst (λ (y : Package). DoesExport y old) (one_package w known b.other p b.is_package is b.of_path) b.seen
 
-    pub none_behind : TellsTurned p n name None → FirstConflictBehind (IsPackage w known) p n name None
+    pub none_behind : TellsTurned p n name None → FirstConflictBehind (IsCheckedPackage w known) p n name None
     none_behind none = λ place x also u begins by turns. none turns.old by (seen_so turns.old x u turns.was) turns.turns
 
     module _ (t : TurnedUses) (tells : TellsTurned p n name (Some t)) where
-      turned_use : (place : Place) (x : Package) → IsPackage w known x → (u : ℕ) → BeginsAt x place.path place.offset u → (by : Option ℕ) →
-          TurnsQualified (IsPackage w known) p n name x u by → IsUsedOutside w known p t.declaration place
+      turned_use : (place : Place) (x : Package) → IsCheckedPackage w known x → (u : ℕ) → BeginsAt x place.path place.offset u → (by : Option ℕ) →
+          TurnsQualified (IsCheckedPackage w known) p n name x u by → IsUsedOutside w known p t.declaration place
       turned_use place x also u begins by turns =
           let same : turns.old ≡ t.declaration = tells.1 turns.old by (seen_so turns.old x u turns.was) turns.turns in
           used_outside t.declaration place x also u begins
-          (subst (λ d. BindsQualified (IsPackage w known) x u (Declared p.path d)) same turns.was)
+          (subst (λ d. BindsQualified (IsCheckedPackage w known) x u (Declared p.path d)) same turns.was)
 
-      pub first_behind : (c : Option Conflict) → IsFirstUse w known p t c → FirstConflictBehind (IsPackage w known) p n name c
+      pub first_behind : (c : Option Conflict) → IsFirstUse w known p t c → FirstConflictBehind (IsCheckedPackage w known) p n name c
       first_behind None h = λ place x also u begins by turns. h place (turned_use place x also u begins by turns)
       first_behind (Some c) h =
           let use_of = h.0.is_use in (

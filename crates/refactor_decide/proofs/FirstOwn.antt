@@ -12,9 +12,9 @@ use Rattle.types_declared.specs.Package.{Package}
 use Rattle.workspace_check.specs.FaultLists.{ListsFaults}
 use Rattle.workspace_check.specs.Verdicts.{Verdicts, AreVerdicts}
 use Rattle.refs_binding.specs.declared.declaration.Declaration.TheVariants.{Predeclared, Declared}
-use Rattle.refs_binding.specs.DeclaringPlaces.{DeclaresAt}
+use Rattle.refs_binding.specs.DeclaringPlaces.{HasDeclarationAt}
 use Rattle.refs_binding.specs.Identifiers.{BeginsAt}
-use Rattle.refs_binding.specs.Uses.{IsPackage}
+use Rattle.refs_binding.specs.Uses.{IsCheckedPackage}
 use Rattle.refs_binding.proofs.Units.{one_package}
 use Rattle.refactor_conflict.specs.Conflicts.{IsCapturer}
 use Rattle.refactor_conflict.specs.declared.conflict.Capturer.{Capturer}
@@ -31,23 +31,23 @@ use Rattle.refactor_decide.specs.Capturers.{NamesEach, NamesInPackage}
 use Rattle.refactor_decide.specs.Own.{IsPlacedIfAny, TellsOwn}
 use Rattle.refactor_decide.proofs.Written.{begins_written, written_begins}
 
-module _ (w : Workspace) (known : Verdicts) (p : Package) (is : IsPackage w known p) where
-  pub capturer : (c : ℕ) (by : Capturer) → NamesInPackage p c by → IsCapturer (IsPackage w known) (Declared p.path c) by
+module _ (w : Workspace) (known : Verdicts) (p : Package) (is : IsCheckedPackage w known p) where
+  pub capturer : (c : ℕ) (by : Capturer) → NamesInPackage p c by → IsCapturer (IsCheckedPackage w known) (Declared p.path c) by
   capturer c Universe h = λ place at.
-      h place (subst (λ (x : Package). DeclaresAt x (Declared p.path c) place) (one_package w known at.inside p at.is_package is at.of_path) at.holds)
+      h place (subst (λ (x : Package). HasDeclarationAt x (Declared p.path c) place) (one_package w known at.inside p at.is_package is at.of_path) at.holds)
   capturer c (At place) h = record { inside = p; is_package = is; of_path = refl; holds = h }
 
-  pub capturer_behind : (c : Option ℕ) (by : Option Capturer) → NamesEach p c by → IsSameCapturer (IsPackage w known) p c by
+  pub capturer_behind : (c : Option ℕ) (by : Option Capturer) → NamesEach p c by → IsSameCapturer (IsCheckedPackage w known) p c by
   capturer_behind None None h = tt
   capturer_behind None (Some by) h = h
   capturer_behind (Some c) None h = h
   capturer_behind (Some c) (Some by) h = capturer c by h
 
-  predeclared : (c : ℕ) (by : Capturer) → c < length universe → NamesInPackage p c by → NamesNumber (IsPackage w known) p c by
+  predeclared : (c : ℕ) (by : Capturer) → c < length universe → NamesInPackage p c by → NamesNumber (IsCheckedPackage w known) p c by
   predeclared c Universe lt h = record { declaration = Predeclared c; numbered = (refl, lt); told = λ place at. at }
   predeclared c (At place) lt h = absurd (h.is_at.own lt)
 
-  pub names_number : (c : ℕ) (by : Capturer) → NamesInPackage p c by → NamesNumber (IsPackage w known) p c by
+  pub names_number : (c : ℕ) (by : Capturer) → NamesInPackage p c by → NamesNumber (IsCheckedPackage w known) p c by
   names_number c by h = elim (cases_lt c (length universe)) [
     | inl lt ↦ predeclared c by lt h
     | inr ge ↦ record {
@@ -110,13 +110,13 @@ module _ (sites : List Site) (d : ℕ) (y : List ℕ) (declares : Declares (site
 
 -- the first conflict of the scopes
 
-module _ (w : Workspace) (sound : ListsFaults w []) (known : Verdicts) (right : AreVerdicts w known) (p : Package) (is : IsPackage w known p)
+module _ (w : Workspace) (sound : ListsFaults w []) (known : Verdicts) (right : AreVerdicts w known) (p : Package) (is : IsCheckedPackage w known p)
     (n : ℕ) (name : List ℕ) (declares : Declares p.layout p.names n) where
   abbrev First : Option Conflict → Type 0
-  First c = FirstOwnConflict (IsPackage w known) p n name c
+  First c = FirstOwnConflict (IsCheckedPackage w known) p n name c
 
   has_so : (u : ℕ) (by : Option ℕ) (told : Option Capturer) → IsConflictAt p.layout p.names n name u by → NamesEach p by told →
-      IsOwnConflictBy (IsPackage w known) p n name u told
+      IsOwnConflictBy (IsCheckedPackage w known) p n name u told
   has_so u None None h k = h
   has_so u None (Some by) h k = absurd k
   has_so u (Some c) None h k = absurd k

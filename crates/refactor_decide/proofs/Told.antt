@@ -13,10 +13,10 @@ use Rattle.workspace_check.specs.Verdicts.{Verdicts, AreVerdicts}
 use Rattle.refs_binding.specs.declared.declaration.Declaration.TheVariants.{Declared}
 use Rattle.refs_binding.specs.Binding.{by_scope}
 use Rattle.refs_binding.specs.DeclaredNames.{HasDeclaredName}
-use Rattle.refs_binding.specs.Uses.{IsPackage, IsUseOf}
+use Rattle.refs_binding.specs.Uses.{IsCheckedPackage, IsUseOf}
 use Rattle.refs_binding.proofs.Units.{one_package}
 use Rattle.refactor_rename.specs.declared.renamed.Literal.{Literal}
-use Rattle.refactor_rename.specs.Literals.{IsLiteralFound, IsLiteralIn, IsLiteralOf}
+use Rattle.refactor_rename.specs.Literals.{IsLiteralFound, IsPathLiteralIn, IsPathLiteralOf}
 use Rattle.refactor_rename.specs.Naming.{IsFixed, IsReservedFor}
 use Rattle.refactor_rename.specs.NewName.{IsNewName}
 use Rattle.refactor_rename.specs.RenameEdits.{AreRenameEdits}
@@ -36,7 +36,7 @@ no_literal : (K : Literal → Type 0) → ((l : Literal) → K l → ⊥) → (o
 no_literal K not None h = refl
 no_literal K not (Some l) h = absurd (not l h)
 
-module _ (w : Workspace) (known : Verdicts) (p : Package) (is : IsPackage w known p) (n : ℕ) (name : List ℕ) (d : ScopeDecision)
+module _ (w : Workspace) (known : Verdicts) (p : Package) (is : IsCheckedPackage w known p) (n : ℕ) (name : List ℕ) (d : ScopeDecision)
     (h : Decides w known p n name d) where
   abbrev can : CanRename p n name
   can = h.can
@@ -57,14 +57,14 @@ module _ (w : Workspace) (known : Verdicts) (p : Package) (is : IsPackage w know
         )
 
     -- the declaration is no import without a name
-    has_name : (l : Literal) → IsLiteralOf (IsPackage w known) (Declared p.path n) l → ⊥
+    has_name : (l : Literal) → IsPathLiteralOf (IsCheckedPackage w known) (Declared p.path n) l → ⊥
     has_name l literal =
-        let here : IsLiteralIn p n l =
-        subst (λ (x : Package). IsLiteralIn x n l) (one_package w known literal.inside p literal.is_package is literal.of_path) literal.holds in
+        let here : IsPathLiteralIn p n l =
+        subst (λ (x : Package). IsPathLiteralIn x n l) (one_package w known literal.inside p literal.is_package is literal.of_path) literal.holds in
         can.has_name here.1
 
-    pub plain : (s : FileChanges) → IsNewName name → (IsFixed (IsPackage w known) (Declared p.path n) → ⊥) →
-        (IsReservedFor (IsPackage w known) (Declared p.path n) name → ⊥) → (HasDeclaredName (IsPackage w known) (Declared p.path n) name → ⊥) →
+    pub plain : (s : FileChanges) → IsNewName name → (IsFixed (IsCheckedPackage w known) (Declared p.path n) → ⊥) →
+        (IsReservedFor (IsCheckedPackage w known) (Declared p.path n) name → ⊥) → (HasDeclaredName (IsCheckedPackage w known) (Declared p.path n) name → ⊥) →
         AreRenameEdits w known (Declared p.path n) name s → Fits s w → IsPlainRename w known (Declared p.path n) name s
     plain s form renamable allowed other edits fit = record {
       rename = record {
@@ -78,7 +78,7 @@ module _ (w : Workspace) (known : Verdicts) (p : Package) (is : IsPackage w know
         edits = edits;
         fit = fit;
       };
-      plain = no_literal (IsLiteralOf (IsPackage w known) (Declared p.path n)) has_name edits.renamed.literal edits.is_renamed.literal;
+      plain = no_literal (IsPathLiteralOf (IsCheckedPackage w known) (Declared p.path n)) has_name edits.renamed.literal edits.is_renamed.literal;
     }
 
   -- other packages see the declaration under neither name

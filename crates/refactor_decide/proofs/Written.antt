@@ -16,13 +16,13 @@ use Rattle.types_declared.specs.Files.{HasLiteral}
 use Rattle.types_declared.specs.MeaningOf.{IsMeaningOf}
 use Rattle.types_declared.specs.MeaningOf as bound
 use Rattle.types_declared.specs.Package.{Package}
-use Rattle.types_declared.specs.Written.{ImportsPath}
+use Rattle.types_declared.specs.Written.{DeclaresImport}
 use Rattle.types_resolve.specs.Scoping.{fault_at}
 use Rattle.workspace_check.specs.FaultLists.{ListsFaults}
 use Rattle.workspace_check.specs.Verdicts.{Verdicts, AreVerdicts}
 use Rattle.workspace_check.proofs.OnePackage.{layout_formed}
-use Rattle.refs_binding.specs.Identifiers.{BeginsAt, IsName, NameBegins}
-use Rattle.refs_binding.specs.Uses.{IsPackage}
+use Rattle.refs_binding.specs.Identifiers.{BeginsAt, IsNameToken, NameBegins}
+use Rattle.refs_binding.specs.Uses.{IsCheckedPackage}
 use Rattle.refs_lookup.proofs.Faultless.{no_fault_later}
 use Rattle.refactor_scopes.specs.Conflicts.{IsWritten}
 use Rattle.law_faultless.proofs.Declared.{may_within}
@@ -39,7 +39,7 @@ file_may Use f e = let z : Universe ≡ File f = e in cc
 file_may (NotLexical p) f e = let z : Universe ≡ File f = e in cc
 
 -- an import means the package of its path
-import_means : (p : Package) (u : ℕ) (b : Bound) → IsMeaningOf p u b → IsImport p.layout u → (q : List ℕ) × ImportsPath p u q
+import_means : (p : Package) (u : ℕ) (b : Bound) → IsMeaningOf p u b → IsImport p.layout u → (q : List ℕ) × DeclaresImport p u q
 import_means p u _ (bound.predeclared is means) import = let z : Universe ≡ File import.0 = sym is.universe ∙ import.1 in cc
 import_means p u _ (bound.import_name {path} is) import = (path, is)
 import_means p u _ (bound.local {file} {from} {to} is) import = let z : Inner file from to ≡ File import.0 = sym is ∙ import.1 in cc
@@ -50,7 +50,7 @@ import_means p u _ (bound.broken_function is s) import = let z : PackageBlock �
 import_means p u _ (bound.definition is r whole) import = let z : PackageBlock ≡ File import.0 = sym is ∙ import.1 in cc
 import_means p u _ (bound.broken_definition is r broken) import = let z : PackageBlock ≡ File import.0 = sym is ∙ import.1 in cc
 
-module _ (w : Workspace) (sound : ListsFaults w []) (known : Verdicts) (right : AreVerdicts w known) (p : Package) (is : IsPackage w known p) where
+module _ (w : Workspace) (sound : ListsFaults w []) (known : Verdicts) (right : AreVerdicts w known) (p : Package) (is : IsCheckedPackage w known p) where
   pub formed : WellFormed p.layout
   formed = layout_formed w known p.path p is.is_checked
 
@@ -83,7 +83,7 @@ module _ (w : Workspace) (sound : ListsFaults w []) (known : Verdicts) (right : 
         let z : File import.0 ≡ Inner b.0 b.1 b.2 = sym import.1 ∙ b.3 in cc;
   })
 
-  no_string : (u : ℕ) (place : Place) → BeginsAt p place.path place.offset u → literal_of p.layout u ≡ u → (q : List ℕ) → ImportsPath p u q → ⊥
+  no_string : (u : ℕ) (place : Place) → BeginsAt p place.path place.offset u → literal_of p.layout u ≡ u → (q : List ℕ) → DeclaresImport p u q → ⊥
   no_string u place begins same q import =
       let path = import.of_path in
       let literal : HasLiteral path.source (p.layout.place u).index q =
@@ -91,7 +91,7 @@ module _ (w : Workspace) (sound : ListsFaults w []) (known : Verdicts) (right : 
       let string = to_string path.source (p.layout.place u).index q literal in
       let named : NameBegins (Some path.source) (p.layout.place u).index place.path place.offset =
       subst (λ o. NameBegins o (p.layout.place u).index place.path place.offset) path.is_file begins.1 in
-      let name : IsName (Some string.piece) = subst IsName string.at named.0 in
+      let name : IsNameToken (Some string.piece) = subst IsNameToken string.at named.0 in
       no_name string.piece.class string.is_string name
 
   pub begins_written : (u : ℕ) (place : Place) → BeginsAt p place.path place.offset u → IsWritten p.layout u

@@ -4,14 +4,14 @@ use Rattle.base_files.specs.declared.place.Place.{Place}
 use Rattle.go_scope.specs.Bindings.{Counts}
 use Rattle.types_declared.specs.Package.{Package}
 use Rattle.refs_binding.specs.declared.declaration.Declaration.TheVariants.{Declared}
-use Rattle.refs_binding.specs.DeclaringPlaces.{DeclaresAt}
+use Rattle.refs_binding.specs.DeclaringPlaces.{HasDeclarationAt}
 use Rattle.refactor_conflict.specs.declared.conflict.Capturer.{Capturer}
 use Rattle.refactor_conflict.specs.declared.conflict.Capturer.TheVariants.{Universe, At}
 
 -- The capturer names the declaration `c` of the package: by its place, or as `Universe` where it has none, being predeclared.
 abbrev pub NamesInPackage : Package → (c : ℕ) → Capturer → Type 0
-NamesInPackage p c Universe = (place : Place) → DeclaresAt p (Declared p.path c) place → ⊥
-NamesInPackage p c (At place) = DeclaresAt p (Declared p.path c) place
+NamesInPackage p c Universe = (place : Place) → HasDeclarationAt p (Declared p.path c) place → ⊥
+NamesInPackage p c (At place) = HasDeclarationAt p (Declared p.path c) place
 
 -- The same where there may be no capturer.
 abbrev pub NamesEach : Package → Option ℕ → Option Capturer → Type 0

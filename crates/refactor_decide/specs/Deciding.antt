@@ -3,7 +3,7 @@ use Rattle.std.specs.Prelude.{ℕ, ◌≡◌, List, Option, Some, None, IsTrue}
 use Rattle.base_files.specs.Workspace.{Workspace}
 use Rattle.types_declared.specs.Package.{Package}
 use Rattle.workspace_check.specs.Verdicts.{Verdicts}
-use Rattle.refs_binding.specs.Uses.{IsPackage}
+use Rattle.refs_binding.specs.Uses.{IsCheckedPackage}
 use Rattle.refactor_conflict.specs.declared.conflict.Conflict.{Conflict}
 use Rattle.law_known_verdicts.specs.KnownVerdicts.{IsHiddenIn}
 use Rattle.law_scope_conflicts.specs.ScopeConflicts.{FirstConflictBehind, FirstOwnConflict, earlier_conflict}
@@ -14,8 +14,8 @@ use Rattle.refactor_decide.specs.declared.decision.ScopeDecision.{ScopeDecision}
 pub record IsFirstOfBoth (w : Workspace) (known : Verdicts) (p : Package) (n : ℕ) (name : List ℕ) (told : Option Conflict) : Type 0 where
   pub own : Option Conflict
   pub behind : Option Conflict
-  pub first_own : FirstOwnConflict (IsPackage w known) p n name own
-  pub first_behind : FirstConflictBehind (IsPackage w known) p n name behind
+  pub first_own : FirstOwnConflict (IsCheckedPackage w known) p n name own
+  pub first_behind : FirstConflictBehind (IsCheckedPackage w known) p n name behind
   pub is_told : told ≡ earlier_conflict own behind
 
 -- The declaration of the package has another name, and no import without a name gains one. The decision has the first conflict, and says

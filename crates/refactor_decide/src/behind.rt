@@ -3,9 +3,9 @@ ghost use Rattle.std.specs.Prelude.{◌≡◌, ◌↔◌, IsTrue, IfOk};
 ghost use Rattle.base_files.specs.Path.{folder};
 ghost use Rattle.go_scope.specs.Bindings.{AllCount};
 ghost use Rattle.types_declared.specs.PackageView.{package_of};
-ghost use Rattle.refs_binding.specs.Indexed.{IsNumbered, IsPackageNumbered, IsIndexed};
+ghost use Rattle.refs_binding.specs.Indexed.{IsPackageNumber, IsPackageNumbered, IsIndexed};
 ghost use Rattle.refs_binding.specs.declared.declaration.Declaration.TheVariants.{Declared};
-ghost use Rattle.refs_binding.specs.Uses.{IsPackage};
+ghost use Rattle.refs_binding.specs.Uses.{IsCheckedPackage};
 ghost use Rattle.refs_binding.specs.Workspaces.{ListsFound, known_in};
 ghost use Rattle.law_scope_conflicts.specs.ScopeConflicts.{FirstConflictBehind};
 ghost use Rattle.refactor_decide.specs.Behind.{IsFirstListed, IsFirstOutside, IsFirstUse};
@@ -78,7 +78,7 @@ fn uses_of(
     of: &Indexed<'_>,
     d: usize,
 ) -> Result<Places, AllocError>
-    requires numbered { IsNumbered at }
+    requires numbered { IsPackageNumber at }
     requires unit { IsPackageNumbered at (package_of of.now.unit) }
     requires indexed { IsIndexed of.now }
     ensures { IfOk result (ListsFound at.entry.workspace.now.graph (known_in at.entry.workspace.now.findings) (Declared (package_of of.now.unit).path d)) }
@@ -95,7 +95,7 @@ fn first_turned(
     of: &Indexed<'_>,
     turned: TurnedUses,
 ) -> Result<Option<Conflict>, AllocError>
-    requires numbered { IsNumbered at }
+    requires numbered { IsPackageNumber at }
     requires unit { IsPackageNumbered at (package_of of.now.unit) }
     requires indexed { IsIndexed of.now }
     requires counts { CountsIfAny (package_of of.now.unit) turned.by }
@@ -113,13 +113,13 @@ pub(crate) fn conflict_behind(
     n: usize,
     name: &[u8],
 ) -> Result<Option<Conflict>, AllocError>
-    requires numbered { IsNumbered at }
+    requires numbered { IsPackageNumber at }
     requires unit { IsPackageNumbered at (package_of of.now.unit) }
     requires indexed { IsIndexed of.now }
     requires can { CanRename (package_of of.now.unit) n name.now }
     requires all_count { let p = package_of of.now.unit in
         AllCount p.layout p.names }
-    ensures { IfOk result (FirstConflictBehind (IsPackage at.entry.workspace.now.graph (known_in at.entry.workspace.now.findings)) (package_of of.now.unit) n name.now) }
+    ensures { IfOk result (FirstConflictBehind (IsCheckedPackage at.entry.workspace.now.graph (known_in at.entry.workspace.now.findings)) (package_of of.now.unit) n name.now) }
 {
     at.workspace.has_no_faults();
     match turned(of.unit, n, name) {

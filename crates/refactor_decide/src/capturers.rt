@@ -1,6 +1,6 @@
 //! How a conflict names the declaration of a number of a package: by its place.
 ghost use Rattle.std.specs.Prelude.{IfOk};
-ghost use Rattle.refs_binding.specs.DeclaringPlaces.{DeclaresAt};
+ghost use Rattle.refs_binding.specs.DeclaringPlaces.{HasDeclarationAt};
 ghost use Rattle.refs_binding.specs.declared.declaration.Declaration.TheVariants.{Declared};
 ghost use Rattle.refs_places.specs.DeclaredPlaces.{IsChoice};
 ghost use Rattle.types_declared.specs.PackageView.{package_of};
@@ -17,7 +17,7 @@ use types_declared::{Package, literal_of};
 fn declaring_place(unit: Package<'_>, c: usize) -> Result<Option<Place>, AllocError>
     requires { IsCounting (package_of unit) c }
     ensures { let p = package_of unit.entry in
-        IfOk result (IsChoice (DeclaresAt p (Declared p.path c))) }
+        IfOk result (IsChoice (HasDeclarationAt p (Declared p.path c))) }
 {
     if c < PREDECLARED {
         return Ok(None);

@@ -3,7 +3,7 @@ ghost use Rattle.std.specs.Prelude.{◌≡◌, IfOk};
 ghost use Rattle.std.specs.Ordering.{is_lt};
 ghost use Rattle.go_scope.specs.Bindings.{AllCount};
 ghost use Rattle.types_declared.specs.PackageView.{package_of};
-ghost use Rattle.refs_binding.specs.Indexed.{IsNumbered, IsPackageNumbered, IsIndexed};
+ghost use Rattle.refs_binding.specs.Indexed.{IsPackageNumber, IsPackageNumbered, IsIndexed};
 ghost use Rattle.refs_binding.specs.Places.{place_cmp};
 ghost use Rattle.refs_binding.specs.Workspaces.{known_in};
 ghost use Rattle.law_scope_conflicts.specs.ScopeConflicts.{earlier_conflict};
@@ -52,7 +52,7 @@ fn first_of_both(
     n: usize,
     name: &[u8],
 ) -> Result<Option<Conflict>, AllocError>
-    requires numbered { IsNumbered at }
+    requires numbered { IsPackageNumber at }
     requires unit { IsPackageNumbered at (package_of of.now.unit) }
     requires indexed { IsIndexed of.now }
     requires can { CanRename (package_of of.now.unit) n name.now }
@@ -75,7 +75,7 @@ pub fn scope_decision(
     n: usize,
     name: &[u8],
 ) -> Result<Option<ScopeDecision>, AllocError>
-    requires numbered { IsNumbered at }
+    requires numbered { IsPackageNumber at }
     requires unit { IsPackageNumbered at (package_of of.now.unit) }
     requires indexed { IsIndexed of.now }
     ensures { IfOk result (DecidesIn at.entry.workspace.now.graph (known_in at.entry.workspace.now.findings) (package_of of.now.unit) n name.now) }

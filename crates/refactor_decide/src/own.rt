@@ -5,7 +5,7 @@ ghost use Rattle.types_declared.specs.PackageView.{package_of};
 ghost use Rattle.refactor_rename.specs.Literals.{IsUnnamedImport};
 ghost use Rattle.refactor_scopes.specs.Conflicts.{IsScopeRename};
 ghost use Rattle.refactor_decide.specs.Capturers.{CountsIfAny};
-ghost use Rattle.refactor_decide.specs.Own.{CanRename, IsPlaced, TellsOwn};
+ghost use Rattle.refactor_decide.specs.Own.{CanRename, IsConflictPlace, TellsOwn};
 
 use crate::capturers::capturer_if;
 use go_scope::identifiers::PREDECLARED;
@@ -38,7 +38,7 @@ pub(crate) fn can_rename(unit: Package<'_>, n: usize, name: &[u8]) -> bool
 fn placed(unit: Package<'_>, told: ScopeConflict) -> Result<Option<Conflict>, AllocError>
     requires in_range { told.identifier < length unit.table.now.sites }
     requires counts { CountsIfAny (package_of unit) told.by }
-    ensures { IfOk result (IsPlaced (package_of unit.entry) told) }
+    ensures { IfOk result (IsConflictPlace (package_of unit.entry) told) }
 {
     match beginning(unit, told.identifier)? {
         None => Ok(None),

@@ -14,7 +14,7 @@ use Rattle.types_declared.specs.Package.{Package}
 use Rattle.workspace_check.specs.FaultLists.{ListsFaults}
 use Rattle.workspace_check.specs.Verdicts.{Verdicts, AreVerdicts}
 use Rattle.workspace_check.proofs.OnePackage.{layout_formed}
-use Rattle.refs_binding.specs.Uses.{IsPackage}
+use Rattle.refs_binding.specs.Uses.{IsCheckedPackage}
 use Rattle.refs_binding.specs.Workspaces.{IsPackageAt}
 use Rattle.refs_binding.proofs.Units.{one_package}
 use Rattle.refactor_conflict.specs.declared.conflict.Conflict.{Conflict}
@@ -44,11 +44,11 @@ import_declares l names formed d import = record {
 
 module _ (w : Workspace) (sound : ListsFaults w []) (known : Verdicts) (right : AreVerdicts w known) (path name : List ℕ) where
   abbrev Known : Package → Type 0
-  Known = IsPackage w known
+  Known = IsCheckedPackage w known
 
   -- one more import
 
-  module _ (p : Package) (is : IsPackage w known p) where
+  module _ (p : Package) (is : IsCheckedPackage w known p) where
     pub none_below : IsFirstOfImports Known p path name 0 None
     none_below = λ place d lt. absurd (omega (arith, lt))
 
@@ -83,7 +83,7 @@ module _ (w : Workspace) (sound : ListsFaults w []) (known : Verdicts) (right : 
 -- one more package
 module _ (w : Workspace) (known : Verdicts) (path name : List ℕ) where
   abbrev Knows : Package → Type 0
-  Knows = IsPackage w known
+  Knows = IsCheckedPackage w known
 
   pub none_among : (numbers : List ℕ) → IsFirstAmong w known path name numbers 0 None
   none_among numbers = λ place i number lt. absurd (omega (arith, lt))

@@ -7,13 +7,13 @@ use Rattle.base_files.specs.Workspace.{Workspace}
 use Rattle.base_edits.specs.EditSet.{FileChanges}
 use Rattle.base_edits.specs.RevisionsOfEdits.{revision_of}
 use Rattle.types_declared.specs.Package.{Package}
-use Rattle.types_declared.specs.Written.{ImportsPath}
+use Rattle.types_declared.specs.Written.{DeclaresImport}
 use Rattle.workspace_graph.specs.Graphs.{ListsPackages}
 use Rattle.workspace_graph.specs.Packages.{PackageImports}
 use Rattle.workspace_check.specs.FaultLists.{ListsFaults}
 use Rattle.workspace_check.specs.Verdicts.{Verdicts, AreVerdicts}
 use Rattle.workspace_check.proofs.Closed.{to_package}
-use Rattle.refs_binding.specs.Uses.{IsPackage}
+use Rattle.refs_binding.specs.Uses.{IsCheckedPackage}
 use Rattle.refs_binding.proofs.Units.{numbered}
 use Rattle.refactor_conflict.specs.declared.conflict.Conflict.{Conflict}
 use Rattle.refactor_move.specs.Following.{Follows, IsFollowingName}
@@ -49,7 +49,7 @@ within w path numbers lists n has = let x = (lists n).0 has in slice_get_within 
 
 module _ (w : Workspace) (sound : ListsFaults w []) (known : Verdicts) (right : AreVerdicts w known) (path name : List ℕ) where
   -- a package with such an import imports the package
-  imports_it : (p : Package) → IsPackage w known p → (d : ℕ) → d < p.size → GetsName p path name d → PackageImports w p.path path
+  imports_it : (p : Package) → IsCheckedPackage w known p → (d : ℕ) → d < p.size → GetsName p path name d → PackageImports w p.path path
   imports_it p is d lt gets = import_is_counted w known p.path p is.is_checked d lt path gets.bare.imports
 
   -- where there is no such package no import has it
@@ -62,8 +62,8 @@ module _ (w : Workspace) (sound : ListsFaults w []) (known : Verdicts) (right : 
       IsFirstAmong w known path name numbers (length numbers) told → IsFirstOfName w known path name told
   all_importers numbers lists told first_of =
       first_weaker (IsConflictAmong w known path name numbers (length numbers))
-      (λ c. (p : Package) × (IsPackage w known p × IsConflictBelow (IsPackage w known) p path name p.size c))
-      (IsFreeAmong w known path name numbers (length numbers)) (λ place. (p : Package) → IsPackage w known p → IsFreeBelow p path name p.size place)
+      (λ c. (p : Package) × (IsCheckedPackage w known p × IsConflictBelow (IsCheckedPackage w known) p path name p.size c))
+      (IsFreeAmong w known path name numbers (length numbers)) (λ place. (p : Package) → IsCheckedPackage w known p → IsFreeBelow p path name p.size place)
       (λ c k. (k.inside, (k.is_package.is_package, k.conflict)))
       (λ place free p is d lt gets.
       let number = numbered w known p is in
@@ -75,13 +75,13 @@ module _ (w : Workspace) (sound : ListsFaults w []) (known : Verdicts) (right : 
 -- the name of a move by the path that its name follows
 module _ (w : Workspace) (known : Verdicts) (from called : List ℕ) where
   abbrev Follow : Type 0
-  Follow = Follows (IsPackage w known) from called
+  Follow = Follows (IsCheckedPackage w known) from called
 
-  name_none : (o : Option (List ℕ)) → IsFollowingName (IsPackage w known) from called o → (Follow → ⊥) → o ≡ None
+  name_none : (o : Option (List ℕ)) → IsFollowingName (IsCheckedPackage w known) from called o → (Follow → ⊥) → o ≡ None
   name_none None h not = refl
   name_none (Some n) h not = absurd (not h.0)
 
-  name_some : (o : Option (List ℕ)) (name : List ℕ) → IsFollowingName (IsPackage w known) from called o → Follow → name ≡ last_of called → o ≡ Some name
+  name_some : (o : Option (List ℕ)) (name : List ℕ) → IsFollowingName (IsCheckedPackage w known) from called o → Follow → name ≡ last_of called → o ≡ Some name
   name_some None name h follow same = absurd (h follow)
   name_some (Some n) name h follow same = ap Some (h.1 ∙ sym same)
 
@@ -89,7 +89,7 @@ module _ (w : Workspace) (known : Verdicts) (from called : List ℕ) where
   pub stays : (Follow → ⊥) → TellsMoveConflict w known from called None
   stays not to s h same =
       none w known from to s h (name_none h.edits.moved.name
-      (subst (λ c. IsFollowingName (IsPackage w known) from c h.edits.moved.name) same h.edits.is_move.name) not)
+      (subst (λ c. IsFollowingName (IsCheckedPackage w known) from c h.edits.moved.name) same h.edits.is_move.name) not)
 
   -- and one whose name follows
   module _ (name : List ℕ) (follow : Follow) (is_name : name ≡ last_of called) (to : List ℕ) (s : FileChanges) (h : IsMove w known from to s)
@@ -98,7 +98,7 @@ module _ (w : Workspace) (known : Verdicts) (from called : List ℕ) where
     m = h.edits.moved
 
     named : m.name ≡ Some name
-    named = name_some m.name name (subst (λ c. IsFollowingName (IsPackage w known) from c m.name) same h.edits.is_move.name) follow is_name
+    named = name_some m.name name (subst (λ c. IsFollowingName (IsCheckedPackage w known) from c m.name) same h.edits.is_move.name) follow is_name
 
     called_so : followed_name m ≡ name
     called_so = ap (λ o. unwrap_or o []) named
@@ -106,21 +106,21 @@ module _ (w : Workspace) (known : Verdicts) (from called : List ℕ) where
     to_follow : (p : Package) (d : ℕ) → GetsName p from name d → IsFollowingImport m p d
     to_follow p d gets = record {
       follows = named ∙ ap Some (sym called_so);
-      imports = subst (ImportsPath p d) (sym h.edits.is_move.source) gets.bare.imports;
+      imports = subst (DeclaresImport p d) (sym h.edits.is_move.source) gets.bare.imports;
       unnamed = gets.bare.unnamed;
     }
 
-    to_gets : (p : Package) → IsPackage w known p → (d : ℕ) → IsFollowingImport m p d → GetsName p from name d
+    to_gets : (p : Package) → IsCheckedPackage w known p → (d : ℕ) → IsFollowingImport m p d → GetsName p from name d
     to_gets p is d follows = record {
-      bare = record { imports = subst (ImportsPath p d) h.edits.is_move.source follows.imports; unnamed = follows.unnamed };
+      bare = record { imports = subst (DeclaresImport p d) h.edits.is_move.source follows.imports; unnamed = follows.unnamed };
       other = λ e. other_name w known from to s h p is d follows (e ∙ sym called_so);
     }
 
-    first_of_move : (told : Option Conflict) → IsFirstOfName w known from name told → TellsFirstImportConflict (IsPackage w known) m told
+    first_of_move : (told : Option Conflict) → IsFirstOfName w known from name told → TellsFirstImportConflict (IsCheckedPackage w known) m told
     first_of_move told k =
-        first_weaker (λ c. (p : Package) × (IsPackage w known p × IsConflictBelow (IsPackage w known) p from name p.size c))
-        (IsMoveConflict (IsPackage w known) m) (λ place. (p : Package) → IsPackage w known p → IsFreeBelow p from name p.size place)
-        (IsFreeOfMove (IsPackage w known) m)
+        first_weaker (λ c. (p : Package) × (IsCheckedPackage w known p × IsConflictBelow (IsCheckedPackage w known) p from name p.size c))
+        (IsMoveConflict (IsCheckedPackage w known) m) (λ place. (p : Package) → IsCheckedPackage w known p → IsFreeBelow p from name p.size place)
+        (IsFreeOfMove (IsCheckedPackage w known) m)
         (λ c x. (
           x.0,
           (
@@ -129,7 +129,7 @@ module _ (w : Workspace) (known : Verdicts) (from called : List ℕ) where
               x.1.1.import,
               (
                 to_follow x.0 x.1.1.import x.1.1.gets,
-                subst (λ n. IsOwnConflict (IsPackage w known) x.0 x.1.1.import n c) (sym called_so) x.1.1.conflict,
+                subst (λ n. IsOwnConflict (IsCheckedPackage w known) x.0 x.1.1.import n c) (sym called_so) x.1.1.conflict,
               ),
             ),
           ),
@@ -148,11 +148,11 @@ module _ (w : Workspace) (known : Verdicts) (from called : List ℕ) where
 
   -- by what is found of the name
 
-  pub told_of_none : (o : Option (List ℕ)) → o ≡ None → IsFollowingName (IsPackage w known) from called o → TellsMoveConflict w known from called None
-  told_of_none o is h = stays (subst (IsFollowingName (IsPackage w known) from called) is h)
+  pub told_of_none : (o : Option (List ℕ)) → o ≡ None → IsFollowingName (IsCheckedPackage w known) from called o → TellsMoveConflict w known from called None
+  told_of_none o is h = stays (subst (IsFollowingName (IsCheckedPackage w known) from called) is h)
 
-  pub told_of_some : (o : Option (List ℕ)) (name : List ℕ) → o ≡ Some name → IsFollowingName (IsPackage w known) from called o → (path new : List ℕ) →
+  pub told_of_some : (o : Option (List ℕ)) (name : List ℕ) → o ≡ Some name → IsFollowingName (IsCheckedPackage w known) from called o → (path new : List ℕ) →
       path ≡ from → new ≡ name → (told : Option Conflict) → IsFirstOfName w known path new told → TellsMoveConflict w known from called told
   told_of_some o name is h path new same_path same_name told k =
-      let own : Follow × (name ≡ last_of called) = subst (IsFollowingName (IsPackage w known) from called) is h in
+      let own : Follow × (name ≡ last_of called) = subst (IsFollowingName (IsCheckedPackage w known) from called) is h in
       follows name own.0 own.1 told (subst (λ p. IsFirstOfName w known p name told) same_path (subst (λ n. IsFirstOfName w known path n told) same_name k))

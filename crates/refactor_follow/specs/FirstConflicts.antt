@@ -4,7 +4,7 @@ use Rattle.base_files.specs.Workspace.{Workspace}
 use Rattle.base_files.specs.declared.place.Place.{Place}
 use Rattle.types_declared.specs.Package.{Package}
 use Rattle.workspace_check.specs.Verdicts.{Verdicts}
-use Rattle.refs_binding.specs.Uses.{IsPackage}
+use Rattle.refs_binding.specs.Uses.{IsCheckedPackage}
 use Rattle.refs_binding.specs.Workspaces.{IsPackageAt}
 use Rattle.refactor_conflict.specs.declared.conflict.Conflict.{Conflict}
 use Rattle.law_scope_conflicts.specs.ScopeConflicts.{HasNoOwnConflict, IsFirstBy, IsOwnConflict}
@@ -29,7 +29,7 @@ IsFirstOfImports Known p path name n told = IsFirstBy (IsConflictBelow Known p p
 pub record IsFirstAt (w : Workspace) (known : Verdicts) (path name : List ℕ) (number : ℕ) (told : Option Conflict) : Type 0 where
   pub inside : Package
   pub is_package : IsPackageAt w known number inside
-  pub first : IsFirstOfImports (IsPackage w known) inside path name inside.size told
+  pub first : IsFirstOfImports (IsCheckedPackage w known) inside path name inside.size told
 
 -- The conflict is one of the first `n` of these packages, which are given by their numbers.
 pub record IsConflictAmong (w : Workspace) (known : Verdicts) (path name : List ℕ) (numbers : List ℕ) (n : ℕ) (c : Conflict) : Type 0 where
@@ -39,7 +39,7 @@ pub record IsConflictAmong (w : Workspace) (known : Verdicts) (path name : List 
   pub has : slice_get numbers index ≡ Some number
   pub inside : Package
   pub is_package : IsPackageAt w known number inside
-  pub conflict : IsConflictBelow (IsPackage w known) inside path name inside.size c
+  pub conflict : IsConflictBelow (IsCheckedPackage w known) inside path name inside.size c
 
 -- The first `n` of these packages have no conflict at the place.
 abbrev pub IsFreeAmong : Workspace → Verdicts → (path name : List ℕ) → (numbers : List ℕ) → (n : ℕ) → Place → Type 0

@@ -2,13 +2,13 @@
 use Rattle.std.specs.Prelude.{ℕ, ◌≡◌, ◌⊎◌, List, Option, None}
 use Rattle.types_declared.specs.Laid.{literal_of}
 use Rattle.types_declared.specs.Package.{Package}
-use Rattle.types_declared.specs.Written.{ImportsPath}
+use Rattle.types_declared.specs.Written.{DeclaresImport}
 use Rattle.refactor_conflict.specs.declared.conflict.Conflict.{Conflict}
 use Rattle.refactor_decide.specs.Own.{TellsOwn}
 
 -- `d` is an import, without a name, of the package at this path.
 pub record IsBareImportOf (p : Package) (path : List ℕ) (d : ℕ) : Type 0 where
-  pub imports : ImportsPath p d path
+  pub imports : DeclaresImport p d path
   pub unnamed : literal_of p.layout d ≡ d
 
 -- It has another name than this one.

@@ -5,7 +5,7 @@ use Rattle.base_edits.specs.EditSet.{FileChanges}
 use Rattle.base_edits.specs.RevisionsOfEdits.{revision_of}
 use Rattle.types_declared.specs.Package.{Package}
 use Rattle.workspace_check.specs.Verdicts.{Verdicts}
-use Rattle.refs_binding.specs.Uses.{IsPackage}
+use Rattle.refs_binding.specs.Uses.{IsCheckedPackage}
 use Rattle.refactor_conflict.specs.declared.conflict.Conflict.{Conflict}
 use Rattle.law_rename_agrees.specs.ConflictsByTables.{TellsFirstOf}
 use Rattle.law_scope_conflicts.specs.ScopeConflicts.{IsFirstBy}
@@ -15,8 +15,8 @@ use Rattle.refactor_follow.specs.FirstConflicts.{IsConflictBelow, IsFreeBelow}
 -- The first conflict of the renames of all imports, without a name, of the package at this path. Each gets the name.
 abbrev pub IsFirstOfName : Workspace → Verdicts → (path name : List ℕ) → Option Conflict → Type 0
 IsFirstOfName w known path name told =
-    IsFirstBy (λ c. (p : Package) × (IsPackage w known p × IsConflictBelow (IsPackage w known) p path name p.size c))
-    (λ place. (p : Package) → IsPackage w known p → IsFreeBelow p path name p.size place) told
+    IsFirstBy (λ c. (p : Package) × (IsCheckedPackage w known p × IsConflictBelow (IsCheckedPackage w known) p path name p.size c))
+    (λ place. (p : Package) → IsCheckedPackage w known p → IsFreeBelow p path name p.size place) told
 
 -- The first conflict of each move of the package `from`, wherever it goes, in which its name follows the path `called`.
 abbrev pub TellsMoveConflict : Workspace → Verdicts → (from called : List ℕ) → Option Conflict → Type 0

@@ -2,8 +2,8 @@
 ghost use Rattle.std.specs.Prelude.{◌≡◌, ◌<◌, ◌↔◌, Some, option_map, length, IsTrue, IfOk};
 ghost use Rattle.go_scope.specs.Bindings.{AllCount, Declares};
 ghost use Rattle.types_declared.specs.PackageView.{package_of};
-ghost use Rattle.refs_binding.specs.Indexed.{IsNumbered, IsPackageNumbered};
-ghost use Rattle.refs_binding.specs.Uses.{IsPackage};
+ghost use Rattle.refs_binding.specs.Indexed.{IsPackageNumber, IsPackageNumbered};
+ghost use Rattle.refs_binding.specs.Uses.{IsCheckedPackage};
 ghost use Rattle.refs_binding.specs.Workspaces.{known_in};
 ghost use Rattle.refactor_decide.specs.Own.{TellsOwn};
 ghost use Rattle.refactor_follow.specs.ImportNames.{GetsName, IsBareImportOf, TellsIfNamed};
@@ -110,10 +110,10 @@ pub(crate) fn first_in(
     unit: Package<'_>,
     new: FollowedName<'_>,
 ) -> Result<Option<Conflict>, AllocError>
-    requires numbered { IsNumbered at }
+    requires numbered { IsPackageNumber at }
     requires unit { IsPackageNumbered at (package_of unit) }
     ensures { let p = package_of unit.entry in
-        IfOk result (IsFirstOfImports (IsPackage at.entry.workspace.now.graph (known_in at.entry.workspace.now.findings)) p new.entry.path.now new.entry.name.now p.size) }
+        IfOk result (IsFirstOfImports (IsCheckedPackage at.entry.workspace.now.graph (known_in at.entry.workspace.now.findings)) p new.entry.path.now new.entry.name.now p.size) }
 {
     at.workspace.has_no_faults();
     let mut first = None;

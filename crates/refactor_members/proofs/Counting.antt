@@ -18,7 +18,7 @@ use Rattle.refactor_after.specs.NamesAfter.{HasNameAfter, IsFieldAfter, IsMethod
 use Rattle.refactor_after.specs.MembersAfter.{IsFirstField, IsFirstMethod, FieldCounts, MethodCounts, CountsAfter}
 use Rattle.refactor_after.specs.MembersFound.{IsRankFound}
 use Rattle.refactor_after.proofs.FieldsAfter.{one_first, mapped_in, of_one}
-use Rattle.refactor_members.specs.Renames.{EditedRename, KnowsRename, IsFieldNamed, IsMethodNamed, packages_before, rename_revision, workspace_before, verdicts_in}
+use Rattle.refactor_members.specs.Renames.{EditedRename, KnowsRename, IsFieldOfNewName, IsMethodNamed, packages_before, rename_revision, workspace_before, verdicts_in}
 
 -- A token has one name after a change.
 pub one_name_after : (r : Revision) (p : Package) (at : Position) (a b : List ℕ) → HasNameAfter r p at a → HasNameAfter r p at b → a ≡ b
@@ -79,7 +79,7 @@ module _ (m : EditedRename) (knows : KnowsRename m) (p : Package) (is : packages
   here : (P : Package → Type 0) → InPackage Known path P → P p
   here P h = of_one (workspace_before m.of) (verdicts_in m.of) p is path of P h
 
-  pub field_counts : (rank : ℕ) → IsFieldNamed m.of.member.now name p definition rank → (o : Option ℕ) → IsRankFound FirstField o → (b : Bool) →
+  pub field_counts : (rank : ℕ) → IsFieldOfNewName m.of.member.now name p definition rank → (o : Option ℕ) → IsRankFound FirstField o → (b : Bool) →
       IsTrue b ↔ (o ≡ Some rank) → IsTrue b ↔ CountsAfter Known r (Field (record { «package» = path; rank = rank }))
   field_counts rank named o found b told = (
     (λ t. mapped_in Known path (λ q. IsFirstField r q definition name rank) (λ q. FieldCounts r q rank)

@@ -15,7 +15,7 @@ use Rattle.types_members.specs.MemberFaults.{IsMemberFault}
 use Rattle.workspace_check.specs.declared.findings.Findings.{Findings}
 use Rattle.workspace_check.specs.FaultLists.{ListsFaults}
 use Rattle.workspace_check.specs.Verdicts.{Verdicts, AreVerdicts}
-use Rattle.refs_binding.specs.Uses.{IsPackage}
+use Rattle.refs_binding.specs.Uses.{IsCheckedPackage}
 use Rattle.refs_binding.specs.Workspaces.{IsFaultless, known_in}
 use Rattle.refs_binding.proofs.Units.{list_of_sound}
 use Rattle.refs_lookup.proofs.Faultless.{no_fault_later}
@@ -74,7 +74,7 @@ fields_typed rank (d ∷ ds) f h = elim (holds_append (body_fields rank d.file d
       }
 ]
 
-module _ (w : Workspace) (sound : ListsFaults w []) (known : Verdicts) (right : AreVerdicts w known) (p : Package) (is : IsPackage w known p) where
+module _ (w : Workspace) (sound : ListsFaults w []) (known : Verdicts) (right : AreVerdicts w known) (p : Package) (is : IsCheckedPackage w known p) where
   no_member_fault : (f : Fault) → IsMemberFault p f → ⊥
   no_member_fault f h =
       no_fault_later w sound known right p is f (inr ((λ g inner. no_fault_later w sound known right p is g (inl inner)), inl h))
@@ -115,7 +115,7 @@ module _ (w : Workspace) (sound : ListsFaults w []) (known : Verdicts) (right : 
       whole f.definition (by_itself written (λ t names. none t (record { names = names; whole = λ k mentions broken. whole k broken })))
 
 -- So it is by the findings of a workspace without faults.
-pub all_count : (w : Workspace) (found : Findings) → IsFaultless w found → (p : Package) → IsPackage w (known_in found) p → AllCount p
+pub all_count : (w : Workspace) (found : Findings) → IsFaultless w found → (p : Package) → IsCheckedPackage w (known_in found) p → AllCount p
 all_count w found sound p is =
     let none = list_of_sound w found sound in
     let known = known_in found in

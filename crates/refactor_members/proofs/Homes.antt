@@ -18,7 +18,7 @@ use Rattle.refs_binding.specs.declared.declaration.Declaration.TheVariants.{Pred
 use Rattle.refs_binding.specs.Binding.{IsNameOf, IsFieldAt, IsMethodAt}
 use Rattle.refs_binding.specs.DeclaringPlaces.{InPackage, InHomePackage, TokenBegins}
 use Rattle.refs_binding.specs.Steps.{AtFound, AtToken, UsesIn}
-use Rattle.refs_binding.specs.Uses.{IsPackage}
+use Rattle.refs_binding.specs.Uses.{IsCheckedPackage}
 use Rattle.refs_binding.specs.Workspaces.{IsFaultless, IsPackageAt, known_in}
 use Rattle.refs_binding.proofs.NamedPlaces.{found_to_name, name_to_found, one_field_place, one_method_place}
 use Rattle.refs_binding.proofs.Units.{one_package, package_there}
@@ -34,8 +34,8 @@ use Rattle.refactor_members.proofs.UsesStay.{token_of}
 
 -- in the package at a path
 
-pub choice_in : {X : Type 0} (w : Workspace) (known : Verdicts) (p : Package) → IsPackage w known p → (path : List ℕ) → p.path ≡ path →
-    (P : Package → X → Type 0) (o : Option X) → IsChoice (P p) o → IsChoice (λ x. InPackage (IsPackage w known) path (λ q. P q x)) o
+pub choice_in : {X : Type 0} (w : Workspace) (known : Verdicts) (p : Package) → IsCheckedPackage w known p → (path : List ℕ) → p.path ≡ path →
+    (P : Package → X → Type 0) (o : Option X) → IsChoice (P p) o → IsChoice (λ x. InPackage (IsCheckedPackage w known) path (λ q. P q x)) o
 choice_in w known p is path of P None none = λ x h.
     none x (subst (λ q. P q x) (one_package w known h.inside p h.is_package is (h.of_path ∙ sym of)) h.holds)
 choice_in w known p is path of P (Some x) h = record { inside = p; is_package = is; of_path = of; holds = h }
@@ -56,11 +56,11 @@ no_home Known (Method s) e P h = none-some s.package e
 pub choice_home : {X : Type 0} (w : Workspace) (found : Findings) → IsFaultless w found → (number : ℕ) (path : List ℕ) →
     slice_get (package_paths w) number ≡ Some path → (d : Declaration) → Some path ≡ declaring_path d → (P : Package → X → Type 0) (o : Option X) →
     ((p : Package) → IsPackageAt w (known_in found) number p → IsChoice (P p) o) →
-    IsChoice (λ x. InHomePackage (IsPackage w (known_in found)) d (λ q. P q x)) o
+    IsChoice (λ x. InHomePackage (IsCheckedPackage w (known_in found)) d (λ q. P q x)) o
 choice_home w found sound number path at d e P o h =
     let x = package_there w found sound number (slice_get_within (package_paths w) number path at) in
     let of : x.0.path ≡ path = same_Some x.0.path path (sym x.1.has_number ∙ at) in
-    home_of (IsPackage w (known_in found)) d path e P o (choice_in w (known_in found) x.0 x.1.is_package path of P o (h x.0 x.1))
+    home_of (IsCheckedPackage w (known_in found)) d path e P o (choice_in w (known_in found) x.0 x.1.is_package path of P o (h x.0 x.1))
 
 -- the type definition of a rank
 

@@ -28,7 +28,7 @@ use Rattle.refactor_conflict.specs.Conflicts.{Takes, HoldsBefore, IsConflictIn, 
 use Rattle.refactor_conflict.specs.Staying.{DeclaringNamesStayIn}
 use Rattle.refactor_conflict.specs.declared.conflict.Conflict.{Conflict}
 use Rattle.refactor_conflict.proofs.KeepingFirst.{takes_as, holds_as}
-use Rattle.refactor_members.specs.Judging.{JudgesIn, IsNamedAt, NameStays, ListedFieldStays, ListedMethodStays, FieldsStayOf, MethodsStayOf, NamesStayOf}
+use Rattle.refactor_members.specs.Judging.{JudgesIn, IsNamedAt, NewNameCounts, ListedFieldStays, ListedMethodStays, FieldsStayOf, MethodsStayOf, NamesStayOf}
 use Rattle.refactor_members.specs.Naming.{HasField, HasMethod, IsFirstOld, IsRenamedField, IsRenamedMethod}
 use Rattle.refactor_members.specs.Renames.{EditedRename, KnowsRename, packages_before, rename_revision, workspace_before, verdicts_in}
 use Rattle.refactor_members.proofs.Counting.{as_method}
@@ -39,7 +39,7 @@ use Rattle.refactor_members.proofs.Renamed.{rank_in, renamed_field, renamed_meth
 pub lost_unless : (m : EditedRename) (p : Package) (member : Declaration) (a b : Option Conflict) (counts : Bool) → counts ≡ false →
     (KnowsRename m → IsTrue counts ↔ CountsAfter (packages_before m.of) (rename_revision m) member) →
     Takes (λ (c : Conflict). IsNamedAt p member c.used × (c.by ≡ None)) a b → HoldsBefore (λ place. IsNamedAt p member place → ⊥) b →
-    JudgesIn m p (NameStays m p member) a b
+    JudgesIn m p (NewNameCounts m p member) a b
 lost_unless m p member a b counts fails is taken none = λ knows. (
   takes_as (λ (c : Conflict). IsNamedAt p member c.used × (c.by ≡ None)) (IsConflictIn (workspace_before m.of) (verdicts_in m.of) (rename_revision m) p) a b
       (λ c h. record {
@@ -47,7 +47,7 @@ lost_unless m p member a b counts fails is taken none = λ knows. (
         begins = h.0.1.0;
         turned = by_name member h.0.1.1 (λ k. false≢true (sym fails ∙ (is knows).1 k)) h.1;
       }) taken,
-  holds_as (λ place. IsNamedAt p member place → ⊥) (NameStays m p member) b (λ place h at. absurd (h at)) none,
+  holds_as (λ place. IsNamedAt p member place → ⊥) (NewNameCounts m p member) b (λ place h at. absurd (h at)) none,
 )
 
 module _ (m : EditedRename) (p : Package) where
@@ -57,16 +57,16 @@ module _ (m : EditedRename) (p : Package) where
   -- of a rank that was found
 
   pub listed_field : (path : List ℕ) → p.path ≡ path → (listed : Option ℕ) (rank : ℕ) → listed ≡ Some rank → (place : Place) →
-      NameStays m p (field_at path rank) place → ListedFieldStays m p listed place
+      NewNameCounts m p (field_at path rank) place → ListedFieldStays m p listed place
   listed_field path of listed rank e place h = λ other f.
       let same : rank ≡ other = same_Some rank other (sym e ∙ f) in
-      subst (λ q. NameStays m p (field_at q other) place) (sym of) (subst (λ n. NameStays m p (field_at path n) place) same h)
+      subst (λ q. NewNameCounts m p (field_at q other) place) (sym of) (subst (λ n. NewNameCounts m p (field_at path n) place) same h)
 
   pub listed_method : (path : List ℕ) → p.path ≡ path → (listed : Option ℕ) (rank : ℕ) → listed ≡ Some rank → (place : Place) →
-      NameStays m p (method_at path rank) place → ListedMethodStays m p listed place
+      NewNameCounts m p (method_at path rank) place → ListedMethodStays m p listed place
   listed_method path of listed rank e place h = λ other f.
       let same : rank ≡ other = same_Some rank other (sym e ∙ f) in
-      subst (λ q. NameStays m p (method_at q other) place) (sym of) (subst (λ n. NameStays m p (method_at path n) place) same h)
+      subst (λ q. NewNameCounts m p (method_at q other) place) (sym of) (subst (λ n. NewNameCounts m p (method_at path n) place) same h)
 
   -- A field that is declared somewhere is the first of its name.
   first_field_named : (definition rank : ℕ) → HasField p definition name rank → CountsAsField p rank → (other : ℕ) → other < rank →

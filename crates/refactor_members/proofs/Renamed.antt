@@ -14,7 +14,7 @@ use Rattle.workspace_check.proofs.OnePackage.{layout_formed}
 use Rattle.refs_binding.specs.declared.declaration.Declaration.{Declaration}
 use Rattle.refs_binding.specs.declared.declaration.Declaration.TheVariants.{Predeclared, Declared, Field, Method}
 use Rattle.refs_binding.specs.DeclaringPlaces.{InPackage}
-use Rattle.refs_binding.specs.Uses.{IsPackage}
+use Rattle.refs_binding.specs.Uses.{IsCheckedPackage}
 use Rattle.refs_binding.specs.Workspaces.{IsFaultless, known_in}
 use Rattle.refs_binding.proofs.Units.{package_there}
 use Rattle.refactor_after.specs.NamesAfter.{IsFieldAfter, IsMethodAfter}
@@ -23,7 +23,7 @@ use Rattle.refactor_after.specs.MembersAfter.{IsFirst, IsFirstField}
 use Rattle.refactor_after.specs.MembersFound.{IsRankFound}
 use Rattle.refactor_after.proofs.FieldsAfter.{of_one, found_in}
 use Rattle.refactor_members.specs.Naming.{HasField, HasMethod, IsFirstOld, IsRenamedField, IsRenamedMethod, lesser_rank}
-use Rattle.refactor_members.specs.Renames.{EditedRename, KnowsRename, IsFieldNamed, IsMethodNamed, IsFieldOfDefinition, IsMethodOfDefinition, IsDefinitionOf}
+use Rattle.refactor_members.specs.Renames.{EditedRename, KnowsRename, IsFieldOfNewName, IsMethodNamed, IsFieldOfDefinition, IsMethodOfDefinition, IsDefinitionOf}
 use Rattle.refactor_members.specs.Renames.{packages_before, rename_revision, workspace_before, verdicts_in}
 use Rattle.refactor_members.proofs.FirstNamed.{first_of_two}
 use Rattle.refactor_members.proofs.Counting.{as_method}
@@ -90,7 +90,7 @@ module _ (m : EditedRename) (knows : KnowsRename m) (p : Package) (is : packages
       subst (λ x. IsDefinitionOf Known x definition) same (subst (IsRankFound (IsDefinitionOf Known m.of.member.now)) e knows.definition)
 
   pub field_is_named : (path : List ℕ) → p.path ≡ path → (definition rank : ℕ) → IsRenamedField m.of (record { «package» = path; rank = definition }) rank →
-      IsFieldNamed m.of.member.now name p definition rank
+      IsFieldOfNewName m.of.member.now name p definition rank
   field_is_named path of definition rank h =
       let x = of_one (workspace_before m.of) (verdicts_in m.of) p is path of (λ q. IsFieldOfDefinition q rank definition)
       (has_definition definition h.0 (field_at path rank) h.1) in
@@ -103,7 +103,7 @@ module _ (m : EditedRename) (knows : KnowsRename m) (p : Package) (is : packages
       (has_definition definition h.0 (method_at path rank) h.1) in
       record { method = x.method; has_rank = x.has_rank; of_type = x.of_type; named = inl (ap (λ q. method_at q rank) of ∙ sym h.1) }
 
-  pub old_field_named : (definition rank : ℕ) → HasField p definition name rank → IsFieldNamed m.of.member.now name p definition rank
+  pub old_field_named : (definition rank : ℕ) → HasField p definition name rank → IsFieldOfNewName m.of.member.now name p definition rank
   old_field_named definition rank h = record { field = h.0; has_rank = h.1.has_rank; of_struct = h.1.of_struct; named = inr h.1.named }
 
   pub old_method_named : (definition rank : ℕ) → HasMethod p definition name rank → IsMethodNamed m.of.member.now name p definition rank
@@ -161,7 +161,7 @@ module _ (m : EditedRename) (knows : KnowsRename m) (p : Package) (is : packages
 
 -- The package of a path that the workspace has.
 pub package_of_path : (w : Workspace) (found : Findings) → IsFaultless w found → (path : List ℕ) → Contains (package_paths w) path →
-    (p : Package) × (IsPackage w (known_in found) p × (p.path ≡ path))
+    (p : Package) × (IsCheckedPackage w (known_in found) p × (p.path ≡ path))
 package_of_path w found sound path has =
     let at : slice_get (package_paths w) has.0 ≡ Some path = slice_get_read (package_paths w) (length (package_paths w)) has.0 path refl has.1 (sym has.2) in
     let there = package_there w found sound has.0 has.1 in

@@ -9,7 +9,7 @@ use Rattle.types_declared.specs.Package.{Package, symbol_in, spelled}
 use Rattle.workspace_check.specs.Verdicts.{Verdicts}
 use Rattle.refs_binding.specs.declared.declaration.Declaration.{Declaration}
 use Rattle.refs_binding.specs.declared.declaration.Declaration.TheVariants.{Field, Method}
-use Rattle.refs_binding.specs.Uses.{IsPackage}
+use Rattle.refs_binding.specs.Uses.{IsCheckedPackage}
 use Rattle.refactor_conflict.specs.Conflicts.{Takes, HoldsBefore, IsConflict}
 use Rattle.refactor_conflict.specs.Staying.{MembersStayIn, DeclaringNamesStayIn}
 use Rattle.refactor_conflict.specs.declared.conflict.Conflict.{Conflict}
@@ -85,7 +85,7 @@ module _ (w : Workspace) (known : Verdicts) (d : Declaration) (name : List ℕ) 
 
   -- The first conflict, where what is bound otherwise stays.
   pub first_told : MemberConflictsAreOfMembers → (told : Option Conflict) → Takes (IsConflict w known r) None told →
-      HoldsBefore (λ place. (p : Package) → IsPackage w known p → MembersStayIn w known r p place × DeclaringNamesStayIn w known r p place) told →
+      HoldsBefore (λ place. (p : Package) → IsCheckedPackage w known p → MembersStayIn w known r p place × DeclaringNamesStayIn w known r p place) told →
       TellsFirstOf w known r told
   first_told decide None takes stay = λ place. (decide w known d name s rename place).1 (stay place tt)
   first_told decide (Some c) takes stay =

@@ -12,7 +12,7 @@ use Rattle.refs_binding.specs.declared.declaration.Declaration.{Declaration}
 use Rattle.refs_binding.specs.declared.declaration.Declaration.TheVariants.{Predeclared, Declared, Field, Method}
 use Rattle.refs_binding.specs.Workspaces.{IsPackageAt}
 use Rattle.refs_places.specs.Outside.{declaring_path}
-use Rattle.law_kept_members.specs.Reaching.{Reaches, home_of}
+use Rattle.law_kept_members.specs.Reaching.{ReachesPath, home_of}
 
 home_is : (d : Declaration) (path : List ℕ) → Some path ≡ declaring_path d → home_of d ≡ path
 home_is (Predeclared n) path e = absurd (none-some path (sym e))
@@ -22,7 +22,7 @@ home_is (Method s) path e = same_Some s.package path (sym e)
 
 pub not_reached : (w : Workspace) (known : Verdicts) (d : Declaration) (path : List ℕ) → Some path ≡ declaring_path d → (marks : List Bool) →
     MarksClosuresWith w path marks → (number : ℕ) (p : Package) → IsPackageAt w known number p → (IsMarked marks number → ⊥) →
-    Reaches w p.path (home_of d) → ⊥
+    ReachesPath w p.path (home_of d) → ⊥
 not_reached w known d path e marks are number p is unmarked reaches =
     let home = home_is d path e in
     let closed : IsInClosure w p.path (home_of d) = elim reaches [

@@ -17,7 +17,7 @@ use Rattle.refactor_conflict.specs.declared.conflict.Conflict.{Conflict}
 use Rattle.refactor_conflict.specs.Conflicts.{Takes, HoldsBefore, IsConflictIn}
 use Rattle.refactor_conflict.specs.Staying.{MembersStayIn, DeclaringNamesStayIn}
 use Rattle.refactor_members.specs.declared.member_rename.MemberRename.{MemberRename}
-use Rattle.refactor_members.specs.Renames.{EditedRename, KnowsRename, IsFieldNamed, IsMethodNamed, workspace_before, verdicts_in, packages_before, rename_revision}
+use Rattle.refactor_members.specs.Renames.{EditedRename, KnowsRename, IsFieldOfNewName, IsMethodNamed, workspace_before, verdicts_in, packages_before, rename_revision}
 
 -- For a rename that is known: the first conflict found so far stays, or becomes an earlier one of which `P` holds. `K` holds of the places
 -- before it.
@@ -33,25 +33,25 @@ abbrev pub IsNamedAt : Package → Declaration → Place → Type 0
 IsNamedAt p d place = UsesIn p (λ u. DeclaresMember p u d) place
 
 -- If the field or method is declared at the place, it counts under its new name.
-abbrev pub NameStays : EditedRename → Package → Declaration → Place → Type 0
-NameStays m p d place = IsNamedAt p d place → CountsAfter (packages_before m.of) (rename_revision m) d
+abbrev pub NewNameCounts : EditedRename → Package → Declaration → Place → Type 0
+NewNameCounts m p d place = IsNamedAt p d place → CountsAfter (packages_before m.of) (rename_revision m) d
 
 -- Of a rank, if one was found, the field is that of a member whose name stays.
 abbrev pub ListedFieldStays : EditedRename → Package → Option ℕ → Place → Type 0
-ListedFieldStays m p listed place = (rank : ℕ) → listed ≡ Some rank → NameStays m p (field_at p.path rank) place
+ListedFieldStays m p listed place = (rank : ℕ) → listed ≡ Some rank → NewNameCounts m p (field_at p.path rank) place
 
 abbrev pub ListedMethodStays : EditedRename → Package → Option ℕ → Place → Type 0
-ListedMethodStays m p listed place = (rank : ℕ) → listed ≡ Some rank → NameStays m p (method_at p.path rank) place
+ListedMethodStays m p listed place = (rank : ℕ) → listed ≡ Some rank → NewNameCounts m p (method_at p.path rank) place
 
 -- The names of the fields stay that a type definition has under the new name.
 abbrev pub FieldsStayOf : EditedRename → Package → (definition : ℕ) → Place → Type 0
 FieldsStayOf m p definition place =
-    (rank : ℕ) → IsFieldNamed m.of.member.now m.of.name.now p definition rank → NameStays m p (field_at p.path rank) place
+    (rank : ℕ) → IsFieldOfNewName m.of.member.now m.of.name.now p definition rank → NewNameCounts m p (field_at p.path rank) place
 
 -- The names of its methods stay.
 abbrev pub MethodsStayOf : EditedRename → Package → (definition : ℕ) → Place → Type 0
 MethodsStayOf m p definition place =
-    (rank : ℕ) → IsMethodNamed m.of.member.now m.of.name.now p definition rank → NameStays m p (method_at p.path rank) place
+    (rank : ℕ) → IsMethodNamed m.of.member.now m.of.name.now p definition rank → NewNameCounts m p (method_at p.path rank) place
 
 -- Both.
 abbrev pub NamesStayOf : EditedRename → Package → (definition : ℕ) → Place → Type 0

@@ -9,7 +9,7 @@ use Rattle.types_info.specs.MemberUses.{AreMemberUses, AreUsesIn, uses_in}
 use Rattle.types_expr.specs.Judge.{MemberUse}
 use Rattle.workspace_check.specs.Verdicts.{Verdicts}
 use Rattle.refs_binding.specs.Members.{definitions_known}
-use Rattle.refs_binding.specs.Uses.{IsPackage}
+use Rattle.refs_binding.specs.Uses.{IsCheckedPackage}
 use Rattle.refactor_after.specs.MembersAfter.{IsFirst}
 use Rattle.refactor_after.specs.OldPlaces.{field_at, method_at}
 pub use Rattle.law_rename_agrees.specs.ConflictsByTables.{HasField, HasMethod}
@@ -35,8 +35,8 @@ lesser_rank (Some m) None = Some m
 lesser_rank (Some m) (Some n) = if nat_le m n then Some m else Some n
 
 -- `of` has the trees of the package `p`, the type definitions that it knows, and its uses of members.
-pub record IsKnownOf (w : Workspace) (known : Verdicts) (p : Package) (of : PackageUses) : Type 0 where
-  pub is_package : IsPackage w known p
+pub record HasUsesOf (w : Workspace) (known : Verdicts) (p : Package) (of : PackageUses) : Type 0 where
+  pub is_package : IsCheckedPackage w known p
   pub files : map source_of of.files.now ≡ p.files
   pub path : of.types.path.now ≡ p.path
   pub definitions : AreDefinitions p (definitions_known of.types)

@@ -16,7 +16,7 @@ use Rattle.refs_binding.specs.declared.declaration.Declaration.TheVariants.{Pred
 use Rattle.refs_binding.specs.Binding.{BindsByMember, DeclaresMember}
 use Rattle.refs_binding.specs.DeclaringPlaces.{InHomePackage}
 use Rattle.refs_binding.specs.Identifiers.{BeginsAt}
-use Rattle.refs_binding.specs.Uses.{IsPackage}
+use Rattle.refs_binding.specs.Uses.{IsCheckedPackage}
 use Rattle.refs_binding.specs.Workspaces.{known_in, IsPackageAt}
 use Rattle.refs_uses.specs.MemberNames.{IsNameFound}
 use Rattle.refactor_after.specs.NamesAfter.{IsFieldAfter, IsMethodAfter}
@@ -29,7 +29,7 @@ use Rattle.law_member_conflicts.specs.AtStake.{IsAtStake}
 use Rattle.refactor_members.specs.declared.member_rename.MemberRename.{MemberRename}
 
 -- The field of this rank is in the struct that the type definition writes. It is the renamed member `d`, or has the new name already.
-pub record IsFieldNamed (d : Declaration) (name : List ℕ) (x : Package) (definition rank : ℕ) : Type 0 where
+pub record IsFieldOfNewName (d : Declaration) (name : List ℕ) (x : Package) (definition rank : ℕ) : Type 0 where
   pub field : PlacedField
   pub has_rank : slice_get (package_fields x) rank ≡ Some field
   pub of_struct : field.definition ≡ definition
@@ -68,14 +68,14 @@ IsDefinitionOf Known d definition = InHomePackage Known d (λ x. IsDefinitionIn 
 -- What a rename of the field or method `d` to `name` does to members. Just those have the name after it that had it, and `d`. A use of one
 -- of these has the name after it. Uses and declaring identifiers of other members stay.
 pub record RenamesMember (w : Workspace) (known : Verdicts) (r : Revision) (d : Declaration) (name : List ℕ) : Type 0 where
-  pub fields : (x : Package) → IsPackage w known x → (definition rank : ℕ) → IsFieldAfter r x definition name rank ↔ IsFieldNamed d name x definition rank
-  pub methods : (x : Package) → IsPackage w known x → (definition rank : ℕ) → IsMethodAfter r x definition name rank ↔ IsMethodNamed d name x definition rank
-  pub called : (x : Package) → IsPackage w known x → (u : ℕ) (place : Place) → BeginsAt x place.path place.offset u → (old : Declaration) →
+  pub fields : (x : Package) → IsCheckedPackage w known x → (definition rank : ℕ) → IsFieldAfter r x definition name rank ↔ IsFieldOfNewName d name x definition rank
+  pub methods : (x : Package) → IsCheckedPackage w known x → (definition rank : ℕ) → IsMethodAfter r x definition name rank ↔ IsMethodNamed d name x definition rank
+  pub called : (x : Package) → IsCheckedPackage w known x → (u : ℕ) (place : Place) → BeginsAt x place.path place.offset u → (old : Declaration) →
       BindsByMember x u old → IsAtStake d name x u old → r.called place (spelled_there x u) ≡ name
-  pub used : (x : Package) → IsPackage w known x → (u : ℕ) (place : Place) → BeginsAt x place.path place.offset u → (old : Declaration)
-      (was : BindsByMember x u old) → (IsAtStake d name x u old → ⊥) → IsBoundByMember (IsPackage w known) r place x u old was old
-  pub declared : (x : Package) → IsPackage w known x → (u : ℕ) (place : Place) → BeginsAt x place.path place.offset u → (old : Declaration) →
-      DeclaresMember x u old → (old ≡ d → ⊥) → (spelled x (x.layout.place u).file (x.layout.place u).index ≡ name → ⊥) → CountsAfter (IsPackage w known) r old
+  pub used : (x : Package) → IsCheckedPackage w known x → (u : ℕ) (place : Place) → BeginsAt x place.path place.offset u → (old : Declaration)
+      (was : BindsByMember x u old) → (IsAtStake d name x u old → ⊥) → IsBoundByMember (IsCheckedPackage w known) r place x u old was old
+  pub declared : (x : Package) → IsCheckedPackage w known x → (u : ℕ) (place : Place) → BeginsAt x place.path place.offset u → (old : Declaration) →
+      DeclaresMember x u old → (old ≡ d → ⊥) → (spelled x (x.layout.place u).file (x.layout.place u).index ≡ name → ⊥) → CountsAfter (IsCheckedPackage w known) r old
 
 -- The workspace before the rename.
 abbrev pub workspace_before : MemberRename → Workspace
@@ -87,7 +87,7 @@ verdicts_in m = known_in m.workspace.now.findings
 
 -- Its packages.
 abbrev pub packages_before : MemberRename → Package → Type 0
-packages_before m = IsPackage (workspace_before m) (verdicts_in m)
+packages_before m = IsCheckedPackage (workspace_before m) (verdicts_in m)
 
 -- A rename with edits of it.
 pub record EditedRename : Type 0 where

@@ -3,10 +3,10 @@ ghost use Rattle.std.specs.Prelude.{◌≡◌, IfOk, Some};
 ghost use Rattle.types_declared.specs.Package.{Package as Checked};
 ghost use Rattle.types_declared.specs.PackageView.{package_of, IsIndexOf};
 ghost use Rattle.refs_binding.specs.declared.declaration.Declaration.TheVariants.{Field, Method};
-ghost use Rattle.refs_binding.specs.DeclaringPlaces.{DeclaresAt, IsDeclaredAt};
-ghost use Rattle.refs_binding.specs.Indexed.{IsNumbered, IsPackageNumbered};
+ghost use Rattle.refs_binding.specs.DeclaringPlaces.{HasDeclarationAt, IsDeclaredAt};
+ghost use Rattle.refs_binding.specs.Indexed.{IsPackageNumber, IsPackageNumbered};
 ghost use Rattle.refs_binding.specs.Packages.{IsTableAs};
-ghost use Rattle.refs_binding.specs.Uses.{IsPackage};
+ghost use Rattle.refs_binding.specs.Uses.{IsCheckedPackage};
 ghost use Rattle.refs_binding.specs.Workspaces.{known_in, home_path};
 ghost use Rattle.refs_places.specs.DeclaredPlaces.{AreDeclaredIn, IsChoice};
 ghost use Rattle.refactor_conflict.specs.Conflicts.{IsCapturer};
@@ -30,7 +30,7 @@ fn listed_place(
     places: &DeclaredPlaces,
     declaration: &Declaration,
 ) -> Result<Option<Place>, AllocError>
-    ensures { IfOk result (λ found. (p : Checked) → AreDeclaredIn p places.now → IsChoice (DeclaresAt p declaration.now) found) }
+    ensures { IfOk result (λ found. (p : Checked) → AreDeclaredIn p places.now → IsChoice (HasDeclarationAt p declaration.now) found) }
 {
     match places.at(declaration) {
         None => Ok(None),
@@ -47,7 +47,7 @@ fn place_in(
     unit: Package<'_>,
     declaration: &Declaration,
 ) -> Result<Option<Place>, AllocError>
-    ensures { IfOk result (IsChoice (DeclaresAt (package_of unit.entry) declaration.now)) }
+    ensures { IfOk result (IsChoice (HasDeclarationAt (package_of unit.entry) declaration.now)) }
 {
     let places = package_places(alloc, unit)?;
     listed_place(&places, declaration)
@@ -61,9 +61,9 @@ fn place_by(
     table: &ScopeTable<'_>,
     declaration: &Declaration,
 ) -> Result<Option<Place>, AllocError>
-    requires numbered { IsNumbered at }
+    requires numbered { IsPackageNumber at }
     requires table { IsTableAs at.workspace.now.graph (known_in at.workspace.now.findings) at.number table.now seen.now }
-    ensures { IfOk result (λ found. (p : Checked) → IsPackageNumbered at.entry p → IsChoice (DeclaresAt p declaration.now) found) }
+    ensures { IfOk result (λ found. (p : Checked) → IsPackageNumbered at.entry p → IsChoice (HasDeclarationAt p declaration.now) found) }
 {
     place_in(alloc, unit_of(at, seen, table), declaration)
 }
@@ -74,8 +74,8 @@ fn place_at(
     at: Numbered<'_>,
     declaration: &Declaration,
 ) -> Result<Option<Place>, AllocError>
-    requires { IsNumbered at }
-    ensures { IfOk result (λ found. (p : Checked) → IsPackageNumbered at.entry p → IsChoice (DeclaresAt p declaration.now) found) }
+    requires { IsPackageNumber at }
+    ensures { IfOk result (λ found. (p : Checked) → IsPackageNumbered at.entry p → IsChoice (HasDeclarationAt p declaration.now) found) }
 {
     let seen = seen_by(alloc, at.workspace, at.number)?;
     let table = read_table(alloc, at.workspace, &seen, at.number)?;
@@ -88,7 +88,7 @@ fn declared_place(
     workspace: &FaultlessWorkspace<'_>,
     declaration: &Declaration,
 ) -> Result<Option<Place>, AllocError>
-    ensures { IfOk result (IsChoice (IsDeclaredAt (IsPackage workspace.now.graph (known_in workspace.now.findings)) declaration.now)) }
+    ensures { IfOk result (IsChoice (IsDeclaredAt (IsCheckedPackage workspace.now.graph (known_in workspace.now.findings)) declaration.now)) }
 {
     workspace.has_no_faults();
     match package_path(declaration) {
@@ -106,7 +106,7 @@ pub(crate) fn capturer(
     workspace: &FaultlessWorkspace<'_>,
     declaration: &Declaration,
 ) -> Result<Capturer, AllocError>
-    ensures { IfOk result (IsCapturer (IsPackage workspace.now.graph (known_in workspace.now.findings)) declaration.now) }
+    ensures { IfOk result (IsCapturer (IsCheckedPackage workspace.now.graph (known_in workspace.now.findings)) declaration.now) }
 {
     match declared_place(alloc, workspace, declaration)? {
         None => Ok(Capturer::Universe),
@@ -184,7 +184,7 @@ fn name_place_by(
     table: &ScopeTable<'_>,
     member: &Declaration,
 ) -> Result<Option<Place>, AllocError>
-    requires numbered { IsNumbered at }
+    requires numbered { IsPackageNumber at }
     requires table { IsTableAs at.workspace.now.graph (known_in at.workspace.now.findings) at.number table.now seen.now }
     ensures { IfOk result (λ found. (p : Checked) → IsPackageNumbered at.entry p → home_path member.now ≡ Some p.path → IsChoice (IsNamedAt p member.now) found) }
 {
@@ -197,7 +197,7 @@ pub(crate) fn name_place(
     at: Numbered<'_>,
     member: &Declaration,
 ) -> Result<Option<Place>, AllocError>
-    requires { IsNumbered at }
+    requires { IsPackageNumber at }
     ensures { IfOk result (λ found. (p : Checked) → IsPackageNumbered at.entry p → home_path member.now ≡ Some p.path → IsChoice (IsNamedAt p member.now) found) }
 {
     let seen = seen_by(alloc, at.workspace, at.number)?;

@@ -3,9 +3,9 @@ ghost use Rattle.std.specs.Prelude.{◌≡◌, None, IfOk, map, option_map, slic
 ghost use Rattle.types_declared.specs.Package.{Package as Checked};
 ghost use Rattle.types_declared.specs.PackageView.{package_of};
 ghost use Rattle.types_members.specs.FieldsView.{field_of};
-ghost use Rattle.refs_binding.specs.Indexed.{IsNumbered, IsPackageNumbered};
+ghost use Rattle.refs_binding.specs.Indexed.{IsPackageNumber, IsPackageNumbered};
 ghost use Rattle.refs_binding.specs.Packages.{IsTableAs};
-ghost use Rattle.refs_binding.specs.Uses.{IsPackage};
+ghost use Rattle.refs_binding.specs.Uses.{IsCheckedPackage};
 ghost use Rattle.refs_binding.specs.Workspaces.{known_in};
 ghost use Rattle.refactor_after.specs.MembersFound.{IsRankFound};
 ghost use Rattle.refactor_members.specs.Renames.{IsDefinitionIn, IsDefinitionOf, IsFieldOfDefinition, IsMethodOfDefinition};
@@ -84,7 +84,7 @@ fn definition_by(
     table: &ScopeTable<'_>,
     member: &Declaration,
 ) -> Result<Option<usize>, AllocError>
-    requires numbered { IsNumbered at }
+    requires numbered { IsPackageNumber at }
     requires table { IsTableAs at.workspace.now.graph (known_in at.workspace.now.findings) at.number table.now seen.now }
     ensures { IfOk result (λ found. (p : Checked) → IsPackageNumbered at.entry p → IsRankFound (IsDefinitionIn p member.now) found) }
 {
@@ -97,7 +97,7 @@ fn definition_at(
     at: Numbered<'_>,
     member: &Declaration,
 ) -> Result<Option<usize>, AllocError>
-    requires { IsNumbered at }
+    requires { IsPackageNumber at }
     ensures { IfOk result (λ found. (p : Checked) → IsPackageNumbered at.entry p → IsRankFound (IsDefinitionIn p member.now) found) }
 {
     let seen = seen_by(alloc, at.workspace, at.number)?;
@@ -111,7 +111,7 @@ pub(crate) fn definition_of(
     workspace: &FaultlessWorkspace<'_>,
     member: &Declaration,
 ) -> Result<Option<usize>, AllocError>
-    ensures { IfOk result (IsRankFound (IsDefinitionOf (IsPackage workspace.now.graph (known_in workspace.now.findings)) member.now)) }
+    ensures { IfOk result (IsRankFound (IsDefinitionOf (IsCheckedPackage workspace.now.graph (known_in workspace.now.findings)) member.now)) }
 {
     workspace.has_no_faults();
     match package_path(member) {

@@ -3,14 +3,14 @@ ghost use Rattle.std.specs.Prelude.{ℕ, ◌≡◌, ◌↔◌, ◌<◌, length, 
 ghost use Rattle.base_edits.specs.EditSet.{FileChanges};
 ghost use Rattle.base_files.specs.Packages.{package_paths};
 ghost use Rattle.types_declared.specs.Package.{Package as Checked};
-ghost use Rattle.refs_binding.specs.Indexed.{IsNumbered, IsPackageNumbered};
+ghost use Rattle.refs_binding.specs.Indexed.{IsPackageNumber, IsPackageNumbered};
 ghost use Rattle.refs_binding.specs.Members.{AreOwnDefinitions};
 ghost use Rattle.refs_binding.specs.Workspaces.{home_path, IsPackageAt};
 ghost use Rattle.refactor_after.specs.MembersAfter.{CountsAfter};
 ghost use Rattle.refactor_conflict.specs.Conflicts.{HoldsBefore, IsPlaceBefore, Takes};
 ghost use Rattle.refactor_conflict.specs.Staying.{DeclaringNamesStayIn};
-ghost use Rattle.refactor_members.specs.Judging.{FieldsStayOf, IsNamedAt, JudgesIn, ListedFieldStays, ListedMethodStays, MethodsStayOf, NameStays, NamesStayOf};
-ghost use Rattle.refactor_members.specs.Renames.{by, KnowsRename, IsFieldNamed, IsMethodNamed, packages_before, rename_revision, verdicts_in, workspace_before};
+ghost use Rattle.refactor_members.specs.Judging.{FieldsStayOf, IsNamedAt, JudgesIn, ListedFieldStays, ListedMethodStays, MethodsStayOf, NewNameCounts, NamesStayOf};
+ghost use Rattle.refactor_members.specs.Renames.{by, KnowsRename, IsFieldOfNewName, IsMethodNamed, packages_before, rename_revision, verdicts_in, workspace_before};
 ghost use Rattle.refactor_conflict.specs.declared.conflict.Conflict.{Conflict as Told};
 
 use crate::concerned::concerns_definition;
@@ -43,7 +43,7 @@ fn lose(
     at: Numbered<'_>,
     member: &Declaration,
 ) -> Result<(), AllocError>
-    requires { IsNumbered at }
+    requires { IsPackageNumber at }
     ensures takes { OnOk result ((p : Checked) → IsPackageNumbered at.entry p → home_path member.now ≡ Some p.path → Takes (λ (c : Told). IsNamedAt p member.now c.used × (c.by ≡ None)) first.old first.new) }
     ensures behind { OnOk result ((p : Checked) → IsPackageNumbered at.entry p → home_path member.now ≡ Some p.path → HoldsBefore (λ place. IsNamedAt p member.now place → ⊥) first.new) }
 {
@@ -67,7 +67,7 @@ fn judge_member(
     requires { d.now.number < length (package_paths (workspace_before d.now.rename.now)) }
     ensures { OnOk result ((s : FileChanges) → (p : Checked) → IsPackageAt (workspace_before d.now.rename.now) (verdicts_in d.now.rename.now) d.now.number p → home_path member.now ≡ Some p.path →
         (KnowsRename (by d.now.rename.now s) → IsTrue counts ↔ CountsAfter (packages_before d.now.rename.now) (rename_revision (by d.now.rename.now s)) member.now) →
-        JudgesIn (by d.now.rename.now s) p (NameStays (by d.now.rename.now s) p member.now) first.old first.new) }
+        JudgesIn (by d.now.rename.now s) p (NewNameCounts (by d.now.rename.now s) p member.now) first.old first.new) }
 {
     if counts {
         return Ok(());
@@ -88,7 +88,7 @@ fn judge_field(
 ) -> Result<(), AllocError>
     requires { d.now.number < length (package_paths (workspace_before d.now.rename.now)) }
     ensures { OnOk result ((s : FileChanges) → (p : Checked) → IsPackageAt (workspace_before d.now.rename.now) (verdicts_in d.now.rename.now) d.now.number p → p.path ≡ d.now.of.now.package →
-        (KnowsRename (by d.now.rename.now s) → (rank : ℕ) → listed ≡ Some rank → IsFieldNamed d.now.rename.now.member.now d.now.rename.now.name.now p d.now.of.now.rank rank) →
+        (KnowsRename (by d.now.rename.now s) → (rank : ℕ) → listed ≡ Some rank → IsFieldOfNewName d.now.rename.now.member.now d.now.rename.now.name.now p d.now.of.now.rank rank) →
         JudgesIn (by d.now.rename.now s) p (ListedFieldStays (by d.now.rename.now s) p listed) first.old first.new) }
 {
     match listed {

@@ -14,13 +14,13 @@ ghost use Rattle.refs_binding.specs.Binding.{declaration_of};
 ghost use Rattle.refs_binding.specs.Members.{definitions_known, member_at};
 ghost use Rattle.refs_binding.specs.Packages.{IsSeenBy};
 ghost use Rattle.refs_binding.specs.Steps.{IsDeclarationResult};
-ghost use Rattle.refs_binding.specs.Uses.{IsPackage};
+ghost use Rattle.refs_binding.specs.Uses.{IsCheckedPackage};
 ghost use Rattle.refs_binding.specs.Workspaces.{known_in, IsPackageAt};
 ghost use Rattle.refactor_after.specs.MembersAfter.{IsMemberAfter};
 ghost use Rattle.refactor_conflict.specs.Conflicts.{IsMemberConflict, IsMemberConflictIn, IsOtherMember, IsPlaceBefore, Takes, UseStays, UsesStay};
 ghost use Rattle.refactor_conflict.specs.Staying.{MembersStayIn};
 ghost use Rattle.refactor_members.specs.Judging.{Judges, JudgesIn};
-ghost use Rattle.refactor_members.specs.Naming.{IsKnownOf, IsUseIn};
+ghost use Rattle.refactor_members.specs.Naming.{HasUsesOf, IsUseIn};
 ghost use Rattle.refactor_members.specs.Renames.{by, KnowsRename, packages_before, rename_revision, verdicts_in, workspace_before};
 
 use crate::concerned::{concerns, concerns_at};
@@ -68,7 +68,7 @@ fn note_other_member(
     old: Member<'_>,
     now: &Declaration,
 ) -> Result<(), AllocError>
-    ensures takes { OnOk result (Takes (IsOtherMember (IsPackage workspace.now.graph (known_in workspace.now.findings)) (λ e. e ≡ now.now) used (declaration_of (member_of old.entry))) first.old first.new) }
+    ensures takes { OnOk result (Takes (IsOtherMember (IsCheckedPackage workspace.now.graph (known_in workspace.now.findings)) (λ e. e ≡ now.now) used (declaration_of (member_of old.entry))) first.old first.new) }
     ensures stays { OnOk result (IsPlaceBefore first.new used → declaration_of (member_of old.entry) ≡ now.now) }
 {
     if now.is_of(old) {
@@ -88,7 +88,7 @@ fn note_member(
     old: Member<'_>,
     now: Option<Declaration>,
 ) -> Result<(), AllocError>
-    ensures takes { OnOk result (Takes (IsOtherMember (IsPackage workspace.now.graph (known_in workspace.now.findings)) (λ e. now ≡ Some e) used (declaration_of (member_of old.entry))) first.old first.new) }
+    ensures takes { OnOk result (Takes (IsOtherMember (IsCheckedPackage workspace.now.graph (known_in workspace.now.findings)) (λ e. now ≡ Some e) used (declaration_of (member_of old.entry))) first.old first.new) }
     ensures stays { OnOk result (IsPlaceBefore first.new used → now ≡ Some (declaration_of (member_of old.entry))) }
 {
     match now {
@@ -155,7 +155,7 @@ fn judge_called(
 ) -> Result<(), AllocError>
     ensures { let x = use_of found.now in
         let ds = definitions_known of.now.types in
-        OnOk result ((s : FileChanges) → (p : Checked) → IsKnownOf (workspace_before m.now) (verdicts_in m.now) p of.now → member_at ds p file x.place x.before ≡ Some (declaration_of (member_of old.entry)) →
+        OnOk result ((s : FileChanges) → (p : Checked) → HasUsesOf (workspace_before m.now) (verdicts_in m.now) p of.now → member_at ds p file x.place x.before ≡ Some (declaration_of (member_of old.entry)) →
         IsUseIn p file x → (declaration_of (member_of old.entry) ≡ m.now.member.now) ⊎ (spelled p file x.place ≡ m.now.name.now) →
         Judges (by m.now s) (IsMemberConflict (packages_before m.now) (rename_revision (by m.now s)) ds p file x) (UseStays (packages_before m.now) (rename_revision (by m.now s)) ds p file x) first.old first.new) }
 {
@@ -196,7 +196,7 @@ fn judge_spelled(
     requires { spelling.now ≡ spelled_at (slice_get (map source_of of.now.files.now) file) found.now.place }
     ensures { let x = use_of found.now in
         let ds = definitions_known of.now.types in
-        OnOk result ((s : FileChanges) → (p : Checked) → IsKnownOf (workspace_before m.now) (verdicts_in m.now) p of.now → IsUseIn p file x →
+        OnOk result ((s : FileChanges) → (p : Checked) → HasUsesOf (workspace_before m.now) (verdicts_in m.now) p of.now → IsUseIn p file x →
         Judges (by m.now s) (IsMemberConflict (packages_before m.now) (rename_revision (by m.now s)) ds p file x) (UseStays (packages_before m.now) (rename_revision (by m.now s)) ds p file x) first.old first.new) }
 {
     let name = Name {
@@ -235,7 +235,7 @@ fn judge_use(
 ) -> Result<(), AllocError>
     ensures { let x = use_of found.now in
         let ds = definitions_known of.now.types in
-        OnOk result ((s : FileChanges) → (p : Checked) → IsKnownOf (workspace_before m.now) (verdicts_in m.now) p of.now → IsUseIn p file x →
+        OnOk result ((s : FileChanges) → (p : Checked) → HasUsesOf (workspace_before m.now) (verdicts_in m.now) p of.now → IsUseIn p file x →
         Judges (by m.now s) (IsMemberConflict (packages_before m.now) (rename_revision (by m.now s)) ds p file x) (UseStays (packages_before m.now) (rename_revision (by m.now s)) ds p file x) first.old first.new) }
 {
     let spelling = spelling_at(of.files, file, found.place);
@@ -256,7 +256,7 @@ fn judge_file(
     uses: &[MemberUse],
 ) -> Result<(), AllocError>
     ensures { let ds = definitions_known of.now.types in
-        OnOk result ((s : FileChanges) → (p : Checked) → IsKnownOf (workspace_before m.now) (verdicts_in m.now) p of.now → AreUsesIn p file (map use_of uses.now) →
+        OnOk result ((s : FileChanges) → (p : Checked) → HasUsesOf (workspace_before m.now) (verdicts_in m.now) p of.now → AreUsesIn p file (map use_of uses.now) →
         Judges (by m.now s) (IsMemberConflictIn (packages_before m.now) (rename_revision (by m.now s)) ds p file (map use_of uses.now))
         (UsesStay (packages_before m.now) (rename_revision (by m.now s)) ds p file (map use_of uses.now)) first.old first.new) }
 {
@@ -276,7 +276,7 @@ fn judge_if_concerned(
     uses: &[MemberUse],
 ) -> Result<(), AllocError>
     ensures { let ds = definitions_known of.now.types in
-        OnOk result ((s : FileChanges) → (p : Checked) → IsKnownOf (workspace_before m.now) (verdicts_in m.now) p of.now → AreUsesIn p file (map use_of uses.now) →
+        OnOk result ((s : FileChanges) → (p : Checked) → HasUsesOf (workspace_before m.now) (verdicts_in m.now) p of.now → AreUsesIn p file (map use_of uses.now) →
         Judges (by m.now s) (IsMemberConflictIn (packages_before m.now) (rename_revision (by m.now s)) ds p file (map use_of uses.now))
         (UsesStay (packages_before m.now) (rename_revision (by m.now s)) ds p file (map use_of uses.now)) first.old first.new) }
 {
@@ -294,7 +294,7 @@ fn judge_files(
     m: &MemberRename<'_>,
     of: &PackageUses<'_>,
 ) -> Result<(), AllocError>
-    ensures { OnOk result ((s : FileChanges) → (p : Checked) → IsKnownOf (workspace_before m.now) (verdicts_in m.now) p of.now →
+    ensures { OnOk result ((s : FileChanges) → (p : Checked) → HasUsesOf (workspace_before m.now) (verdicts_in m.now) p of.now →
         JudgesIn (by m.now s) p (MembersStayIn (workspace_before m.now) (verdicts_in m.now) (rename_revision (by m.now s)) p) first.old first.new) }
 {
     for file in 0..of.members.len() {

@@ -15,7 +15,7 @@ ghost use Rattle.refs_binding.specs.declared.declaration.Declaration.TheVariants
 ghost use Rattle.refactor_after.specs.NamesAfter.{IsMethodAfter};
 ghost use Rattle.refactor_after.specs.MembersAfter.{HasFieldAfter, IsFieldIn, IsFirst, IsFirstField, IsFirstMethod, IsMemberAfter, IsMethodIn};
 ghost use Rattle.refactor_after.specs.MembersFound.{IsRankFound, IsStructFound, SelectsField, SelectsMethod};
-ghost use Rattle.refactor_members.specs.Renames.{by, KnowsRename, IsFieldNamed, IsMethodNamed, packages_before, rename_revision, workspace_before};
+ghost use Rattle.refactor_members.specs.Renames.{by, KnowsRename, IsFieldOfNewName, IsMethodNamed, packages_before, rename_revision, workspace_before};
 ghost use Rattle.refactor_members.specs.Naming.{HasField, HasMethod, IsFirstOld, IsRenamedField, IsRenamedMethod, lesser_rank};
 
 use crate::member_rename::MemberRename;

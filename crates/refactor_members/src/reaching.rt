@@ -6,7 +6,7 @@ ghost use Rattle.workspace_graph.specs.Reaching.{MarksClosuresWith};
 ghost use Rattle.workspace_graph.specs.Search.{IsMarked};
 ghost use Rattle.types_declared.specs.Package.{Package as Checked};
 ghost use Rattle.refs_binding.specs.Workspaces.{known_in, IsPackageAt};
-ghost use Rattle.law_kept_members.specs.Reaching.{Reaches, home_of};
+ghost use Rattle.law_kept_members.specs.Reaching.{ReachesPath, home_of};
 
 use refs_binding::{Declaration, FaultlessWorkspace};
 use refs_places::declared_places::package_path;
@@ -39,7 +39,7 @@ pub(crate) fn reaching(
     member: &Declaration,
 ) -> Result<Vec<bool>, AllocError>
     ensures { IfOk result (λ marks. (number : ℕ) → (p : Checked) → IsPackageAt workspace.now.graph (known_in workspace.now.findings) number p →
-        (IsMarked marks.items number → ⊥) → Reaches workspace.now.graph p.path (home_of member.now) → ⊥) }
+        (IsMarked marks.items number → ⊥) → ReachesPath workspace.now.graph p.path (home_of member.now) → ⊥) }
 {
     match package_path(member) {
         None => all_marked(alloc, workspace),

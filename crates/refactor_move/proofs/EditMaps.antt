@@ -15,7 +15,7 @@ use Rattle.refs_binding.specs.Workspaces.{IsPackageAt}
 use Rattle.refs_binding.proofs.Units.{one_at}
 use Rattle.refactor_move.specs.declared.moved.Moved.{Moved}
 use Rattle.refactor_move.specs.Changes.{AreGoEdits}
-use Rattle.refactor_move.specs.FileEdits.{AreFileEdits}
+use Rattle.refactor_move.specs.FileEdits.{AreFileMoveEdits}
 use Rattle.refactor_move.specs.Steps.{EditMap, edits_for, AddsEdits, IsFileAt, AreEditsAt, HasFileIn, AreEditsIn, KnowsEdits}
 
 -- one more entry
@@ -79,7 +79,7 @@ next_file p m n a b c h k =
 -- the file of a rank
 
 pub adds_file : (p : Package) (m : Moved) (rank : ℕ) (f : SourceFile) (old new : EditMap) (edits : List Edit) → slice_get p.files rank ≡ Some f →
-    AreFileEdits p rank f m edits → Updates path_cmp old new f.path (Some edits) →
+    AreFileMoveEdits p rank f m edits → Updates path_cmp old new f.path (Some edits) →
     AddsEdits old new (AreEditsAt p m rank) (IsFileAt p rank)
 adds_file p m rank f old new edits at are u =
     adds_entry old new f.path edits (AreEditsAt p m rank) (IsFileAt p rank) u

@@ -21,7 +21,7 @@ use Rattle.base_edits.proofs.Entries.{entry_of, get_entry, value_of}
 use Rattle.refs_binding.specs.Workspaces.{IsFaultless, known_in}
 use Rattle.refactor_move.specs.declared.moved.Moved.{Moved}
 use Rattle.refactor_move.specs.Paths.{IsUnder, HasMoved, HasMovedFile}
-use Rattle.refactor_move.specs.Changes.{AreGoEdits, AreEditsOf, IsPathAfter, MovesOrEdits}
+use Rattle.refactor_move.specs.Changes.{AreGoEdits, AreMoveEditsOf, IsPathAfter, MovesOrEdits}
 use Rattle.refactor_move.specs.MoveEdits.{IsMoveOf, AreMoveEdits, HasOnlyMoved}
 use Rattle.refactor_move.specs.Steps.{EditMap, edits_for, edits_or_none, edits_found, KnowsEdits, AreChangesOf}
 use Rattle.refactor_move.proofs.PathParts.{one_source, moved_under}
@@ -54,7 +54,7 @@ module _ (w : Workspace) (found : Findings) (sound : IsFaultless w found) (m : M
       let e : edits_found edits path ≡ v.0 = found_go edits path go ∙ ap edits_or_none v.1 in
       subst (AreGoEdits w (known_in found) m path) (sym e) (knows.right path v.0 v.1)
 
-  pub are_edits : (path text : List ℕ) → get w path ≡ Some text → AreEditsOf w (known_in found) m path (edits_found edits path)
+  pub are_edits : (path text : List ℕ) → get w path ≡ Some text → AreMoveEditsOf w (known_in found) m path (edits_found edits path)
   are_edits path text at = record { go = go_edits path text at; other = found_other edits path }
 
   -- they lie in its text, in order
@@ -115,13 +115,13 @@ module _ (w : Workspace) (found : Findings) (sound : IsFaultless w found) (m : M
           | inr h ↦ subst (IsPathAfter m path) (sym (ap (λ o. path_by_change o path) (change_is_none m edits w cs are path h))) (inr (h.stays, refl))
         ]
 
-    edits_then : (path : List ℕ) → IsSome (get w path) → AreEditsOf w (known_in found) m path (edits_by (change_of set_of path))
+    edits_then : (path : List ℕ) → IsSome (get w path) → AreMoveEditsOf w (known_in found) m path (edits_by (change_of set_of path))
     edits_then path is =
         let v = value_of (get w path) is in
         let told = are_edits path v.0 v.1 in
         elim (file_cases m edits are (path, v.0) (entry_of w path v.0 v.1)) [
-          | inl h ↦ subst (AreEditsOf w (known_in found) m path) (sym (ap edits_by (change_is m edits w cs are path h) ∙ h.edits_are)) told
-          | inr h ↦ subst (AreEditsOf w (known_in found) m path) (sym (ap edits_by (change_is_none m edits w cs are path h) ∙ sym h.empty)) told
+          | inl h ↦ subst (AreMoveEditsOf w (known_in found) m path) (sym (ap edits_by (change_is m edits w cs are path h) ∙ h.edits_are)) told
+          | inr h ↦ subst (AreMoveEditsOf w (known_in found) m path) (sym (ap edits_by (change_is_none m edits w cs are path h) ∙ sym h.empty)) told
         ]
 
     pub are_move_edits : (from to called : List ℕ) → IsMoveOf w (known_in found) from to called m → AreMoveEdits w (known_in found) from to called set_of

@@ -18,7 +18,7 @@ use Rattle.workspace_check.specs.Verdicts.{Verdicts}
 use Rattle.workspace_check.proofs.Members.{passed}
 use Rattle.workspace_check.proofs.PackageFiles.{at_rank}
 use Rattle.base_edits.proofs.Entries.{entry_of}
-use Rattle.refs_binding.specs.Uses.{IsPackage}
+use Rattle.refs_binding.specs.Uses.{IsCheckedPackage}
 use Rattle.refs_binding.specs.Workspaces.{IsFaultless, IsPackageAt, known_in}
 use Rattle.refs_lookup.proofs.OnePlace.{same_files}
 use Rattle.refs_binding.proofs.PackageNumbers.{package_there}
@@ -42,7 +42,7 @@ tree_of (tree {e = d} {es = es} {t = t} is rest) e has = ⊎_elim
 
 -- the file of a package is one of the workspace
 
-pub text_of_file : (w : Workspace) (known : Verdicts) (p : Package) → IsPackage w known p → (rank : ℕ) (f : SourceFile) → slice_get p.files rank ≡ Some f →
+pub text_of_file : (w : Workspace) (known : Verdicts) (p : Package) → IsCheckedPackage w known p → (rank : ℕ) (f : SourceFile) → slice_get p.files rank ≡ Some f →
     get w f.path ≡ Some f.cut.text
 text_of_file w known p is rank f at = source_text w known f (record { inside = p; is_package = is; has = at_rank p.files rank f at })
 

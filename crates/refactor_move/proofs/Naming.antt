@@ -20,7 +20,7 @@ use Rattle.types_declared.specs.Package.{Package}
 use Rattle.workspace_check.specs.declared.findings.Findings.{Findings}
 use Rattle.workspace_check.specs.Verdicts.{Verdicts}
 use Rattle.workspace_check.proofs.OnePackage.{one_sources}
-use Rattle.refs_binding.specs.Uses.{IsPackage}
+use Rattle.refs_binding.specs.Uses.{IsCheckedPackage}
 use Rattle.refs_binding.specs.Workspaces.{IsFaultless, known_in}
 use Rattle.refs_lookup.proofs.OnePlace.{same_files}
 use Rattle.refs_binding.specs.DeclaringPlaces.{InPackage}
@@ -28,7 +28,7 @@ use Rattle.refs_binding.proofs.PackageNumbers.{package_there, in_package, of_pac
 use Rattle.refactor_rename.specs.NewName.{IsNewName, IsReserved}
 use Rattle.refactor_move.specs.Paths.{last_of}
 use Rattle.refactor_move.specs.Following.{Follows}
-use Rattle.refactor_move.specs.Steps.{MayFollow}
+use Rattle.refactor_move.specs.Steps.{MayFollowPath}
 
 -- the last element
 
@@ -73,13 +73,13 @@ pub first_name : (ts : List FileParts) (t : FileParts) → Some t ≡ slice_get 
 first_name [] t e = absurd (none-some t (sym e))
 first_name (x ∷ xs) t e = ap (λ (s : FileParts). clause_name (source_of s)) (sym (same_Some t x e))
 
-pub files_are : (w : Workspace) (known : Verdicts) (p : Package) → IsPackage w known p → (ts : List FileParts) → AreParsed (package_files w p.path) ts [] →
+pub files_are : (w : Workspace) (known : Verdicts) (p : Package) → IsCheckedPackage w known p → (ts : List FileParts) → AreParsed (package_files w p.path) ts [] →
     p.files ≡ map source_of ts
 files_are w known p is ts parsed = same_files w known p.path p is.is_checked ∙ one_sources is.is_checked.parsed parsed
 
 pub called_in : (w : Workspace) (found : Findings) → IsFaultless w found → (n : ℕ) (path : List ℕ) → slice_get (package_paths w) n ≡ Some path →
     (ts : List FileParts) → OfPackage w n (λ p. AreParsed (package_files w p) ts []) → (name : List ℕ) →
-    InPackage (IsPackage w (known_in found)) path (λ p. package_name p.files ≡ name) ↔ (package_name (map source_of ts) ≡ name)
+    InPackage (IsCheckedPackage w (known_in found)) path (λ p. package_name p.files ≡ name) ↔ (package_name (map source_of ts) ≡ name)
 called_in w found sound n path at ts parsed name =
     let known = known_in found in
     let x = package_there w found sound n (slice_get_within (package_paths w) n path at) in
@@ -90,7 +90,7 @@ called_in w found sound n path at ts parsed name =
 
 -- whether a name follows
 
-pub follows_with : (Known : Package → Type 0) (from to last name : List ℕ) → last ≡ last_of from → name ≡ last_of to → MayFollow last name →
+pub follows_with : (Known : Package → Type 0) (from to last name : List ℕ) → last ≡ last_of from → name ≡ last_of to → MayFollowPath last name →
     InPackage Known from (λ p. package_name p.files ≡ last_of from) → Follows Known from to
 follows_with Known from to last name is named may was = record {
   was = was;
@@ -100,7 +100,7 @@ follows_with Known from to last name is named may was = record {
   other = λ e. may.other (named ∙ e ∙ sym is);
 }
 
-pub may_from : (Known : Package → Type 0) (from to last name : List ℕ) → last ≡ last_of from → name ≡ last_of to → Follows Known from to → MayFollow last name
+pub may_from : (Known : Package → Type 0) (from to last name : List ℕ) → last ≡ last_of from → name ≡ last_of to → Follows Known from to → MayFollowPath last name
 may_from Known from to last name is named h = record {
   no_main = λ e. h.no_main (sym is ∙ e);
   other = λ e. h.other (sym named ∙ e ∙ is);

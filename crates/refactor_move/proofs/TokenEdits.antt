@@ -23,7 +23,7 @@ use Rattle.refactor_rename.specs.FileEdits.{EndBy}
 use Rattle.refactor_rename.proofs.Editing.{all_one, end_more, end_push, follow_at, at_end}
 use Rattle.refactor_move.specs.declared.moved.Moved.{Moved}
 use Rattle.refactor_move.specs.Paths.{quoted, HasMovedPackage}
-use Rattle.refactor_move.specs.FileEdits.{ReplacesPath, ReplacesPackageName, IsMoveEditAt, AreFileEdits}
+use Rattle.refactor_move.specs.FileEdits.{ReplacesPath, ReplacesPackageName, IsMoveEditAt, AreFileMoveEdits}
 use Rattle.refactor_move.specs.Steps.{IsNewLiteral, edits_with}
 use Rattle.refactor_move.proofs.PathParts.{one_moved_package}
 
@@ -138,7 +138,7 @@ within_tokens p rank f m i e (inl h) = slice_get_within (tokens_in f.cut) i h.to
 within_tokens p rank f m i e (inr h) = slice_get_within (tokens_in f.cut) i h.token h.at
 
 pub all_edits : (p : Package) (rank : ℕ) (f : SourceFile) (m : Moved) (ts : List Piece) (edits : List Edit) (n : ℕ) → ts ≡ tokens_in f.cut → n ≡ length ts →
-    Going (IsMoveEditAt p rank f m) f ts n edits → AreFileEdits p rank f m edits
+    Going (IsMoveEditAt p rank f m) f ts n edits → AreFileMoveEdits p rank f m edits
 all_edits p rank f m ts edits n e all h = record {
   end_by = end_more edits h.at (length f.cut.text) (at_end h.at (length f.cut.text) (drop n ts) h.follow) h.end_by;
   each = λ d. (

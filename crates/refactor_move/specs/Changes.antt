@@ -8,23 +8,23 @@ use Rattle.workspace_check.specs.Verdicts.{Verdicts}
 use Rattle.base_edits.specs.declared.change.FileChange.{FileChange}
 use Rattle.base_edits.specs.declared.change.Fate.TheVariants.{Stays, Moves}
 use Rattle.base_edits.specs.declared.edit.Edit.{Edit}
-use Rattle.refs_binding.specs.Uses.{IsPackage}
+use Rattle.refs_binding.specs.Uses.{IsCheckedPackage}
 use Rattle.refactor_move.specs.declared.moved.Moved.{Moved}
 use Rattle.refactor_move.specs.Paths.{IsUnder, HasMovedFile}
-use Rattle.refactor_move.specs.FileEdits.{AreFileEdits}
+use Rattle.refactor_move.specs.FileEdits.{AreFileMoveEdits}
 
 -- The file at this path belongs to some package, and these are its edits.
 pub record AreGoEdits (w : Workspace) (known : Verdicts) (m : Moved) (path : List ℕ) (edits : List Edit) : Type 0 where
   pub inside : Package
-  pub is_package : IsPackage w known inside
+  pub is_package : IsCheckedPackage w known inside
   pub rank : ℕ
   pub source : SourceFile
   pub has_rank : slice_get inside.files rank ≡ Some source
   pub of_path : source.path ≡ path
-  pub are : AreFileEdits inside rank source m edits
+  pub are : AreFileMoveEdits inside rank source m edits
 
 -- The edits of the file at this path. A file that is no Go file has none.
-pub record AreEditsOf (w : Workspace) (known : Verdicts) (m : Moved) (path : List ℕ) (edits : List Edit) : Type 0 where
+pub record AreMoveEditsOf (w : Workspace) (known : Verdicts) (m : Moved) (path : List ℕ) (edits : List Edit) : Type 0 where
   pub go : is_go path ≡ true → AreGoEdits w known m path edits
   pub other : is_go path ≡ false → edits ≡ []
 

@@ -9,7 +9,7 @@ use Rattle.base_edits.specs.declared.edit.Edit.{Edit}
 use Rattle.types_declared.specs.Files.{HasLiteral}
 use Rattle.types_declared.specs.Laid.{literal_of}
 use Rattle.types_declared.specs.Package.{Package}
-use Rattle.types_declared.specs.Written.{BindsToken, ImportsPath}
+use Rattle.types_declared.specs.Written.{BindsToken, DeclaresImport}
 use Rattle.refactor_rename.specs.FileEdits.{EndBy}
 use Rattle.refactor_move.specs.declared.moved.Moved.{Moved}
 use Rattle.refactor_move.specs.Paths.{HasMovedPackage, quoted}
@@ -37,7 +37,7 @@ pub record IsImportUse (p : Package) (rank : ℕ) (m : Moved) (i : ℕ) : Type 0
   pub import : ℕ
   pub binds : BindsToken p rank i import
   pub unnamed : literal_of p.layout import ≡ import
-  pub imports : ImportsPath p import m.from
+  pub imports : DeclaresImport p import m.from
 
 -- The token `i` is the name in a package clause or a use of an import without a name. The edit replaces it by the new name of the package.
 --
@@ -57,6 +57,6 @@ abbrev pub IsMoveEditAt : Package → (rank : ℕ) → SourceFile → Moved → 
 IsMoveEditAt p rank f m i e = ReplacesPath f m i e ⊎ ReplacesPackageName p rank f m i e
 
 -- These are the edits of all tokens of a file, in order. `rank`: that of the file in its package.
-pub record AreFileEdits (p : Package) (rank : ℕ) (f : SourceFile) (m : Moved) (edits : List Edit) : Type 0 where
+pub record AreFileMoveEdits (p : Package) (rank : ℕ) (f : SourceFile) (m : Moved) (edits : List Edit) : Type 0 where
   pub end_by : EndBy edits (length f.cut.text)
   pub each : (e : Edit) → Contains edits e ↔ ((i : ℕ) × IsMoveEditAt p rank f m i e)

@@ -10,17 +10,17 @@ use Rattle.base_edits.specs.EditSet.{FileChanges, change_of}
 use Rattle.base_edits.specs.Fits.{Fits, path_after}
 use Rattle.base_edits.specs.Moved.{edits_by}
 use Rattle.base_edits.specs.declared.change.FileChange.{FileChange}
-use Rattle.refs_binding.specs.Uses.{IsPackage}
+use Rattle.refs_binding.specs.Uses.{IsCheckedPackage}
 use Rattle.refactor_move.specs.declared.moved.Moved.{Moved}
 use Rattle.refactor_move.specs.Paths.{IsUnder, HasMoved}
 use Rattle.refactor_move.specs.Following.{IsFollowingName}
-use Rattle.refactor_move.specs.Changes.{AreEditsOf, IsPathAfter, MovesOrEdits}
+use Rattle.refactor_move.specs.Changes.{AreMoveEditsOf, IsPathAfter, MovesOrEdits}
 
 -- The move of the package `from` to the path `to`. Its name is the one that it has at the path `called`, if its name follows its path.
 pub record IsMoveOf (w : Workspace) (known : Verdicts) (from to called : List ℕ) (m : Moved) : Type 0 where
   pub source : m.from ≡ from
   pub target : m.to ≡ to
-  pub name : IsFollowingName (IsPackage w known) from called m.name
+  pub name : IsFollowingName (IsCheckedPackage w known) from called m.name
 
 -- The edit set of the move of the package `from` to the path `to`. It has in each file just the edits of its tokens. Just the files in the
 -- folder `from` move. A file that is neither edited nor moved is no part of the set, and no file is added. The package gets the name that
@@ -28,7 +28,7 @@ pub record IsMoveOf (w : Workspace) (known : Verdicts) (from to called : List �
 pub record AreMoveEdits (w : Workspace) (known : Verdicts) (from to called : List ℕ) (s : FileChanges) : Type 0 where
   pub moved : Moved
   pub is_move : IsMoveOf w known from to called moved
-  pub edits : (path : List ℕ) → IsSome (files.get w path) → AreEditsOf w known moved path (edits_by (change_of s path))
+  pub edits : (path : List ℕ) → IsSome (files.get w path) → AreMoveEditsOf w known moved path (edits_by (change_of s path))
   pub paths : (path : List ℕ) → IsSome (files.get w path) → IsPathAfter moved path (path_after s path)
   pub only : (c : FileChange) → Contains s.changed c → MovesOrEdits moved c
   pub none_added : s.added ≡ []

@@ -22,14 +22,14 @@ use Rattle.refactor_rename.specs.NewName.{IsNewName, IsReserved}
 use Rattle.refactor_move.specs.declared.moved.Moved.{Moved}
 use Rattle.refactor_move.specs.PathSteps.{HasNoPathFor}
 use Rattle.refactor_move.specs.Paths.{IsUnder, HasMovedPackage, quoted}
-use Rattle.refactor_move.specs.FileEdits.{AreFileEdits}
+use Rattle.refactor_move.specs.FileEdits.{AreFileMoveEdits}
 use Rattle.refactor_move.specs.Changes.{AreGoEdits, MovesOrEdits}
 
 -- Names and literals
 
 -- The name of a package that is called `last` can follow its path and become `name`: `name` is legal for a package and differs, and `last`
 -- is not `main`.
-pub record MayFollow (last name : List ℕ) : Type 0 where
+pub record MayFollowPath (last name : List ℕ) : Type 0 where
   pub no_main : last ≢ codes "main"
   pub other : name ≢ last
   pub form : IsNewName name
@@ -91,7 +91,7 @@ pub record IsFileAt (p : Package) (rank : ℕ) (path : List ℕ) : Type 0 where
 -- The file of this rank in the package `p` has this path, and these edits.
 pub record AreEditsAt (p : Package) (m : Moved) (rank : ℕ) (path : List ℕ) (edits : List Edit) : Type 0 where
   pub file : IsFileAt p rank path
-  pub are : AreFileEdits p rank file.source m edits
+  pub are : AreFileMoveEdits p rank file.source m edits
 
 -- Some file of the package `p` has this path.
 abbrev pub HasFileIn : Package → List ℕ → Type 0

@@ -7,7 +7,7 @@ ghost use Rattle.workspace_graph.specs.FileImports.{import_literals};
 ghost use Rattle.types_declared.specs.PackageView.{package_of, IsIndexOf};
 ghost use Rattle.refs_binding.specs.Bindings.{AddsAll};
 ghost use Rattle.refactor_rename.specs.FileEdits.{EndBy};
-ghost use Rattle.refactor_move.specs.FileEdits.{ReplacesPath, ReplacesPackageName, IsMoveEditAt, AreFileEdits};
+ghost use Rattle.refactor_move.specs.FileEdits.{ReplacesPath, ReplacesPackageName, IsMoveEditAt, AreFileMoveEdits};
 ghost use Rattle.refactor_move.specs.Steps.{edits_with};
 
 use crate::literals::new_literal;
@@ -126,7 +126,7 @@ pub(crate) fn edits_of(
     moved: &Moved,
 ) -> Result<Vec<Edit>, AllocError>
     requires { IsIndexOf (package_of unit) index.now }
-    ensures { IfOk result (λ edits. AreFileEdits (package_of unit.entry) rank (source_of file.now) moved.now edits.items) }
+    ensures { IfOk result (λ edits. AreFileMoveEdits (package_of unit.entry) rank (source_of file.now) moved.now edits.items) }
 {
     let marks = import_marks(alloc, file)?;
     let tokens = file.pieces().tokens();

@@ -2,13 +2,13 @@
 ghost use Rattle.std.specs.Prelude.{◌≡◌, ◌<◌, ◌↔◌, IsTrue, IfOk, map};
 ghost use Rattle.go_ast.specs.SourceFile.{source_of};
 ghost use Rattle.types_declared.specs.Files.{package_name};
-ghost use Rattle.refs_binding.specs.Uses.{IsPackage};
+ghost use Rattle.refs_binding.specs.Uses.{IsCheckedPackage};
 ghost use Rattle.refs_binding.specs.Workspaces.{known_in};
 ghost use Rattle.refs_binding.specs.DeclaringPlaces.{InPackage};
 ghost use Rattle.refactor_rename.specs.NewName.{IsNewName, IsReserved};
 ghost use Rattle.refactor_move.specs.Paths.{last_of};
 ghost use Rattle.refactor_move.specs.Following.{Follows, IsFollowingName};
-ghost use Rattle.refactor_move.specs.Steps.{MayFollow};
+ghost use Rattle.refactor_move.specs.Steps.{MayFollowPath};
 
 use base_files::{FileText, Path};
 use go_ast::FileTree;
@@ -36,7 +36,7 @@ fn is_package_name(name: &str) -> bool
 
 /// Whether the name of a package that is called `last` can follow its path and become `name`.
 fn may_follow(last: &str, name: &str) -> bool
-    ensures { IsTrue result ↔ MayFollow last.now name.now }
+    ensures { IsTrue result ↔ MayFollowPath last.now name.now }
 {
     last != "main" && name != last && is_package_name(name)
 }
@@ -60,7 +60,7 @@ fn is_called(files: &[FileTree], name: &str) -> bool
 
 /// Whether the name of the package at a path is the last element of that path.
 fn is_called_so(workspace: &FaultlessWorkspace<'_>, from: &Path) -> bool
-    ensures { IsTrue result ↔ InPackage (IsPackage workspace.now.graph (known_in workspace.now.findings)) from.now (λ p. package_name p.files ≡ last_of from.now) }
+    ensures { IsTrue result ↔ InPackage (IsCheckedPackage workspace.now.graph (known_in workspace.now.findings)) from.now (λ p. package_name p.files ≡ last_of from.now) }
 {
     workspace.has_no_faults();
     match workspace.number_of(from.as_str().as_bytes()) {
@@ -71,7 +71,7 @@ fn is_called_so(workspace: &FaultlessWorkspace<'_>, from: &Path) -> bool
 
 /// Whether the name of a package follows its path.
 fn follows(workspace: &FaultlessWorkspace<'_>, from: &Path, to: &Path) -> bool
-    ensures { IsTrue result ↔ Follows (IsPackage workspace.now.graph (known_in workspace.now.findings)) from.now to.now }
+    ensures { IsTrue result ↔ Follows (IsCheckedPackage workspace.now.graph (known_in workspace.now.findings)) from.now to.now }
 {
     let last = last_of(from.as_str());
     let name = last_of(to.as_str());
@@ -85,7 +85,7 @@ pub fn name_after(
     from: &Path,
     to: &Path,
 ) -> Result<Option<FileText>, AllocError>
-    ensures { IfOk result (IsFollowingName (IsPackage workspace.now.graph (known_in workspace.now.findings)) from.now to.now) }
+    ensures { IfOk result (IsFollowingName (IsCheckedPackage workspace.now.graph (known_in workspace.now.findings)) from.now to.now) }
 {
     if follows(workspace, from, to) {
         let name = Vec::from_slice(alloc, last_of(to.as_str()).as_bytes())?;

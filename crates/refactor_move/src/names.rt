@@ -4,7 +4,7 @@ ghost use Rattle.go_scope.specs.Named.{name_value};
 ghost use Rattle.go_ast.specs.SourceFile.{source_of};
 ghost use Rattle.types_declared.specs.Laid.{literal_of};
 ghost use Rattle.types_declared.specs.PackageView.{package_of, IsIndexOf};
-ghost use Rattle.types_declared.specs.Written.{ImportsPath};
+ghost use Rattle.types_declared.specs.Written.{DeclaresImport};
 ghost use Rattle.refactor_move.specs.FileEdits.{IsClauseNameToken, IsImportUse};
 
 use crate::moved::Moved;
@@ -26,7 +26,7 @@ fn is_import_of(unit: Package<'_>, index: &Index<'_>, moved: &Moved, d: usize) -
     requires index { IsIndexOf (package_of unit) index.now }
     requires in_range { d < length unit.table.now.sites }
     ensures { let p = package_of unit.entry in
-        IsTrue result ↔ ((literal_of p.layout d ≡ d) × ImportsPath p d moved.now.from) }
+        IsTrue result ↔ ((literal_of p.layout d ≡ d) × DeclaresImport p d moved.now.from) }
 {
     literal_of(unit.table, d) == d && is_path(index.path(unit, d), moved.from.as_str().as_bytes())
 }

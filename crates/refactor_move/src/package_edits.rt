@@ -6,7 +6,7 @@ ghost use Rattle.base_files.specs.Workspace.{path_cmp};
 ghost use Rattle.go_ast.specs.SourceFile.{source_of};
 ghost use Rattle.types_declared.specs.PackageView.{package_of, IsIndexOf};
 ghost use Rattle.refs_binding.specs.Workspaces.{known_in};
-ghost use Rattle.refactor_move.specs.FileEdits.{AreFileEdits};
+ghost use Rattle.refactor_move.specs.FileEdits.{AreFileMoveEdits};
 ghost use Rattle.refactor_move.specs.Steps.{AddsEdits, AreEditsIn, HasFileIn, IsFileAt, AreEditsAt, KnowsEdits};
 
 use crate::file_edits::edits_of;
@@ -43,7 +43,7 @@ fn edits_in(
     moved: &Moved,
 ) -> Result<Edits, AllocError>
     requires { IsIndexOf (package_of unit) index.now }
-    ensures { IfOk result (AreFileEdits (package_of unit.entry) rank (source_of file.now) moved.now) }
+    ensures { IfOk result (AreFileMoveEdits (package_of unit.entry) rank (source_of file.now) moved.now) }
 {
     Ok(Edits::new(edits_of(alloc, unit, index, file, rank, moved)?))
 }

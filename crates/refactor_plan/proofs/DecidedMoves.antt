@@ -15,7 +15,7 @@ use Rattle.workspace_check.specs.FaultLists.{ListsFaults}
 use Rattle.workspace_check.specs.Verdicts.{Verdicts, AreVerdicts}
 use Rattle.workspace_snapshot.specs.declared.change.ChangeKind.{ChangeKind}
 use Rattle.workspace_snapshot.specs.declared.snapshot.Snapshot.{Snapshot}
-use Rattle.refs_binding.specs.Uses.{IsPackage}
+use Rattle.refs_binding.specs.Uses.{IsCheckedPackage}
 use Rattle.refactor_move.specs.Following.{IsFollowingName}
 use Rattle.refactor_move.specs.MoveEdits.{AreMoveEdits}
 use Rattle.refactor_preserve.specs.Preserved.{Preserves}
@@ -35,7 +35,7 @@ use Rattle.refactor_known.specs.MovedKnown.{AreMovedKnown}
 use Rattle.refactor_known.specs.declared.swap.Swap.{Swap}
 use Rattle.refactor_known.specs.Swaps.{map_of, swapped}
 use Rattle.refactor_plan.specs.DecidedMoves.{IsPlannedMove, KnowsMoved}
-use Rattle.refactor_plan.specs.MovePlan.{IsMovable, NamesPackage}
+use Rattle.refactor_plan.specs.MovePlan.{IsMovable, NamesMovedPackage}
 use Rattle.refactor_plan.specs.MoveSteps.{RefusesLength}
 use Rattle.refactor_plan.specs.Proposals.{PlansChange, RefusesConflict}
 use Rattle.refactor_plan.proofs.MovePlanned.{conflict_of_length, spared_by_free}
@@ -65,7 +65,7 @@ module _ (w : Workspace) (sound : ListsFaults w []) (known : Verdicts) (right : 
       }
 
   -- it only gets the name that it has at that path
-  pub names_there : NamesPackage w from to → AreMoveEdits w known from from to s → IsPlannedMove w known from from to s
+  pub names_there : NamesMovedPackage w from to → AreMoveEdits w known from from to s → IsPlannedMove w known from from to s
   names_there asked edits = record {
     move = record {
       right = right;
@@ -138,10 +138,10 @@ module _ (w : Workspace) (known : Verdicts) (from to : List ℕ) (s : FileChange
   abbrev Names : (start : List ℕ) (name : Option (List ℕ)) → Type 0
   Names start name = AreMovedKnown start name (swapped from to) (package_paths w) (package_paths (edited s w)) old rest
 
-  same_name : (name : Option (List ℕ)) → IsFollowingName (IsPackage w known) from to name → name ≡ m.move.edits.moved.name
+  same_name : (name : Option (List ℕ)) → IsFollowingName (IsCheckedPackage w known) from to name → name ≡ m.move.edits.moved.name
   same_name name is =
-      one_name (IsPackage w known) from to name m.move.edits.moved.name is
-      (subst (λ c. IsFollowingName (IsPackage w known) from c m.move.edits.moved.name) m.follows m.move.edits.is_move.name)
+      one_name (IsCheckedPackage w known) from to name m.move.edits.moved.name is
+      (subst (λ c. IsFollowingName (IsCheckedPackage w known) from c m.move.edits.moved.name) m.follows m.move.edits.is_move.name)
 
   known_by : AllKnownMove → FreeTargetsSwap → SameTargetsSwap → KnowsMoved w (edited s w) known from to old rest → KnowsVerdicts (edited s w) rest
   known_by law free same k =

@@ -15,10 +15,10 @@ use Rattle.workspace_check.proofs.Telling.{known_same}
 use Rattle.types_declared.specs.Package.{Package}
 use Rattle.refs_binding.specs.declared.declaration.Declaration.{Declaration}
 use Rattle.refs_binding.specs.declared.declaration.Declaration.TheVariants.{Predeclared, Declared, Field, Method}
-use Rattle.refs_binding.specs.Uses.{IsPackage}
+use Rattle.refs_binding.specs.Uses.{IsCheckedPackage}
 use Rattle.refs_places.specs.Outside.{declaring_path}
 use Rattle.refactor_rename.specs.declared.renamed.Literal.{Literal}
-use Rattle.refactor_rename.specs.Literals.{IsLiteralFound, IsLiteralOf}
+use Rattle.refactor_rename.specs.Literals.{IsLiteralFound, IsPathLiteralOf}
 use Rattle.workspace_snapshot.specs.declared.change.ChangeKind.{ChangeKind}
 use Rattle.workspace_snapshot.specs.declared.snapshot.Snapshot.{Snapshot}
 use Rattle.refactor_rename.specs.RenameEdits.{AreRenameEdits}
@@ -47,7 +47,7 @@ use Rattle.refactor_plan.proofs.Proposed.{told_conflict, conflict_planned}
 -- Each lemma takes the law that it rests on as an argument.
 
 -- a decision decides the edits of the rename
-decided_by : FirstConflictsAreTold → (w : Workspace) → ListsFaults w [] → (known : Verdicts) → AreVerdicts w known → (p : Package) → IsPackage w known p →
+decided_by : FirstConflictsAreTold → (w : Workspace) → ListsFaults w [] → (known : Verdicts) → AreVerdicts w known → (p : Package) → IsCheckedPackage w known p →
     (n : ℕ) (name : List ℕ) → IsLegalFor w known (Declared p.path n) name → (d : ScopeDecision) → Decides w known p n name d →
     DecidesRename w known p.path (Declared p.path n) name d.is_hidden d.conflict
 decided_by law w sound known right p is n name legal d h = λ s edits fit.
@@ -67,7 +67,7 @@ no_literal K not None h = refl
 no_literal K not (Some l) h = absurd (not l h)
 
 -- a field or method has no string literal
-no_member_literal : (K : Package → Type 0) (d : Declaration) → IsMember d → (l : Literal) → IsLiteralOf K d l → ⊥
+no_member_literal : (K : Package → Type 0) (d : Declaration) → IsMember d → (l : Literal) → IsPathLiteralOf K d l → ⊥
 no_member_literal K (Predeclared n) is l h = is
 no_member_literal K (Declared path n) is l h = is
 no_member_literal K (Field s) is l h = h
@@ -91,7 +91,7 @@ member_decided w sound known right path d name s legal edits fit member home tol
         edits = edits;
         fit = fit;
       };
-      plain = no_literal (IsLiteralOf (IsPackage w known) d) (no_member_literal (IsPackage w known) d member) edits.renamed.literal edits.is_renamed.literal;
+      plain = no_literal (IsPathLiteralOf (IsCheckedPackage w known) d) (no_member_literal (IsCheckedPackage w known) d member) edits.renamed.literal edits.is_renamed.literal;
     } in
     record {
       declaration = d;
@@ -133,13 +133,13 @@ module _ (w : Workspace) (known : Verdicts) (path : List ℕ) (s : FileChanges) 
       KnowsVerdicts (edited s w) new
   kept is_hidden h = kept_by all_hidden all_others (preserved is_hidden h) is_hidden h
 
-decided : (w : Workspace) → ListsFaults w [] → (known : Verdicts) → AreVerdicts w known → (p : Package) → IsPackage w known p → (n : ℕ) (name : List ℕ) →
+decided : (w : Workspace) → ListsFaults w [] → (known : Verdicts) → AreVerdicts w known → (p : Package) → IsCheckedPackage w known p → (n : ℕ) (name : List ℕ) →
     IsLegalFor w known (Declared p.path n) name → (d : ScopeDecision) → Decides w known p n name d →
     DecidesRename w known p.path (Declared p.path n) name d.is_hidden d.conflict
 decided = decided_by conflicts_told
 
 -- where scopes decide the rename, or do not
-pub scoped_decided : (w : Workspace) → ListsFaults w [] → (known : Verdicts) → AreVerdicts w known → (p : Package) → IsPackage w known p → (n : ℕ)
+pub scoped_decided : (w : Workspace) → ListsFaults w [] → (known : Verdicts) → AreVerdicts w known → (p : Package) → IsCheckedPackage w known p → (n : ℕ)
     (d : Declaration) → d ≡ Declared p.path n → (name : List ℕ) → IsLegalFor w known d name → (o : Option ScopeDecision) → DecidesIn w known p n name o →
     DecidesRenames w known p.path d name o
 scoped_decided w sound known right p is n d same name legal None h = tt

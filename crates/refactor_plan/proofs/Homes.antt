@@ -9,9 +9,9 @@ use Rattle.workspace_check.specs.Verdicts.{Verdicts, AreVerdicts}
 use Rattle.refs_binding.specs.declared.declaration.Declaration.{Declaration}
 use Rattle.refs_binding.specs.declared.declaration.Declaration.TheVariants.{Predeclared, Declared, Field, Method}
 use Rattle.refs_binding.specs.declared.indexed.Numbered.{Numbered}
-use Rattle.refs_binding.specs.DeclaringPlaces.{DeclaresAt, InHomePackage}
+use Rattle.refs_binding.specs.DeclaringPlaces.{HasDeclarationAt, InHomePackage}
 use Rattle.refs_binding.specs.Identifiers.{named_by}
-use Rattle.refs_binding.specs.Uses.{IsPackage, HasDeclaration}
+use Rattle.refs_binding.specs.Uses.{IsCheckedPackage, HasDeclaration}
 use Rattle.refs_binding.specs.Workspaces.{home_path}
 use Rattle.refs_lookup.specs.Within.{IsDeclaredWithin, predeclared, stands}
 use Rattle.refs_lookup.proofs.Standing.{bound_within}
@@ -36,7 +36,7 @@ home_read at read same is d home =
 
 -- The workspace has the package of a declaration that is not predeclared.
 module _ (w : Workspace) (known : Verdicts) (right : AreVerdicts w known) where
-  there : (d : Declaration) (P : Package → Type 0) → InHomePackage (IsPackage w known) d P → (path : List ℕ) → home_path d ≡ Some path →
+  there : (d : Declaration) (P : Package → Type 0) → InHomePackage (IsCheckedPackage w known) d P → (path : List ℕ) → home_path d ≡ Some path →
       Contains (package_paths w) path
   there (Predeclared n) P h path e = absurd h
   there (Declared q n) P h path e = subst (Contains (package_paths w)) (h.of_path ∙ same_Some q path e) h.is_package.of_workspace
@@ -45,7 +45,7 @@ module _ (w : Workspace) (known : Verdicts) (right : AreVerdicts w known) where
 
   within_there : (p : List ℕ) (d : Declaration) → IsDeclaredWithin w known p d → (path : List ℕ) → home_path d ≡ Some path → Contains (package_paths w) path
   within_there p _ (predeclared lt) path e = absurd (none-some path e)
-  within_there p d (stands place h) path e = there d (λ q. DeclaresAt q d place) h.declared path e
+  within_there p d (stands place h) path e = there d (λ q. HasDeclarationAt q d place) h.declared path e
 
   home_there : (at : List ℕ) (offset : ℕ) (d : Declaration) → HasDeclaration w known at offset d → (path : List ℕ) → home_path d ≡ Some path →
       Contains (package_paths w) path
@@ -54,7 +54,7 @@ module _ (w : Workspace) (known : Verdicts) (right : AreVerdicts w known) where
       within_there p.path d (bound_within w known right p has.is_asked.is_package (named_by p.layout has.number) d has.bound) path e
 
   pub fixed_without_home : (at : List ℕ) (offset : ℕ) (d : Declaration) → HasDeclaration w known at offset d →
-      ((q : List ℕ) → home_path d ≡ Some q → Contains (package_paths w) q → ⊥) → IsFixed (IsPackage w known) d
+      ((q : List ℕ) → home_path d ≡ Some q → Contains (package_paths w) q → ⊥) → IsFixed (IsCheckedPackage w known) d
   fixed_without_home at offset (Predeclared n) has none = inl tt
   fixed_without_home at offset (Declared q n) has none = absurd (none q refl (home_there at offset (Declared q n) has q refl))
   fixed_without_home at offset (Field s) has none = absurd (none s.package refl (home_there at offset (Field s) has s.package refl))

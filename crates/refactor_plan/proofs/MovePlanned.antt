@@ -21,9 +21,9 @@ use Rattle.base_files.specs.Workspace.{Workspace}
 use Rattle.refactor_move.specs.Paths.{IsUnder}
 use Rattle.refactor_move.specs.MoveEdits.{AreMoveEdits, HasNoNewPath, IsFree, HasOnlyMoved, PlansMoveEdits}
 use Rattle.workspace_snapshot.specs.declared.change.ChangeKind.TheVariants.{Move}
-use Rattle.refactor_plan.specs.MovePlan.{NamesPackage, HasOtherTarget, HasOutsideTarget, IsMovable, MovesPackage, OnlyRenamesPackage, ReportsMoveConflict, PlansMove}
+use Rattle.refactor_plan.specs.MovePlan.{NamesMovedPackage, HasOtherTarget, HasOutsideTarget, IsMovable, MovesPackage, OnlyRenamesPackage, ReportsMoveConflict, PlansMove}
 use Rattle.refactor_plan.specs.Proposals.{RefusesConflict, PlansChange}
-use Rattle.refactor_plan.specs.MoveSteps.{package_place, ArePaths, RefusesTarget, RefusesLength, PlansMoveTo}
+use Rattle.refactor_plan.specs.MoveSteps.{package_place, ArePackagePaths, RefusesTarget, RefusesLength, PlansMoveTo}
 
 -- The refusal of a conflict of the name alone.
 
@@ -102,18 +102,18 @@ faults_refused snapshot from to found _ h = absurd h
 
 -- the folder that a package gets
 
-asked : (snapshot : Snapshot) (from to : List ℕ) → ArePaths from to → Contains (package_paths snapshot.files) from → NamesPackage snapshot.files from to
+asked : (snapshot : Snapshot) (from to : List ℕ) → ArePackagePaths from to → Contains (package_paths snapshot.files) from → NamesMovedPackage snapshot.files from to
 asked snapshot from to paths has = record { source = paths.source; target = paths.target; is_package = has }
 
-elsewhere : (snapshot : Snapshot) (from to : List ℕ) → ArePaths from to → Contains (package_paths snapshot.files) from → (to ≡ from → ⊥) →
+elsewhere : (snapshot : Snapshot) (from to : List ℕ) → ArePackagePaths from to → Contains (package_paths snapshot.files) from → (to ≡ from → ⊥) →
     HasOtherTarget snapshot.files from to
 elsewhere snapshot from to paths has other = record { asked = asked snapshot from to paths has; other = other }
 
-beside : (snapshot : Snapshot) (from to : List ℕ) → ArePaths from to → Contains (package_paths snapshot.files) from → (to ≡ from → ⊥) →
+beside : (snapshot : Snapshot) (from to : List ℕ) → ArePackagePaths from to → Contains (package_paths snapshot.files) from → (to ≡ from → ⊥) →
     (IsUnder from to → ⊥) → HasOutsideTarget snapshot.files from to
 beside snapshot from to paths has other outside = record { elsewhere = elsewhere snapshot from to paths has other; outside = outside }
 
-pub target_refused : (snapshot : Snapshot) (from to : List ℕ) → ArePaths from to → (r : Refusal) → RefusesTarget snapshot.files from to (Err r) →
+pub target_refused : (snapshot : Snapshot) (from to : List ℕ) → ArePackagePaths from to → (r : Refusal) → RefusesTarget snapshot.files from to (Err r) →
     PlansMove snapshot from to (Err r)
 target_refused snapshot from to paths NoPackage h = (paths.source, paths.target, h)
 target_refused snapshot from to paths Same h = (asked snapshot from to paths h.0, h.1)
@@ -123,7 +123,7 @@ target_refused snapshot from to paths _ h = absurd h
 
 -- what is planned
 
-pub movable : (snapshot : Snapshot) (from to : List ℕ) → ArePaths from to → RefusesTarget snapshot.files from to (Ok tt) → IsMovable snapshot.files from to
+pub movable : (snapshot : Snapshot) (from to : List ℕ) → ArePackagePaths from to → RefusesTarget snapshot.files from to (Ok tt) → IsMovable snapshot.files from to
 movable snapshot from to paths h = record { beside = beside snapshot from to paths h.0 h.1 h.2; free = h.3 }
 
 in_refused : (snapshot : Snapshot) (from to : List ℕ) → IsMovable snapshot.files from to → (r : Refusal) → PlansMoveTo snapshot from to (Err r) →
@@ -135,7 +135,7 @@ in_refused snapshot from to is TooLarge h = (record { movable = is; sound = h.0 
 in_refused snapshot from to is Memory h = h
 in_refused snapshot from to is _ h = absurd h
 
-pub in_planned : (snapshot : Snapshot) (from to : List ℕ) → ArePaths from to → RefusesTarget snapshot.files from to (Ok tt) → (r : Result Change Refusal) →
+pub in_planned : (snapshot : Snapshot) (from to : List ℕ) → ArePackagePaths from to → RefusesTarget snapshot.files from to (Ok tt) → (r : Result Change Refusal) →
     PlansMoveTo snapshot from to r → PlansMove snapshot from to r
 in_planned snapshot from to paths ok (Ok change) h = (record { movable = movable snapshot from to paths ok; sound = h.0 }, h.1)
 in_planned snapshot from to paths ok (Err r) h = in_refused snapshot from to (movable snapshot from to paths ok) r h

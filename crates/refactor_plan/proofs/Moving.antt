@@ -8,11 +8,11 @@ use Rattle.history_machine.specs.Machine.{Content, Machine}
 use Rattle.history_machine.proofs.RunLaws.{undo_restores}
 use Rattle.base_edits.specs.RevisionsOfEdits.{revision_of}
 use Rattle.refactor_preserve.specs.Preserved.{Preserves}
-use Rattle.refactor_plan.specs.MovePlan.{MovesPackage, IsMoved}
+use Rattle.refactor_plan.specs.MovePlan.{MovesPackage, IsMoveChange}
 use Rattle.refactor_plan.specs.Moves.{HasMovedExactly, MovesKeepBindings, UndoTakesMovesBack}
 
 -- The state after a committed move, from the snapshot on which the move was planned.
-exactly : (snapshot : Snapshot) (from to : List ℕ) (change : Change) (old new : Machine) → IsMoved snapshot from to change
+exactly : (snapshot : Snapshot) (from to : List ℕ) (change : Change) (old new : Machine) → IsMoveChange snapshot from to change
     → change.base ≡ old.current.files → new.current.files ≡ change.files → HasMovedExactly from to change old.current new.current
 exactly snapshot from to change old new r base files =
     let same : snapshot.files ≡ old.current.files = sym (ap (λ (c : Change). c.base) r.is_change) ∙ base in

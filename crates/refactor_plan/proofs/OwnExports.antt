@@ -10,13 +10,13 @@ use Rattle.types_declared.specs.Package.{Package, Export, ExportData, PlacedType
 use Rattle.types_declared.specs.Definitions.{IsFoundField, IsFoundMethod}
 use Rattle.types_check.specs.Exports.{IsExport, IsExported, IsExportData}
 use Rattle.workspace_check.specs.Verdicts.{Verdicts, IsPackageIn}
-use Rattle.refactor_plan.specs.OwnExports.{Exports, AreOwnExports}
+use Rattle.refactor_plan.specs.OwnExports.{ExportsName, AreOwnExports}
 
 checked_path : {w : Workspace} {known : Verdicts} {p : List ℕ} {checked : Package} (is : IsPackageIn w known p checked) → checked.path ≡ p
 checked_path is = ap (λ (z : Package). z.path) is.is_package.is_package
 
 export_own : (w : Workspace) (known : Verdicts) (p : List ℕ) (checked : Package) → IsPackageIn w known p checked → (name : List ℕ) (e : Export) →
-    IsExport checked name e → Exports w known p name e
+    IsExport checked name e → ExportsName w known p name e
 export_own w known p checked is name e x = record {
   checked = checked;
   is_package = is;

@@ -7,7 +7,7 @@ use Rattle.workspace_check.specs.declared.findings.Findings.{Findings}
 use Rattle.workspace_check.specs.Verdicts.{Verdicts, AreVerdicts}
 use Rattle.workspace_check.specs.FaultLists.{ListsFaults}
 use Rattle.refs_binding.specs.declared.declaration.Declaration.{Declaration}
-use Rattle.refs_binding.specs.Uses.{IsPackage, IsFile, HasDeclaration}
+use Rattle.refs_binding.specs.Uses.{IsCheckedPackage, HasFileAt, HasDeclaration}
 use Rattle.refs_binding.specs.Workspaces.{FindsDeclaration, RefusesFaults}
 use Rattle.base_edits.specs.EditSet.{FileChanges}
 use Rattle.base_edits.specs.Fits.{Fits}
@@ -59,14 +59,14 @@ module _ (snapshot : Snapshot) (path : List ℕ) (offset : ℕ) (name : List ℕ
     abbrev asked : ResolvesIdentifier snapshot.files path offset
     asked = record { known = known; right = right; declaration = d; has = has }
 
-    abbrev renamable : (IsFixed (IsPackage snapshot.files known) d → ⊥) → IsRenamable snapshot.files path offset
+    abbrev renamable : (IsFixed (IsCheckedPackage snapshot.files known) d → ⊥) → IsRenamable snapshot.files path offset
     renamable free = record { asked = asked; not_fixed = free }
 
-    abbrev may_be : (IsFixed (IsPackage snapshot.files known) d → ⊥) → (IsReservedFor (IsPackage snapshot.files known) d name → ⊥) →
+    abbrev may_be : (IsFixed (IsCheckedPackage snapshot.files known) d → ⊥) → (IsReservedFor (IsCheckedPackage snapshot.files known) d name → ⊥) →
         IsLegalName snapshot.files path offset name
     may_be free allowed = record { renamable = renamable free; allowed = allowed }
 
-    pub name_refused : (r : Refusal) → RefusesName (IsPackage snapshot.files known) d name (Err r) → PlansAtByte snapshot path offset name (Err r)
+    pub name_refused : (r : Refusal) → RefusesName (IsCheckedPackage snapshot.files known) d name (Err r) → PlansAtByte snapshot path offset name (Err r)
     name_refused refusal.Memory h = h
     name_refused refusal.BadCommand h = absurd h
     name_refused refusal.BadPath h = absurd h
@@ -92,7 +92,7 @@ module _ (snapshot : Snapshot) (path : List ℕ) (offset : ℕ) (name : List ℕ
     name_refused refusal.NoJob h = absurd h
     name_refused refusal.BodyShort h = absurd h
 
-    module _ (ok : RefusesName (IsPackage snapshot.files known) d name (Ok tt)) where
+    module _ (ok : RefusesName (IsCheckedPackage snapshot.files known) d name (Ok tt)) where
       renaming : (s : FileChanges) → AreRenameEdits snapshot.files known d name s → RenamesIdentifier snapshot.files path offset name s
       renaming s are = record { may = may_be ok.0 ok.1; other = ok.2; edits = are }
 
@@ -169,7 +169,7 @@ faults_refused snapshot path offset name found refusal.BodyShort h = absurd h
 
 -- a file that is there, and a name that has its form
 
-module _ (snapshot : Snapshot) (path : List ℕ) (offset : ℕ) (name : List ℕ) (is : IsFile snapshot.files path) (form : IsNewName name) where
+module _ (snapshot : Snapshot) (path : List ℕ) (offset : ℕ) (name : List ℕ) (is : HasFileAt snapshot.files path) (form : IsNewName name) where
   well : ListsFaults snapshot.files [] → IsValidRename snapshot.files path name
   well sound = record { file = is; form = form; sound = sound }
 

@@ -9,7 +9,7 @@ use Rattle.workspace_check.specs.Verdicts.{Verdicts, AreVerdicts}
 use Rattle.refs_binding.specs.declared.declaration.Declaration.{Declaration}
 use Rattle.refs_binding.specs.declared.declaration.Declaration.TheVariants.{Predeclared, Declared, Field, Method}
 use Rattle.refs_binding.specs.Binding.{BindsByMember, by_scope, by_package, by_member, by_name}
-use Rattle.refs_binding.specs.Uses.{IsPackage, IsBoundTo, IsUseOf, HasDeclaration}
+use Rattle.refs_binding.specs.Uses.{IsCheckedPackage, IsBoundToDeclaration, IsUseOf, HasDeclaration}
 use Rattle.law_kept_members.specs.NamesAfterwards.{IsMember}
 use Rattle.law_renamed_verdicts.proofs.NamedMembers.{members_named}
 use Rattle.law_rename_agrees.proofs.UsedMembers.{used_declared}
@@ -18,13 +18,13 @@ module _ (w : Workspace) (sound : ListsFaults w []) (known : Verdicts) (right : 
   abbrev Used : Declaration → Type 0
   Used d = (place : Place) × IsUseOf w known d place
 
-  module _ (p : Package) (is : IsPackage w known p) (u : ℕ) where
+  module _ (p : Package) (is : IsCheckedPackage w known p) (u : ℕ) where
     selected : (d : Declaration) → BindsByMember p u d → Used d
     selected d b =
         let h = used_declared w sound known right p is u d b in
         (h.place, record { used_in = h.inside; is_package = h.is_package; user = h.user; begins = h.begins; bound = by_name h.declares })
 
-    of_bound : (d : Declaration) → IsMember d → IsBoundTo w known p u d → Used d
+    of_bound : (d : Declaration) → IsMember d → IsBoundToDeclaration w known p u d → Used d
     of_bound (Predeclared n) member b = absurd member
     of_bound (Declared path n) member b = absurd member
     of_bound (Field s) member (by_scope b) = absurd b

@@ -5,7 +5,7 @@ use Rattle.types_declared.specs.PackageView.{package_of}
 use Rattle.workspace_check.specs.Verdicts.{Verdicts}
 use Rattle.refs_binding.specs.declared.declaration.Declaration.{Declaration}
 use Rattle.refs_binding.specs.declared.declaration.Declaration.TheVariants.{Declared}
-use Rattle.refs_binding.specs.Indexed.{IsNumbered, IsPackageNumbered, IsIndexed}
+use Rattle.refs_binding.specs.Indexed.{IsPackageNumber, IsPackageNumbered, IsIndexed}
 use Rattle.refs_binding.specs.Workspaces.{known_in}
 use Rattle.refs_places.specs.Outside.{declaring_path}
 use Rattle.refactor_plan.specs.declared.bindings.PackageBindings.{PackageBindings}
@@ -13,7 +13,7 @@ use Rattle.refactor_plan.specs.declared.proposal.Proposal.{Proposal}
 
 -- What was read is the package of its number, with its index, its type definitions and its uses of members.
 pub record IsRead (read : PackageBindings) : Type 0 where
-  pub numbered : IsNumbered read.at
+  pub numbered : IsPackageNumber read.at
   pub unit : IsPackageNumbered read.at (package_of read.of.unit)
   pub indexed : IsIndexed read.of
 
@@ -34,8 +34,8 @@ abbrev pub IsOfRead : PackageBindings → Declaration → Type 0
 IsOfRead read d = declaring_path d ≡ Some (path_read read)
 
 -- It is the declaration of the number `n` in the package's scopes.
-abbrev pub IsScopedIn : PackageBindings → Declaration → ℕ → Type 0
-IsScopedIn read d n = d ≡ Declared (path_read read) n
+abbrev pub HasScopeNumber : PackageBindings → Declaration → ℕ → Type 0
+HasScopeNumber read d n = d ≡ Declared (path_read read) n
 
 -- The package was read in the workspace of the proposal.
 pub record IsReadFor (p : Proposal) (read : PackageBindings) : Type 0 where

@@ -12,7 +12,7 @@ use Rattle.workspace_check.specs.Found.{HoldSameVerdicts, KnowsVerdicts}
 use Rattle.workspace_check.specs.Verdicts.{Verdicts}
 use Rattle.refs_binding.specs.declared.declaration.Declaration.{Declaration}
 use Rattle.refs_binding.specs.DeclaredNames.{HasDeclaredName}
-use Rattle.refs_binding.specs.Uses.{IsPackage, IsUseOf}
+use Rattle.refs_binding.specs.Uses.{IsCheckedPackage, IsUseOf}
 use Rattle.refs_places.specs.Outside.{declaring_path}
 use Rattle.refactor_conflict.specs.declared.conflict.Conflict.{Conflict}
 use Rattle.refactor_rename.specs.Naming.{IsFixed, IsReservedFor}
@@ -27,9 +27,9 @@ use Rattle.law_known_verdicts.specs.KnownVerdicts.{HoldVerdictsBut, IsHidden}
 -- The name is legal for the declaration, which has another one. If it is a field or method, some identifier is bound to it.
 pub record IsLegalFor (w : Workspace) (known : Verdicts) (d : Declaration) (name : List ℕ) : Type 0 where
   pub form : IsNewName name
-  pub renamable : IsFixed (IsPackage w known) d → ⊥
-  pub allowed : IsReservedFor (IsPackage w known) d name → ⊥
-  pub other : HasDeclaredName (IsPackage w known) d name → ⊥
+  pub renamable : IsFixed (IsCheckedPackage w known) d → ⊥
+  pub allowed : IsReservedFor (IsCheckedPackage w known) d name → ⊥
+  pub other : HasDeclaredName (IsCheckedPackage w known) d name → ⊥
   pub used : IsMember d → (place : Place) × IsUseOf w known d place
 
 -- The verdict that is known of the package of this number, unless the number is `dropped`.

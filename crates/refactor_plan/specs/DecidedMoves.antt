@@ -9,7 +9,7 @@ use Rattle.base_edits.specs.Fits.{Fits}
 use Rattle.workspace_check.specs.declared.known.Known.{Known}
 use Rattle.workspace_check.specs.Verdicts.{Verdicts}
 use Rattle.workspace_snapshot.specs.declared.change.Change.{Change}
-use Rattle.refs_binding.specs.Uses.{IsPackage}
+use Rattle.refs_binding.specs.Uses.{IsCheckedPackage}
 use Rattle.refactor_move.specs.Following.{IsFollowingName}
 use Rattle.refactor_move.specs.MoveEdits.{AreMoveEdits}
 use Rattle.refactor_known.specs.MovedKnown.{AreMovedKnown}
@@ -28,7 +28,7 @@ pub record IsPlannedMove (w : Workspace) (known : Verdicts) (from to called : Li
 -- after the move.
 pub record KnowsMoved (w after : Workspace) (known : Verdicts) (from to : List ℕ) (old rest : Known) : Type 0 where
   pub name : Option (List ℕ)
-  pub follows : IsFollowingName (IsPackage w known) from to name
+  pub follows : IsFollowingName (IsCheckedPackage w known) from to name
   pub moved : AreMovedKnown from name (swapped from to) (package_paths w) (package_paths after) old rest
 
 -- Why the edits that give the package `from` only the name that it has at the path `to` are refused, whichever these are.

@@ -22,14 +22,14 @@ use Rattle.refactor_move.specs.Paths.{IsUnder}
 use Rattle.refactor_move.specs.MoveEdits.{AreMoveEdits, HasNoNewPath, IsFree}
 
 -- Both paths have the form of a package's path, and `from` is the path of a package.
-pub record NamesPackage (w : Workspace) (from to : List ℕ) : Type 0 where
+pub record NamesMovedPackage (w : Workspace) (from to : List ℕ) : Type 0 where
   pub source : IsPath 1 from
   pub target : IsPath 1 to
   pub is_package : Contains (package_paths w) from
 
 -- Both paths have their form, `from` is a package, and `to` is another path.
 pub record HasOtherTarget (w : Workspace) (from to : List ℕ) : Type 0 where
-  pub asked : NamesPackage w from to
+  pub asked : NamesMovedPackage w from to
   pub other : to ≢ from
 
 -- In addition, the path `to` does not lie in the folder `from`.
@@ -104,7 +104,7 @@ pub record IsTooLarge (snapshot : Snapshot) (from to : List ℕ) : Type 0 where
 
 -- The change has the edits that move the package and the files that they make of the snapshot's. They preserve bindings and keep within the
 -- limits.
-pub record IsMoved (snapshot : Snapshot) (from to : List ℕ) (change : Change) : Type 0 where
+pub record IsMoveChange (snapshot : Snapshot) (from to : List ℕ) (change : Change) : Type 0 where
   pub moving : MovesPackage snapshot.files from to change.edits
   pub preserves : Preserves snapshot.files (revision_of snapshot.files change.edits)
   pub fits : FitsLimits snapshot.limits (edited change.edits snapshot.files)
@@ -115,10 +115,10 @@ pub record IsMoved (snapshot : Snapshot) (from to : List ℕ) (change : Change) 
 -- too long a path there are no files after it. A conflict is then sought with the edits of the name alone, since bindings do not depend on
 -- the paths of files.
 abbrev pub PlansMove : Snapshot → (from to : List ℕ) → Result Change Refusal → Type 0
-PlansMove snapshot from to (Ok change) = IsValidMove snapshot.files from to × IsMoved snapshot from to change
+PlansMove snapshot from to (Ok change) = IsValidMove snapshot.files from to × IsMoveChange snapshot from to change
 PlansMove snapshot from to (Err BadPath) = ¬ (IsPath 1 from × IsPath 1 to)
 PlansMove snapshot from to (Err NoPackage) = IsPath 1 from × IsPath 1 to × ¬ (Contains (package_paths snapshot.files) from)
-PlansMove snapshot from to (Err Same) = NamesPackage snapshot.files from to × (to ≡ from)
+PlansMove snapshot from to (Err Same) = NamesMovedPackage snapshot.files from to × (to ≡ from)
 PlansMove snapshot from to (Err InsideItself) = HasOtherTarget snapshot.files from to × IsUnder from to
 PlansMove snapshot from to (Err TargetTaken) = HasOutsideTarget snapshot.files from to × HasFileUnder snapshot.files to
 PlansMove snapshot from to (Err (Faulty place kind)) = IsMovable snapshot.files from to × HasFirstFault snapshot.files place kind

@@ -17,10 +17,10 @@ use Rattle.workspace_snapshot.specs.declared.change.Change.{Change}
 use Rattle.refactor_move.specs.Paths.{IsUnder}
 use Rattle.refactor_move.specs.MoveEdits.{IsFree}
 use Rattle.refactor_plan.specs.Proposals.{IsConflictRefusal}
-use Rattle.refactor_plan.specs.MovePlan.{HasFileUnder, HasMoveConflict, HasNameConflict, IsTooLong, IsTooLarge, IsMoved}
+use Rattle.refactor_plan.specs.MovePlan.{HasFileUnder, HasMoveConflict, HasNameConflict, IsTooLong, IsTooLarge, IsMoveChange}
 
 -- Both texts have the form of a package's path.
-pub record ArePaths (from to : List ℕ) : Type 0 where
+pub record ArePackagePaths (from to : List ℕ) : Type 0 where
   pub source : IsPath 1 from
   pub target : IsPath 1 to
 
@@ -48,7 +48,7 @@ RefusesLength w known place s (Err refusal) = ⊥
 
 -- What planning a move answers where the paths allow it: the cases of `PlansMove` without those of the paths.
 abbrev pub PlansMoveTo : Snapshot → (from to : List ℕ) → Result Change Refusal → Type 0
-PlansMoveTo snapshot from to (Ok change) = ListsFaults snapshot.files [] × IsMoved snapshot from to change
+PlansMoveTo snapshot from to (Ok change) = ListsFaults snapshot.files [] × IsMoveChange snapshot from to change
 PlansMoveTo snapshot from to (Err (Faulty place kind)) = HasFirstFault snapshot.files place kind
 PlansMoveTo snapshot from to (Err (Captured used by)) =
     ListsFaults snapshot.files [] × (HasMoveConflict snapshot.files from to (Captured used by) ⊎ HasNameConflict snapshot.files from to (Captured used by))

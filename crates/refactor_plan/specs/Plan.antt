@@ -9,7 +9,7 @@ use Rattle.base_files.specs.declared.refusal.Refusal.TheVariants.{Captured, Lost
 use Rattle.workspace_check.specs.Verdicts.{Verdicts, AreVerdicts}
 use Rattle.workspace_check.specs.FaultLists.{ListsFaults}
 use Rattle.refs_binding.specs.declared.declaration.Declaration.{Declaration}
-use Rattle.refs_binding.specs.Uses.{IsPackage, IsFile, HasDeclaration, HasNoIdentifier, HasNoDeclaration, HasFirstFault}
+use Rattle.refs_binding.specs.Uses.{IsCheckedPackage, HasFileAt, HasDeclaration, HasNoIdentifier, HasNoDeclaration, HasFirstFault}
 use Rattle.refs_binding.specs.DeclaredNames.{HasDeclaredName}
 use Rattle.base_edits.specs.RevisionsOfEdits.{revision_of}
 use Rattle.refactor_preserve.specs.Preserved.{Preserves}
@@ -26,7 +26,7 @@ use Rattle.refactor_rename.specs.RenameEdits.{AreRenameEdits}
 
 -- The path and the name have their forms, the file exists, and the workspace has no fault.
 pub record IsValidRename (w : Workspace) (path name : List ℕ) : Type 0 where
-  pub file : IsFile w path
+  pub file : HasFileAt w path
   pub form : IsNewName name
   pub sound : ListsFaults w []
 
@@ -40,32 +40,32 @@ pub record ResolvesIdentifier (w : Workspace) (path : List ℕ) (offset : ℕ) :
 -- The identifier at the byte is bound to a declaration that cannot be renamed.
 pub record ResolvesToFixed (w : Workspace) (path : List ℕ) (offset : ℕ) : Type 0 where
   pub asked : ResolvesIdentifier w path offset
-  pub fixed : IsFixed (IsPackage w asked.known) asked.declaration
+  pub fixed : IsFixed (IsCheckedPackage w asked.known) asked.declaration
 
 -- The identifier at the byte is bound to a declaration that can be renamed.
 pub record IsRenamable (w : Workspace) (path : List ℕ) (offset : ℕ) : Type 0 where
   pub asked : ResolvesIdentifier w path offset
-  pub not_fixed : ¬ (IsFixed (IsPackage w asked.known) asked.declaration)
+  pub not_fixed : ¬ (IsFixed (IsCheckedPackage w asked.known) asked.declaration)
 
 -- The identifier at the byte is bound to a declaration that can be renamed, but not to this name, which is reserved for it.
 pub record ResolvesToReserved (w : Workspace) (path : List ℕ) (offset : ℕ) (name : List ℕ) : Type 0 where
   pub renamable : IsRenamable w path offset
-  pub reserved : IsReservedFor (IsPackage w renamable.asked.known) renamable.asked.declaration name
+  pub reserved : IsReservedFor (IsCheckedPackage w renamable.asked.known) renamable.asked.declaration name
 
 -- The identifier at the byte is bound to a declaration that can be renamed, and `name` is a legal name for it.
 pub record IsLegalName (w : Workspace) (path : List ℕ) (offset : ℕ) (name : List ℕ) : Type 0 where
   pub renamable : IsRenamable w path offset
-  pub allowed : ¬ (IsReservedFor (IsPackage w renamable.asked.known) renamable.asked.declaration name)
+  pub allowed : ¬ (IsReservedFor (IsCheckedPackage w renamable.asked.known) renamable.asked.declaration name)
 
 -- The identifier at the byte is bound to a declaration that already has this name.
 pub record ResolvesToNamesake (w : Workspace) (path : List ℕ) (offset : ℕ) (name : List ℕ) : Type 0 where
   pub may : IsLegalName w path offset name
-  pub called : HasDeclaredName (IsPackage w may.renamable.asked.known) may.renamable.asked.declaration name
+  pub called : HasDeclaredName (IsCheckedPackage w may.renamable.asked.known) may.renamable.asked.declaration name
 
 -- These are the edits that rename the declaration of the identifier at the byte. The name is legal for it and is not its present name.
 pub record RenamesIdentifier (w : Workspace) (path : List ℕ) (offset : ℕ) (name : List ℕ) (s : FileChanges) : Type 0 where
   pub may : IsLegalName w path offset name
-  pub other : ¬ (HasDeclaredName (IsPackage w may.renamable.asked.known) may.renamable.asked.declaration name)
+  pub other : ¬ (HasDeclaredName (IsCheckedPackage w may.renamable.asked.known) may.renamable.asked.declaration name)
   pub edits : AreRenameEdits w may.renamable.asked.known may.renamable.asked.declaration name s
 
 -- The edits of the rename do not preserve bindings. The refusal names the first identifier that they lose or capture, or the byte where
@@ -100,7 +100,7 @@ PlansRename snapshot path offset name (Err BadPath) = ¬ (IsPath 2 path)
 PlansRename snapshot path offset name (Err BadName) =
     (IsPath 2 path × ¬ (IsNewName name)) ⊎ (IsValidRename snapshot.files path name × ResolvesToReserved snapshot.files path offset name)
 PlansRename snapshot path offset name (Err NoFile) = IsPath 2 path × IsNewName name × (files.get snapshot.files path ≡ None)
-PlansRename snapshot path offset name (Err (Faulty place kind)) = IsFile snapshot.files path × IsNewName name × HasFirstFault snapshot.files place kind
+PlansRename snapshot path offset name (Err (Faulty place kind)) = HasFileAt snapshot.files path × IsNewName name × HasFirstFault snapshot.files place kind
 PlansRename snapshot path offset name (Err NoIdentifier) = IsValidRename snapshot.files path name × HasNoIdentifier snapshot.files path offset
 PlansRename snapshot path offset name (Err NotRenamable) =
     IsValidRename snapshot.files path name × (HasNoDeclaration snapshot.files path offset ⊎ ResolvesToFixed snapshot.files path offset)

@@ -1,9 +1,9 @@
 //! A package that is read once for all steps of a rename, and what its bindings tell of the rename of one of its declarations.
 ghost use Rattle.std.specs.Prelude.{◌≡◌, IfOk};
 ghost use Rattle.types_declared.specs.PackageView.{package_of, IsIndexOf};
-ghost use Rattle.refs_binding.specs.Indexed.{IsNumbered, IsPackageNumbered};
+ghost use Rattle.refs_binding.specs.Indexed.{IsPackageNumber, IsPackageNumbered};
 ghost use Rattle.law_kept_members.specs.NamesAfterwards.{IsMember};
-ghost use Rattle.refactor_plan.specs.Bindings.{IsRead, IsOfRead, IsScopedIn, workspace_read, verdicts_read, path_read};
+ghost use Rattle.refactor_plan.specs.Bindings.{IsRead, IsOfRead, HasScopeNumber, workspace_read, verdicts_read, path_read};
 ghost use Rattle.refactor_plan.specs.Decided.{IsLegalFor, DecidesRenames};
 
 use refactor_decide::{ScopeDecision, scope_decision};
@@ -26,7 +26,7 @@ pub(crate) fn bindings_of<'a, 'w: 'a, 'i: 'a>(
     unit: Package<'a>,
     index: &'a Index<'i>,
 ) -> PackageBindings<'a>
-    requires numbered { IsNumbered at }
+    requires numbered { IsPackageNumber at }
     requires unit { IsPackageNumbered at (package_of unit) }
     requires index { IsIndexOf (package_of unit) index.now }
     ensures read { IsRead result }
@@ -67,7 +67,7 @@ fn scoped_decision(
 ) -> Result<Option<ScopeDecision>, AllocError>
     requires read { IsRead read.now }
     requires legal { IsLegalFor (workspace_read read.now) (verdicts_read read.now) declaration.now name.now }
-    requires scoped { IsScopedIn read.now declaration.now n }
+    requires scoped { HasScopeNumber read.now declaration.now n }
     ensures { IfOk result (DecidesRenames (workspace_read read.now) (verdicts_read read.now) (path_read read.now) declaration.now name.now) }
 {
     read.at.workspace.has_no_faults();

@@ -6,9 +6,9 @@ ghost use Rattle.workspace_check.specs.Found.{IsFound, KnowsVerdicts};
 ghost use Rattle.refactor_preserve.specs.Planned.{change_in};
 ghost use Rattle.refactor_move.specs.MoveEdits.{AreMoveEdits, HasNoNewPath};
 ghost use Rattle.refactor_plan.specs.DecidedMoves.{RefusesLengthOfName};
-ghost use Rattle.refactor_plan.specs.MovePlan.{IsMovable, NamesPackage, PlansMove};
+ghost use Rattle.refactor_plan.specs.MovePlan.{IsMovable, NamesMovedPackage, PlansMove};
 ghost use Rattle.refactor_plan.specs.Proposals.{IsProposed, proposal_place, proposed_snapshot, proposed_verdicts};
-ghost use Rattle.refactor_plan.specs.MoveSteps.{ArePaths, PlansMoveTo};
+ghost use Rattle.refactor_plan.specs.MoveSteps.{ArePackagePaths, PlansMoveTo};
 
 use crate::decided_moves::plan_decided;
 use crate::proposal::Proposal;
@@ -27,7 +27,7 @@ use workspace_snapshot::Snapshot;
 /// Why a move that would give a file too long a path is refused, by the edits of the package's name alone: their first conflict, or
 /// `TooLarge`. No change is made.
 fn refuse_length(alloc: Global, proposal: &Proposal<'_>, to: &Path) -> Result<Planned, Refusal>
-    requires asked { NamesPackage proposal.now.workspace.now.graph proposal.now.path.now to.now }
+    requires asked { NamesMovedPackage proposal.now.workspace.now.graph proposal.now.path.now to.now }
     ensures planned { RefusesLengthOfName proposal.now.workspace.now.graph (proposed_verdicts proposal.now) (proposal_place proposal.now) proposal.now.path.now to.now (change_in result) }
     ensures known { IfOk result (λ p. KnowsVerdicts p.change.files p.known) }
 {
@@ -43,7 +43,7 @@ fn refuse_length(alloc: Global, proposal: &Proposal<'_>, to: &Path) -> Result<Pl
 fn refuse_long(alloc: Global, proposal: &Proposal<'_>, to: &Path) -> Result<Planned, Refusal>
     requires proposed { IsProposed proposal.now }
     requires at_start { proposal.now.offset ≡ 0 }
-    requires asked { NamesPackage proposal.now.workspace.now.graph proposal.now.path.now to.now }
+    requires asked { NamesMovedPackage proposal.now.workspace.now.graph proposal.now.path.now to.now }
     requires no_path { HasNoNewPath proposal.now.workspace.now.graph proposal.now.path.now to.now }
     ensures planned { PlansMoveTo (proposed_snapshot proposal.now) proposal.now.path.now to.now (change_in result) }
     ensures known { IfOk result (λ p. KnowsVerdicts p.change.files p.known) }
@@ -143,7 +143,7 @@ fn plan_paths(
     to: &Path,
 ) -> Result<Planned, Refusal>
     requires found { IsFound snapshot.now.files found.now }
-    requires paths { ArePaths from.now to.now }
+    requires paths { ArePackagePaths from.now to.now }
     ensures planned { PlansMove snapshot.now from.now to.now (change_in result) }
     ensures known { IfOk result (λ p. KnowsVerdicts p.change.files p.known) }
 {

@@ -4,8 +4,8 @@ ghost use Rattle.base_files.specs.Packages.{package_paths};
 ghost use Rattle.base_files.specs.Path.{folder};
 ghost use Rattle.types_declared.specs.PackageView.{package_of};
 ghost use Rattle.workspace_check.specs.Found.{IsFound, KnowsVerdicts};
-ghost use Rattle.refs_binding.specs.Indexed.{IsNumbered, IsPackageNumbered};
-ghost use Rattle.refs_binding.specs.Uses.{HasDeclaration, IsPackage};
+ghost use Rattle.refs_binding.specs.Indexed.{IsPackageNumber, IsPackageNumbered};
+ghost use Rattle.refs_binding.specs.Uses.{HasDeclaration, IsCheckedPackage};
 ghost use Rattle.refs_binding.specs.Workspaces.{home_path};
 ghost use Rattle.refs_places.specs.Outside.{declaring_path};
 ghost use Rattle.refactor_preserve.specs.Planned.{change_in};
@@ -90,7 +90,7 @@ fn refuse(
 ) -> Result<(), Refusal>
     requires read { IsReadFor proposal.now read.now }
     requires home { IsOfRead read.now declaration.now }
-    ensures { RefusesName (IsPackage proposal.now.workspace.now.graph (proposed_verdicts proposal.now)) declaration.now name.now result }
+    ensures { RefusesName (IsCheckedPackage proposal.now.workspace.now.graph (proposed_verdicts proposal.now)) declaration.now name.now result }
 {
     refuse_name(alloc, read.at, &read.of, declaration, name)
 }
@@ -129,7 +129,7 @@ fn plan_unit(
 ) -> Result<Planned, Refusal>
     requires proposed { IsProposed proposal.now }
     requires same { at.workspace.now ≡ proposal.now.workspace.now }
-    requires numbered { IsNumbered at }
+    requires numbered { IsPackageNumber at }
     requires unit { IsPackageNumbered at (package_of unit) }
     requires home { slice_get (package_paths at.workspace.now.graph) at.number ≡ home_path declaration.now }
     requires form { IsNewName name.now }
@@ -254,7 +254,7 @@ fn plan_asked(
 ) -> Result<Planned, Refusal>
     requires proposed { IsProposed proposal.now }
     requires same { at.workspace.now ≡ proposal.now.workspace.now }
-    requires numbered { IsNumbered at }
+    requires numbered { IsPackageNumber at }
     requires unit { IsPackageNumbered at (package_of unit) }
     requires folder { slice_get (package_paths at.workspace.now.graph) at.number ≡ Some (folder proposal.now.path.now) }
     requires form { IsNewName name.now }

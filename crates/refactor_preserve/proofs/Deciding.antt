@@ -17,13 +17,13 @@ use Rattle.workspace_check.specs.Verdicts.{Verdicts, AreVerdicts}
 use Rattle.workspace_check.proofs.OneList.{one_whole_list}
 use Rattle.refs_binding.specs.declared.declaration.Declaration.{Declaration}
 use Rattle.refs_binding.specs.declared.declaration.Declaration.TheVariants.{Predeclared, Declared, Field, Method}
-use Rattle.refs_binding.specs.Uses.{IsPackage, HasFirstFault}
+use Rattle.refs_binding.specs.Uses.{IsCheckedPackage, HasFirstFault}
 use Rattle.refs_binding.specs.WorkspaceFindings.{WorkspaceFindings}
 use Rattle.refs_binding.specs.Workspaces.{IsFaultless, RefusesFaults, known_in}
 use Rattle.refs_binding.proofs.Units.{list_of_sound}
 use Rattle.base_edits.specs.EditSet.{FileChanges, edited}
 use Rattle.base_edits.specs.Moved.{moved}
-use Rattle.refs_binding.specs.DeclaringPlaces.{InPackage, DeclaresAt, IsDeclaredAt}
+use Rattle.refs_binding.specs.DeclaringPlaces.{InPackage, HasDeclarationAt, IsDeclaredAt}
 use Rattle.base_edits.specs.Revisions.{Revision}
 use Rattle.base_edits.specs.RevisionsOfEdits.{revision_of}
 use Rattle.refs_index.specs.Corresponding.{Corresponds, predeclared, stands}
@@ -36,8 +36,8 @@ use Rattle.refactor_preserve.proofs.Resolving.{same_package, same_use}
 
 -- Places of declarations do not depend on the findings for paths that are no packages.
 module _ (w : Workspace) (a b : Verdicts) (right : AreVerdicts w a) (also : AreVerdicts w b) where
-  same_inside : (path : List ℕ) (d : Declaration) (place : Place) → InPackage (IsPackage w a) path (λ p. DeclaresAt p d place) →
-      InPackage (IsPackage w b) path (λ p. DeclaresAt p d place)
+  same_inside : (path : List ℕ) (d : Declaration) (place : Place) → InPackage (IsCheckedPackage w a) path (λ p. HasDeclarationAt p d place) →
+      InPackage (IsCheckedPackage w b) path (λ p. HasDeclarationAt p d place)
   same_inside path d place h = record {
     inside = h.inside;
     is_package = same_package w a b right also h.inside h.is_package;
@@ -45,7 +45,7 @@ module _ (w : Workspace) (a b : Verdicts) (right : AreVerdicts w a) (also : AreV
     holds = h.holds;
   }
 
-  pub same_standing : (d : Declaration) (place : Place) → IsDeclaredAt (IsPackage w a) d place → IsDeclaredAt (IsPackage w b) d place
+  pub same_standing : (d : Declaration) (place : Place) → IsDeclaredAt (IsCheckedPackage w a) d place → IsDeclaredAt (IsCheckedPackage w b) d place
   same_standing (Predeclared n) place h = h
   same_standing (Declared path n) place h = same_inside path (Declared path n) place h
   same_standing (Field s) place h = same_inside s.package (Field s) place h
@@ -72,13 +72,13 @@ same_becoming B A C D moved old new d e (stands place h k) = stands place (old d
 pub same_kept : (w : Workspace) (r : Revision) (a b c d : Verdicts) → AreVerdicts w a → AreVerdicts w b → AreVerdicts r.after c → AreVerdicts r.after d →
     KeepsBindings w a r c → KeepsBindings w b r d
 same_kept w r a b c d right also right_after also_after h =
-    let becomes = same_becoming (IsPackage w a) (IsPackage r.after c) (IsPackage w b) (IsPackage r.after d) r.moved (same_standing w a b right also)
+    let becomes = same_becoming (IsCheckedPackage w a) (IsCheckedPackage r.after c) (IsCheckedPackage w b) (IsCheckedPackage r.after d) r.moved (same_standing w a b right also)
     (same_standing r.after c d right_after also_after) in
     record {
-      keeps = λ place x is. same_bound r.after c d right_after also_after (r.moved place) (λ e. Corresponds (IsPackage w a) (IsPackage r.after c) r.moved x e)
-          (λ e. Corresponds (IsPackage w b) (IsPackage r.after d) r.moved x e) (λ e. becomes x e) (h.keeps place x (same_use w b a also right x place is));
-      adds_none = λ place e here is. same_bound w a b right also place (λ x. Corresponds (IsPackage w a) (IsPackage r.after c) r.moved x e)
-          (λ x. Corresponds (IsPackage w b) (IsPackage r.after d) r.moved x e) (λ x. becomes x e)
+      keeps = λ place x is. same_bound r.after c d right_after also_after (r.moved place) (λ e. Corresponds (IsCheckedPackage w a) (IsCheckedPackage r.after c) r.moved x e)
+          (λ e. Corresponds (IsCheckedPackage w b) (IsCheckedPackage r.after d) r.moved x e) (λ e. becomes x e) (h.keeps place x (same_use w b a also right x place is));
+      adds_none = λ place e here is. same_bound w a b right also place (λ x. Corresponds (IsCheckedPackage w a) (IsCheckedPackage r.after c) r.moved x e)
+          (λ x. Corresponds (IsCheckedPackage w b) (IsCheckedPackage r.after d) r.moved x e) (λ x. becomes x e)
           (h.adds_none place e (same_identifier w b a also right place here) (same_use r.after d c also_after right_after e (r.moved place) is));
     }
 

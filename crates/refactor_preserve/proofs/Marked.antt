@@ -19,9 +19,9 @@ use Rattle.refs_binding.specs.declared.bound_identifier.BoundIdentifier.{BoundId
 use Rattle.refs_binding.specs.declared.declaration.Declaration.{Declaration}
 use Rattle.refs_binding.specs.declared.declaration.Declaration.TheVariants.{Predeclared, Declared, Field, Method}
 use Rattle.refs_binding.specs.Bindings.{bound_place}
-use Rattle.refs_binding.specs.Uses.{IsPackage, IsUseOf}
+use Rattle.refs_binding.specs.Uses.{IsCheckedPackage, IsUseOf}
 use Rattle.refs_binding.specs.Workspaces.{IsPackageAt, known_in}
-use Rattle.refs_binding.specs.DeclaringPlaces.{DeclaresAt, IsDeclaredAt}
+use Rattle.refs_binding.specs.DeclaringPlaces.{HasDeclarationAt, IsDeclaredAt}
 use Rattle.refs_binding.proofs.PackageNumbers.{in_package}
 use Rattle.refs_binding.proofs.Folders.{begins_in_folder}
 use Rattle.base_edits.specs.Revisions.{Revision}
@@ -194,14 +194,14 @@ both_ways all here s place b are some = ((λ h. let x = some.0 h in (are.0 x.0, 
 
 -- A declaration at a place in the package of its path is declared there.
 declared_in : (w : Workspace) (known : Verdicts) (n : ℕ) (p : Package) (path : List ℕ) (d : Declaration) (place : Place) → IsPackageAt w known n p →
-    slice_get (package_paths w) n ≡ Some path → declaring_path d ≡ Some path → DeclaresAt p d place → IsDeclaredAt (IsPackage w known) d place
+    slice_get (package_paths w) n ≡ Some path → declaring_path d ≡ Some path → HasDeclarationAt p d place → IsDeclaredAt (IsCheckedPackage w known) d place
 declared_in w known n p path (Predeclared m) place is at of h = absurd (none-some path of)
 declared_in w known n p path (Declared q m) place is at of h =
-    in_package w known n p q (λ c. DeclaresAt c (Declared q m) place) is (at ∙ sym of) h
+    in_package w known n p q (λ c. HasDeclarationAt c (Declared q m) place) is (at ∙ sym of) h
 declared_in w known n p path (Field s) place is at of h =
-    in_package w known n p s.package (λ c. DeclaresAt c (Field s) place) is (at ∙ sym of) h
+    in_package w known n p s.package (λ c. HasDeclarationAt c (Field s) place) is (at ∙ sym of) h
 declared_in w known n p path (Method s) place is at of h =
-    in_package w known n p s.package (λ c. DeclaresAt c (Method s) place) is (at ∙ sym of) h
+    in_package w known n p s.package (λ c. HasDeclarationAt c (Method s) place) is (at ∙ sym of) h
 
 some_found : {X : Type 0} (P Q : X → Type 0) (o : Option (Bor X)) → ((x : X) → P x → Q x) → IsChoiceIn P o → IfSome o (λ x. Q x.now)
 some_found P Q None to h = tt
@@ -211,10 +211,10 @@ some_found P Q (Some x) to h = to x.now h
 pub place_among : (w : Workspace) (known : Verdicts) (marks : List Bool) (all : List (Option DeclaredPlaces)) (n : ℕ) (path : List ℕ) (d : Declaration)
     (places : DeclaredPlaces) (o : Option (Bor Place)) → AreHeldOf w known marks all → slice_get (package_paths w) n ≡ Some path → declaring_path d ≡ Some path →
     slice_get all n ≡ Some (Some places) → ((p : Package) → AreDeclaredIn p places → IsPlaceIn p d o) →
-    IfSome o (λ place. IsDeclaredAt (IsPackage w known) d place.now)
+    IfSome o (λ place. IsDeclaredAt (IsCheckedPackage w known) d place.now)
 place_among w known marks all n path d places o are at of has told =
     let here : AreDeclaredAt w known n places = are.each n (Some places) has in
-    some_found (DeclaresAt here.inside d) (IsDeclaredAt (IsPackage w known) d) o
+    some_found (HasDeclarationAt here.inside d) (IsDeclaredAt (IsCheckedPackage w known) d) o
     (λ place h. declared_in w known n here.inside path d place here.is_package at of h) (told here.inside here.declared)
 
 of_some : {X : Type 0} (P : X → Type 0) (o : Option (Bor X)) (x : X) → IfSome o (λ y. P y.now) → option_copied o ≡ Some x → P x

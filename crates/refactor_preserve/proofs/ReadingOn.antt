@@ -11,7 +11,7 @@ use Rattle.base_lemmas.proofs.Elements.{nothing_in}
 use Rattle.base_files.specs.Packages.{package_paths}
 use Rattle.workspace_graph.specs.Search.{IsMarked}
 use Rattle.types_declared.proofs.Mentioning.{get_set_same, get_set_other}
-use Rattle.refs_binding.specs.Bindings.{AddsAll, IsBoundAt, IsBoundAmong}
+use Rattle.refs_binding.specs.Bindings.{AddsAll, IsBoundInPackage, IsBoundAmong}
 use Rattle.refs_binding.specs.Exports.{AreExportsByNameAt}
 use Rattle.refs_binding.specs.Packages.{HoldsOfEach}
 use Rattle.refs_binding.specs.Workspaces.{known_in}
@@ -75,7 +75,7 @@ nothing_read wanted s places numbers bound identifiers =
         size = numbers.size;
         each = λ n held at. subst (λ (o : Option (BTreeMap (Vec ℕ) ℕ)). IfSome o (AreExportsByNameAt w known n)) (sym (numbers.each n held at)) tt;
       };
-      bound = told_by_none (λ n b. IsMarked marks n × IsBoundAt w known n b) s.gathered.bound.items bound;
+      bound = told_by_none (λ n b. IsMarked marks n × IsBoundInPackage w known n b) s.gathered.bound.items bound;
       identifiers = λ _. told_by_none (λ n place. IsMarked marks n × BeginsInPackageAt w known n place) s.gathered.identifiers.items identifiers;
     }
 
@@ -113,8 +113,8 @@ one_read wanted some more n lt still own cases old new h marked r =
             ];
       };
       exports = r.exports;
-      bound = told_by_more (λ m b. IsMarked marks m × IsBoundAt w known m b) some more n still own cases [] old.gathered.bound.items new.gathered.bound.items
-          h.bound (all_as old.gathered.bound.items new.gathered.bound.items (IsBoundAt w known n) (λ b. IsMarked marks n × IsBoundAt w known n b)
+      bound = told_by_more (λ m b. IsMarked marks m × IsBoundInPackage w known m b) some more n still own cases [] old.gathered.bound.items new.gathered.bound.items
+          h.bound (all_as old.gathered.bound.items new.gathered.bound.items (IsBoundInPackage w known n) (λ b. IsMarked marks n × IsBoundInPackage w known n b)
           (λ b x. (marked, x)) (λ b x. x.1) r.bound);
       identifiers = λ t. told_by_more (λ m place. IsMarked marks m × BeginsInPackageAt w known m place) some more n still own cases []
           old.gathered.identifiers.items new.gathered.identifiers.items (h.identifiers t)
@@ -137,8 +137,8 @@ one_passed wanted some more n still own cases old h unmarked =
             (h.places.each m held at);
       };
       exports = h.exports;
-      bound = told_by_more (λ m b. IsMarked marks m × IsBoundAt w known m b) some more n still own cases [] old.gathered.bound.items old.gathered.bound.items
-          h.bound (all_none old.gathered.bound.items (λ b. IsMarked marks n × IsBoundAt w known n b) (λ b x. unmarked x.0));
+      bound = told_by_more (λ m b. IsMarked marks m × IsBoundInPackage w known m b) some more n still own cases [] old.gathered.bound.items old.gathered.bound.items
+          h.bound (all_none old.gathered.bound.items (λ b. IsMarked marks n × IsBoundInPackage w known n b) (λ b x. unmarked x.0));
       identifiers = λ t. told_by_more (λ m place. IsMarked marks m × BeginsInPackageAt w known m place) some more n still own cases []
           old.gathered.identifiers.items old.gathered.identifiers.items (h.identifiers t)
           (all_none old.gathered.identifiers.items (λ place. IsMarked marks n × BeginsInPackageAt w known n place) (λ place x. unmarked x.0));
@@ -174,7 +174,7 @@ bound_read wanted order s all h =
     let w = wanted.workspace.now.graph in
     let known = known_in wanted.workspace.now.findings in
     let marks = wanted.marks.now in
-    all_as [] s.gathered.bound.items (OfSome order (λ n b. IsMarked marks n × IsBoundAt w known n b)) (IsBoundAmong w known (IsMarked marks))
+    all_as [] s.gathered.bound.items (OfSome order (λ n b. IsMarked marks n × IsBoundInPackage w known n b)) (IsBoundAmong w known (IsMarked marks))
     (λ b x. record { number = x.0; is_of = x.1.1.0; bound = x.1.1.1 })
     (λ b x. let r = bound_in_range w known (IsMarked marks) b x in (r.0, ((all r.0).1 r.1, r.2))) h.bound
 

@@ -9,16 +9,16 @@ use Rattle.workspace_check.proofs.OneVerdict.{right_alike, right_below}
 use Rattle.refs_binding.specs.declared.declaration.Declaration.{Declaration}
 use Rattle.refs_binding.specs.declared.declaration.Declaration.TheVariants.{Predeclared, Declared, Field, Method}
 use Rattle.refs_binding.specs.Binding.{Binds, by_scope, by_package, by_member, by_name, BindsQualified}
-use Rattle.refs_binding.specs.Uses.{IsPackage, IsUseOf}
+use Rattle.refs_binding.specs.Uses.{IsCheckedPackage, IsUseOf}
 
 module _ (w : Workspace) (a b : Verdicts) (right : AreVerdicts w a) (also : AreVerdicts w b) where
-  pub same_package : (p : Package) → IsPackage w a p → IsPackage w b p
+  pub same_package : (p : Package) → IsCheckedPackage w a p → IsCheckedPackage w b p
   same_package p h = record {
     of_workspace = h.of_workspace;
     is_checked = package_as w p.path a b (right_alike w p.path a b (right_below w a right p.path) (right_below w b also p.path)) p h.is_checked;
   }
 
-  same_export : (p : Package) (u : ℕ) (d : Declaration) → BindsQualified (IsPackage w a) p u d → BindsQualified (IsPackage w b) p u d
+  same_export : (p : Package) (u : ℕ) (d : Declaration) → BindsQualified (IsCheckedPackage w a) p u d → BindsQualified (IsCheckedPackage w b) p u d
   same_export p u (Predeclared n) h = h
   same_export p u (Declared path n) h = record {
     behind = h.behind;
@@ -31,7 +31,7 @@ module _ (w : Workspace) (a b : Verdicts) (right : AreVerdicts w a) (also : AreV
   same_export p u (Field s) h = h
   same_export p u (Method s) h = h
 
-  same_binding : (p : Package) (u : ℕ) (d : Declaration) → Binds (IsPackage w a) p u d → Binds (IsPackage w b) p u d
+  same_binding : (p : Package) (u : ℕ) (d : Declaration) → Binds (IsCheckedPackage w a) p u d → Binds (IsCheckedPackage w b) p u d
   same_binding p u d (by_scope h) = by_scope h
   same_binding p u d (by_package h) = by_package (same_export p u d h)
   same_binding p u d (by_member h) = by_member h

@@ -13,8 +13,8 @@ use Rattle.workspace_check.specs.Verdicts.{Verdicts, AreVerdicts}
 use Rattle.workspace_check.proofs.Local.{same_back}
 use Rattle.refs_binding.specs.declared.declaration.Declaration.{Declaration}
 use Rattle.refs_binding.specs.declared.declaration.Declaration.TheVariants.{Predeclared, Declared, Field, Method}
-use Rattle.refs_binding.specs.Uses.{IsPackage, IsUseOf}
-use Rattle.refs_binding.specs.DeclaringPlaces.{InPackage, DeclaresAt, IsDeclaredAt}
+use Rattle.refs_binding.specs.Uses.{IsCheckedPackage, IsUseOf}
+use Rattle.refs_binding.specs.DeclaringPlaces.{InPackage, HasDeclarationAt, IsDeclaredAt}
 use Rattle.refs_lookup.specs.Within.{DeclaresWithin, IsDeclaredWithin, predeclared as predeclared_within, stands as stands_within}
 use Rattle.refs_binding.proofs.Folders.{begins_in_folder, file_in_folder}
 use Rattle.refs_lookup.proofs.Bindings.{use_stays}
@@ -32,7 +32,7 @@ pub record StandsInFolder (w : Workspace) (path : List ℕ) (place : Place) : Ty
   pub of_workspace : Contains (package_paths w) path
 
 module _ (w : Workspace) (known : Verdicts) (place : Place) where
-  package_folder : (path : List ℕ) (d : Declaration) → InPackage (IsPackage w known) path (λ p. DeclaresAt p d place) → StandsInFolder w path place
+  package_folder : (path : List ℕ) (d : Declaration) → InPackage (IsCheckedPackage w known) path (λ p. HasDeclarationAt p d place) → StandsInFolder w path place
   package_folder path d h =
       let c = h.inside in
       let f = token_file (slice_get c.files h.holds.at.file) h.holds.at.index place h.holds.begins in
@@ -41,7 +41,7 @@ module _ (w : Workspace) (known : Verdicts) (place : Place) where
         of_workspace = subst (Contains (package_paths w)) h.of_path h.is_package.of_workspace;
       }
 
-  pub declared_folder : (d : Declaration) (path : List ℕ) → declaring_path d ≡ Some path → IsDeclaredAt (IsPackage w known) d place → StandsInFolder w path place
+  pub declared_folder : (d : Declaration) (path : List ℕ) → declaring_path d ≡ Some path → IsDeclaredAt (IsCheckedPackage w known) d place → StandsInFolder w path place
   declared_folder (Predeclared n) path e h = absurd h
   declared_folder (Declared q n) path e h = subst (λ p. StandsInFolder w p place) (same_Some q path e) (package_folder q (Declared q n) h)
   declared_folder (Field s) path e h = subst (λ p. StandsInFolder w p place) (same_Some s.package path e) (package_folder s.package (Field s) h)
@@ -61,7 +61,7 @@ module _ (w : Workspace) (known : Verdicts) (right : AreVerdicts w known) where
 module _ (w x : Workspace) (s : FileChanges) (before after : Verdicts) (right : AreVerdicts w before) (also : AreVerdicts x after) where
   -- what a declaration becomes
   abbrev pub Becoming : Declaration → Declaration → Type 0
-  Becoming d e = Corresponds (IsPackage w before) (IsPackage x after) (moved s) d e
+  Becoming d e = Corresponds (IsCheckedPackage w before) (IsCheckedPackage x after) (moved s) d e
 
   becomes_itself : (p : List ℕ) → IsUnaffected w x s p → (d : Declaration) → IsDeclaredWithin w before p d → Becoming d d
   becomes_itself p is _ (predeclared_within h) = predeclared

@@ -11,7 +11,7 @@ use Rattle.base_edits.specs.declared.change.FileChange.{FileChange}
 use Rattle.workspace_graph.specs.Packages.{IsInClosure}
 use Rattle.workspace_check.specs.Verdicts.{Verdicts, AreVerdicts}
 use Rattle.refs_binding.specs.declared.declaration.Declaration.{Declaration}
-use Rattle.refs_binding.specs.Uses.{IsPackage}
+use Rattle.refs_binding.specs.Uses.{IsCheckedPackage}
 use Rattle.refs_binding.specs.DeclaringPlaces.{IsDeclaredAt}
 use Rattle.refs_lookup.specs.Within.{DeclaresWithin}
 use Rattle.refs_lookup.proofs.Standing.{within_stays}
@@ -36,6 +36,6 @@ module _ (w x : Workspace) (s : FileChanges) (p : List ℕ) (is : IsUnaffected w
 
   -- what is declared there is declared there afterwards
   pub declared_then : (before after : Verdicts) → AreVerdicts w before → AreVerdicts x after → (d : Declaration) (place : Place) →
-      DeclaresWithin w before p d place → IsDeclaredAt (IsPackage x after) d (moved s place)
+      DeclaresWithin w before p d place → IsDeclaredAt (IsCheckedPackage x after) d (moved s place)
   declared_then before after right also d place h =
-      subst (IsDeclaredAt (IsPackage x after) d) (sym (stays_put place h.in_closure)) (within_stays w x before after right also p is.same d place h).declared
+      subst (IsDeclaredAt (IsCheckedPackage x after) d) (sym (stays_put place h.in_closure)) (within_stays w x before after right also p is.same d place h).declared

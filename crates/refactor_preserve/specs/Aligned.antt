@@ -6,7 +6,7 @@ use Rattle.types_declared.specs.Package.{Package}
 use Rattle.refs_binding.specs.declared.bound_identifier.BoundIdentifier.{BoundIdentifier}
 use Rattle.refs_binding.specs.Bindings.{bound_place}
 use Rattle.refs_binding.specs.Identifiers.{BeginsAt}
-use Rattle.refs_binding.specs.Uses.{IsPackage}
+use Rattle.refs_binding.specs.Uses.{IsCheckedPackage}
 use Rattle.refs_binding.specs.Workspaces.{IsPackageAt, known_in}
 use Rattle.refs_places.specs.Beginnings.{BeginsAmong}
 use Rattle.refactor_preserve.specs.declared.aligned.Compared.{Compared}
@@ -79,4 +79,4 @@ IsSafeNumber c n = (p : Package) → IsPackageAt c.before.now.packages.now.works
 
 -- Each identifier of the workspace is bound before the change, or no bound identifier begins at the place to which it is moved.
 abbrev pub AreSafe : Compared → Type 0
-AreSafe c = (p : Package) → IsPackage c.before.now.packages.now.workspace.now.graph (known_in c.before.now.packages.now.workspace.now.findings) p → IsSafeIn c p
+AreSafe c = (p : Package) → IsCheckedPackage c.before.now.packages.now.workspace.now.graph (known_in c.before.now.packages.now.workspace.now.findings) p → IsSafeIn c p

@@ -17,7 +17,7 @@ use Rattle.refactor_preserve.specs.declared.among.KnownBefore.{KnownBefore}
 use Rattle.refactor_preserve.specs.declared.among.MarkedPackages.{MarkedPackages}
 use Rattle.refs_places.specs.declared.declared_places.DeclaredPlaces.{DeclaredPlaces}
 use Rattle.refs_places.specs.DeclaredPlaces.{AreDeclaredAt}
-use Rattle.refs_places.specs.Outside.{IsOutside}
+use Rattle.refs_places.specs.Outside.{IsUnmarked}
 use Rattle.refs_index.specs.FaultlessViews.{FaultlessView}
 use Rattle.refs_places.specs.Identified.{BeginsInPackageAt}
 use Rattle.refactor_preserve.specs.Steps.{IsBoundBy, IsKept, HasBound}
@@ -78,7 +78,7 @@ pub record BothGo (moved : Place → Place) (old new : Option Place) : Type 0 wh
 -- The declaration `d` has become `e`, or `d` is `e` and its package is not marked.
 abbrev pub BecomesAmong : MarkedPackages → MarkedPackages → (Place → Place) → Declaration → Declaration → Type 0
 BecomesAmong before then moved d e = Becomes (view_among before) (view_among then) moved d e ⊎
-    ((d ≡ e) × IsOutside before.workspace.now.graph before.marks.now d)
+    ((d ≡ e) × IsUnmarked before.workspace.now.graph before.marks.now d)
 
 -- The bound identifier is bound after the change to what its declaration has become, as the marked packages show it.
 abbrev pub IsKeptAmong : MarkedPackages → MarkedPackages → (Place → Place) → BoundIdentifier → Type 0

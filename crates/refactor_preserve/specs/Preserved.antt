@@ -7,7 +7,7 @@ use Rattle.workspace_check.specs.declared.known.Known.{Known}
 use Rattle.workspace_check.specs.FaultLists.{ListsFaults}
 use Rattle.workspace_check.specs.Found.{KnowsVerdicts}
 use Rattle.refs_binding.specs.declared.declaration.Declaration.{Declaration}
-use Rattle.refs_binding.specs.Uses.{IsPackage, IsUseOf}
+use Rattle.refs_binding.specs.Uses.{IsCheckedPackage, IsUseOf}
 use Rattle.refs_places.specs.Identified.{IsIdentifierAt}
 use Rattle.base_edits.specs.Revisions.{Revision}
 use Rattle.refactor_preserve.specs.BoundToOne.{IsBoundToOne}
@@ -16,9 +16,9 @@ use Rattle.refs_index.specs.Corresponding.{Corresponds}
 -- Each identifier stays bound to what its declaration has become, and is bound to nothing more.
 pub record KeepsBindings (w : Workspace) (before : Verdicts) (r : Revision) (after : Verdicts) : Type 0 where
   pub keeps : (place : Place) (d : Declaration) → IsUseOf w before d place →
-      IsBoundToOne r.after after (r.moved place) (λ e. Corresponds (IsPackage w before) (IsPackage r.after after) r.moved d e)
+      IsBoundToOne r.after after (r.moved place) (λ e. Corresponds (IsCheckedPackage w before) (IsCheckedPackage r.after after) r.moved d e)
   pub adds_none : (place : Place) (e : Declaration) → IsIdentifierAt w before place → IsUseOf r.after after e (r.moved place) →
-      IsBoundToOne w before place (λ d. Corresponds (IsPackage w before) (IsPackage r.after after) r.moved d e)
+      IsBoundToOne w before place (λ d. Corresponds (IsCheckedPackage w before) (IsCheckedPackage r.after after) r.moved d e)
 
 -- The workspace after the change has no fault. Each identifier stays bound to what its declaration has become, and is bound to nothing
 -- more.

@@ -5,7 +5,7 @@ use Rattle.base_files.specs.Packages.{package_paths}
 use Rattle.base_files.specs.Workspace.{Workspace}
 use Rattle.workspace_graph.specs.Search.{IsMarked}
 use Rattle.refs_index.specs.KnownExports.{AreSomeExports}
-use Rattle.refs_binding.specs.Bindings.{AddsAll, IsBoundAt}
+use Rattle.refs_binding.specs.Bindings.{AddsAll, IsBoundInPackage}
 use Rattle.refs_binding.specs.Packages.{HoldsOfEach}
 use Rattle.refs_binding.specs.Workspaces.{known_in}
 use Rattle.refactor_preserve.specs.declared.reading_order.ReadState.{ReadState}
@@ -33,7 +33,7 @@ pub record IsReadState (wanted : ToRead) (numbers : List ℕ) (s : ReadState) : 
   pub places : HoldsOfEach (IsHeldOfSome wanted numbers) (length (package_paths wanted.workspace.now.graph)) s.places.items
   pub exports : AreSomeExports wanted.workspace.now.graph (known_in wanted.workspace.now.findings) s.numbers.items
   pub bound : AddsAll [] s.gathered.bound.items
-      (OfSome numbers (λ n b. IsMarked wanted.marks.now n × IsBoundAt wanted.workspace.now.graph (known_in wanted.workspace.now.findings) n b))
+      (OfSome numbers (λ n b. IsMarked wanted.marks.now n × IsBoundInPackage wanted.workspace.now.graph (known_in wanted.workspace.now.findings) n b))
   pub identifiers : IsTrue wanted.identifiers →
       AddsAll [] s.gathered.identifiers.items
       (OfSome numbers (λ n place. IsMarked wanted.marks.now n × BeginsInPackageAt wanted.workspace.now.graph (known_in wanted.workspace.now.findings) n place))
@@ -45,7 +45,7 @@ pub record ReadsOne (wanted : ToRead) (n : ℕ) (old new : ReadState) : Type 0 w
   pub is_set : new.places.items ≡ set old.places.items n (Some held)
   pub declared : AreDeclaredAt wanted.workspace.now.graph (known_in wanted.workspace.now.findings) n held
   pub exports : AreSomeExports wanted.workspace.now.graph (known_in wanted.workspace.now.findings) new.numbers.items
-  pub bound : AddsAll old.gathered.bound.items new.gathered.bound.items (IsBoundAt wanted.workspace.now.graph (known_in wanted.workspace.now.findings) n)
+  pub bound : AddsAll old.gathered.bound.items new.gathered.bound.items (IsBoundInPackage wanted.workspace.now.graph (known_in wanted.workspace.now.findings) n)
   pub identifiers : IsTrue wanted.identifiers →
       AddsAll old.gathered.identifiers.items new.gathered.identifiers.items
       (BeginsInPackageAt wanted.workspace.now.graph (known_in wanted.workspace.now.findings) n)

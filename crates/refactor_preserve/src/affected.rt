@@ -8,7 +8,7 @@ ghost use Rattle.base_edits.specs.Moved.{moved};
 ghost use Rattle.workspace_graph.specs.Packages.{IsInClosure};
 ghost use Rattle.workspace_check.specs.Verdicts.{Verdicts, AreVerdicts};
 ghost use Rattle.refs_binding.specs.declared.declaration.Declaration.{Declaration};
-ghost use Rattle.refs_binding.specs.Uses.{IsPackage};
+ghost use Rattle.refs_binding.specs.Uses.{IsCheckedPackage};
 ghost use Rattle.refs_binding.specs.DeclaringPlaces.{IsDeclaredAt};
 ghost use Rattle.refs_lookup.specs.Within.{DeclaresWithin};
 ghost use Rattle.refactor_preserve.specs.Affected.{IsUnaffected};
@@ -18,5 +18,5 @@ pub fn unaffected_stays()
     ensures places { (w : Workspace) → (x : Workspace) → (s : FileChanges) → (p : List ℕ) → IsUnaffected w x s p → (place : Place) →
         IsInClosure w p (folder place.path) → moved s place ≡ place }
     ensures declarations { (w : Workspace) → (x : Workspace) → (s : FileChanges) → (before : Verdicts) → (after : Verdicts) → AreVerdicts w before → AreVerdicts x after →
-        (p : List ℕ) → IsUnaffected w x s p → (d : Declaration) → (place : Place) → DeclaresWithin w before p d place → IsDeclaredAt (IsPackage x after) d (moved s place) }
+        (p : List ℕ) → IsUnaffected w x s p → (d : Declaration) → (place : Place) → DeclaresWithin w before p d place → IsDeclaredAt (IsCheckedPackage x after) d (moved s place) }
 {}

@@ -7,7 +7,7 @@ ghost use Rattle.refs_binding.specs.declared.bound_identifier.BoundIdentifier.{B
 ghost use Rattle.refs_binding.specs.Workspaces.{known_in};
 ghost use Rattle.refs_binding.specs.DeclaringPlaces.{IsDeclaredAt};
 ghost use Rattle.refactor_preserve.specs.Among.{AreHeld, AreIdentifiersAmong, IsBoundMarked, IsBoundThere, IsKnownBefore, view_among};
-ghost use Rattle.refs_places.specs.Outside.{IsOutside, declaring_path};
+ghost use Rattle.refs_places.specs.Outside.{IsUnmarked, declaring_path};
 ghost use Rattle.refs_index.specs.FaultlessViews.{view_packages};
 
 use crate::reading_order::{HeldPackages, read_marked};
@@ -84,7 +84,7 @@ impl<'a> MarkedPackages<'a> {
 
     /// Whether two declarations are equal and belong to a package that is not marked.
     pub fn leaves(&self, d: &Declaration, e: &Declaration) -> bool
-        ensures { IsTrue result → ((d.now ≡ e.now) × IsOutside self.now.workspace.now.graph self.now.marks.now d.now) }
+        ensures { IsTrue result → ((d.now ≡ e.now) × IsUnmarked self.now.workspace.now.graph self.now.marks.now d.now) }
     {
         is_same(d, e) && is_outside(self.workspace, self.marks, d)
     }
@@ -163,7 +163,7 @@ impl<'a> KnownBefore<'a> {
 
 /// Whether the package of a declaration is in the workspace and not marked.
 fn is_outside(workspace: &FaultlessWorkspace<'_>, marks: &[bool], declaration: &Declaration) -> bool
-    ensures { IsTrue result → IsOutside workspace.now.graph marks.now declaration.now }
+    ensures { IsTrue result → IsUnmarked workspace.now.graph marks.now declaration.now }
 {
     match package_path(declaration) {
         None => false,

@@ -2,7 +2,7 @@
 ghost use Rattle.std.specs.Prelude.{◌≡◌, ◌↔◌, IsTrue, IfOk, MatchBool};
 ghost use Rattle.base_edits.specs.EditSet.{edited};
 ghost use Rattle.workspace_check.specs.Found.{AreFindings, IsFound, KnowsVerdicts};
-ghost use Rattle.refs_binding.specs.Packages.{ArePackages};
+ghost use Rattle.refs_binding.specs.Packages.{ArePackagesRead};
 ghost use Rattle.refs_binding.specs.Workspaces.{known_in};
 ghost use Rattle.refactor_preserve.specs.Marked.{HasMarks};
 ghost use Rattle.refactor_preserve.specs.Preserved.{KeepsBindings, Preserves, FindsPreserved};
@@ -30,8 +30,8 @@ fn keeps_read(
     edits: &EditSet,
     after: &Packages<'_>,
 ) -> Result<bool, AllocError>
-    requires before { ArePackages before.now }
-    requires after { ArePackages after.now }
+    requires before { ArePackagesRead before.now }
+    requires after { ArePackagesRead after.now }
     requires edited { after.now.workspace.now.graph ≡ edited edits.now before.now.workspace.now.graph }
     ensures { IfOk result (λ kept. IsTrue kept ↔ KeepsBindings before.now.workspace.now.graph (known_in before.now.workspace.now.findings) (revision_of before.now.workspace.now.graph edits.now) (known_in after.now.workspace.now.findings)) }
 {

@@ -4,7 +4,7 @@ ghost use Rattle.std.specs.Prelude.{◌<◌, length, IfOk, IfSome, IsTrue, OnOk}
 ghost use Rattle.base_files.specs.Packages.{package_paths};
 ghost use Rattle.types_declared.specs.PackageView.{package_of};
 ghost use Rattle.refs_index.specs.KnownExports.{KnowsExports};
-ghost use Rattle.refs_binding.specs.Bindings.{AddsAll, IsBoundAt};
+ghost use Rattle.refs_binding.specs.Bindings.{AddsAll, IsBoundInPackage};
 ghost use Rattle.refs_binding.specs.Exports.{AreExportsByNameAt};
 ghost use Rattle.refs_binding.specs.Workspaces.{known_in, IsPackageAt};
 ghost use Rattle.refs_places.specs.DeclaredPlaces.{AreDeclaredAt};
@@ -77,7 +77,7 @@ fn gather_bindings(
     requires unit { let e = reading.now.exports.now in IsPackageAt e.workspace.now.graph (known_in e.workspace.now.findings) number (package_of unit) }
     ensures places { let e = reading.now.exports.now in IfOk result (AreDeclaredAt e.workspace.now.graph (known_in e.workspace.now.findings) number) }
     ensures bound { let e = reading.now.exports.now in
-        OnOk result (AddsAll gathered.old.bound.items gathered.new.bound.items (IsBoundAt e.workspace.now.graph (known_in e.workspace.now.findings) number)) }
+        OnOk result (AddsAll gathered.old.bound.items gathered.new.bound.items (IsBoundInPackage e.workspace.now.graph (known_in e.workspace.now.findings) number)) }
     ensures identifiers { let e = reading.now.exports.now in
         OnOk result (IsTrue reading.now.identifiers → AddsAll gathered.old.identifiers.items gathered.new.identifiers.items (BeginsInPackageAt e.workspace.now.graph (known_in e.workspace.now.findings) number)) }
 {
@@ -128,7 +128,7 @@ fn gather_package(
     ensures places { let e = reading.now.exports.now in IfOk result (λ read. AreDeclaredAt e.workspace.now.graph (known_in e.workspace.now.findings) number read.places) }
     ensures numbers { let e = reading.now.exports.now in IfOk result (λ read. IfSome read.numbers (AreExportsByNameAt e.workspace.now.graph (known_in e.workspace.now.findings) number)) }
     ensures bound { let e = reading.now.exports.now in
-        OnOk result (AddsAll gathered.old.bound.items gathered.new.bound.items (IsBoundAt e.workspace.now.graph (known_in e.workspace.now.findings) number)) }
+        OnOk result (AddsAll gathered.old.bound.items gathered.new.bound.items (IsBoundInPackage e.workspace.now.graph (known_in e.workspace.now.findings) number)) }
     ensures identifiers { let e = reading.now.exports.now in
         OnOk result (IsTrue reading.now.identifiers → AddsAll gathered.old.identifiers.items gathered.new.identifiers.items (BeginsInPackageAt e.workspace.now.graph (known_in e.workspace.now.findings) number)) }
 {
@@ -149,7 +149,7 @@ pub(crate) fn gather_read(
     ensures places { let e = reading.now.exports.now in IfOk result (λ read. AreDeclaredAt e.workspace.now.graph (known_in e.workspace.now.findings) number read.places) }
     ensures numbers { let e = reading.now.exports.now in IfOk result (λ read. IfSome read.numbers (AreExportsByNameAt e.workspace.now.graph (known_in e.workspace.now.findings) number)) }
     ensures bound { let e = reading.now.exports.now in
-        OnOk result (AddsAll gathered.old.bound.items gathered.new.bound.items (IsBoundAt e.workspace.now.graph (known_in e.workspace.now.findings) number)) }
+        OnOk result (AddsAll gathered.old.bound.items gathered.new.bound.items (IsBoundInPackage e.workspace.now.graph (known_in e.workspace.now.findings) number)) }
     ensures identifiers { let e = reading.now.exports.now in
         OnOk result (IsTrue reading.now.identifiers → AddsAll gathered.old.identifiers.items gathered.new.identifiers.items (BeginsInPackageAt e.workspace.now.graph (known_in e.workspace.now.findings) number)) }
 {

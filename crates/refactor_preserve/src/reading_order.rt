@@ -4,7 +4,7 @@ ghost use Rattle.std.specs.Prelude.{◌≡◌, ◌<◌, [], None, length, IfOk, 
 ghost use Rattle.base_files.specs.Packages.{package_paths};
 ghost use Rattle.workspace_graph.specs.Imports.{ListsBelow};
 ghost use Rattle.refs_index.specs.KnownExports.{AreSomeExports};
-ghost use Rattle.refs_binding.specs.Bindings.{AddsAll, IsBoundAt};
+ghost use Rattle.refs_binding.specs.Bindings.{AddsAll, IsBoundInPackage};
 ghost use Rattle.refs_binding.specs.Exports.{AreExportsByNameAt};
 ghost use Rattle.refs_binding.specs.Packages.{HoldsOfEach};
 ghost use Rattle.refs_binding.specs.Workspaces.{known_in};
@@ -127,7 +127,7 @@ fn read_known(
     requires numbers { AreSomeExports wanted.now.workspace.now.graph (known_in wanted.now.workspace.now.findings) numbers.now }
     ensures places { IfOk result (λ read. AreDeclaredAt wanted.now.workspace.now.graph (known_in wanted.now.workspace.now.findings) number read.places) }
     ensures numbers { IfOk result (λ read. IfSome read.numbers (AreExportsByNameAt wanted.now.workspace.now.graph (known_in wanted.now.workspace.now.findings) number)) }
-    ensures bound { OnOk result (AddsAll gathered.old.bound.items gathered.new.bound.items (IsBoundAt wanted.now.workspace.now.graph (known_in wanted.now.workspace.now.findings) number)) }
+    ensures bound { OnOk result (AddsAll gathered.old.bound.items gathered.new.bound.items (IsBoundInPackage wanted.now.workspace.now.graph (known_in wanted.now.workspace.now.findings) number)) }
     ensures identifiers { OnOk result (IsTrue wanted.now.identifiers →
         AddsAll gathered.old.identifiers.items gathered.new.identifiers.items (BeginsInPackageAt wanted.now.workspace.now.graph (known_in wanted.now.workspace.now.findings) number)) }
 {

@@ -12,7 +12,7 @@ use Rattle.refs_binding.specs.declared.declaration.Declaration.{Declaration}
 use Rattle.refs_binding.specs.declared.declaration.Declaration.TheVariants.{Predeclared, Declared, Field, Method}
 use Rattle.refs_binding.specs.DeclaredNames.{HasDeclaredName, HasDeclaredNameIn, HasMemberName}
 use Rattle.refs_binding.specs.DeclaringPlaces.{InPackage, InHomePackage}
-use Rattle.refs_binding.specs.Uses.{IsPackage}
+use Rattle.refs_binding.specs.Uses.{IsCheckedPackage}
 use Rattle.refs_binding.specs.Workspaces.{IsPackageAt, home_path}
 use Rattle.refs_binding.proofs.PackageNumbers.{in_package, of_package}
 use Rattle.refactor_rename.specs.NewName.{IsReserved}
@@ -80,7 +80,7 @@ member_refused IsAt p rank name one (Some a) r is h =
 -- What holds of the package of a number holds of the package of each declaration of it.
 module _ (w : Workspace) (known : Verdicts) (n : ℕ) (p : Package) (is : IsPackageAt w known n p) where
   abbrev Known : Package → Type 0
-  Known = IsPackage w known
+  Known = IsCheckedPackage w known
 
   of_path : (path : List ℕ) → path ≡ p.path → (P : Package → Type 0) → Agree (P p) (InPackage Known path P)
   of_path path e P = record {

@@ -27,7 +27,7 @@ use Rattle.workspace_check.specs.Verdicts.{Verdicts}
 use Rattle.workspace_check.proofs.Members.{passes}
 use Rattle.workspace_check.proofs.OnePackage.{one_sources}
 use Rattle.workspace_check.proofs.PackageFiles.{text_of}
-use Rattle.refs_binding.specs.Uses.{IsPackage}
+use Rattle.refs_binding.specs.Uses.{IsCheckedPackage}
 use Rattle.refs_binding.specs.Workspaces.{IsPackageAt}
 use Rattle.refs_binding.proofs.Units.{one_package}
 use Rattle.refactor_rename.specs.RenameEdits.{IsSourceIn}
@@ -92,7 +92,7 @@ file_in w p ts parsed f has =
     }
 
 -- the files of a checked package
-pub package_file : (w : Workspace) (known : Verdicts) (p : Package) → IsPackage w known p → (f : SourceFile) → Contains p.files f → IsFileIn w p.path f
+pub package_file : (w : Workspace) (known : Verdicts) (p : Package) → IsCheckedPackage w known p → (f : SourceFile) → Contains p.files f → IsFileIn w p.path f
 package_file w known p is f has =
     let own = is.is_checked in
     let files : p.files ≡ map source_of own.files = ap (λ (x : Package). x.files) own.is_package.is_package in

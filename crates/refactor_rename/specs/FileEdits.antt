@@ -16,7 +16,7 @@ IsLiteralAt None path token = ⊥
 IsLiteralAt (Some l) path token = (l.path ≡ path) × (l.token ≡ token)
 
 -- The token `i` is an identifier that begins at one of the places, and the edit replaces it by the name.
-pub record ReplacesName (f : SourceFile) (r : Renamed) (i : ℕ) (e : Edit) : Type 0 where
+pub record RenamesToken (f : SourceFile) (r : Renamed) (i : ℕ) (e : Edit) : Type 0 where
   pub token : Piece
   pub at : slice_get (tokens_in f.cut) i ≡ Some token
   pub is_name : token.class ≡ Name
@@ -36,7 +36,7 @@ pub record InsertsName (f : SourceFile) (r : Renamed) (i : ℕ) (e : Edit) : Typ
 
 -- The edit `e` of a rename is that of the token `i`.
 abbrev pub IsEditAt : SourceFile → Renamed → ℕ → Edit → Type 0
-IsEditAt f r i e = InsertsName f r i e ⊎ ReplacesName f r i e
+IsEditAt f r i e = InsertsName f r i e ⊎ RenamesToken f r i e
 
 -- The edits are in order, and each ends at this offset or before it.
 pub record EndBy (edits : List Edit) (offset : ℕ) : Type 0 where

@@ -19,15 +19,15 @@ abbrev pub IsUnnamedImport : Package → ℕ → Type 0
 IsUnnamedImport p d = IsImport p.layout d × (literal_of p.layout d ≡ d)
 
 -- The declaration `d` of the package `p` is an import without a name, and `l` is its string literal.
-abbrev pub IsLiteralIn : Package → ℕ → Literal → Type 0
-IsLiteralIn p d l = (d < p.size) × IsUnnamedImport p d × IsTokenOf (slice_get p.files (p.layout.place d).file) (p.layout.place d).index l
+abbrev pub IsPathLiteralIn : Package → ℕ → Literal → Type 0
+IsPathLiteralIn p d l = (d < p.size) × IsUnnamedImport p d × IsTokenOf (slice_get p.files (p.layout.place d).file) (p.layout.place d).index l
 
 -- The declaration of the workspace is an import without a name, and `l` is its string literal.
-abbrev pub IsLiteralOf : (Package → Type 0) → Declaration → Literal → Type 0
-IsLiteralOf IsPackage (Predeclared d) l = ⊥
-IsLiteralOf IsPackage (Declared path d) l = InPackage IsPackage path (λ p. IsLiteralIn p d l)
-IsLiteralOf IsPackage (Field s) l = ⊥
-IsLiteralOf IsPackage (Method s) l = ⊥
+abbrev pub IsPathLiteralOf : (Package → Type 0) → Declaration → Literal → Type 0
+IsPathLiteralOf IsPackage (Predeclared d) l = ⊥
+IsPathLiteralOf IsPackage (Declared path d) l = InPackage IsPackage path (λ p. IsPathLiteralIn p d l)
+IsPathLiteralOf IsPackage (Field s) l = ⊥
+IsPathLiteralOf IsPackage (Method s) l = ⊥
 
 -- The literal of which `K` holds, or `None` where it holds of none.
 abbrev pub IsLiteralFound : (Literal → Type 0) → Option Literal → Type 0

@@ -9,23 +9,23 @@ use Rattle.base_edits.specs.Moved.{edits_by}
 use Rattle.base_edits.specs.declared.change.FileChange.{FileChange}
 use Rattle.base_edits.specs.declared.change.Fate.TheVariants.{Stays}
 use Rattle.refs_binding.specs.declared.declaration.Declaration.{Declaration}
-use Rattle.refs_binding.specs.Uses.{IsPackage}
+use Rattle.refs_binding.specs.Uses.{IsCheckedPackage}
 use Rattle.refs_binding.specs.Workspaces.{ListsFound}
 use Rattle.refactor_rename.specs.declared.renamed.Renamed.{Renamed}
 use Rattle.refactor_rename.specs.FileEdits.{AreFileEdits}
-use Rattle.refactor_rename.specs.Literals.{IsLiteralOf, IsLiteralFound}
+use Rattle.refactor_rename.specs.Literals.{IsPathLiteralOf, IsLiteralFound}
 
 -- `r` is what gets the name: the identifiers that are bound to the declaration `d`, and its string literal where it is an import without a
 -- name.
 pub record IsRenamedBy (w : Workspace) (known : Verdicts) (d : Declaration) (name : List ℕ) (r : Renamed) : Type 0 where
   pub uses : ListsFound w known d r.places
-  pub literal : IsLiteralFound (IsLiteralOf (IsPackage w known) d) r.literal
+  pub literal : IsLiteralFound (IsPathLiteralOf (IsCheckedPackage w known) d) r.literal
   pub named : r.name ≡ name
 
 -- `f` is a parsed file of some package of the workspace.
 pub record IsSourceIn (w : Workspace) (known : Verdicts) (f : SourceFile) : Type 0 where
   pub inside : Package
-  pub is_package : IsPackage w known inside
+  pub is_package : IsCheckedPackage w known inside
   pub has : Contains inside.files f
 
 -- The change edits a Go file and leaves it at its path.

@@ -6,7 +6,7 @@ ghost use Rattle.go_ast.specs.SourceFile.{source_of};
 ghost use Rattle.refs_binding.specs.Bindings.{AddsAll};
 ghost use Rattle.refs_binding.specs.Places.{place_cmp};
 ghost use Rattle.refactor_rename.specs.Replacements.{EndsImport, FollowsImportWord, IsNameBefore};
-ghost use Rattle.refactor_rename.specs.FileEdits.{IsLiteralAt, ReplacesName, InsertsName, IsEditAt, EndBy, AreFileEdits};
+ghost use Rattle.refactor_rename.specs.FileEdits.{IsLiteralAt, RenamesToken, InsertsName, IsEditAt, EndBy, AreFileEdits};
 
 use crate::here::places_in;
 use crate::renamed::{Literal, Renamed};
@@ -127,7 +127,7 @@ fn add_replacement(
     requires span { token.span.start ≤ token.span.end }
     requires order { EndBy edits.old.items token.span.start }
     ensures order { OnOk result (EndBy edits.new.items token.span.end) }
-    ensures adds { OnOk result (AddsAll edits.old.items edits.new.items (ReplacesName (source_of file.now) renamed.now number)) }
+    ensures adds { OnOk result (AddsAll edits.old.items edits.new.items (RenamesToken (source_of file.now) renamed.now number)) }
 {
     let places = renamed.places.as_slice();
     if token.class == Class::Name && is_among(places, file.path(), token.span.start) {

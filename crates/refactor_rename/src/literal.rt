@@ -3,9 +3,9 @@ ghost use Rattle.std.specs.Prelude.{◌≡◌, ◌<◌, ◌↔◌, Some, length,
 ghost use Rattle.go_ast.specs.SourceFile.{source_of};
 ghost use Rattle.types_declared.specs.PackageView.{package_of};
 ghost use Rattle.refs_binding.specs.Indexed.{IsPackageNumbered};
-ghost use Rattle.refs_binding.specs.Uses.{IsPackage};
+ghost use Rattle.refs_binding.specs.Uses.{IsCheckedPackage};
 ghost use Rattle.refs_binding.specs.Workspaces.{home_path, known_in};
-ghost use Rattle.refactor_rename.specs.Literals.{IsTokenOf, IsUnnamedImport, IsLiteralIn, IsLiteralOf, IsLiteralFound};
+ghost use Rattle.refactor_rename.specs.Literals.{IsTokenOf, IsUnnamedImport, IsPathLiteralIn, IsPathLiteralOf, IsLiteralFound};
 
 use crate::renamed::Literal;
 use go_ast::FileTree;
@@ -37,7 +37,7 @@ fn token_of(files: &[FileTree], file: usize, token: usize) -> Result<Option<Lite
 
 /// The string literal of a declaration of a package, if it is an import without a name.
 fn literal_in(unit: Package<'_>, d: usize) -> Result<Option<Literal>, AllocError>
-    ensures { IfOk result (IsLiteralFound (IsLiteralIn (package_of unit.entry) d)) }
+    ensures { IfOk result (IsLiteralFound (IsPathLiteralIn (package_of unit.entry) d)) }
 {
     if d < unit.table.len() && is_unnamed(unit, d) {
         let at = unit.table.place(d);
@@ -55,7 +55,7 @@ pub fn literal_of(
 ) -> Result<Option<Literal>, AllocError>
     requires unit { IsPackageNumbered at (package_of unit) }
     requires home { home_path declaration.now ≡ Some (package_of unit).path }
-    ensures { IfOk result (IsLiteralFound (IsLiteralOf (IsPackage at.entry.workspace.now.graph (known_in at.entry.workspace.now.findings)) declaration.now)) }
+    ensures { IfOk result (IsLiteralFound (IsPathLiteralOf (IsCheckedPackage at.entry.workspace.now.graph (known_in at.entry.workspace.now.findings)) declaration.now)) }
 {
     match declaration {
         Declaration::Declared(_, d) => literal_in(unit, *d),

@@ -5,7 +5,7 @@ ghost use Rattle.types_declared.specs.Package.{spelled};
 ghost use Rattle.types_declared.specs.PackageView.{package_of, IsIndexOf};
 ghost use Rattle.refs_binding.specs.declared.declaration.Declaration.TheVariants.{Declared, Field, Method};
 ghost use Rattle.refs_binding.specs.Indexed.{IsPackageNumbered, IsIndexed};
-ghost use Rattle.refs_binding.specs.Uses.{IsPackage};
+ghost use Rattle.refs_binding.specs.Uses.{IsCheckedPackage};
 ghost use Rattle.refs_binding.specs.Workspaces.{home_path, known_in};
 ghost use Rattle.refactor_rename.specs.NewName.{IsReserved};
 ghost use Rattle.refactor_rename.specs.Naming.{RefusesFor, RefusesNameIn, RefusesName};
@@ -161,7 +161,7 @@ pub fn refuse_name(
     requires unit { IsPackageNumbered at (package_of of.now.unit) }
     requires indexed { IsIndexed of.now }
     requires home { home_path declaration.now ≡ Some (package_of of.now.unit).path }
-    ensures { RefusesName (IsPackage at.entry.workspace.now.graph (known_in at.entry.workspace.now.findings)) declaration.now name.now result }
+    ensures { RefusesName (IsCheckedPackage at.entry.workspace.now.graph (known_in at.entry.workspace.now.findings)) declaration.now name.now result }
 {
     refuse_in_unit(alloc, of.unit, of.index, declaration, name)
 }

@@ -8,7 +8,7 @@ use Rattle.go_scope.proofs.Innermost.{IsFirstAt, binds_once, first_of_bound, pre
 use Rattle.law_rename.specs.Renaming.{to_renamed, to_other, WouldCapture, new_name, own_use, assigned, WouldLose, repeats, own_repeats}
 use Rattle.law_rename.specs.Renaming.{HasNoConflictAt}
 use Rattle.law_rename.proofs.Conflicts.{own_is_no_use, binds_named}
-use Rattle.refactor_scopes.specs.Conflicts.{IsDisplacer, IsUseOf, WouldTake}
+use Rattle.refactor_scopes.specs.Conflicts.{IsDisplacer, IsUseInScopes, WouldTake}
 
 module _ (l : Layout) (nested : Nested l) (names : Names) (d : ℕ) (y : List ℕ) where
   block_of_left : (a b : ℕ) → IsLeftName l b → Displaces l a b → SameBlock l a b
@@ -84,7 +84,7 @@ module _ (l : Layout) (nested : Nested l) (names : Names) (d : ℕ) (y : List �
 
   -- what has another name than the new one, and is not bound to what is renamed
 
-  stranger_capture : (u : ℕ) → (u ≡ d → ⊥) → (names u ≡ y → ⊥) → (IsUseOf l names d u → ⊥) → (c : ℕ) → WouldCapture l names d y u c → ⊥
+  stranger_capture : (u : ℕ) → (u ≡ d → ⊥) → (names u ≡ y → ⊥) → (IsUseInScopes l names d u → ⊥) → (c : ℕ) → WouldCapture l names d y u c → ⊥
   stranger_capture u other apart not_own c (new_name i ny b hd q) = apart ny
   stranger_capture u other apart not_own c (own_use i b be q) = not_own (record { is_use = i; binds = b })
   stranger_capture u other apart not_own c (assigned (to_renamed de ny left s he)) = apart ny
@@ -94,7 +94,7 @@ module _ (l : Layout) (nested : Nested l) (names : Names) (d : ℕ) (y : List �
   stranger_loss u other apart (repeats de ny p still) = apart ny
   stranger_loss u other apart (own_repeats de ny p still) = other refl
 
-  pub kept_stranger : (u : ℕ) → (u ≡ d → ⊥) → (names u ≡ y → ⊥) → (IsUseOf l names d u → ⊥) → HasNoConflictAt l names d y u
+  pub kept_stranger : (u : ℕ) → (u ≡ d → ⊥) → (names u ≡ y → ⊥) → (IsUseInScopes l names d u → ⊥) → HasNoConflictAt l names d y u
   kept_stranger u other apart not_own = record { not_captured = stranger_capture u other apart not_own; not_lost = stranger_loss u other apart }
 
 -- uses
@@ -138,22 +138,22 @@ module _ (l : Layout) (nested : Nested l) (names : Names) (d : ℕ) (y : List �
 
   -- a use of what is renamed
 
-  not_taken : (u : ℕ) → IsUseOf l names d u → ((c : ℕ) → WouldTake l names d y u c → ⊥) → (c : ℕ) → WouldCapture l names d y u c → ⊥
+  not_taken : (u : ℕ) → IsUseInScopes l names d u → ((c : ℕ) → WouldTake l names d y u c → ⊥) → (c : ℕ) → WouldCapture l names d y u c → ⊥
   not_taken u own none c (new_name i ny b hd q) = fresh (own.binds.named ∙ ny)
   not_taken u own none c (own_use i b be q) =
       none c (record { declares = be.counts.declares; named = be.named; in_scope = be.in_scope; precedes = q })
   not_taken u own none c (assigned (to_renamed de ny left s he)) = not_declaring u own.is_use de
   not_taken u own none c (assigned (to_other de ny left s he)) = not_itself u own.is_use refl
 
-  pub kept_own_use : (u : ℕ) → IsUseOf l names d u → ((c : ℕ) → WouldTake l names d y u c → ⊥) → HasNoConflictAt l names d y u
+  pub kept_own_use : (u : ℕ) → IsUseInScopes l names d u → ((c : ℕ) → WouldTake l names d y u c → ⊥) → HasNoConflictAt l names d y u
   kept_own_use u own none = kept_by u own.is_use (not_taken u own none)
 
-  before_renamed : (u c e : ℕ) → IsUseOf l names d u → WouldTake l names d y u c → IsFirstAt l names y u e → Precedes l e d
+  before_renamed : (u c e : ℕ) → IsUseInScopes l names d u → WouldTake l names d y u c → IsFirstAt l names y u e → Precedes l e d
   before_renamed u c e own takes first = elim (first.precedes c takes.declares takes.named takes.in_scope) [
     | inl same ↦ (let P : ℕ → Type 0 = λ v. Precedes l v d in subst P same takes.precedes)
     | inr q ↦ precedes_trans l nested e c d u first.declares.may takes.declares.may dec.may first.in_scope takes.in_scope own.binds.in_scope q takes.precedes
   ]
 
-  pub captured_own_use : AllCount l names → (u c e : ℕ) → IsUseOf l names d u → WouldTake l names d y u c → BindsAt l names y u e → WouldCapture l names d y u e
+  pub captured_own_use : AllCount l names → (u c e : ℕ) → IsUseInScopes l names d u → WouldTake l names d y u c → BindsAt l names y u e → WouldCapture l names d y u e
   captured_own_use all u c e own takes b =
       own_use own.is_use own.binds b (before_renamed u c e own takes (first_of_bound l nested names all y u e b))

@@ -15,7 +15,7 @@ use Rattle.law_rename.specs.Renaming.{HasNoConflictAt}
 use Rattle.refactor_scopes.specs.declared.outcomes.RenameOutcome.{RenameOutcome}
 use Rattle.refactor_scopes.specs.declared.outcomes.ScopeConflict.{ScopeConflict}
 use Rattle.refactor_scopes.specs.declared.scope_rename.ScopeRename.{ScopeRename}
-use Rattle.refactor_scopes.specs.Conflicts.{FirstConflictAmong, IsConflictAt, IsScopeRename, IsUseOf, IsWritten}
+use Rattle.refactor_scopes.specs.Conflicts.{FirstConflictAmong, IsConflictAt, IsScopeRename, IsUseInScopes, IsWritten}
 use Rattle.refactor_scopes.specs.Outcomes.{IsOutcome, IsOutcomeConflict, conflict_outcome}
 use Rattle.refactor_scopes.proofs.Listing.{at_place, place_of, read_at}
 use Rattle.refactor_scopes.proofs.Nearest.{Nearest}
@@ -64,7 +64,7 @@ module _ (r : ScopeRename) (is : IsScopeRename r) where
   is_use_within u (inl i) = within_by is_use refl r.table.now.sites u i
   is_use_within u (inr i) = within_by is_left_name refl r.table.now.sites u i.0
 
-  pub use_within : (u : ℕ) → IsUseOf (layout_in r.table.now) names r.declaration u → u < size
+  pub use_within : (u : ℕ) → IsUseInScopes (layout_in r.table.now) names r.declaration u → u < size
   use_within u own = is_use_within u own.is_use
 
   use_identifier : (u : ℕ) → IsUse (layout_in r.table.now) names u → IsIdentifier (layout_in r.table.now) u
@@ -77,7 +77,7 @@ module _ (r : ScopeRename) (is : IsScopeRename r) where
       let b = formed.left_inner u i.0 in
       let z : File import.0 ≡ Inner b.0 b.1 b.2 = sym import.1 ∙ b.3 in cc
 
-  pub own_written : WellFormed (layout_in r.table.now) → (u : ℕ) → IsUseOf (layout_in r.table.now) names r.declaration u → IsWritten (layout_in r.table.now) u
+  pub own_written : WellFormed (layout_in r.table.now) → (u : ℕ) → IsUseInScopes (layout_in r.table.now) names r.declaration u → IsWritten (layout_in r.table.now) u
   own_written formed u own = (use_identifier u own.is_use, λ import same. use_no_import formed u own.is_use import)
 
   pub named_there : (i : ℕ) → i < length r.named.items → (get_or r.named.items i 0 < size) × (names (get_or r.named.items i 0) ≡ r.name.now)
@@ -93,7 +93,7 @@ module _ (r : ScopeRename) (is : IsScopeRename r) where
   use_at i x within at =
       let P : ℕ → Type 0 = λ v. v < size in
       subst P (sym (read_at r.uses.items i x within at))
-      (at_place (IsUseOf (layout_in r.table.now) names r.declaration) size r.uses.items is.uses i within).0
+      (at_place (IsUseInScopes (layout_in r.table.now) names r.declaration) size r.uses.items is.uses i within).0
 
   pub named_listed : (u : ℕ) → u < size → names u ≡ r.name.now → (j : ℕ) × (j < length r.named.items) × (get_or r.named.items j 0 ≡ u)
   named_listed u within named = place_of (λ v. names v ≡ r.name.now) size r.named.items is.named u within named

@@ -29,7 +29,7 @@ abbrev pub TellsConflict : Layout → Names → (d : ℕ) → (y : List ℕ) →
 TellsConflict l names d y c = FirstConflictAmong l names d y (λ u. Unit {0}) c
 
 -- `u` is a use of the declaration `d`.
-pub record IsUseOf (l : Layout) (names : Names) (d u : ℕ) : Type 0 where
+pub record IsUseInScopes (l : Layout) (names : Names) (d u : ℕ) : Type 0 where
   pub is_use : IsUse l names u
   pub binds : BindsAt l names (names u) u d
 
@@ -47,7 +47,7 @@ pub record IsScopeRename (r : ScopeRename) : Type 0 where
   pub declares : Declares (layout_in r.table.now) (names_in r.table.now) r.declaration
   pub other_name : names_in r.table.now r.declaration ≡ r.name.now → ⊥
   pub all_count : AllCount (layout_in r.table.now) (names_in r.table.now)
-  pub uses : ListsNumbers (IsUseOf (layout_in r.table.now) (names_in r.table.now) r.declaration) (length r.table.now.sites) r.uses.items
+  pub uses : ListsNumbers (IsUseInScopes (layout_in r.table.now) (names_in r.table.now) r.declaration) (length r.table.now.sites) r.uses.items
   pub named : ListsNumbers (λ u. names_in r.table.now u ≡ r.name.now) (length r.table.now.sites) r.named.items
 
 -- `z` is a declaration of the new name that keeps the renamed one from counting.

@@ -1,7 +1,7 @@
 //! The identifiers that a rename concerns, by ascending number: uses of a declaration, and identifiers of a name.
 ghost use Rattle.std.specs.Prelude.{◌≡◌, ◌<◌, ◌↔◌, length, IfOk, IsTrue};
 ghost use Rattle.go_scope.specs.Packages.{layout_in, names_in};
-ghost use Rattle.refactor_scopes.specs.Conflicts.{IsUseOf};
+ghost use Rattle.refactor_scopes.specs.Conflicts.{IsUseInScopes};
 ghost use Rattle.refactor_scopes.specs.Numbers.{ListsNumbers};
 
 use go_scope::table::ScopeTable;
@@ -10,7 +10,7 @@ use std::alloc::{AllocError, Global};
 /// Whether an identifier is a use of the declaration `d`.
 fn is_use_of(table: &ScopeTable<'_>, d: usize, u: usize) -> bool
     requires { u < length table.now.sites }
-    ensures { IsTrue result ↔ IsUseOf (layout_in table.now) (names_in table.now) d u }
+    ensures { IsTrue result ↔ IsUseInScopes (layout_in table.now) (names_in table.now) d u }
 {
     table.is_well_formed();
     match table.binding(u) {
@@ -25,7 +25,7 @@ pub(crate) fn uses_of(
     table: &ScopeTable<'_>,
     d: usize,
 ) -> Result<Vec<usize>, AllocError>
-    ensures { IfOk result (λ uses. ListsNumbers (IsUseOf (layout_in table.now) (names_in table.now) d) (length table.now.sites) uses.items) }
+    ensures { IfOk result (λ uses. ListsNumbers (IsUseInScopes (layout_in table.now) (names_in table.now) d) (length table.now.sites) uses.items) }
 {
     let mut uses = Vec::new(alloc);
     for u in 0..table.len() {

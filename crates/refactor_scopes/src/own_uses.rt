@@ -6,7 +6,7 @@ ghost use Rattle.go_scope.specs.Packages.{layout_in, names_in};
 ghost use Rattle.go_scope.specs.Scopes.{Holds};
 ghost use Rattle.go_scope.specs.Table.{Precedes};
 ghost use Rattle.go_scope.specs.WellFormed.{IsNotAfter};
-ghost use Rattle.refactor_scopes.specs.Conflicts.{FirstConflictAmong, IsScopeRename, IsUseOf, WouldTake};
+ghost use Rattle.refactor_scopes.specs.Conflicts.{FirstConflictAmong, IsScopeRename, IsUseInScopes, WouldTake};
 ghost use Rattle.refactor_scopes.specs.Numbers.{earlier, IsFirstNumber};
 
 use crate::order::{in_scope, precedes};
@@ -63,7 +63,7 @@ fn first_use_in_scope(rename: &ScopeRename<'_>, c: usize) -> Option<usize>
     requires read { IsScopeRename rename.now }
     requires in_range { c < length rename.now.table.now.sites }
     ensures { let l = layout_in rename.now.table.now in
-        IsFirstNumber (λ u. IsUseOf l (names_in rename.now.table.now) rename.now.declaration u × InScope l c u) result }
+        IsFirstNumber (λ u. IsUseInScopes l (names_in rename.now.table.now) rename.now.declaration u × InScope l c u) result }
 {
     rename.table.identifiers().are_laid_out();
     let n = count_before(rename, scope_start(rename.table.role(c)));
@@ -85,7 +85,7 @@ fn first_taken_by(rename: &ScopeRename<'_>, c: usize) -> Option<usize>
     requires named { names_in rename.now.table.now c ≡ rename.now.name.now }
     ensures { let l = layout_in rename.now.table.now in
         let names = names_in rename.now.table.now in
-        IsFirstNumber (λ u. IsUseOf l names rename.now.declaration u × WouldTake l names rename.now.declaration rename.now.name.now u c) result }
+        IsFirstNumber (λ u. IsUseInScopes l names rename.now.declaration u × WouldTake l names rename.now.declaration rename.now.name.now u c) result }
 {
     if rename.table.declares(c) && precedes(rename.table, c, rename.declaration) {
         first_use_in_scope(rename, c)
@@ -111,7 +111,7 @@ fn first_taken(rename: &ScopeRename<'_>) -> Option<usize>
     ensures { let l = layout_in rename.now.table.now in
         let names = names_in rename.now.table.now in
         let d = rename.now.declaration in
-        IsFirstNumber (λ u. IsUseOf l names d u × ((c : ℕ) × WouldTake l names d rename.now.name.now u c)) result }
+        IsFirstNumber (λ u. IsUseInScopes l names d u × ((c : ℕ) × WouldTake l names d rename.now.name.now u c)) result }
 {
     let mut first = None;
     for i in 0..rename.named.len() {
@@ -166,7 +166,7 @@ pub(crate) fn own_use_conflict(rename: &ScopeRename<'_>) -> Option<ScopeConflict
     ensures { let l = layout_in rename.now.table.now in
         let names = names_in rename.now.table.now in
         let d = rename.now.declaration in
-        FirstConflictAmong l names d rename.now.name.now (IsUseOf l names d) result }
+        FirstConflictAmong l names d rename.now.name.now (IsUseInScopes l names d) result }
 {
     rename.table.is_well_formed();
     match first_taken(rename) {

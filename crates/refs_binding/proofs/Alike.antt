@@ -10,16 +10,16 @@ use Rattle.refs_binding.specs.declared.declaration.Declaration.{Declaration}
 use Rattle.refs_binding.specs.declared.declaration.Declaration.TheVariants.{Predeclared, Declared, Field, Method}
 use Rattle.refs_binding.specs.Binding.{by_scope, by_package, by_member, by_name, BindsQualified}
 use Rattle.refs_binding.specs.Identifiers.{named_by}
-use Rattle.refs_binding.specs.Uses.{IsPackage, IsBoundTo, IsUseOf, IsFilePackage, HasDeclaration}
+use Rattle.refs_binding.specs.Uses.{IsCheckedPackage, IsBoundToDeclaration, IsUseOf, IsFilePackage, HasDeclaration}
 
 module _ (w : Workspace) (a b : Verdicts) (right : AreVerdicts w a) (also : AreVerdicts w b) where
-  pub package_for : (p : Package) → IsPackage w a p → IsPackage w b p
+  pub package_for : (p : Package) → IsCheckedPackage w a p → IsCheckedPackage w b p
   package_for p is = record {
     of_workspace = is.of_workspace;
     is_checked = package_as w p.path a b (right_alike w p.path a b (right_below w a right p.path) (right_below w b also p.path)) p is.is_checked;
   }
 
-  behind_for : (p : Package) (u : ℕ) (d : Declaration) → BindsQualified (IsPackage w a) p u d → BindsQualified (IsPackage w b) p u d
+  behind_for : (p : Package) (u : ℕ) (d : Declaration) → BindsQualified (IsCheckedPackage w a) p u d → BindsQualified (IsCheckedPackage w b) p u d
   behind_for p u (Predeclared n) h = h
   behind_for p u (Declared path n) h = record {
     behind = h.behind;
@@ -32,7 +32,7 @@ module _ (w : Workspace) (a b : Verdicts) (right : AreVerdicts w a) (also : AreV
   behind_for p u (Field s) h = h
   behind_for p u (Method s) h = h
 
-  pub bound_for : (p : Package) (u : ℕ) (d : Declaration) → IsBoundTo w a p u d → IsBoundTo w b p u d
+  pub bound_for : (p : Package) (u : ℕ) (d : Declaration) → IsBoundToDeclaration w a p u d → IsBoundToDeclaration w b p u d
   bound_for p u d (by_scope h) = by_scope h
   bound_for p u d (by_package h) = by_package (behind_for p u d h)
   bound_for p u d (by_member h) = by_member h

@@ -16,7 +16,7 @@ use Rattle.base_files.specs.declared.place.Place.{Place}
 use Rattle.workspace_check.specs.Verdicts.{Verdicts}
 use Rattle.refs_binding.specs.declared.bound_identifier.BoundIdentifier.{BoundIdentifier}
 use Rattle.refs_binding.specs.declared.declaration.Declaration.{Declaration}
-use Rattle.refs_binding.specs.Bindings.{AddsAll, AreBindings, AreBindingsAmong, IsBoundAt, IsBoundAmong, IsBound, bound_place}
+use Rattle.refs_binding.specs.Bindings.{AddsAll, AreBoundIdentifiers, AreBindingsAmong, IsBoundInPackage, IsBoundAmong, IsBound, bound_place}
 use Rattle.refs_binding.specs.Places.{place_cmp}
 use Rattle.refs_binding.specs.Uses.{IsUseOf}
 use Rattle.refs_binding.proofs.PlaceOrder.{place_cmp_total, place_cmp_exact}
@@ -24,21 +24,21 @@ use Rattle.refs_binding.proofs.Units.{numbered, number_within}
 
 -- what is bound in the package of a number, in some package
 
-pub bound_here : (w : Workspace) (known : Verdicts) (n : ℕ) (b : BoundIdentifier) → IsBoundAt w known n b → IsBound w known b
+pub bound_here : (w : Workspace) (known : Verdicts) (n : ℕ) (b : BoundIdentifier) → IsBoundInPackage w known n b → IsBound w known b
 bound_here w known n b h = record { used_in = h.used_in; is_package = h.is_package.is_package; user = h.bound.0; begins = h.bound.1.0; bound = h.bound.1.1 }
 
-pub bound_somewhere : (w : Workspace) (known : Verdicts) (b : BoundIdentifier) → IsBound w known b → (n : ℕ) × (n < length (package_paths w)) × IsBoundAt w known n b
+pub bound_somewhere : (w : Workspace) (known : Verdicts) (b : BoundIdentifier) → IsBound w known b → (n : ℕ) × (n < length (package_paths w)) × IsBoundInPackage w known n b
 bound_somewhere w known b h =
     let k = numbered w known h.used_in h.is_package in
     (k.0, number_within w known k.0 h.used_in k.1, record { used_in = h.used_in; is_package = k.1; bound = (h.user, (h.begins, h.bound)) })
 
 -- what is bound in the package of a number, in one of some numbers
 
-pub bound_among : (w : Workspace) (known : Verdicts) (IsOf : ℕ → Type 0) (n : ℕ) (b : BoundIdentifier) → IsOf n × IsBoundAt w known n b → IsBoundAmong w known IsOf b
+pub bound_among : (w : Workspace) (known : Verdicts) (IsOf : ℕ → Type 0) (n : ℕ) (b : BoundIdentifier) → IsOf n × IsBoundInPackage w known n b → IsBoundAmong w known IsOf b
 bound_among w known IsOf n b h = record { number = n; is_of = h.0; bound = h.1 }
 
 pub bound_in_range : (w : Workspace) (known : Verdicts) (IsOf : ℕ → Type 0) (b : BoundIdentifier) → IsBoundAmong w known IsOf b →
-    (n : ℕ) × (n < length (package_paths w)) × (IsOf n × IsBoundAt w known n b)
+    (n : ℕ) × (n < length (package_paths w)) × (IsOf n × IsBoundInPackage w known n b)
 bound_in_range w known IsOf b h = (h.number, number_within w known h.number h.bound.used_in h.bound.is_package, (h.is_of, h.bound))
 
 -- what a search answers
@@ -84,7 +84,7 @@ all_added P found sorted added same b = (
 -- the bindings of a workspace
 pub all_bound : (w : Workspace) (known : Verdicts) (found sorted : List BoundIdentifier) → AddsAll [] found (IsBound w known) →
     IsSortedBy (λ a b. is_lt (place_cmp (bound_place a) (bound_place b))) sorted →
-    ((b : BoundIdentifier) → Contains sorted b ↔ Contains found b) → AreBindings w known sorted
+    ((b : BoundIdentifier) → Contains sorted b ↔ Contains found b) → AreBoundIdentifiers w known sorted
 all_bound w known found sorted added order same = record { in_order = order; each = all_added (IsBound w known) found sorted added same }
 
 -- those of the packages of some numbers
@@ -94,12 +94,12 @@ pub all_among : (w : Workspace) (known : Verdicts) (IsOf : ℕ → Type 0) (foun
 all_among w known IsOf found sorted added order same = record { in_order = order; each = all_added (IsBoundAmong w known IsOf) found sorted added same }
 
 -- one of the bound identifiers that begin at a place
-pub bound_at : (w : Workspace) (known : Verdicts) (bs : List BoundIdentifier) (place : Place) (b : BoundIdentifier) → AreBindings w known bs → Contains bs b ×
+pub bound_at : (w : Workspace) (known : Verdicts) (bs : List BoundIdentifier) (place : Place) (b : BoundIdentifier) → AreBoundIdentifiers w known bs → Contains bs b ×
     (bound_place b ≡ place) → IsUseOf w known b.declaration place
 bound_at w known bs place b are is = subst (IsUseOf w known b.declaration) is.1 ((are.each b).0 is.0)
 
 -- and where there is none nothing is bound there
-pub unbound_at : (w : Workspace) (known : Verdicts) (bs : List BoundIdentifier) (place : Place) → AreBindings w known bs →
+pub unbound_at : (w : Workspace) (known : Verdicts) (bs : List BoundIdentifier) (place : Place) → AreBoundIdentifiers w known bs →
     ((b : BoundIdentifier) → Contains bs b → bound_place b ≡ place → ⊥) → (d : Declaration) → IsUseOf w known d place → ⊥
 unbound_at w known bs place are none d use_of =
     let b : BoundIdentifier = record { spot = record { path = place.path; offset = place.offset }; declaration = d } in

@@ -35,7 +35,7 @@ use Rattle.refs_binding.specs.Bindings.{AddsAll, BoundIn, bound_to, bound_place}
 use Rattle.refs_binding.specs.Identifiers.{BeginsAt}
 use Rattle.refs_binding.specs.Members.{member_at, IsMemberUseOf, IsMemberUseAt, IsMemberUseAmong}
 use Rattle.refs_binding.specs.Steps.{AddsPlaces, AtToken, AtFound, ArePlaces}
-use Rattle.refs_binding.specs.Uses.{IsPackage}
+use Rattle.refs_binding.specs.Uses.{IsCheckedPackage}
 use Rattle.refs_binding.proofs.AddingAll.{all_as, all_none, all_then, call_all, BelowAll, all_numbers}
 use Rattle.refs_binding.proofs.MemberPlaces.{IsFileUse, to_bound, from_bound}
 use Rattle.refs_binding.proofs.NamedPlaces.{found_to_name, name_to_found}
@@ -114,7 +114,7 @@ one_seen p d e h k same = elim (cases_lt d e) [
 
 pub one_by_package : (w : Workspace) (known : Verdicts) (p : Package) (u : ℕ) (path : List ℕ) →
     ((other : List ℕ) → IsQualifiedByPath p u other → other ≡ path) → (d e : Declaration) →
-    BindsQualified (IsPackage w known) p u d → BindsQualified (IsPackage w known) p u e → d ≡ e
+    BindsQualified (IsCheckedPackage w known) p u d → BindsQualified (IsCheckedPackage w known) p u e → d ≡ e
 one_by_package w known p u path only (Predeclared d) e h k = absurd h
 one_by_package w known p u path only (Declared a d) (Predeclared e) h k = absurd k
 one_by_package w known p u path only (Declared a d) (Declared b e) h k =

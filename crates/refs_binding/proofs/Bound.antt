@@ -7,7 +7,7 @@ use Rattle.types_declared.specs.Package.{Package}
 use Rattle.types_declared.proofs.Binding.{within}
 use Rattle.refs_binding.specs.declared.declaration.Declaration.{Declaration}
 use Rattle.refs_binding.specs.declared.declaration.Declaration.TheVariants.{Predeclared, Declared, Field, Method}
-use Rattle.refs_binding.specs.Binding.{BindsByScope, IsPredeclared}
+use Rattle.refs_binding.specs.Binding.{BindsByScope, IsPredeclaredNumber}
 
 -- what is bound to a declaration has its name
 pub bound_named : (l : Layout) (names : Names) (u d : ℕ) → IsBoundTo l names u d → names u ≡ names d
@@ -41,14 +41,14 @@ number_beyond p d ge u h = let lt : d < 11 = h.0 in absurd (omega arith)
 pub number_of_declared : (p : Package) (path : List ℕ) (d : ℕ) → 11 ≤ d → path ≡ p.path → (u : ℕ) →
     BindsByScope p u (Declared path d) ↔ IsBoundTo p.layout p.names u d
 number_of_declared p path d ge e u =
-    let unknown : IsPredeclared d → ⊥ = λ h. let lt : d < 11 = h in absurd (omega arith) in
+    let unknown : IsPredeclaredNumber d → ⊥ = λ h. let lt : d < 11 = h in absurd (omega arith) in
     ((λ h. h.2), (λ b. (e, unknown, b)))
 
 pub number_elsewhere : (p : Package) (path : List ℕ) (d : ℕ) → (path ≡ p.path → ⊥) → (u : ℕ) → BindsByScope p u (Declared path d) → ⊥
 number_elsewhere p path d n u h = n h.0
 
 pub number_too_small : (p : Package) (path : List ℕ) (d : ℕ) → d < 11 → (u : ℕ) → BindsByScope p u (Declared path d) → ⊥
-number_too_small p path d lt u h = let known : IsPredeclared d = lt in h.1 known
+number_too_small p path d lt u h = let known : IsPredeclaredNumber d = lt in h.1 known
 
 -- a declaration that counts is one of the table's
 pub seen_within : (sites : List Site) (d : ℕ) → Counts (sites_layout sites) (sites_names sites) d → d < length sites

@@ -15,7 +15,7 @@ use Rattle.types_expr.specs.Types.{BasicType}
 use Rattle.types_expr.specs.World.{AField, ABrokenMethod}
 use Rattle.refs_binding.specs.declared.declaration.Declaration.TheVariants.{Field, Method}
 use Rattle.refs_binding.specs.Binding.{declaration_of}
-use Rattle.refs_binding.specs.Identifiers.{IsName, named_by}
+use Rattle.refs_binding.specs.Identifiers.{IsNameToken, named_by}
 use Rattle.refs_binding.specs.Places.{place_cmp}
 
 -- the package a has the .go files of its folder, and not those of folders in it
@@ -52,13 +52,13 @@ unnamed_for_itself : named_by imports 2 ≡ 2
 unnamed_for_itself = refl
 
 -- Of these tokens the name is listed, and the literal is not, and neither is a missing token.
-name_is_listed : IsName (Some (record { class = Name; span = record { start = 18; end = 19 } }))
+name_is_listed : IsNameToken (Some (record { class = Name; span = record { start = 18; end = 19 } }))
 name_is_listed = refl
 
-literal_is_not : IsName (Some (record { class = InterpretedString; span = record { start = 20; end = 23 } })) → ⊥
+literal_is_not : IsNameToken (Some (record { class = InterpretedString; span = record { start = 20; end = 23 } })) → ⊥
 literal_is_not e = let z : ⊥ = cc in z
 
-no_token_is_not : IsName None → ⊥
+no_token_is_not : IsNameToken None → ⊥
 no_token_is_not h = h
 
 -- the fourth field of the package a, and its fourth function

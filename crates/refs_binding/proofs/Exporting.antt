@@ -15,7 +15,7 @@ use Rattle.refs_binding.specs.Binding.{Binds, BindsByScope, BindsQualified, Bind
 use Rattle.refs_binding.specs.Binding as binding
 use Rattle.refs_binding.specs.Steps as step
 use Rattle.refs_binding.specs.Steps.{AddsPlaces, UsesIn, BindsIn, QualifiesAs, IsExportedBy, IsDeclarationResult}
-use Rattle.refs_binding.specs.Uses.{IsPackage, IsBoundTo, IsUseOf}
+use Rattle.refs_binding.specs.Uses.{IsCheckedPackage, IsBoundToDeclaration, IsUseOf}
 use Rattle.refs_binding.specs.Workspaces.{IsPackageAt, ExportsAs, IsExportedUnder, IsUseAt, BindsMember}
 use Rattle.refs_binding.proofs.Adding.{Below, adds_as}
 use Rattle.refs_binding.proofs.Units.{one_package, one_at, numbered, number_within}
@@ -24,7 +24,7 @@ module _ (w : Workspace) (known : Verdicts) where
   -- behind the name of a declaration's package, by the name under which it is exported
 
   to_package : (p : Package) (d : Declaration) (name : Option (List ℕ)) → IsExportedUnder w known d name → (u : ℕ) → QualifiesAs p d name u →
-      BindsQualified (IsPackage w known) p u d
+      BindsQualified (IsCheckedPackage w known) p u d
   to_package p d None is u h = absurd h
   to_package p (Predeclared n) (Some name) is u h = absurd h
   to_package p (Declared path n) (Some name) is u h =
@@ -33,7 +33,7 @@ module _ (w : Workspace) (known : Verdicts) where
   to_package p (Method s) (Some name) is u h = absurd h
 
   from_package : (p : Package) (d : Declaration) (name : Option (List ℕ)) → IsExportedUnder w known d name → (u : ℕ) →
-      BindsQualified (IsPackage w known) p u d → QualifiesAs p d name u
+      BindsQualified (IsCheckedPackage w known) p u d → QualifiesAs p d name u
   from_package p (Predeclared n) name is u h = absurd h
   from_package p (Declared path n) None is u h = is h.other h.is_package h.of_path h.seen
   from_package p (Declared path n) (Some name) is u h =
@@ -42,13 +42,13 @@ module _ (w : Workspace) (known : Verdicts) where
   from_package p (Field s) name is u h = absurd h
   from_package p (Method s) name is u h = absurd h
 
-  to_bound : (p : Package) (d : Declaration) (name : Option (List ℕ)) → IsExportedUnder w known d name → (u : ℕ) → BindsIn p d name u → IsBoundTo w known p u d
+  to_bound : (p : Package) (d : Declaration) (name : Option (List ℕ)) → IsExportedUnder w known d name → (u : ℕ) → BindsIn p d name u → IsBoundToDeclaration w known p u d
   to_bound p d name is u (step.by_scope h) = binding.by_scope h
   to_bound p d name is u (step.by_package h) = binding.by_package (to_package p d name is u h)
   to_bound p d name is u (step.by_member h) = binding.by_member h
   to_bound p d name is u (step.by_name h) = binding.by_name h
 
-  from_bound : (p : Package) (d : Declaration) (name : Option (List ℕ)) → IsExportedUnder w known d name → (u : ℕ) → IsBoundTo w known p u d →
+  from_bound : (p : Package) (d : Declaration) (name : Option (List ℕ)) → IsExportedUnder w known d name → (u : ℕ) → IsBoundToDeclaration w known p u d →
       BindsIn p d name u
   from_bound p d name is u (binding.by_scope h) = step.by_scope h
   from_bound p d name is u (binding.by_package h) = step.by_package (from_package p d name is u h)
@@ -78,11 +78,11 @@ module _ (w : Workspace) (known : Verdicts) where
 
   -- what a package exports under a name
 
-  pub number_exported : (path name : List ℕ) (p : Package) → IsPackage w known p → p.path ≡ path → (d : ℕ) → DoesExport p d → p.names d ≡ name →
+  pub number_exported : (path name : List ℕ) (p : Package) → IsCheckedPackage w known p → p.path ≡ path → (d : ℕ) → DoesExport p d → p.names d ≡ name →
       (other : List ℕ) → other ≡ path → ExportsAs w known path name (Declared other d)
   number_exported path name p is e d seen named other same = (same, (p, (is, (e, (seen, named)))))
 
-  pub none_exported : (path name : List ℕ) (p : Package) → IsPackage w known p → p.path ≡ path → ((d : ℕ) → DoesExport p d → p.names d ≡ name → ⊥) →
+  pub none_exported : (path name : List ℕ) (p : Package) → IsCheckedPackage w known p → p.path ≡ path → ((d : ℕ) → DoesExport p d → p.names d ≡ name → ⊥) →
       (d : Declaration) → ExportsAs w known path name d → ⊥
   none_exported path name p is e none (Predeclared n) h = h
   none_exported path name p is e none (Declared other d) h =
@@ -98,7 +98,7 @@ module _ (w : Workspace) (known : Verdicts) where
   no_package path name none (Method s) h = h
 
   -- the name under which a declaration is exported
-  pub name_exported : (path : List ℕ) (d : ℕ) (p : Package) → IsPackage w known p → p.path ≡ path → (name : Option (List ℕ)) → IsExportedBy p d name →
+  pub name_exported : (path : List ℕ) (d : ℕ) (p : Package) → IsCheckedPackage w known p → p.path ≡ path → (name : Option (List ℕ)) → IsExportedBy p d name →
       IsExportedUnder w known (Declared path d) name
   name_exported path d p is e None none = λ q is_q e_q seen. none (subst (λ (x : Package). DoesExport x d) (one_package w known q p is_q is (e_q ∙ sym e)) seen)
   name_exported path d p is e (Some name) h = (p, (is, (e, h)))
@@ -107,10 +107,10 @@ module _ (w : Workspace) (known : Verdicts) where
 
   pub by_path : (p : Package) (u : ℕ) (path : List ℕ) → IsQualifiedByPath p u path → ((other : List ℕ) → IsQualifiedByPath p u other → other ≡ path) →
       (o : Option Declaration) →
-      IsDeclarationResult (ExportsAs w known path (p.names u)) o → IsDeclarationResult (BindsQualified (IsPackage w known) p u) o
+      IsDeclarationResult (ExportsAs w known path (p.names u)) o → IsDeclarationResult (BindsQualified (IsCheckedPackage w known) p u) o
   by_path p u path behind only None h = none
     where
-      none : (d : Declaration) → BindsQualified (IsPackage w known) p u d → ⊥
+      none : (d : Declaration) → BindsQualified (IsCheckedPackage w known) p u d → ⊥
       none (Predeclared n) k = k
       none (Declared other n) k =
           let e : other ≡ path = only other k.behind in
@@ -131,7 +131,7 @@ module _ (w : Workspace) (known : Verdicts) where
   by_path p u path behind only (Some (Field s)) h = h
   by_path p u path behind only (Some (Method s)) h = h
 
-  pub behind_none : (p : Package) (u : ℕ) → ((path : List ℕ) → IsQualifiedByPath p u path → ⊥) → (d : Declaration) → BindsQualified (IsPackage w known) p u d → ⊥
+  pub behind_none : (p : Package) (u : ℕ) → ((path : List ℕ) → IsQualifiedByPath p u path → ⊥) → (d : Declaration) → BindsQualified (IsCheckedPackage w known) p u d → ⊥
   behind_none p u none (Predeclared n) k = k
   behind_none p u none (Declared other n) k = none other k.behind
   behind_none p u none (Field s) k = k

@@ -11,7 +11,7 @@ use Rattle.go_ast.specs.SourceFile.{SourceFile, FileParts, source_of, offset_of}
 use Rattle.go_scope.specs.Packages.{IsPlaceOf}
 use Rattle.types_declared.proofs.PathParts.{source_at as file_at}
 use Rattle.refs_binding.specs.declared.place_key.PlaceKey.{PlaceKey}
-use Rattle.refs_binding.specs.Identifiers.{IsName, NameBegins}
+use Rattle.refs_binding.specs.Identifiers.{IsNameToken, NameBegins}
 use Rattle.refs_binding.specs.Steps.{AddsPlaces}
 use Rattle.refs_binding.proofs.Adding.{adds_none, adds_one}
 
@@ -27,11 +27,11 @@ place_of_name (f ∷ fs) (suc i) token path offset h = place_of_name fs i token 
 
 -- whether a token is a name
 
-pub none_named : (o : Option Piece) → o ≡ None → IsTrue false ↔ IsName o
-none_named o e = ((λ t. absurd (false≢true t)), (λ h. absurd (subst IsName e h)))
+pub none_named : (o : Option Piece) → o ≡ None → IsTrue false ↔ IsNameToken o
+none_named o e = ((λ t. absurd (false≢true t)), (λ h. absurd (subst IsNameToken e h)))
 
-pub is_named : (o : Option Piece) (p : Piece) (b : Bool) → o ≡ Some p → IsTrue b ↔ (p.class ≡ Name) → IsTrue b ↔ IsName o
-is_named o p b e h = subst (λ x. IsTrue b ↔ IsName x) (sym e) h
+pub is_named : (o : Option Piece) (p : Piece) (b : Bool) → o ≡ Some p → IsTrue b ↔ (p.class ≡ Name) → IsTrue b ↔ IsNameToken o
+is_named o p b e h = subst (λ x. IsTrue b ↔ IsNameToken x) (sym e) h
 
 abbrev spot_from : List ℕ → ℕ → PlaceKey
 spot_from path offset = record { path = path; offset = offset }
@@ -40,7 +40,7 @@ same_spot : (f : SourceFile) (token : ℕ) (s t : PlaceKey) → NameBegins (Some
 same_spot f token s t h k = ap (λ p. spot_from p s.offset) (sym h.1 ∙ k.1) ∙ ap (λ o. spot_from t.path o) (sym h.2 ∙ k.2)
 
 -- the place of a name of a file is pushed
-pub name_pushed : (a b : List PlaceKey) (f : SourceFile) (token : ℕ) (s : PlaceKey) → IsName (slice_get (tokens_in f.cut) token) → b ≡ a ++ s ∷ [] →
+pub name_pushed : (a b : List PlaceKey) (f : SourceFile) (token : ℕ) (s : PlaceKey) → IsNameToken (slice_get (tokens_in f.cut) token) → b ≡ a ++ s ∷ [] →
     f.path ≡ s.path → offset_of f token ≡ s.offset →
     AddsPlaces a b (λ place. NameBegins (Some f) token place.path place.offset)
 name_pushed a b f token s named pushed path_is offset_is =
@@ -48,7 +48,7 @@ name_pushed a b f token s named pushed path_is offset_is =
     (λ t h. same_spot f token s t (named, path_is, offset_is) h)
 
 -- a token that is no name
-pub not_a_name : (a : List PlaceKey) (f : SourceFile) (token : ℕ) → (IsName (slice_get (tokens_in f.cut) token) → ⊥) →
+pub not_a_name : (a : List PlaceKey) (f : SourceFile) (token : ℕ) → (IsNameToken (slice_get (tokens_in f.cut) token) → ⊥) →
     AddsPlaces a a (λ place. NameBegins (Some f) token place.path place.offset)
 not_a_name a f token none = adds_none a (λ place. NameBegins (Some f) token place.path place.offset) (λ place h. none h.0)
 

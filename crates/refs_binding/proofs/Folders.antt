@@ -8,9 +8,9 @@ use Rattle.types_declared.specs.Package.{Package}
 use Rattle.workspace_check.specs.Verdicts.{Verdicts}
 use Rattle.workspace_check.proofs.PackageFiles as checked
 use Rattle.refs_binding.specs.Identifiers.{BeginsAt, NameBegins, file_of}
-use Rattle.refs_binding.specs.Uses.{IsPackage}
+use Rattle.refs_binding.specs.Uses.{IsCheckedPackage}
 
-pub file_in_folder : (w : Workspace) (known : Verdicts) (p : Package) → IsPackage w known p → (rank : ℕ) (f : SourceFile) → slice_get p.files rank ≡ Some f →
+pub file_in_folder : (w : Workspace) (known : Verdicts) (p : Package) → IsCheckedPackage w known p → (rank : ℕ) (f : SourceFile) → slice_get p.files rank ≡ Some f →
     folder f.path ≡ p.path
 file_in_folder w known p is rank f at = checked.file_in_folder w known p.path p is.is_checked rank f at
 
@@ -19,7 +19,7 @@ pub some_file : (o : Option SourceFile) (token : ℕ) (path : List ℕ) (offset 
 some_file None token path offset h = absurd h
 some_file (Some f) token path offset h = (f, (refl, h.1))
 
-pub begins_in_folder : (w : Workspace) (known : Verdicts) (p : Package) → IsPackage w known p → (path : List ℕ) (offset u : ℕ) →
+pub begins_in_folder : (w : Workspace) (known : Verdicts) (p : Package) → IsCheckedPackage w known p → (path : List ℕ) (offset u : ℕ) →
     BeginsAt p path offset u →
     p.path ≡ folder path
 begins_in_folder w known p is path offset u b =

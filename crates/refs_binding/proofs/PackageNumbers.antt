@@ -11,7 +11,7 @@ use Rattle.workspace_check.specs.declared.findings.Findings.{Findings}
 use Rattle.workspace_check.specs.Verdicts.{Verdicts, IsPackageIn}
 use Rattle.workspace_check.specs.KnownFindings.{verdicts_by}
 use Rattle.workspace_check.proofs.OneVerdict.{right_below, verdict_by, without_faults}
-use Rattle.refs_binding.specs.Uses.{IsPackage}
+use Rattle.refs_binding.specs.Uses.{IsCheckedPackage}
 use Rattle.refs_binding.specs.Workspaces.{IsFaultless, IsPackageAt, known_in}
 use Rattle.refs_binding.proofs.Units.{no_fault_in, one_package}
 use Rattle.refs_binding.specs.DeclaringPlaces.{InPackage}
@@ -38,16 +38,16 @@ package_there w found h n lt =
 
 -- A property of the package of a number is one of the package of its path.
 pub in_package : (w : Workspace) (known : Verdicts) (n : ℕ) (p : Package) (path : List ℕ) (P : Package → Type 0) → IsPackageAt w known n p →
-    slice_get (package_paths w) n ≡ Some path → P p → InPackage (IsPackage w known) path P
+    slice_get (package_paths w) n ≡ Some path → P p → InPackage (IsCheckedPackage w known) path P
 in_package w known n p path P is at h = record { inside = p; is_package = is.is_package; of_path = same_Some p.path path (sym is.has_number ∙ at); holds = h }
 
 pub of_package : (w : Workspace) (known : Verdicts) (n : ℕ) (p : Package) (path : List ℕ) (P : Package → Type 0) → IsPackageAt w known n p →
-    slice_get (package_paths w) n ≡ Some path → InPackage (IsPackage w known) path P → P p
+    slice_get (package_paths w) n ≡ Some path → InPackage (IsCheckedPackage w known) path P → P p
 of_package w known n p path P is at h =
     let same : h.inside ≡ p = one_package w known h.inside p h.is_package is.is_package (h.of_path ∙ sym (same_Some p.path path (sym is.has_number ∙ at))) in
     subst P same h.holds
 
 -- no package has a path that is that of none
 pub no_package : (w : Workspace) (known : Verdicts) (path : List ℕ) (P : Package → Type 0) → (Contains (package_paths w) path → ⊥) →
-    InPackage (IsPackage w known) path P → ⊥
+    InPackage (IsCheckedPackage w known) path P → ⊥
 no_package w known path P none h = none (subst (Contains (package_paths w)) h.of_path h.is_package.of_workspace)

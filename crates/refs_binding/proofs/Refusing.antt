@@ -8,7 +8,7 @@ use Rattle.base_files.specs.declared.refusal.Refusal.TheVariants as refusal
 use Rattle.workspace_check.specs.declared.findings.Findings.{Findings}
 use Rattle.workspace_check.specs.Found.{AreFindings}
 use Rattle.workspace_check.specs.FaultLists.{ListsFaults}
-use Rattle.refs_binding.specs.Uses.{IsFile, AnswersUses, AnswersUsesAt}
+use Rattle.refs_binding.specs.Uses.{HasFileAt, AnswersUses, AnswersUsesAt}
 use Rattle.refs_binding.specs.Workspaces.{IsFaultless, RefusesFirst, RefusesFaults, AnswersUsesIn}
 use Rattle.refs_binding.proofs.Units.{sound_by_list}
 
@@ -110,7 +110,7 @@ uses_told w path offset list (Err r) h = refusal_told w path offset list r h
 
 -- a file of the workspace
 
-refusal_of_file : (w : Workspace) (path : List ℕ) (offset : ℕ) → IsFile w path → (r : Refusal) → AnswersUsesIn w path offset (Err r) →
+refusal_of_file : (w : Workspace) (path : List ℕ) (offset : ℕ) → HasFileAt w path → (r : Refusal) → AnswersUsesIn w path offset (Err r) →
     AnswersUses w path offset (Err r)
 refusal_of_file w path offset is refusal.Memory h = h
 refusal_of_file w path offset is refusal.BadCommand h = absurd h
@@ -137,7 +137,7 @@ refusal_of_file w path offset is refusal.Already h = absurd h
 refusal_of_file w path offset is refusal.NoJob h = absurd h
 refusal_of_file w path offset is refusal.BodyShort h = absurd h
 
-pub uses_of_file : (w : Workspace) (path : List ℕ) (offset : ℕ) → IsFile w path → (r : Result (List Place) Refusal) → AnswersUsesIn w path offset r →
+pub uses_of_file : (w : Workspace) (path : List ℕ) (offset : ℕ) → HasFileAt w path → (r : Result (List Place) Refusal) → AnswersUsesIn w path offset r →
     AnswersUses w path offset r
 uses_of_file w path offset is (Ok places) h = (is, h.0, h.1)
 uses_of_file w path offset is (Err r) h = refusal_of_file w path offset is r h

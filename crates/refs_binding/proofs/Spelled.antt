@@ -6,7 +6,7 @@ use Rattle.base_files.specs.Workspace.{Workspace}
 use Rattle.go_ast.specs.SourceFile.{FileParts, source_of}
 use Rattle.go_scope.specs.declared.model.Role.TheVariants.{NotLexical}
 use Rattle.go_scope.specs.declared.model.Purpose.TheVariants.{Selected}
-use Rattle.go_scope.specs.Site.{Site, Source, or_blank}
+use Rattle.go_scope.specs.Site.{Site, TokenSpellings, or_blank}
 use Rattle.go_scope.specs.FileSites.{SpelledFile, universe, universe_site, file_sites, files_sites, package_sites}
 use Rattle.go_scope.specs.Named.{is_unnamed_import, named_where, named_sites, with_names}
 use Rattle.go_scope.specs.SpelledFiles.{spelled_file}
@@ -35,7 +35,7 @@ files_spelled : (rank : ℕ) (fs : List SpelledFile) → Each (IsSpelledIn rank 
 unfolding files_sites
 files_spelled rank [] = tt
 files_spelled rank (f ∷ fs) =
-    let s : Source = record { rank = rank; spell = f.spell } in
+    let s : TokenSpellings = record { rank = rank; spell = f.spell } in
     each_append (IsSpelledIn rank (f ∷ fs)) (file_sites s f.tree) (files_sites (suc rank) fs)
     (in_file s (IsSpelledIn rank (f ∷ fs))
     (λ i role. record { number = zero; file = f; at = (let z : rank + 0 ≡ rank = omega arith in z); of_number = refl; called = refl }) f.tree)

@@ -29,7 +29,7 @@ use Rattle.workspace_check.specs.declared.fault.FileFault.{FileFault}
 use Rattle.workspace_check.specs.declared.finding.Finding.{Finding}
 use Rattle.workspace_check.specs.declared.findings.Findings.{Findings}
 use Rattle.workspace_check.specs.Faults.{placed, fault_cmp}
-use Rattle.workspace_check.specs.FaultLists.{AreListed, ListsFaults}
+use Rattle.workspace_check.specs.FaultLists.{AreListedFaults, ListsFaults}
 use Rattle.workspace_check.specs.Found.{AreFindings}
 use Rattle.workspace_check.specs.KnownFindings.{IsFinding, verdicts_by}
 use Rattle.workspace_check.specs.Verdicts.{Verdicts, AreSeen, IsPackageIn, IsFaultBy}
@@ -38,7 +38,7 @@ use Rattle.workspace_check.proofs.Members.{empty_by}
 use Rattle.workspace_check.proofs.OnePackage.{one_checked}
 use Rattle.workspace_check.proofs.OneVerdict.{right_alike, right_below, verdict_by, without_faults}
 use Rattle.refs_binding.specs.Members.{AreOwnDefinitions, definitions_or_none}
-use Rattle.refs_binding.specs.Uses.{IsPackage}
+use Rattle.refs_binding.specs.Uses.{IsCheckedPackage}
 use Rattle.refs_binding.specs.Packages.{IsSeenBy, IsTableAs}
 use Rattle.refs_binding.specs.Workspaces.{IsFaultless, IsPackageAt}
 
@@ -65,7 +65,7 @@ first_unread (fault {e = e} {es = es} {f = f} is rest) w p within known sound =
     })))
 
 -- a package whose list of faults is empty
-pub none_listed : (P : FileFault → Type 0) (list : List FileFault) → AreListed P list → list ≡ [] → (f : FileFault) → P f → ⊥
+pub none_listed : (P : FileFault → Type 0) (list : List FileFault) → AreListedFaults P list → list ≡ [] → (f : FileFault) → P f → ⊥
 none_listed P list listed empty f is = nothing_in f (subst (λ l. Contains l f) empty ((listed.each f).1 is))
 
 pub all_read : (w : Workspace) (known : Verdicts) (p : List ℕ) (ts : List FileParts) (fs : List FaultyParts) → ((f : FileFault) → IsFaultBy w known p f → ⊥) →
@@ -172,14 +172,14 @@ table_at w known n ts seen laid parsed are is = λ path at.
 
 -- a package is checked as one thing
 
-pub one_package : (w : Workspace) (known : Verdicts) (p q : Package) → IsPackage w known p → IsPackage w known q → p.path ≡ q.path → p ≡ q
+pub one_package : (w : Workspace) (known : Verdicts) (p q : Package) → IsCheckedPackage w known p → IsCheckedPackage w known q → p.path ≡ q.path → p ≡ q
 one_package w known p q h k e = one_checked w known q.path p q (subst (λ x. IsPackageIn w known x p) e h.is_checked) k.is_checked
 
 pub one_at : (w : Workspace) (known : Verdicts) (n : ℕ) (p q : Package) → IsPackageAt w known n p → IsPackageAt w known n q → p ≡ q
 one_at w known n p q h k = one_package w known p q h.is_package k.is_package (same_Some p.path q.path (sym h.has_number ∙ k.has_number))
 
 -- each package of the workspace has a number
-pub numbered : (w : Workspace) (known : Verdicts) (p : Package) → IsPackage w known p → (n : ℕ) × (IsPackageAt w known n p)
+pub numbered : (w : Workspace) (known : Verdicts) (p : Package) → IsCheckedPackage w known p → (n : ℕ) × (IsPackageAt w known n p)
 numbered w known p h = let n = number w p.path h.of_workspace in (n.0, record { has_number = n.1; is_package = h })
 
 pub number_within : (w : Workspace) (known : Verdicts) (n : ℕ) (p : Package) → IsPackageAt w known n p → n < length (package_paths w)

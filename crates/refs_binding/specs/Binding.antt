@@ -19,13 +19,13 @@ use Rattle.refs_binding.specs.declared.declaration.Declaration.TheVariants.{Pred
 -- By scopes
 
 -- `d` is the number of a predeclared name. These come first, with equal numbers in all packages.
-abbrev pub IsPredeclared : ℕ → Type 0
-IsPredeclared d = d < length universe
+abbrev pub IsPredeclaredNumber : ℕ → Type 0
+IsPredeclaredNumber d = d < length universe
 
 -- The scopes of the package bind `u` to the declaration, which is predeclared or declared in a scope of this package.
 abbrev pub BindsByScope : Package → ℕ → Declaration → Type 0
-BindsByScope p u (Predeclared d) = IsPredeclared d × IsBoundTo p.layout p.names u d
-BindsByScope p u (Declared path d) = (path ≡ p.path) × (IsPredeclared d → ⊥) × IsBoundTo p.layout p.names u d
+BindsByScope p u (Predeclared d) = IsPredeclaredNumber d × IsBoundTo p.layout p.names u d
+BindsByScope p u (Declared path d) = (path ≡ p.path) × (IsPredeclaredNumber d → ⊥) × IsBoundTo p.layout p.names u d
 BindsByScope p u (Field s) = ⊥
 BindsByScope p u (Method s) = ⊥
 

@@ -11,7 +11,7 @@ use Rattle.refs_binding.specs.declared.declaration.Declaration.{Declaration}
 use Rattle.refs_binding.specs.declared.place_key.PlaceKey.{PlaceKey}
 use Rattle.refs_binding.specs.Places.{place_cmp}
 use Rattle.refs_binding.specs.Steps.{UsesIn, place_of}
-use Rattle.refs_binding.specs.Uses.{IsUseOf, IsBoundTo}
+use Rattle.refs_binding.specs.Uses.{IsUseOf, IsBoundToDeclaration}
 use Rattle.refs_binding.specs.Workspaces.{IsPackageAt}
 
 -- `new` holds the elements of `old` and those that satisfy `P`, and no others.
@@ -33,10 +33,10 @@ abbrev pub BoundIn : Package → (ℕ → Declaration → Type 0) → BoundIdent
 BoundIn p K b = UsesIn p (λ u. K u b.declaration) (bound_place b)
 
 -- `b` is a bound identifier of the package of this number.
-pub record IsBoundAt (w : Workspace) (known : Verdicts) (number : ℕ) (b : BoundIdentifier) : Type 0 where
+pub record IsBoundInPackage (w : Workspace) (known : Verdicts) (number : ℕ) (b : BoundIdentifier) : Type 0 where
   pub used_in : Package
   pub is_package : IsPackageAt w known number used_in
-  pub bound : BoundIn used_in (IsBoundTo w known used_in) b
+  pub bound : BoundIn used_in (IsBoundToDeclaration w known used_in) b
 
 -- `b` is a bound identifier of some package of the workspace.
 abbrev pub IsBound : Workspace → Verdicts → BoundIdentifier → Type 0
@@ -46,10 +46,10 @@ IsBound w known b = IsUseOf w known b.declaration (bound_place b)
 pub record IsBoundAmong (w : Workspace) (known : Verdicts) (IsOf : ℕ → Type 0) (b : BoundIdentifier) : Type 0 where
   pub number : ℕ
   pub is_of : IsOf number
-  pub bound : IsBoundAt w known number b
+  pub bound : IsBoundInPackage w known number b
 
 -- The list holds just the bound identifiers of the workspace, sorted by place.
-pub record AreBindings (w : Workspace) (known : Verdicts) (list : List BoundIdentifier) : Type 0 where
+pub record AreBoundIdentifiers (w : Workspace) (known : Verdicts) (list : List BoundIdentifier) : Type 0 where
   pub in_order : IsSortedBy (λ a b. is_lt (place_cmp (bound_place a) (bound_place b))) list
   pub each : (b : BoundIdentifier) → Contains list b ↔ IsBound w known b
 

@@ -8,7 +8,7 @@ use Rattle.types_declared.specs.Laid.{literal_of}
 use Rattle.types_declared.specs.Package.{Package}
 use Rattle.refs_binding.specs.declared.declaration.Declaration.{Declaration}
 use Rattle.refs_binding.specs.declared.declaration.Declaration.TheVariants.{Predeclared, Declared, Field, Method}
-use Rattle.refs_binding.specs.Binding.{IsPredeclared, IsFieldAt, IsMethodAt}
+use Rattle.refs_binding.specs.Binding.{IsPredeclaredNumber, IsFieldAt, IsMethodAt}
 
 -- `P` holds for the package of this path.
 pub record InPackage (IsPackage : Package → Type 0) (path : List ℕ) (P : Package → Type 0) : Type 0 where
@@ -36,7 +36,7 @@ TokenAt p at place = TokenBegins (slice_get p.files at.file) at.index place
 -- The declaration `d` of the package's own scopes counts and is at this position. An import is at the position of its path literal, even if
 -- it has a name.
 pub record IsScopeAt (p : Package) (d : ℕ) (at : Position) : Type 0 where
-  pub own : IsPredeclared d → ⊥
+  pub own : IsPredeclaredNumber d → ⊥
   pub counts : Counts p.layout p.names d
   pub stands : p.layout.place (literal_of p.layout d) ≡ at
 
@@ -48,11 +48,11 @@ IsPositionOf p (Field s) at = IsFieldAt p s.rank at
 IsPositionOf p (Method s) at = IsMethodAt p s.rank at
 
 -- A declaration of the package is declared at the place.
-pub record DeclaresAt (p : Package) (d : Declaration) (place : Place) : Type 0 where
+pub record HasDeclarationAt (p : Package) (d : Declaration) (place : Place) : Type 0 where
   pub at : Position
   pub is_at : IsPositionOf p d at
   pub begins : TokenAt p at place
 
 -- The declaration is declared at the place. A predeclared name has no place.
 abbrev pub IsDeclaredAt : (Package → Type 0) → Declaration → Place → Type 0
-IsDeclaredAt IsPackage d place = InHomePackage IsPackage d (λ p. DeclaresAt p d place)
+IsDeclaredAt IsPackage d place = InHomePackage IsPackage d (λ p. HasDeclarationAt p d place)

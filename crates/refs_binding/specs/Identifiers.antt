@@ -20,14 +20,14 @@ abbrev pub file_of : Package → ℕ → Option SourceFile
 file_of p u = slice_get p.files (p.layout.place u).file
 
 -- The token is an identifier.
-abbrev pub IsName : Option Piece → Type 0
-IsName None = ⊥
-IsName (Some token) = token.class ≡ Name
+abbrev pub IsNameToken : Option Piece → Type 0
+IsNameToken None = ⊥
+IsNameToken (Some token) = token.class ≡ Name
 
 -- The token of the file is an identifier and begins at this path and byte offset.
 abbrev pub NameBegins : Option SourceFile → ℕ → List ℕ → ℕ → Type 0
 NameBegins None token path offset = ⊥
-NameBegins (Some f) token path offset = IsName (slice_get (tokens_in f.cut) token) × (f.path ≡ path) × (offset_of f token ≡ offset)
+NameBegins (Some f) token path offset = IsNameToken (slice_get (tokens_in f.cut) token) × (f.path ≡ path) × (offset_of f token ≡ offset)
 
 -- The identifier `u` begins at this path and byte offset. It is no import's path literal.
 abbrev pub BeginsAt : Package → List ℕ → ℕ → ℕ → Type 0

@@ -10,7 +10,7 @@ use Rattle.refs_binding.specs.Members.{AreOwnDefinitions}
 use Rattle.refs_binding.specs.Workspaces.{known_in, IsPackageAt}
 
 -- The number is that of a package of a workspace without faults.
-pub record IsNumbered (at : Numbered) : Type 0 where
+pub record IsPackageNumber (at : Numbered) : Type 0 where
   pub in_range : at.number < length (package_paths at.workspace.now.graph)
 
 -- `p` is the package of the number.

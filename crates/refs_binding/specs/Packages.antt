@@ -42,5 +42,5 @@ pub record AreRead (w : Workspace) (found : Findings) (all : List ExportTable) (
   pub tables : HoldsOfEach (IsTableOf w (known_in found) all) (length (package_paths w)) list
 
 -- The packages of a workspace without faults were read.
-abbrev pub ArePackages : Packages → Type 0
-ArePackages p = AreRead p.workspace.now.graph p.workspace.now.findings p.seen.now p.tables.items
+abbrev pub ArePackagesRead : Packages → Type 0
+ArePackagesRead p = AreRead p.workspace.now.graph p.workspace.now.findings p.seen.now p.tables.items

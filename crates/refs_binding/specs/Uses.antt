@@ -19,29 +19,29 @@ use Rattle.refs_binding.specs.Places.{place_cmp}
 use Rattle.refs_binding.specs.Binding.{Binds}
 
 -- `p` is a package of the workspace, as it is checked.
-pub record IsPackage (w : Workspace) (known : Verdicts) (p : Package) : Type 0 where
+pub record IsCheckedPackage (w : Workspace) (known : Verdicts) (p : Package) : Type 0 where
   pub of_workspace : Contains (package_paths w) p.path
   pub is_checked : IsPackageIn w known p.path p
 
 -- The identifier `u` of the package `p` is bound to the declaration.
-abbrev pub IsBoundTo : Workspace → Verdicts → Package → ℕ → Declaration → Type 0
-IsBoundTo w known p u d = Binds (IsPackage w known) p u d
+abbrev pub IsBoundToDeclaration : Workspace → Verdicts → Package → ℕ → Declaration → Type 0
+IsBoundToDeclaration w known p u d = Binds (IsCheckedPackage w known) p u d
 
 -- The identifier that `u` stands for is bound to the declaration. The path literal of an import with a name stands for that name.
 abbrev pub BindsThroughLiteral : Workspace → Verdicts → Package → ℕ → Declaration → Type 0
-BindsThroughLiteral w known p u d = IsBoundTo w known p (named_by p.layout u) d
+BindsThroughLiteral w known p u d = IsBoundToDeclaration w known p (named_by p.layout u) d
 
 -- An identifier of some package begins at the place and is bound to the declaration. It is no import's path literal.
 pub record IsUseOf (w : Workspace) (known : Verdicts) (d : Declaration) (place : Place) : Type 0 where
   pub used_in : Package
-  pub is_package : IsPackage w known used_in
+  pub is_package : IsCheckedPackage w known used_in
   pub user : ℕ
   pub begins : BeginsAt used_in place.path place.offset user
-  pub bound : IsBoundTo w known used_in user d
+  pub bound : IsBoundToDeclaration w known used_in user d
 
 -- `p` is the package of the folder of a file, as it is checked.
 pub record IsFilePackage (w : Workspace) (known : Verdicts) (path : List ℕ) (p : Package) : Type 0 where
-  pub is_package : IsPackage w known p
+  pub is_package : IsCheckedPackage w known p
   pub of_folder : p.path ≡ folder path
 
 -- The identifier or path literal at the byte is bound to the declaration.
@@ -79,8 +79,8 @@ pub record HasNoDeclaration (w : Workspace) (path : List ℕ) (offset : ℕ) : T
   pub unbound : (d : Declaration) → BindsThroughLiteral w known asked_in number d → ⊥
 
 -- `path` is a legal path of a file, and the workspace has a file there.
-abbrev pub IsFile : Workspace → List ℕ → Type 0
-IsFile w path = IsPath 2 path × (files.get w path ≢ None)
+abbrev pub HasFileAt : Workspace → List ℕ → Type 0
+HasFileAt w path = IsPath 2 path × (files.get w path ≢ None)
 
 -- The first fault of the workspace's fault list.
 pub record HasFirstFault (w : Workspace) (place : Place) (kind : FaultKind) : Type 0 where
@@ -98,11 +98,11 @@ AnswersUsesAt w path offset (Err refusal) = ⊥
 -- The answer of `uses`: the places of all identifiers bound to the declaration of the identifier at the byte, or a refusal. The refusals
 -- are checked in this order: no legal path, no such file, the first fault, no identifier at the byte, no declaration.
 abbrev pub AnswersUses : Workspace → List ℕ → ℕ → Result (List Place) Refusal → Type 0
-AnswersUses w path offset (Ok places) = IsFile w path × ListsFaults w [] × ListsUses w path offset places
+AnswersUses w path offset (Ok places) = HasFileAt w path × ListsFaults w [] × ListsUses w path offset places
 AnswersUses w path offset (Err BadPath) = ¬ (IsPath 2 path)
 AnswersUses w path offset (Err NoFile) = IsPath 2 path × (files.get w path ≡ None)
-AnswersUses w path offset (Err (Faulty place kind)) = IsFile w path × HasFirstFault w place kind
-AnswersUses w path offset (Err NoIdentifier) = IsFile w path × ListsFaults w [] × HasNoIdentifier w path offset
-AnswersUses w path offset (Err NotRenamable) = IsFile w path × ListsFaults w [] × HasNoDeclaration w path offset
+AnswersUses w path offset (Err (Faulty place kind)) = HasFileAt w path × HasFirstFault w place kind
+AnswersUses w path offset (Err NoIdentifier) = HasFileAt w path × ListsFaults w [] × HasNoIdentifier w path offset
+AnswersUses w path offset (Err NotRenamable) = HasFileAt w path × ListsFaults w [] × HasNoDeclaration w path offset
 AnswersUses w path offset (Err Memory) = ⊤
 AnswersUses w path offset (Err refusal) = ⊥

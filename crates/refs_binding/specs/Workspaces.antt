@@ -19,7 +19,7 @@ use Rattle.refs_binding.specs.declared.declaration.Declaration.TheVariants.{Pred
 use Rattle.refs_binding.specs.Identifiers.{HoldsByte}
 use Rattle.refs_binding.specs.Binding.{BindsByMember, DeclaresMember}
 use Rattle.refs_binding.specs.Steps.{UsesIn, BindsIn, IsExportedBy}
-use Rattle.refs_binding.specs.Uses.{IsPackage, IsFilePackage, HasDeclaration, HasNoIdentifier, HasNoDeclaration, BindsThroughLiteral, IsUseOf, ListsUses, HasFirstFault}
+use Rattle.refs_binding.specs.Uses.{IsCheckedPackage, IsFilePackage, HasDeclaration, HasNoIdentifier, HasNoDeclaration, BindsThroughLiteral, IsUseOf, ListsUses, HasFirstFault}
 use Rattle.refs_binding.specs.Places.{place_cmp}
 use Rattle.refs_binding.specs.WorkspaceFindings.{WorkspaceFindings}
 
@@ -35,7 +35,7 @@ known_in found = verdicts_by found.export_table
 -- `p` is the package of this number, as it is checked.
 pub record IsPackageAt (w : Workspace) (known : Verdicts) (number : ℕ) (p : Package) : Type 0 where
   pub has_number : slice_get (package_paths w) number ≡ Some p.path
-  pub is_package : IsPackage w known p
+  pub is_package : IsCheckedPackage w known p
 
 -- The path of the package of a declaration, or `None` if it is predeclared.
 abbrev pub home_path : Declaration → Option (List ℕ)
@@ -53,7 +53,7 @@ IsHome w d home = MatchOption home ((path : List ℕ) → home_path d ≡ Some p
 abbrev pub ExportsAs : Workspace → Verdicts → (path name : List ℕ) → Declaration → Type 0
 ExportsAs w known path name (Predeclared n) = ⊥
 ExportsAs w known path name (Declared other d) = (other ≡ path) ×
-    ((p : Package) × (IsPackage w known p × ((p.path ≡ path) × (DoesExport p d × (p.names d ≡ name)))))
+    ((p : Package) × (IsCheckedPackage w known p × ((p.path ≡ path) × (DoesExport p d × (p.names d ≡ name)))))
 ExportsAs w known path name (Field s) = ⊥
 ExportsAs w known path name (Method s) = ⊥
 
@@ -61,8 +61,8 @@ ExportsAs w known path name (Method s) = ⊥
 abbrev pub IsExportedUnder : Workspace → Verdicts → Declaration → Option (List ℕ) → Type 0
 IsExportedUnder w known (Predeclared n) name = name ≡ None
 IsExportedUnder w known (Declared path d) name =
-    MatchOption name ((p : Package) → IsPackage w known p → p.path ≡ path → DoesExport p d → ⊥)
-    (λ n. (p : Package) × (IsPackage w known p × ((p.path ≡ path) × (DoesExport p d × (p.names d ≡ n)))))
+    MatchOption name ((p : Package) → IsCheckedPackage w known p → p.path ≡ path → DoesExport p d → ⊥)
+    (λ n. (p : Package) × (IsCheckedPackage w known p × ((p.path ≡ path) × (DoesExport p d × (p.names d ≡ n)))))
 IsExportedUnder w known (Field s) name = name ≡ None
 IsExportedUnder w known (Method s) name = name ≡ None
 
@@ -76,8 +76,8 @@ IsExportedNumber w known number name found =
     (p : Package) × (IsPackageAt w known number p × MatchOption found ((d : ℕ) → DoesExport p d → p.names d ≡ name → ⊥) (λ d. DoesExport p d × (p.names d ≡ name)))
 
 -- The name under which the package `number` exports its declaration `d`, or `None` if it does not.
-abbrev pub IsNameAt : Workspace → Verdicts → (number d : ℕ) → Option (List ℕ) → Type 0
-IsNameAt w known number d name = (p : Package) × (IsPackageAt w known number p × IsExportedBy p d name)
+abbrev pub IsExportedName : Workspace → Verdicts → (number d : ℕ) → Option (List ℕ) → Type 0
+IsExportedName w known number d name = (p : Package) × (IsPackageAt w known number p × IsExportedBy p d name)
 
 -- `u` is a use of a field or method, or the declaring identifier of it.
 abbrev pub BindsMember : Package → ℕ → Declaration → Type 0

@@ -4,7 +4,7 @@ ghost use Rattle.go_scanner.specs.declared.piece.Class.TheVariants.{Name};
 ghost use Rattle.go_scanner.specs.CutText.{tokens_in};
 ghost use Rattle.go_ast.specs.SourceFile.{source_of};
 ghost use Rattle.types_declared.specs.PackageView.{package_of, IsIndexOf};
-ghost use Rattle.refs_binding.specs.Identifiers.{IsName, BeginsAt, NameBegins};
+ghost use Rattle.refs_binding.specs.Identifiers.{IsNameToken, BeginsAt, NameBegins};
 ghost use Rattle.refs_binding.specs.Steps.{AddsPlaces, AtToken};
 
 use crate::place_key::PlaceKey;
@@ -26,7 +26,7 @@ fn is_name_class(class: Class) -> bool
 
 /// Whether the token at an index is an identifier.
 fn is_name_at(tokens: &[Piece], token: usize) -> bool
-    ensures { IsTrue result ↔ IsName (slice_get tokens.now token) }
+    ensures { IsTrue result ↔ IsNameToken (slice_get tokens.now token) }
 {
     match tokens.get(token) {
         None => false,
@@ -36,7 +36,7 @@ fn is_name_at(tokens: &[Piece], token: usize) -> bool
 
 /// Whether the token at an index of a file is an identifier.
 pub fn is_name(file: &FileTree, token: usize) -> bool
-    ensures { IsTrue result ↔ IsName (slice_get (tokens_in file.now.cut) token) }
+    ensures { IsTrue result ↔ IsNameToken (slice_get (tokens_in file.now.cut) token) }
 {
     is_name_at(file.pieces().tokens(), token)
 }

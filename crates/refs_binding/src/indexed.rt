@@ -2,7 +2,7 @@
 ghost use Rattle.types_declared.specs.PackageView.{package_of, IsIndexOf};
 ghost use Rattle.refs_binding.specs.Packages.{IsTableAs};
 ghost use Rattle.refs_binding.specs.Workspaces.{known_in};
-ghost use Rattle.refs_binding.specs.Indexed.{IsNumbered, IsPackageNumbered, IsIndexed};
+ghost use Rattle.refs_binding.specs.Indexed.{IsPackageNumber, IsPackageNumbered, IsIndexed};
 
 use crate::faultless::FaultlessWorkspace;
 use crate::reading::{members_of, own_of, path_of};
@@ -33,7 +33,7 @@ pub fn unit_of<'a>(
     seen: &'a ExportTable,
     table: &'a ScopeTable<'a>,
 ) -> Package<'a>
-    requires numbered { IsNumbered at }
+    requires numbered { IsPackageNumber at }
     requires table { IsTableAs at.workspace.now.graph (known_in at.workspace.now.findings) at.number table.now seen.now }
     ensures { IsPackageNumbered at.entry (package_of result) }
 {
@@ -53,7 +53,7 @@ pub fn known_of<'a, 'w: 'a, 'i: 'a>(
     unit: Package<'a>,
     index: &'a Index<'i>,
 ) -> Indexed<'a>
-    requires numbered { IsNumbered at }
+    requires numbered { IsPackageNumber at }
     requires unit { IsPackageNumbered at (package_of unit) }
     requires index { IsIndexOf (package_of unit) index.now }
     ensures unit { IsPackageNumbered at.entry (package_of result.unit) }

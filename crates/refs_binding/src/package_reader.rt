@@ -1,7 +1,7 @@
 //! Reads the package of a number: what it sees of others, its scope table, and the `Package` that the two make.
 ghost use Rattle.std.specs.Prelude.{◌≡◌, IfOk};
 ghost use Rattle.types_declared.specs.PackageView.{package_of};
-ghost use Rattle.refs_binding.specs.Indexed.{IsNumbered, IsPackageNumbered};
+ghost use Rattle.refs_binding.specs.Indexed.{IsPackageNumber, IsPackageNumbered};
 ghost use Rattle.refs_binding.specs.PackageReaders.{IsReader, IsTableBy};
 
 use crate::indexed::{Numbered, unit_of};
@@ -20,7 +20,7 @@ pub struct PackageReader<'a> {
 impl<'a> PackageReader<'a> {
     /// Collects the export data that the package of a number sees of others.
     pub fn of(alloc: Global, at: Numbered<'a>) -> Result<PackageReader<'a>, AllocError>
-        requires { IsNumbered at }
+        requires { IsPackageNumber at }
         ensures at { IfOk result (λ reader. reader.at ≡ at.entry) }
         ensures reader { IfOk result (λ reader. IsReader reader) }
     {

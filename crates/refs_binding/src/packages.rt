@@ -2,7 +2,7 @@
 ghost use Rattle.std.specs.Prelude.{◌≡◌, ◌<◌, length, IfOk};
 ghost use Rattle.base_files.specs.Packages.{package_paths};
 ghost use Rattle.types_declared.specs.PackageView.{package_of};
-ghost use Rattle.refs_binding.specs.Packages.{AreAllSeen, ArePackages, HoldsOfEach, IsSeenBy, IsTableAs, IsTableOf};
+ghost use Rattle.refs_binding.specs.Packages.{AreAllSeen, ArePackagesRead, HoldsOfEach, IsSeenBy, IsTableAs, IsTableOf};
 ghost use Rattle.refs_binding.specs.Workspaces.{known_in, IsPackageAt};
 
 use crate::faultless::FaultlessWorkspace;
@@ -106,7 +106,7 @@ impl<'a> Packages<'a> {
     ) -> Result<Packages<'a>, AllocError>
         requires { AreAllSeen workspace.now.graph (known_in workspace.now.findings) seen.now }
         ensures workspace { IfOk result (λ packages. packages.workspace.now ≡ workspace.now) }
-        ensures read { IfOk result (λ packages. ArePackages packages) }
+        ensures read { IfOk result (λ packages. ArePackagesRead packages) }
     {
         let tables = all_tables(alloc, workspace, seen)?;
         Ok(Packages {
@@ -119,7 +119,7 @@ impl<'a> Packages<'a> {
     /// Returns the package of a number.
     pub fn unit(&self, number: usize) -> Package<'_>
         requires in_range { number < length (package_paths self.now.workspace.now.graph) }
-        requires read { ArePackages self.now }
+        requires read { ArePackagesRead self.now }
         ensures { IsPackageAt self.now.workspace.now.graph (known_in self.now.workspace.now.findings) number (package_of result) }
     {
         let path = path_of(self.workspace, number);

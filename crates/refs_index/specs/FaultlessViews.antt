@@ -7,7 +7,7 @@ use Rattle.workspace_check.specs.Verdicts.{Verdicts}
 use Rattle.refs_binding.specs.declared.bound_identifier.BoundIdentifier.{BoundIdentifier}
 use Rattle.refs_binding.specs.declared.packages.Packages.{Packages}
 use Rattle.refs_binding.specs.Bindings.{IsBound, bound_place}
-use Rattle.refs_binding.specs.Uses.{IsPackage}
+use Rattle.refs_binding.specs.Uses.{IsCheckedPackage}
 use Rattle.refs_binding.specs.Workspaces.{known_in}
 use Rattle.refs_index.specs.declared.workspace_index.WorkspaceIndex.{WorkspaceIndex}
 
@@ -26,7 +26,7 @@ view_in s = packages_view s.packages.now
 
 -- The packages of the workspace, as they are checked.
 abbrev pub view_packages : FaultlessView → Package → Type 0
-view_packages s = IsPackage s.workspace s.known
+view_packages s = IsCheckedPackage s.workspace s.known
 
 -- `b` is a bound identifier of the workspace.
 abbrev pub IsBoundInView : FaultlessView → BoundIdentifier → Type 0

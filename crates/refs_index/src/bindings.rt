@@ -9,7 +9,7 @@ ghost use Rattle.types_declared.specs.PackageView.{package_of, IsIndexOf};
 ghost use Rattle.workspace_check.specs.Verdicts.{Verdicts};
 ghost use Rattle.refs_binding.specs.declared.bound_identifier.BoundIdentifier.{BoundIdentifier as Bound};
 ghost use Rattle.refs_binding.specs.declared.declaration.Declaration.{Declaration as Declared};
-ghost use Rattle.refs_binding.specs.Bindings.{AddsAll, IsBoundAt, IsBoundAmong, IsBound, AreBindings, AreBindingsAmong, bound_place};
+ghost use Rattle.refs_binding.specs.Bindings.{AddsAll, IsBoundInPackage, IsBoundAmong, IsBound, AreBoundIdentifiers, AreBindingsAmong, bound_place};
 ghost use Rattle.refs_index.specs.KnownExports.{KnowsExports};
 ghost use Rattle.refs_binding.specs.Places.{place_cmp};
 ghost use Rattle.refs_binding.specs.Uses.{IsUseOf};
@@ -58,7 +58,7 @@ fn bind_indexed(
     requires exports { KnowsExports exports.now }
     requires numbered { IsPackageAt exports.now.workspace.now.graph (known_in exports.now.workspace.now.findings) number (package_of unit) }
     requires index { IsIndexOf (package_of unit) index.now }
-    ensures { OnOk result (AddsAll bound.old.items bound.new.items (IsBoundAt exports.now.workspace.now.graph (known_in exports.now.workspace.now.findings) number)) }
+    ensures { OnOk result (AddsAll bound.old.items bound.new.items (IsBoundInPackage exports.now.workspace.now.graph (known_in exports.now.workspace.now.findings) number)) }
 {
     let at = Numbered {
         workspace: exports.workspace,
@@ -101,7 +101,7 @@ pub fn bind_numbered(
     requires exports { KnowsExports exports.now }
     requires numbered { IsPackageAt exports.now.workspace.now.graph (known_in exports.now.workspace.now.findings) number (package_of unit) }
     requires index { IsIndexOf (package_of unit) index.now }
-    ensures { OnOk result (AddsAll bound.old.items bound.new.items (IsBoundAt exports.now.workspace.now.graph (known_in exports.now.workspace.now.findings) number)) }
+    ensures { OnOk result (AddsAll bound.old.items bound.new.items (IsBoundInPackage exports.now.workspace.now.graph (known_in exports.now.workspace.now.findings) number)) }
 {
     let mut own = Vec::new(alloc);
     bind_indexed(alloc, &mut own, exports, unit, index, number)?;
@@ -118,7 +118,7 @@ pub fn bind_read(
 ) -> Result<(), AllocError>
     requires exports { KnowsExports exports.now }
     requires numbered { IsPackageAt exports.now.workspace.now.graph (known_in exports.now.workspace.now.findings) number (package_of unit) }
-    ensures { OnOk result (AddsAll bound.old.items bound.new.items (IsBoundAt exports.now.workspace.now.graph (known_in exports.now.workspace.now.findings) number)) }
+    ensures { OnOk result (AddsAll bound.old.items bound.new.items (IsBoundInPackage exports.now.workspace.now.graph (known_in exports.now.workspace.now.findings) number)) }
 {
     let index = Index::of(alloc, unit)?;
     bind_numbered(alloc, bound, exports, unit, &index, number)
@@ -127,7 +127,7 @@ pub fn bind_read(
 impl Bindings {
     /// Sorts the bound identifiers of a workspace by place.
     pub fn of(bound: Vec<BoundIdentifier>) -> Result<Bindings, AllocError>
-        ensures { IfOk result (λ all. (w : Workspace) → (known : Verdicts) → AddsAll [] bound.items (IsBound w known) → AreBindings w known all) }
+        ensures { IfOk result (λ all. (w : Workspace) → (known : Verdicts) → AddsAll [] bound.items (IsBound w known) → AreBoundIdentifiers w known all) }
     {
         let mut bound = bound;
         sort_runs(&mut bound)?;
@@ -152,7 +152,7 @@ impl Bindings {
 
     /// Returns the declaration that the identifier at a place is bound to, by a binary search.
     pub fn at(&self, place: &Place) -> Option<&Declaration>
-        ensures { (w : Workspace) → (known : Verdicts) → AreBindings w known self.now →
+        ensures { (w : Workspace) → (known : Verdicts) → AreBoundIdentifiers w known self.now →
             MatchOption result ((d : Declared) → IsUseOf w known d place.now → ⊥) (λ d. IsUseOf w known d.now place.now) }
     {
         match find(&self.bound, place) {

@@ -11,7 +11,7 @@ ghost use Rattle.refs_binding.specs.Identifiers.{BeginsAt};
 ghost use Rattle.refs_binding.specs.Indexed.{IsIndexed};
 ghost use Rattle.refs_binding.specs.Members.{definitions_seen, IsMemberUseOf, IsMemberUseAmong};
 ghost use Rattle.refs_binding.specs.Steps.{AtFound, ArePlaces};
-ghost use Rattle.refs_binding.specs.Uses.{IsPackage, IsBoundTo};
+ghost use Rattle.refs_binding.specs.Uses.{IsCheckedPackage, IsBoundToDeclaration};
 ghost use Rattle.refs_binding.specs.Workspaces.{known_in};
 
 use crate::bound_identifier::{bind_identifier, bind_token};
@@ -60,7 +60,7 @@ fn bind_by_package(
     requires index { IsIndexOf (package_of unit) index.now }
     requires in_range { u < length unit.table.now.sites }
     ensures { let p = package_of unit.entry in
-        OnOk result (AddsAll bound.old.items bound.new.items (λ b. BeginsAt p (bound_place b).path (bound_place b).offset u × BindsQualified (IsPackage exports.now.workspace.now.graph (known_in exports.now.workspace.now.findings)) p u b.declaration)) }
+        OnOk result (AddsAll bound.old.items bound.new.items (λ b. BeginsAt p (bound_place b).path (bound_place b).offset u × BindsQualified (IsCheckedPackage exports.now.workspace.now.graph (known_in exports.now.workspace.now.findings)) p u b.declaration)) }
 {
     match qualifying_path(unit, index, u) {
         None => Ok(()),
@@ -85,7 +85,7 @@ fn bind_number(
     requires in_range { u < length unit.table.now.sites }
     ensures { let p = package_of unit.entry in
         OnOk result (AddsAll bound.old.items bound.new.items
-        (λ b. BeginsAt p (bound_place b).path (bound_place b).offset u × (BindsByScope p u b.declaration ⊎ BindsQualified (IsPackage exports.now.workspace.now.graph (known_in exports.now.workspace.now.findings)) p u b.declaration))) }
+        (λ b. BeginsAt p (bound_place b).path (bound_place b).offset u × (BindsByScope p u b.declaration ⊎ BindsQualified (IsCheckedPackage exports.now.workspace.now.graph (known_in exports.now.workspace.now.findings)) p u b.declaration))) }
 {
     bind_by_scope(alloc, bound, unit, u)?;
     bind_by_package(alloc, bound, exports, unit, index, u)
@@ -102,7 +102,7 @@ fn bind_numbers(
     requires exports { KnowsExports exports.now }
     requires index { IsIndexOf (package_of unit) index.now }
     ensures { let p = package_of unit.entry in
-        OnOk result (AddsAll bound.old.items bound.new.items (BoundIn p (λ u d. BindsByScope p u d ⊎ BindsQualified (IsPackage exports.now.workspace.now.graph (known_in exports.now.workspace.now.findings)) p u d))) }
+        OnOk result (AddsAll bound.old.items bound.new.items (BoundIn p (λ u d. BindsByScope p u d ⊎ BindsQualified (IsCheckedPackage exports.now.workspace.now.graph (known_in exports.now.workspace.now.findings)) p u d))) }
 {
     for u in 0..unit.table.len() {
         bind_number(alloc, bound, exports, unit, index, u)?;
@@ -255,7 +255,7 @@ pub fn bind_package(
     requires exports { KnowsExports exports.now }
     requires indexed { IsIndexed of.now }
     ensures { let p = package_of of.now.unit in
-        OnOk result (AddsAll bound.old.items bound.new.items (BoundIn p (IsBoundTo exports.now.workspace.now.graph (known_in exports.now.workspace.now.findings) p))) }
+        OnOk result (AddsAll bound.old.items bound.new.items (BoundIn p (IsBoundToDeclaration exports.now.workspace.now.graph (known_in exports.now.workspace.now.findings) p))) }
 {
     bind_numbers(alloc, bound, exports, of.unit, of.index)?;
     bind_members(alloc, bound, of)?;

@@ -2,7 +2,7 @@
 ghost use Rattle.std.specs.Prelude.{◌≡◌, ◌<◌, length, IfOk};
 ghost use Rattle.base_files.specs.Packages.{package_paths};
 ghost use Rattle.refs_binding.specs.Exports.{number_named, AreExportsByNameAt, AreExports};
-ghost use Rattle.refs_binding.specs.Packages.{ArePackages};
+ghost use Rattle.refs_binding.specs.Packages.{ArePackagesRead};
 ghost use Rattle.refs_binding.specs.Steps.{IsDeclarationResult};
 ghost use Rattle.refs_binding.specs.Workspaces.{known_in, ExportsAs};
 
@@ -19,7 +19,7 @@ pub fn numbers_of(
     number: usize,
 ) -> Result<BTreeMap<Vec<u8>, usize>, AllocError>
     requires in_range { number < length (package_paths packages.now.workspace.now.graph) }
-    requires read { ArePackages packages.now }
+    requires read { ArePackagesRead packages.now }
     ensures { IfOk result (AreExportsByNameAt packages.now.workspace.now.graph (known_in packages.now.workspace.now.findings) number) }
 {
     let unit = packages.unit(number);
@@ -46,7 +46,7 @@ pub fn exports(
     alloc: Global,
     packages: &Packages<'_>,
 ) -> Result<Vec<BTreeMap<Vec<u8>, usize>>, AllocError>
-    requires { ArePackages packages.now }
+    requires { ArePackagesRead packages.now }
     ensures { IfOk result (λ exports. AreExports packages.now.workspace.now.graph (known_in packages.now.workspace.now.findings) exports.items) }
 {
     let mut exports = Vec::new(alloc);

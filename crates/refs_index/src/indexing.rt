@@ -2,8 +2,8 @@
 ghost use Rattle.std.specs.Prelude.{◌<◌, ◌+◌, length, IfOk, OnOk};
 ghost use Rattle.base_files.specs.Packages.{package_paths};
 ghost use Rattle.types_declared.specs.PackageView.{package_of};
-ghost use Rattle.refs_binding.specs.Bindings.{AddsAll, IsBoundAt, IsBound};
-ghost use Rattle.refs_binding.specs.Packages.{ArePackages};
+ghost use Rattle.refs_binding.specs.Bindings.{AddsAll, IsBoundInPackage, IsBound};
+ghost use Rattle.refs_binding.specs.Packages.{ArePackagesRead};
 ghost use Rattle.refs_binding.specs.Workspaces.{known_in, IsPackageAt};
 ghost use Rattle.refs_index.specs.KnownExports.{AreSomeExports, KnowsExports};
 ghost use Rattle.refs_places.specs.DeclaredPlaces.{AreDeclaredBelow, AreAllPlaces};
@@ -28,7 +28,7 @@ fn index_indexed(
     requires numbered { IsPackageAt exports.now.workspace.now.graph (known_in exports.now.workspace.now.findings) number (package_of unit) }
     ensures places { OnOk result (AreDeclaredBelow exports.now.workspace.now.graph (known_in exports.now.workspace.now.findings) number places.old.items
         → AreDeclaredBelow exports.now.workspace.now.graph (known_in exports.now.workspace.now.findings) (number + 1) places.new.items) }
-    ensures bound { OnOk result (AddsAll bound.old.items bound.new.items (IsBoundAt exports.now.workspace.now.graph (known_in exports.now.workspace.now.findings) number)) }
+    ensures bound { OnOk result (AddsAll bound.old.items bound.new.items (IsBoundInPackage exports.now.workspace.now.graph (known_in exports.now.workspace.now.findings) number)) }
 {
     let index = Index::of(alloc, unit)?;
     places.push(indexed_places(alloc, unit, &index)?)?;
@@ -45,11 +45,11 @@ fn index_package(
     number: usize,
 ) -> Result<(), AllocError>
     requires in_range { number < length (package_paths packages.now.workspace.now.graph) }
-    requires read { ArePackages packages.now }
+    requires read { ArePackagesRead packages.now }
     requires exports { AreSomeExports packages.now.workspace.now.graph (known_in packages.now.workspace.now.findings) numbers.now }
     ensures places { OnOk result (AreDeclaredBelow packages.now.workspace.now.graph (known_in packages.now.workspace.now.findings) number places.old.items
         → AreDeclaredBelow packages.now.workspace.now.graph (known_in packages.now.workspace.now.findings) (number + 1) places.new.items) }
-    ensures bound { OnOk result (AddsAll bound.old.items bound.new.items (IsBoundAt packages.now.workspace.now.graph (known_in packages.now.workspace.now.findings) number)) }
+    ensures bound { OnOk result (AddsAll bound.old.items bound.new.items (IsBoundInPackage packages.now.workspace.now.graph (known_in packages.now.workspace.now.findings) number)) }
 {
     let exports = KnownExports {
         workspace: packages.workspace,
@@ -72,7 +72,7 @@ pub fn index_all(
     packages: &Packages<'_>,
     numbers: &[Option<BTreeMap<Vec<u8>, usize>>],
 ) -> Result<Vec<DeclaredPlaces>, AllocError>
-    requires read { ArePackages packages.now }
+    requires read { ArePackagesRead packages.now }
     requires exports { AreSomeExports packages.now.workspace.now.graph (known_in packages.now.workspace.now.findings) numbers.now }
     ensures places { IfOk result (λ all. AreAllPlaces packages.now.workspace.now.graph (known_in packages.now.workspace.now.findings) all.items) }
     ensures bound { IfOk result (λ all. AddsAll bound.old.items bound.new.items (IsBound packages.now.workspace.now.graph (known_in packages.now.workspace.now.findings))) }

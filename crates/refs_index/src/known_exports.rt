@@ -5,7 +5,7 @@ ghost use Rattle.workspace_graph.specs.Graphs.{OfPackage};
 ghost use Rattle.workspace_graph.specs.Search.{IsMarked};
 ghost use Rattle.refs_binding.specs.Exports.{AreExportsByNameAt};
 ghost use Rattle.refs_index.specs.KnownExports.{AreSomeExports, IsImportedAmong, KnowsExports};
-ghost use Rattle.refs_binding.specs.Packages.{ArePackages};
+ghost use Rattle.refs_binding.specs.Packages.{ArePackagesRead};
 ghost use Rattle.refs_binding.specs.Steps.{IsDeclarationResult};
 ghost use Rattle.refs_binding.specs.Workspaces.{known_in, ExportsAs, IsExportedNumber};
 
@@ -66,7 +66,7 @@ pub fn all_exports(
     alloc: Global,
     packages: &Packages<'_>,
 ) -> Result<Vec<Option<BTreeMap<Vec<u8>, usize>>>, AllocError>
-    requires { ArePackages packages.now }
+    requires { ArePackagesRead packages.now }
     ensures { IfOk result (λ all. AreSomeExports packages.now.workspace.now.graph (known_in packages.now.workspace.now.findings) all.items) }
 {
     let mut all = Vec::new(alloc);

@@ -2,7 +2,7 @@
 ghost use Rattle.std.specs.Prelude.{◌≡◌, ◌↔◌, Contains, IfOk};
 ghost use Rattle.base_files.specs.declared.place.Place.{Place as At};
 ghost use Rattle.refs_binding.specs.declared.bound_identifier.BoundIdentifier.{BoundIdentifier as Bound};
-ghost use Rattle.refs_binding.specs.Packages.{ArePackages};
+ghost use Rattle.refs_binding.specs.Packages.{ArePackagesRead};
 ghost use Rattle.refs_binding.specs.DeclaringPlaces.{IsDeclaredAt};
 ghost use Rattle.refs_places.specs.DeclaredPlaces.{IsChoiceIn};
 ghost use Rattle.refs_index.specs.WorkspaceIndex.{HasWorkspaceIndex};
@@ -22,7 +22,7 @@ use std::alloc::{AllocError, Global};
 impl<'a> WorkspaceIndex<'a> {
     /// Indexes the packages of a workspace without faults.
     pub fn of(alloc: Global, packages: &'a Packages<'a>) -> Result<WorkspaceIndex<'a>, AllocError>
-        requires { ArePackages packages.now }
+        requires { ArePackagesRead packages.now }
         ensures view { IfOk result (λ sound. view_in sound ≡ packages_view packages.now) }
         ensures held { IfOk result (λ sound. HasWorkspaceIndex sound) }
     {

@@ -16,20 +16,20 @@ use Rattle.refs_binding.specs.declared.declaration.Declaration.TheVariants.{Pred
 use Rattle.types_info.specs.QualifiedIdentifiers.{IsQualifiedByPath}
 use Rattle.refs_binding.specs.Binding.{by_scope, by_package, by_member, by_name, BindsQualified, IsQualifiedUse}
 use Rattle.refs_binding.specs.Identifiers.{named_by}
-use Rattle.refs_binding.specs.Uses.{IsPackage, IsBoundTo, IsUseOf, HasDeclaration}
+use Rattle.refs_binding.specs.Uses.{IsCheckedPackage, IsBoundToDeclaration, IsUseOf, HasDeclaration}
 use Rattle.refs_binding.proofs.Folders.{begins_in_folder}
 use Rattle.refs_lookup.proofs.NamedImports.{named_is_imported}
 use Rattle.refs_lookup.proofs.Packages.{package_stays}
 
 -- the package of a name before a dot lies in the closure
-pub behind_closed : (w : Workspace) (known : Verdicts) (p : Package) → IsPackage w known p → (u : ℕ) (q : List ℕ) → IsQualifiedByPath p u q →
+pub behind_closed : (w : Workspace) (known : Verdicts) (p : Package) → IsCheckedPackage w known p → (u : ℕ) (q : List ℕ) → IsQualifiedByPath p u q →
     Contains (package_paths w) q → IsInClosure w p.path q
 behind_closed w known p is u q b has =
     imports_closed w p.path q (named_is_imported w known p.path p is.is_checked (p.layout.place u).file b.before q b.named) has
 
 module _ (w x : Workspace) (before after : Verdicts) (right : AreVerdicts w before) (also : AreVerdicts x after) where
-  export_stays : (p : Package) → HasSameClosure w x p.path → IsPackage w before p → (u : ℕ) (path : List ℕ) (n : ℕ) →
-      IsQualifiedUse (IsPackage w before) p u path n → IsQualifiedUse (IsPackage x after) p u path n
+  export_stays : (p : Package) → HasSameClosure w x p.path → IsCheckedPackage w before p → (u : ℕ) (path : List ℕ) (n : ℕ) →
+      IsQualifiedUse (IsCheckedPackage w before) p u path n → IsQualifiedUse (IsCheckedPackage x after) p u path n
   export_stays p same is u path n h =
       let has : Contains (package_paths w) path = subst (Contains (package_paths w)) h.of_path h.is_package.of_workspace in
       let within : HasSameClosure w x path = same_within w x p.path same path (behind_closed w before p is u path h.behind has) in
@@ -42,15 +42,15 @@ module _ (w x : Workspace) (before after : Verdicts) (right : AreVerdicts w befo
         named = h.named;
       }
 
-  behind_stays : (p : Package) → HasSameClosure w x p.path → IsPackage w before p → (u : ℕ) (d : Declaration) →
-      BindsQualified (IsPackage w before) p u d → BindsQualified (IsPackage x after) p u d
+  behind_stays : (p : Package) → HasSameClosure w x p.path → IsCheckedPackage w before p → (u : ℕ) (d : Declaration) →
+      BindsQualified (IsCheckedPackage w before) p u d → BindsQualified (IsCheckedPackage x after) p u d
   behind_stays p same is u (Predeclared n) h = h
   behind_stays p same is u (Declared path n) h = export_stays p same is u path n h
   behind_stays p same is u (Field s) h = h
   behind_stays p same is u (Method s) h = h
 
-  pub bound_stays : (p : Package) → HasSameClosure w x p.path → IsPackage w before p → (u : ℕ) (d : Declaration) → IsBoundTo w before p u d →
-      IsBoundTo x after p u d
+  pub bound_stays : (p : Package) → HasSameClosure w x p.path → IsCheckedPackage w before p → (u : ℕ) (d : Declaration) → IsBoundToDeclaration w before p u d →
+      IsBoundToDeclaration x after p u d
   bound_stays p same is u d (by_scope h) = by_scope h
   bound_stays p same is u d (by_package h) = by_package (behind_stays p same is u d h)
   bound_stays p same is u d (by_member h) = by_member h

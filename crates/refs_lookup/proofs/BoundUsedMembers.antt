@@ -23,7 +23,7 @@ use Rattle.law_tokens.proofs.Roles.{named_role_told}
 use Rattle.types_expr.specs.Types.{Package as PackageName}
 use Rattle.types_expr.specs.World.{World, Means}
 use Rattle.types_stmt.specs.Declarations.{check_file}
-use Rattle.refs_lookup.specs.Places.{IsPackageName, IsMemberToken, as_key, as_selected}
+use Rattle.refs_lookup.specs.Places.{IsBoundToPackage, IsMemberToken, as_key, as_selected}
 use Rattle.refs_lookup.proofs.LinkPlaces.{stands_at_link}
 use Rattle.types_declared.specs.MeaningOf.{import_name}
 use Rattle.types_declared.specs.Package.{Package}
@@ -79,7 +79,7 @@ module _ (w : Workspace) (known : Verdicts) (path : List ℕ) (p : Package) (h :
 
   -- the name of a package before a dot is one for a world too
   package_named : (v : World) (file before : ℕ) (s : SourceFile) (t : FileParts) → slice_get h.files file ≡ Some t → IsWorldOf p file s v → (q : List ℕ) →
-      NamesPackage p file before q → IsOfKind t.cut (suc before) kind.Dot → IsPackageName v t.cut before
+      NamesPackage p file before q → IsOfKind t.cut (suc before) kind.Dot → IsBoundToPackage v t.cut before
   package_named v file before s t is judged q n dot =
       let at : Position = record { file = file; index = before } in
       let u = n.binds.identifier in

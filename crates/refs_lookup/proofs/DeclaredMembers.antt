@@ -13,16 +13,16 @@ use Rattle.workspace_check.specs.Verdicts.{Verdicts, AreVerdicts}
 use Rattle.refs_binding.specs.declared.declaration.Declaration.{Declaration}
 use Rattle.refs_binding.specs.declared.declaration.Declaration.TheVariants.{Field, Method}
 use Rattle.refs_binding.specs.Binding.{by_name, field_place}
-use Rattle.refs_binding.specs.Uses.{IsPackage, IsBoundTo}
+use Rattle.refs_binding.specs.Uses.{IsCheckedPackage, IsBoundToDeclaration}
 use Rattle.refs_lookup.proofs.Faultless.{no_fault_later}
 
-module _ (w : Workspace) (sound : ListsFaults w []) (known : Verdicts) (right : AreVerdicts w known) (p : Package) (is : IsPackage w known p) where
+module _ (w : Workspace) (sound : ListsFaults w []) (known : Verdicts) (right : AreVerdicts w known) (p : Package) (is : IsCheckedPackage w known p) where
   no_member_fault : (f : Fault) → IsMemberFault p f → ⊥
   no_member_fault f h =
       no_fault_later w sound known right p is f (inr ((λ g inner. no_fault_later w sound known right p is g (inl inner)), inl h))
 
   pub field_bound : (rank : ℕ) (f : PlacedField) → slice_get (package_fields p) rank ≡ Some f → (u : ℕ) → LiesAt p.layout (field_place f) u →
-      ((d : Declaration) → IsBoundTo w known p u d → ⊥) → ⊥
+      ((d : Declaration) → IsBoundToDeclaration w known p u d → ⊥) → ⊥
   field_bound rank f has u stands unbound =
       let own : IsFieldOf p f.definition (spelled p f.file f.name) rank f = record { has_rank = has; of_struct = refl; named = refl } in
       no_member_fault (record { file = f.file; token = f.name; kind = kind.Repeated })
@@ -48,7 +48,7 @@ module _ (w : Workspace) (sound : ListsFaults w []) (known : Verdicts) (right : 
       }))
 
   pub method_bound : (definition rank : ℕ) (name : List ℕ) (f : PlacedFunction) → IsMethodOf p definition name rank f → (u : ℕ) →
-      LiesAt p.layout (function_place f) u → ((d : Declaration) → IsBoundTo w known p u d → ⊥) → ⊥
+      LiesAt p.layout (function_place f) u → ((d : Declaration) → IsBoundToDeclaration w known p u d → ⊥) → ⊥
   method_bound definition rank name f own u stands unbound =
       no_member_fault (record { file = f.file; token = f.function.name; kind = kind.Repeated })
       (inr (inl (record {

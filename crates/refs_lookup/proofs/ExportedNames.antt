@@ -36,7 +36,7 @@ use Rattle.refs_binding.specs.declared.declaration.Declaration.TheVariants.{Decl
 use Rattle.types_info.specs.QualifiedIdentifiers.{IsQualifiedByPath}
 use Rattle.refs_binding.specs.Binding.{by_package, IsQualifiedUse}
 use Rattle.refs_binding.specs.Identifiers.{IsInFiles}
-use Rattle.refs_binding.specs.Uses.{IsPackage, IsBoundTo}
+use Rattle.refs_binding.specs.Uses.{IsCheckedPackage, IsBoundToDeclaration}
 use Rattle.refs_lookup.proofs.OnePlace.{names_of, laid_of as table_of, same_layout, same_size}
 use Rattle.refs_lookup.proofs.Faultless.{no_fault_later}
 use Rattle.refs_lookup.proofs.Headers.{marked_kind}
@@ -149,7 +149,7 @@ export_found c name (Some x) h e = (h.declaration, (h.by_declaration.seen, h.nam
 -- a package that exports something under a name
 record Exporter (w : Workspace) (known : Verdicts) (q name : List ℕ) : Type 0 where
   other : Package
-  is_package : IsPackage w known other
+  is_package : IsCheckedPackage w known other
   of_path : other.path ≡ q
   declaration : ℕ
   is_seen : DoesExport other declaration
@@ -175,7 +175,7 @@ exporting w sound r q name _ _ (seen on sees) e =
     }
 exporting w sound r q name _ _ (unseen none) e = absurd (true≢false (sym e))
 
-module _ (w : Workspace) (sound : ListsFaults w []) (known : Verdicts) (right : AreVerdicts w known) (p : Package) (is : IsPackage w known p) (u : ℕ)
+module _ (w : Workspace) (sound : ListsFaults w []) (known : Verdicts) (right : AreVerdicts w known) (p : Package) (is : IsCheckedPackage w known p) (u : ℕ)
     (stands : IsInFiles p u) (q : List ℕ) (b : IsQualifiedByPath p u q) where
   no_fault_at : (k : FaultKind) → qualified_fault (is_exported (p.names u)) (exports_in p q (p.names u)) ≡ Some k → ⊥
   no_fault_at k e =
@@ -201,7 +201,7 @@ module _ (w : Workspace) (sound : ListsFaults w []) (known : Verdicts) (right : 
     | inr e ↦ (let k = no_such (is_exported (p.names u)) (exports_in p q (p.names u)) e in absurd (no_fault_at k.0 k.1))
   ]
 
-  pub bound_behind : (d : ℕ) × IsBoundTo w known p u (Declared q d)
+  pub bound_behind : (d : ℕ) × IsBoundToDeclaration w known p u (Declared q d)
   bound_behind =
       let own = package_for w known sound.known right sound.right p is in
       let h = own.is_checked in
@@ -209,6 +209,6 @@ module _ (w : Workspace) (sound : ListsFaults w []) (known : Verdicts) (right : 
       let test : is_some ((h.export_data_of q).exported (p.names u)) ≡ true =
       subst (λ (i : List ℕ → ExportData). is_some ((i q).exported (p.names u)) ≡ true) export_table is_found in
       let x = exporting w sound p.path q (p.names u) (h.name_of q) (h.export_data_of q) (h.are_seen q) test in
-      let use_of : IsQualifiedUse (IsPackage w sound.known) p u q x.declaration =
+      let use_of : IsQualifiedUse (IsCheckedPackage w sound.known) p u q x.declaration =
       record { behind = b; other = x.other; is_package = x.is_package; of_path = x.of_path; seen = x.is_seen; named = x.named } in
       (x.declaration, bound_for w sound.known known sound.right right p u (Declared q x.declaration) (by_package use_of))

@@ -3,7 +3,7 @@ use Rattle.std.proofs.Common.{ℕ, ◌≡◌, List, [], ◌∷◌, ◌++◌, Opt
 use Rattle.std.proofs.Common.{if◌then◌else◌, ◌==◌, length}
 use Rattle.go_ast.specs.declared.syntax.BinaryOp.{BinaryOp}
 use Rattle.go_ast.specs.declared.syntax.PrefixOp.{PrefixOp}
-use Rattle.go_ast.specs.declared.syntax.Kind.TheVariants as kind
+use Rattle.go_ast.specs.declared.syntax.ValueKind.TheVariants as kind
 use Rattle.go_ast.specs.declared.syntax.Token.{Token}
 use Rattle.go_ast.specs.Flatten.{sign, sign_if, binary_kind, prefix_kind, type_tokens, key_tokens, expr_tokens, operand_tokens, link_tokens}
 use Rattle.go_ast.specs.Flatten.{argument_tokens, literal_tokens, element_tokens}
@@ -14,7 +14,7 @@ use Rattle.types_expr.specs.declared.types.Basic.TheVariants as basic
 use Rattle.types_expr.specs.declared.types.Builtin.{Builtin}
 use Rattle.types_expr.specs.declared.types.Builtin.TheVariants as builtin
 use Rattle.types_expr.specs.Places.{first_token, first_of_type, place_of}
-use Rattle.types_expr.specs.Types.{PlainType, BasicType, Underlying, SliceOf, Struct, Kind, Typed, Untyped, Nil, Signature, Meaning, Value, TypeName, Function}
+use Rattle.types_expr.specs.Types.{PlainType, BasicType, Underlying, SliceOf, Struct, ValueKind, Typed, Untyped, Nil, Signature, Meaning, Value, TypeName, Function}
 use Rattle.types_expr.specs.Types.{BuiltinName, Package, Results, Broken}
 use Rattle.types_expr.specs.World.{World, Locals, name_meaning, meaning_of_bound, underlying}
 use Rattle.types_expr.specs.Operations.{operate, converts, prefixed, element_of_kind}
@@ -42,7 +42,7 @@ meaning_uses : (m : Option Meaning) (place : ℕ) → UsesNone (means_or_wrong m
 meaning_uses None place = refl
 meaning_uses (Some m) place = refl
 
-kind_uses : (k : Option Kind) (place : ℕ) → UsesNone (value_or_wrong k place)
+kind_uses : (k : Option ValueKind) (place : ℕ) → UsesNone (value_or_wrong k place)
 kind_uses None place = refl
 kind_uses (Some k) place = refl
 
@@ -60,7 +60,7 @@ unfolding address_of
 address_uses (Value (Typed t) a) = refl
 address_uses m = refl
 
-operation_kinds : (w : World) (op : BinaryOp) (start : ℕ) (a b : Option Kind) → UsesNone (operation_on w op start a b)
+operation_kinds : (w : World) (op : BinaryOp) (start : ℕ) (a b : Option ValueKind) → UsesNone (operation_on w op start a b)
 operation_kinds w op start (Some a) (Some b) = kind_uses (operate w op a b) start
 operation_kinds w op start a b = refl
 
@@ -97,7 +97,7 @@ function_uses w start s vs =
     (wrong_if_whole (all_whole vs) start)
     (faults_uses (misfits w vs s.parameters) (all_whole vs) (result_meaning s.results)) (whole_uses (all_whole vs) start)
 
-one_uses : (w : World) (start : ℕ) (t : PlainType) (k : Option Kind) → UsesNone (convert_one w start t k)
+one_uses : (w : World) (start : ℕ) (t : PlainType) (k : Option ValueKind) → UsesNone (convert_one w start t k)
 one_uses w start t None = refl
 one_uses w start t (Some k) = if_uses (converts w k t) (means (Value (Typed t) false)) (wrong start) refl refl
 
@@ -107,11 +107,11 @@ convert_uses w start t [] = whole_uses (all_whole []) start
 convert_uses w start t (v ∷ []) = one_uses w start t v.kind
 convert_uses w start t (v ∷ (x ∷ xs)) = whole_uses (all_whole (v ∷ (x ∷ xs))) start
 
-to_uses : (w : World) (start : ℕ) (k : Kind) (t : Option PlainType) (vs : List ListValue) → UsesNone (append_to w start k t vs)
+to_uses : (w : World) (start : ℕ) (k : ValueKind) (t : Option PlainType) (vs : List ListValue) → UsesNone (append_to w start k t vs)
 to_uses w start k None vs = whole_uses (all_whole vs) start
 to_uses w start k (Some t) vs = faults_uses (all_misfits w vs t) (all_whole vs) (Value k false)
 
-first_uses : (w : World) (start : ℕ) (k : Option Kind) (vs : List ListValue) → UsesNone (append_first w start k vs)
+first_uses : (w : World) (start : ℕ) (k : Option ValueKind) (vs : List ListValue) → UsesNone (append_first w start k vs)
 first_uses w start None vs = refl
 first_uses w start (Some k) vs = to_uses w start k (element_of_kind w k) vs
 
@@ -165,7 +165,7 @@ unfolding prefix_of
 no_prefixed w op place (Value k a) h = absurd h
 no_prefixed w op place m h = tt
 
-no_kind : (w : World) (op : BinaryOp) (start : ℕ) (a : Option Kind) → IsNoValue (operation_on w op start a None).meaning
+no_kind : (w : World) (op : BinaryOp) (start : ℕ) (a : Option ValueKind) → IsNoValue (operation_on w op start a None).meaning
 no_kind w op start None = tt
 no_kind w op start (Some a) = tt
 

@@ -17,13 +17,13 @@ use Rattle.types_check.specs.Check.{IsLaterFault}
 use Rattle.types_info.proofs.MeaningLists.{slice_get_some}
 use Rattle.workspace_check.specs.Faults.{placed_in}
 use Rattle.workspace_check.specs.FaultLists.{ListsFaults}
-use Rattle.workspace_check.specs.Verdicts.{Verdicts, AreVerdicts, AreStates, IsStateOf, is_missing, is_on_cycle, is_faulty, is_good, IsPackageIn, IsInnerFault}
+use Rattle.workspace_check.specs.Verdicts.{Verdicts, AreVerdicts, AreStates, IsStateOf, is_missing, is_on_cycle, is_faulty, is_good, IsPackageIn, IsFaultBehindOuter}
 use Rattle.workspace_check.proofs.Closed.{imports_closed}
 use Rattle.workspace_check.proofs.FaultFiles.{in_outer, in_later, identifiers_stand}
 use Rattle.workspace_check.proofs.Members.{cases_contains}
 use Rattle.workspace_check.proofs.OneList.{no_fault}
 use Rattle.workspace_check.proofs.PackageFiles.{package_file, some_tree}
-use Rattle.refs_binding.specs.Uses.{IsPackage}
+use Rattle.refs_binding.specs.Uses.{IsCheckedPackage}
 use Rattle.refs_lookup.proofs.OnePlace.{same_files}
 use Rattle.refs_binding.proofs.Alike.{package_for}
 
@@ -70,7 +70,7 @@ module _ (w : Workspace) (sound : ListsFaults w []) (p : Package) (has : Contain
   sources = map source_of is.files
 
   no_read_fault : (state : List ℕ → ImportState) → AreStates w sound.known p.path state → (f : Fault) → f.file < length sources →
-      FirstOf (IsOuterFault state sources) (IsInnerFault w sound.known p.path) f → ⊥
+      FirstOf (IsOuterFault state sources) (IsFaultBehindOuter w sound.known p.path) f → ⊥
   no_read_fault state are f lt first =
       let s = slice_get_some sources f.file lt in
       no_fault w sound p.path has (placed_in s.0 f)
@@ -100,7 +100,7 @@ module _ (w : Workspace) (sound : ListsFaults w []) (p : Package) (has : Contain
       no_read_fault state are f within (inr (sound_outside, record { checked = p; is_package = is; is_fault = later })))
 
 -- A package has no later fault by any right verdicts.
-pub no_fault_later : (w : Workspace) → ListsFaults w [] → (known : Verdicts) → AreVerdicts w known → (p : Package) → IsPackage w known p → (f : Fault) →
+pub no_fault_later : (w : Workspace) → ListsFaults w [] → (known : Verdicts) → AreVerdicts w known → (p : Package) → IsCheckedPackage w known p → (f : Fault) →
     IsLaterFault p f → ⊥
 no_fault_later w sound known right p is f later =
     let own = package_for w known sound.known right sound.right p is in

@@ -10,7 +10,7 @@ use Rattle.go_scope.specs.declared.model.Role.TheVariants.{NotLexical}
 use Rattle.go_scope.specs.Bindings.{block_of, is_implied}
 use Rattle.go_scope.specs.FileSites.{SpelledFile, file_sites, files_sites, universe_site}
 use Rattle.go_scope.specs.Named.{named_sites}
-use Rattle.go_scope.specs.Site.{Site, Source, or_blank}
+use Rattle.go_scope.specs.Site.{Site, TokenSpellings, or_blank}
 use Rattle.law_tokens.specs.Tokens.{identifiers_among}
 use Rattle.law_tokens.proofs.Covering.{file_pairs}
 use Rattle.law_tokens.proofs.FileIdentifiers.{AreIdentifiers, files_identify, paired_files, role_in, identifier_in}
@@ -47,7 +47,7 @@ one_file : (rank : ℕ) (x : Site) (xs ys : List Site) → x.place.file ≡ rank
 one_file rank x [] ys e all runs = runs_follow x ys runs
 one_file rank x (z ∷ zs) ys e all runs = ((λ literal. all.0 ∙ sym e), one_file rank z zs ys all.0 all.1 runs)
 
-abbrev source_at : ℕ → SpelledFile → Source
+abbrev source_at : ℕ → SpelledFile → TokenSpellings
 source_at rank f = record { rank = rank; spell = f.spell }
 
 abbrev Begins : List Site → Type 0

@@ -16,7 +16,7 @@ use Rattle.law_tokens.proofs.Roles.{consecutive, of_kind, by_kind}
 use Rattle.types_expr.specs.Judge.{MemberUse}
 use Rattle.types_expr.specs.World.{World}
 use Rattle.types_stmt.specs.Declarations.{check_file}
-use Rattle.refs_lookup.specs.Places.{IsPackageName, IsMemberToken, as_key, as_selected}
+use Rattle.refs_lookup.specs.Places.{IsBoundToPackage, IsMemberToken, as_key, as_selected}
 use Rattle.refs_lookup.proofs.Picked.{IsPackage, MayUse, Picked, stops, passes, closes, leaves, selects, keys, Passes}
 use Rattle.refs_lookup.proofs.Statements.{file_pass}
 
@@ -173,7 +173,7 @@ one_kind n (t ∷ ts) c j k i a b = elim a [
 ]
 
 local_all : (w : World) (cut : CutText) (ts : List Token) → ((k : Kind) (i : ℕ) → HasKind k i ts → HasKind k i (kinds_of cut)) →
-    AllByRecursion (Local (IsPackageName w cut)) ts
+    AllByRecursion (Local (IsBoundToPackage w cut)) ts
 local_all w cut [] within = tt
 local_all w cut (t ∷ ts) within = (
   (
@@ -195,7 +195,7 @@ one_at_token w is_init f is x y a b at =
     one_use 0 us (uses_rise w 0 None p.0 us (kinds_of f.cut) p.1 (consecutive 0 f.cut.text (tokens_in f.cut))) x y (one_in x us a.0 a.1 a.2)
     (one_in y us b.0 b.1 b.2) at
 
-at_link : (w : World) (cut : CutText) (place : ℕ) → Beside (IsPackageName w cut) (kinds_of cut) place → IsMemberToken w cut place
+at_link : (w : World) (cut : CutText) (place : ℕ) → Beside (IsBoundToPackage w cut) (kinds_of cut) place → IsMemberToken w cut place
 at_link w cut place h = elim h [
   | inl colon ↦ as_key (of_kind cut kind.Colon (suc place) colon)
   | inr q ↦ as_selected (q.0.0, (q.0.1.0, of_kind cut kind.Dot q.0.0 q.0.1.1)) q.1
@@ -207,5 +207,5 @@ stands_at_link w is_init f is x a =
     let us = (check_file w is_init f.tree).uses in
     let p = file_picked w is_init f is None in
     at_link w f.cut x.place
-    (each_beside w (IsPackageName w f.cut) (λ k l. l.names) 0 None p.0 us (kinds_of f.cut) p.1 (consecutive 0 f.cut.text (tokens_in f.cut))
+    (each_beside w (IsBoundToPackage w f.cut) (λ k l. l.names) 0 None p.0 us (kinds_of f.cut) p.1 (consecutive 0 f.cut.text (tokens_in f.cut))
     (λ k e l. absurd (omega arith)) (local_all w f.cut (kinds_of f.cut) (λ k i h. h)) x (one_in x us a.0 a.1 a.2))

@@ -109,7 +109,7 @@ module _ (w : Workspace) (known : Verdicts) (path : List ℕ) (p : Package) (h :
       subst (λ l. HasIdentifierAt l (length (laid_of w known path p h).sites) (p.layout.place n)) layout sized in
       one_has_place h.files (package_sources w path h.files h.parsed) (p.layout.place n) ((named_has_one names (scoped h.files) (p.layout.place n)).1 laid)
 
-  imported : (d : ℕ) (q : List ℕ) → d < p.size → written.ImportsPath p d q → PackageImports w path q
+  imported : (d : ℕ) (q : List ℕ) → d < p.size → written.DeclaresImport p d q → PackageImports w path q
   imported d q lt i =
       let s = i.of_path.source in
       let n = literal_of p.layout d in

@@ -8,7 +8,7 @@ use Rattle.workspace_check.proofs.OnePackage.{layout_formed, files_in_order}
 use Rattle.refs_binding.specs.declared.declaration.Declaration.{Declaration}
 use Rattle.refs_binding.specs.Binding.{by_scope, by_package, by_member, by_name}
 use Rattle.refs_binding.specs.Identifiers.{IsInFiles, BeginsAt, named_by}
-use Rattle.refs_binding.specs.Uses.{IsPackage, IsBoundTo, BindsThroughLiteral, IsUseOf, HasDeclaration}
+use Rattle.refs_binding.specs.Uses.{IsCheckedPackage, IsBoundToDeclaration, BindsThroughLiteral, IsUseOf, HasDeclaration}
 use Rattle.refs_binding.proofs.Excluding.{one_by_scope, one_by_package, not_both}
 use Rattle.refs_lookup.proofs.NamedMembers.{name_not_scope, name_not_package}
 use Rattle.refs_lookup.proofs.OnePlace.{one_begins, one_asked}
@@ -19,30 +19,30 @@ use Rattle.refs_lookup.proofs.LiteralNames.{name_stands}
 use Rattle.refs_lookup.proofs.BoundNamedMembers.{one_by_name}
 use Rattle.refs_lookup.proofs.BoundUsedMembers.{member_not_package}
 
-module _ (w : Workspace) (known : Verdicts) (p : Package) (is : IsPackage w known p) (u : ℕ) (stands : IsInFiles p u) where
-  pub one_declaration : (d e : Declaration) → IsBoundTo w known p u d → IsBoundTo w known p u e → d ≡ e
+module _ (w : Workspace) (known : Verdicts) (p : Package) (is : IsCheckedPackage w known p) (u : ℕ) (stands : IsInFiles p u) where
+  pub one_declaration : (d e : Declaration) → IsBoundToDeclaration w known p u d → IsBoundToDeclaration w known p u e → d ≡ e
   one_declaration d e (by_scope a) (by_scope b) = one_by_scope p (layout_formed w known p.path p is.is_checked) u d e a b
-  one_declaration d e (by_scope a) (by_package b) = absurd (not_both (IsPackage w known) p u d e a b)
+  one_declaration d e (by_scope a) (by_package b) = absurd (not_both (IsCheckedPackage w known) p u d e a b)
   one_declaration d e (by_scope a) (by_member b) = absurd (member_not_scope w known p.path p is.is_checked u e d stands b a)
   one_declaration d e (by_scope a) (by_name b) = absurd (name_not_scope w known p.path p is.is_checked u e d stands.0 b a)
-  one_declaration d e (by_package a) (by_scope b) = absurd (not_both (IsPackage w known) p u e d b a)
+  one_declaration d e (by_package a) (by_scope b) = absurd (not_both (IsCheckedPackage w known) p u e d b a)
   one_declaration d e (by_package a) (by_package b) = one_by_package w known p is u d e a b
-  one_declaration d e (by_package a) (by_member b) = absurd (member_not_package w known p.path p is.is_checked (IsPackage w known) u e d stands b a)
-  one_declaration d e (by_package a) (by_name b) = absurd (name_not_package w known p.path p is.is_checked (IsPackage w known) u e d stands.0 b a)
+  one_declaration d e (by_package a) (by_member b) = absurd (member_not_package w known p.path p is.is_checked (IsCheckedPackage w known) u e d stands b a)
+  one_declaration d e (by_package a) (by_name b) = absurd (name_not_package w known p.path p is.is_checked (IsCheckedPackage w known) u e d stands.0 b a)
   one_declaration d e (by_member a) (by_scope b) = absurd (member_not_scope w known p.path p is.is_checked u d e stands a b)
-  one_declaration d e (by_member a) (by_package b) = absurd (member_not_package w known p.path p is.is_checked (IsPackage w known) u d e stands a b)
+  one_declaration d e (by_member a) (by_package b) = absurd (member_not_package w known p.path p is.is_checked (IsCheckedPackage w known) u d e stands a b)
   one_declaration d e (by_member a) (by_member b) =
       one_member w known p.path p is.is_checked (p.layout.place u).file (p.layout.place u).index d e a b
   one_declaration d e (by_member a) (by_name b) = absurd (member_not_name w known p.path p is.is_checked u d e stands a b)
   one_declaration d e (by_name a) (by_scope b) = absurd (name_not_scope w known p.path p is.is_checked u d e stands.0 a b)
-  one_declaration d e (by_name a) (by_package b) = absurd (name_not_package w known p.path p is.is_checked (IsPackage w known) u d e stands.0 a b)
+  one_declaration d e (by_name a) (by_package b) = absurd (name_not_package w known p.path p is.is_checked (IsCheckedPackage w known) u d e stands.0 a b)
   one_declaration d e (by_name a) (by_member b) = absurd (member_not_name w known p.path p is.is_checked u e d stands b a)
   one_declaration d e (by_name a) (by_name b) = one_by_name p (files_in_order w known p.path p is.is_checked) u d e a b
 
 -- one identifier of one package begins at a place
 
 module _ (w : Workspace) (known : Verdicts) (place : Place) where
-  pub same_package : (p q : Package) → IsPackage w known p → IsPackage w known q → (u v : ℕ) → BeginsAt p place.path place.offset u →
+  pub same_package : (p q : Package) → IsCheckedPackage w known p → IsCheckedPackage w known q → (u v : ℕ) → BeginsAt p place.path place.offset u →
       BeginsAt q place.path place.offset v → p ≡ q
   same_package p q a b u v x y =
       one_package w known p q a b
@@ -54,8 +54,8 @@ module _ (w : Workspace) (known : Verdicts) (place : Place) where
       let same : b.used_in ≡ p = sym (same_package p b.used_in a.is_package b.is_package a.user b.user a.begins b.begins) in
       let begins : BeginsAt p place.path place.offset b.user = subst (λ (x : Package). BeginsAt x place.path place.offset b.user) same b.begins in
       let user : b.user ≡ a.user = one_begins w known p.path p a.is_package.is_checked place.path place.offset b.user a.user begins a.begins in
-      let bound : IsBoundTo w known p b.user e = subst (λ (x : Package). IsBoundTo w known x b.user e) same b.bound in
-      one_declaration w known p a.is_package a.user a.begins.0 d e a.bound (subst (λ v. IsBoundTo w known p v e) user bound)
+      let bound : IsBoundToDeclaration w known p b.user e = subst (λ (x : Package). IsBoundToDeclaration w known x b.user e) same b.bound in
+      one_declaration w known p a.is_package a.user a.begins.0 d e a.bound (subst (λ v. IsBoundToDeclaration w known p v e) user bound)
 
 pub one_held : (w : Workspace) (known : Verdicts) (path : List ℕ) (offset : ℕ) (d e : Declaration) → HasDeclaration w known path offset d →
     HasDeclaration w known path offset e → d ≡ e

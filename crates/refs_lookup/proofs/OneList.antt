@@ -15,7 +15,7 @@ use Rattle.workspace_check.specs.Verdicts.{Verdicts, AreVerdicts}
 use Rattle.workspace_check.proofs.Members.{one_sorted}
 use Rattle.workspace_check.proofs.OneList.{one_whole_list}
 use Rattle.refs_binding.specs.Identifiers.{HoldsByte}
-use Rattle.refs_binding.specs.Uses.{BindsThroughLiteral, IsUseOf, IsFilePackage, ListsUses, HasNoIdentifier, HasNoDeclaration, IsFile, HasFirstFault, AnswersUses}
+use Rattle.refs_binding.specs.Uses.{BindsThroughLiteral, IsUseOf, IsFilePackage, ListsUses, HasNoIdentifier, HasNoDeclaration, HasFileAt, HasFirstFault, AnswersUses}
 use Rattle.refs_lookup.proofs.OnePlace.{one_asked}
 use Rattle.refs_binding.proofs.PlaceOrder.{place_cmp_total}
 use Rattle.refs_binding.proofs.Alike.{use_for, asked_for, held_for}
@@ -46,12 +46,12 @@ module _ (w : Workspace) (path : List ℕ) (offset : ℕ) where
 
 -- An answer other than running out of memory.
 data Told (w : Workspace) (path : List ℕ) (offset : ℕ) : Result (List Place) Refusal → Type 0 where
-  lists : {xs : List Place} → IsFile w path → ListsFaults w [] → ListsUses w path offset xs → Told w path offset (Ok xs)
+  lists : {xs : List Place} → HasFileAt w path → ListsFaults w [] → ListsUses w path offset xs → Told w path offset (Ok xs)
   no_path : (IsPath 2 path → ⊥) → Told w path offset (Err refusal.BadPath)
   no_file : IsPath 2 path → files.get w path ≡ None → Told w path offset (Err refusal.NoFile)
-  faulty : {place : Place} {kind : FaultKind} → IsFile w path → HasFirstFault w place kind → Told w path offset (Err (refusal.Faulty place kind))
-  unheld : IsFile w path → ListsFaults w [] → HasNoIdentifier w path offset → Told w path offset (Err refusal.NoIdentifier)
-  unbound : IsFile w path → ListsFaults w [] → HasNoDeclaration w path offset → Told w path offset (Err refusal.NotRenamable)
+  faulty : {place : Place} {kind : FaultKind} → HasFileAt w path → HasFirstFault w place kind → Told w path offset (Err (refusal.Faulty place kind))
+  unheld : HasFileAt w path → ListsFaults w [] → HasNoIdentifier w path offset → Told w path offset (Err refusal.NoIdentifier)
+  unbound : HasFileAt w path → ListsFaults w [] → HasNoDeclaration w path offset → Told w path offset (Err refusal.NotRenamable)
 
 told : (w : Workspace) (path : List ℕ) (offset : ℕ) (r : Result (List Place) Refusal) → AnswersUses w path offset r → (r ≡ Err refusal.Memory → ⊥) →
     Told w path offset r

@@ -22,7 +22,7 @@ use Rattle.workspace_check.proofs.OneVerdict.{right_below, verdict_by}
 use Rattle.refs_binding.specs.declared.declaration.Declaration.{Declaration}
 use Rattle.refs_binding.specs.declared.declaration.Declaration.TheVariants as declares
 use Rattle.refs_binding.specs.Binding.{declaration_of}
-use Rattle.refs_binding.specs.Uses.{IsPackage}
+use Rattle.refs_binding.specs.Uses.{IsCheckedPackage}
 use Rattle.refs_binding.proofs.MemberParts.{method_declared}
 
 -- by the definitions of one package, for each rank
@@ -70,7 +70,7 @@ module _ (c : Package) (definition : ℕ → Definition) (are : AreOwn c definit
 -- a package of the closure has the member of that symbol
 pub record HasOwner (w : Workspace) (known : Verdicts) (p : List ℕ) (Counts : Package → ℕ → Type 0) (s : Symbol) : Type 0 where
   pub inside : Package
-  pub is_package : IsPackage w known inside
+  pub is_package : IsCheckedPackage w known inside
   pub in_closure : IsInClosure w p inside.path
   pub of_path : inside.path ≡ s.package
   pub counts : Counts inside s.rank
@@ -78,7 +78,7 @@ pub record HasOwner (w : Workspace) (known : Verdicts) (p : List ℕ) (Counts : 
 same_path : (s : Symbol) (c : Package) → s ≡ symbol_in c s.rank → c.path ≡ s.package
 same_path s c e = sym (ap (λ (x : Symbol). x.package) e)
 
-module _ (w : Workspace) (known : Verdicts) (right : AreVerdicts w known) (p : Package) (is : IsPackage w known p) (definitions : Symbol → Definition)
+module _ (w : Workspace) (known : Verdicts) (right : AreVerdicts w known) (p : Package) (is : IsCheckedPackage w known p) (definitions : Symbol → Definition)
     (are : AreDefinitions p definitions) where
   here : {Counts : Package → ℕ → Type 0} (s : Symbol) → IsOwn Counts p s → HasOwner w known p.path Counts s
   here s h = record { inside = p; is_package = is; in_closure = itself is.of_workspace; of_path = same_path s p h.is_own; counts = h.counts }

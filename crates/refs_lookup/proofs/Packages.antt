@@ -10,10 +10,10 @@ use Rattle.workspace_check.specs.Verdicts.{Verdicts, AreVerdicts}
 use Rattle.workspace_check.proofs.Alike.{package_as}
 use Rattle.workspace_check.proofs.Local.{own_there, local_verdict, locally_checked}
 use Rattle.workspace_check.proofs.OneVerdict.{one_verdict, right_alike, right_below}
-use Rattle.refs_binding.specs.Uses.{IsPackage}
+use Rattle.refs_binding.specs.Uses.{IsCheckedPackage}
 
 module _ (w x : Workspace) (before after : Verdicts) (right : AreVerdicts w before) (also : AreVerdicts x after) where
-  pub package_stays : (p : Package) → HasSameClosure w x p.path → IsPackage w before p → IsPackage x after p
+  pub package_stays : (p : Package) → HasSameClosure w x p.path → IsCheckedPackage w before p → IsCheckedPackage x after p
   package_stays p same is =
       let there = locally_checked w x p.path before p is.of_workspace same (right_below w before right p.path) is.is_checked in
       record {

@@ -22,12 +22,12 @@ use Rattle.workspace_check.proofs.MemberFiles.{field_file, function_file}
 use Rattle.workspace_check.proofs.PackageFiles.{package_file, some_tree}
 use Rattle.refs_binding.specs.declared.declaration.Declaration.{Declaration}
 use Rattle.refs_binding.specs.declared.declaration.Declaration.TheVariants.{Predeclared, Declared, Field, Method}
-use Rattle.refs_binding.specs.Binding.{IsPredeclared, BindsByScope, BindsQualified, BindsByMember, DeclaresMember, by_scope, by_package, by_member, by_name}
+use Rattle.refs_binding.specs.Binding.{IsPredeclaredNumber, BindsByScope, BindsQualified, BindsByMember, DeclaresMember, by_scope, by_package, by_member, by_name}
 use Rattle.refs_binding.specs.Binding.{IsQualifiedUse, field_place}
-use Rattle.refs_binding.specs.Uses.{IsPackage, IsBoundTo}
+use Rattle.refs_binding.specs.Uses.{IsCheckedPackage, IsBoundToDeclaration}
 use Rattle.refs_lookup.proofs.OnePlace.{names_of}
 use Rattle.refs_binding.proofs.Folders.{file_in_folder}
-use Rattle.refs_binding.specs.DeclaringPlaces.{InPackage, TokenBegins, TokenAt, IsPositionOf, DeclaresAt, IsDeclaredAt}
+use Rattle.refs_binding.specs.DeclaringPlaces.{InPackage, TokenBegins, TokenAt, IsPositionOf, HasDeclarationAt, IsDeclaredAt}
 use Rattle.refs_lookup.specs.Within.{DeclaresWithin, IsDeclaredWithin, predeclared, stands}
 use Rattle.refs_lookup.proofs.Bindings.{behind_closed}
 use Rattle.refs_lookup.proofs.ImportSites.{predeclared_block}
@@ -42,7 +42,7 @@ record BeginsSomewhere (p : Package) (at : Position) : Type 0 where
   begins : TokenAt p at place
   in_folder : folder place.path ≡ p.path
 
-module _ (w : Workspace) (known : Verdicts) (p : Package) (is : IsPackage w known p) where
+module _ (w : Workspace) (known : Verdicts) (p : Package) (is : IsCheckedPackage w known p) where
   begins_somewhere : (at : Position) → at.file < length p.files → BeginsSomewhere p at
   begins_somewhere at lt =
       let s = slice_get_some p.files at.file lt in
@@ -58,7 +58,7 @@ module _ (w : Workspace) (known : Verdicts) (p : Package) (is : IsPackage w know
       let file = package_file w p.path is.of_workspace in
       identifiers_stand w known p.path p is.is_checked (some_tree is.is_checked.parsed file.0 file.1) u
 
-  not_predeclared : (d : ℕ) → IsPackageLevel p.layout d → IsPredeclared d → ⊥
+  not_predeclared : (d : ℕ) → IsPackageLevel p.layout d → IsPredeclaredNumber d → ⊥
   unfolding package_sites
   not_predeclared d level lt =
       let h = is.is_checked in
@@ -69,25 +69,25 @@ module _ (w : Workspace) (known : Verdicts) (p : Package) (is : IsPackage w know
 
 -- a declaration of a package of the closure stands within it
 
-module _ (w : Workspace) (known : Verdicts) (p : List ℕ) (c : Package) (is : IsPackage w known c) (closed : IsInClosure w p c.path) where
+module _ (w : Workspace) (known : Verdicts) (p : List ℕ) (c : Package) (is : IsCheckedPackage w known c) (closed : IsInClosure w p c.path) where
   within : (d : Declaration) (at : Position) → at.file < length c.files →
-      ((place : Place) → TokenAt c at place → IsDeclaredAt (IsPackage w known) d place) → IsDeclaredWithin w known p d
+      ((place : Place) → TokenAt c at place → IsDeclaredAt (IsCheckedPackage w known) d place) → IsDeclaredWithin w known p d
   within d at lt declared =
       let b = begins_somewhere w known c is at lt in
       stands b.place (record { declared = declared b.place b.begins; in_closure = subst (IsInClosure w p) (sym b.in_folder) closed })
 
   inside : (path : List ℕ) (d : Declaration) → c.path ≡ path → (at : Position) → IsPositionOf c d at → (place : Place) → TokenAt c at place →
-      InPackage (IsPackage w known) path (λ q. DeclaresAt q d place)
+      InPackage (IsCheckedPackage w known) path (λ q. HasDeclarationAt q d place)
   inside path d e at position place begins =
       record { inside = c; is_package = is; of_path = e; holds = record { at = at; is_at = position; begins = begins } }
 
-  scope_within : (path : List ℕ) (n : ℕ) → c.path ≡ path → (IsPredeclared n → ⊥) → Counts c.layout c.names n → IsDeclaredWithin w known p (Declared path n)
+  scope_within : (path : List ℕ) (n : ℕ) → c.path ≡ path → (IsPredeclaredNumber n → ⊥) → Counts c.layout c.names n → IsDeclaredWithin w known p (Declared path n)
   scope_within path n e own counts =
       let literal = literal_of c.layout n in
       within (Declared path n) (c.layout.place literal) (identifier_file w known c is literal)
       (inside path (Declared path n) e (c.layout.place literal) (record { own = own; counts = counts; stands = refl }))
 
-module _ (w : Workspace) (known : Verdicts) (right : AreVerdicts w known) (p : Package) (is : IsPackage w known p) where
+module _ (w : Workspace) (known : Verdicts) (right : AreVerdicts w known) (p : Package) (is : IsCheckedPackage w known p) where
   abbrev Within : Declaration → Type 0
   Within d = IsDeclaredWithin w known p.path d
 
@@ -101,7 +101,7 @@ module _ (w : Workspace) (known : Verdicts) (right : AreVerdicts w known) (p : P
   by_scope_within u (Field s) h = absurd h
   by_scope_within u (Method s) h = absurd h
 
-  export_within : (u : ℕ) (path : List ℕ) (n : ℕ) → IsQualifiedUse (IsPackage w known) p u path n → Within (Declared path n)
+  export_within : (u : ℕ) (path : List ℕ) (n : ℕ) → IsQualifiedUse (IsCheckedPackage w known) p u path n → Within (Declared path n)
   export_within u path n h =
       let has : Contains (package_paths w) path = subst (Contains (package_paths w)) h.of_path h.is_package.of_workspace in
       let closed : IsInClosure w p.path h.other.path =
@@ -109,7 +109,7 @@ module _ (w : Workspace) (known : Verdicts) (right : AreVerdicts w known) (p : P
       scope_within w known p.path h.other h.is_package closed path n h.of_path (not_predeclared w known h.other h.is_package n h.seen.package_level)
       h.seen.counts
 
-  by_package_within : (u : ℕ) (d : Declaration) → BindsQualified (IsPackage w known) p u d → Within d
+  by_package_within : (u : ℕ) (d : Declaration) → BindsQualified (IsCheckedPackage w known) p u d → Within d
   by_package_within u (Predeclared n) h = absurd h
   by_package_within u (Declared path n) h = export_within u path n h
   by_package_within u (Field s) h = absurd h
@@ -152,7 +152,7 @@ module _ (w : Workspace) (known : Verdicts) (right : AreVerdicts w known) (p : P
           (function_file o.inside s.rank o.counts.method o.counts.counting.is_method.has_rank)
           (inside w known p.path o.inside o.is_package o.in_closure s.package (Method s) o.of_path at (record { counts = o.counts; named_at = refl }))
 
-  pub bound_within : (u : ℕ) (d : Declaration) → IsBoundTo w known p u d → Within d
+  pub bound_within : (u : ℕ) (d : Declaration) → IsBoundToDeclaration w known p u d → Within d
   bound_within u d (by_scope h) = by_scope_within u d h
   bound_within u d (by_package h) = by_package_within u d h
   bound_within u d (by_member h) = by_member_within u d h
@@ -166,8 +166,8 @@ token_file (Some f) token place h = (f, (refl, h.0))
 
 module _ (w x : Workspace) (before after : Verdicts) (right : AreVerdicts w before) (also : AreVerdicts x after) (p : List ℕ)
     (same : HasSameClosure w x p) (place : Place) (closed : IsInClosure w p (folder place.path)) where
-  package_stands : (path : List ℕ) (d : Declaration) → InPackage (IsPackage w before) path (λ q. DeclaresAt q d place) →
-      InPackage (IsPackage x after) path (λ q. DeclaresAt q d place)
+  package_stands : (path : List ℕ) (d : Declaration) → InPackage (IsCheckedPackage w before) path (λ q. HasDeclarationAt q d place) →
+      InPackage (IsCheckedPackage x after) path (λ q. HasDeclarationAt q d place)
   package_stands path d h =
       let c = h.inside in
       let f = token_file (slice_get c.files h.holds.at.file) h.holds.at.index place h.holds.begins in
@@ -175,7 +175,7 @@ module _ (w x : Workspace) (before after : Verdicts) (right : AreVerdicts w befo
       let there : HasSameClosure w x c.path = subst (HasSameClosure w x) own (same_within w x p same (folder place.path) closed) in
       record { inside = c; is_package = package_stays w x before after right also c there h.is_package; of_path = h.of_path; holds = h.holds }
 
-  declared_stays : (d : Declaration) → IsDeclaredAt (IsPackage w before) d place → IsDeclaredAt (IsPackage x after) d place
+  declared_stays : (d : Declaration) → IsDeclaredAt (IsCheckedPackage w before) d place → IsDeclaredAt (IsCheckedPackage x after) d place
   declared_stays (Predeclared n) h = h
   declared_stays (Declared path n) h = package_stands path (Declared path n) h
   declared_stays (Field s) h = package_stands s.package (Field s) h

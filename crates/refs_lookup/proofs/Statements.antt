@@ -16,7 +16,7 @@ use Rattle.types_expr.specs.Places.{place_of}
 use Rattle.types_expr.specs.Types.{Meaning, Value, Results, Broken}
 use Rattle.types_expr.specs.World.{World, Locals}
 use Rattle.types_expr.specs.Judge.{MemberUse, TypeJudged, judge, judge_value, judge_type, as_value, followed}
-use Rattle.types_stmt.specs.Checked.{Checked, check_items, check_group}
+use Rattle.types_stmt.specs.Checked.{FoundSoFar, check_items, check_group}
 use Rattle.types_stmt.specs.Sides.{Target, Lefts, values_of, judge_each, rhs, assignable, judge_operand, assigned_one, assigned, no_name, declares, reassigned}
 use Rattle.types_stmt.specs.Sides.{defined_one, defined}
 use Rattle.types_stmt.specs.Simple.{check_condition, check_step, check_update, check_expr_statement, check_assign, check_define, check_simple, check_optional_simple}
@@ -122,34 +122,34 @@ all_defined w ls (i ∷ is) = lefts_pass w is (defined_one w ls) (defined_pass w
 
 -- what a step from one state to the next uses
 
-abbrev Grows : World → Checked → Checked → List Token → Type 0
+abbrev Grows : World → FoundSoFar → FoundSoFar → List Token → Type 0
 Grows w a b rs = (ts : List Token) → Passes w a.uses ts → Passes w b.uses (ts ++ rs)
 
-grows_none : (w : World) (s : Checked) (rs : List Token) → Grows w s s rs
+grows_none : (w : World) (s : FoundSoFar) (rs : List Token) → Grows w s s rs
 grows_none w s rs ts h = pass_behind w s.uses ts rs h
 
-grows_then : (w : World) (a b c : Checked) (us vs : List Token) → Grows w a b us → Grows w b c vs → Grows w a c (us ++ vs)
+grows_then : (w : World) (a b c : FoundSoFar) (us vs : List Token) → Grows w a b us → Grows w b c vs → Grows w a c (us ++ vs)
 grows_then w a b c us vs f g ts h = subst (λ xs. Passes w c.uses xs) (append_assoc ts us vs) (g (ts ++ us) (f ts h))
 
-grows_after : (w : World) (a b : Checked) (us vs : List Token) → Grows w a b vs → Grows w a b (us ++ vs)
+grows_after : (w : World) (a b : FoundSoFar) (us vs : List Token) → Grows w a b vs → Grows w a b (us ++ vs)
 grows_after w a b us vs g = grows_then w a a b us vs (grows_none w a us) g
 
-grows_before : (w : World) (a b : Checked) (us vs : List Token) → Grows w a b us → Grows w a b (us ++ vs)
+grows_before : (w : World) (a b : FoundSoFar) (us vs : List Token) → Grows w a b us → Grows w a b (us ++ vs)
 grows_before w a b us vs f = grows_then w a b b us vs f (grows_none w b vs)
 
-grows_behind : (w : World) (a b : Checked) (t : Token) (vs : List Token) → Grows w a b vs → Grows w a b (t ∷ vs)
+grows_behind : (w : World) (a b : FoundSoFar) (t : Token) (vs : List Token) → Grows w a b vs → Grows w a b (t ∷ vs)
 grows_behind w a b t vs g = grows_after w a b (t ∷ []) vs g
 
-items_grow : {X : Type 0} (w : World) (check : Checked → X → Checked) (k : Kind) (f : X → List Token) → ((s : Checked) (x : X) → Grows w s (check s x) (f x)) →
-    (s : Checked) (xs : List (Item X)) → Grows w s (check_items check s xs) (list_tokens k f xs)
+items_grow : {X : Type 0} (w : World) (check : FoundSoFar → X → FoundSoFar) (k : Kind) (f : X → List Token) → ((s : FoundSoFar) (x : X) → Grows w s (check s x) (f x)) →
+    (s : FoundSoFar) (xs : List (Item X)) → Grows w s (check_items check s xs) (list_tokens k f xs)
 unfolding check_items all_tokens
 items_grow w check k f h s [] = grows_none w s []
 items_grow w check k f h s (i ∷ is) =
     grows_then w s (check s i.value) (check_items check (check s i.value) is) (item_tokens k f i) (list_tokens k f is)
     (grows_before w s (check s i.value) (f i.value) (sign_if k i.separator) (h s i.value)) (items_grow w check k f h (check s i.value) is)
 
-group_grows : {X : Type 0} (w : World) (check : Checked → X → Checked) (f : X → List Token) → ((s : Checked) (x : X) → Grows w s (check s x) (f x)) →
-    (s : Checked) (g : Group X) → Grows w s (check_group check s g) (group_tokens f g)
+group_grows : {X : Type 0} (w : World) (check : FoundSoFar → X → FoundSoFar) (f : X → List Token) → ((s : FoundSoFar) (x : X) → Grows w s (check s x) (f x)) →
+    (s : FoundSoFar) (g : Group X) → Grows w s (check_group check s g) (group_tokens f g)
 unfolding check_group group_tokens
 group_grows w check f h s (single x) = h s x
 group_grows w check f h s (several o xs c) =
@@ -158,11 +158,11 @@ group_grows w check f h s (several o xs c) =
 
 -- simple statements
 
-condition_grows : (w : World) (s : Checked) (e : ExprTree) → Grows w s (check_condition w s e) (expr_tokens e)
+condition_grows : (w : World) (s : FoundSoFar) (e : ExprTree) → Grows w s (check_condition w s e) (expr_tokens e)
 unfolding check_condition
 condition_grows w s e ts h = pass_append w s.uses (judge_value w s.locals e).uses ts (expr_tokens e) h (value_pass w s.locals e)
 
-simple_grows : (w : World) (s : Checked) (x : SimpleTree) → Grows w s (check_simple w s x) (simple_tokens x)
+simple_grows : (w : World) (s : FoundSoFar) (x : SimpleTree) → Grows w s (check_simple w s x) (simple_tokens x)
 unfolding check_simple check_step check_update check_expr_statement check_assign check_define simple_tokens
 simple_grows w s (Alone e) = λ ts h. pass_append w s.uses (judge w s.locals e).uses ts (expr_tokens e) h (expr_pass w s.locals e)
 simple_grows w s (Step e op p) = λ ts h.
@@ -182,15 +182,15 @@ simple_grows w s (Define xs p ys) = λ ts h.
     (pass_append w (defined w s.locals xs).uses (rhs w s.locals ys).uses (exprs_tokens xs) (sign kind.Define p ∷ exprs_tokens ys)
     (all_defined w s.locals xs) (pass_before w (rhs w s.locals ys).uses (sign kind.Define p ∷ []) (exprs_tokens ys) (rights_pass w s.locals ys)))
 
-optional_grows : (w : World) (s : Checked) (x : Option SimpleTree) → Grows w s (check_optional_simple w s x) (tokens_if simple_tokens x)
+optional_grows : (w : World) (s : FoundSoFar) (x : Option SimpleTree) → Grows w s (check_optional_simple w s x) (tokens_if simple_tokens x)
 optional_grows w s None = grows_none w s []
 optional_grows w s (Some x) = simple_grows w s x
 
-optional_condition_grows : (w : World) (s : Checked) (e : Option ExprTree) → Grows w s (check_optional_condition w s e) (tokens_if expr_tokens e)
+optional_condition_grows : (w : World) (s : FoundSoFar) (e : Option ExprTree) → Grows w s (check_optional_condition w s e) (tokens_if expr_tokens e)
 optional_condition_grows w s None = grows_none w s []
 optional_condition_grows w s (Some e) = condition_grows w s e
 
-written_grows : (w : World) (s : Checked) (names : List (Item IdentTree)) (t : TypeJudged) (v : Option (ℕ × List (Item ExprTree))) →
+written_grows : (w : World) (s : FoundSoFar) (names : List (Item IdentTree)) (t : TypeJudged) (v : Option (ℕ × List (Item ExprTree))) →
     Grows w s (check_typed_local w s names t v) (tokens_if (value_tokens expr_tokens) v)
 unfolding check_typed_local
 written_grows w s names t None = λ ts h. pass_append w s.uses [] ts [] h (pass_none w [])
@@ -198,7 +198,7 @@ written_grows w s names t (Some v) = λ ts h.
     pass_append w s.uses (rhs w s.locals v.1).uses ts (value_tokens expr_tokens v) h
     (pass_before w (rhs w s.locals v.1).uses (sign kind.Assign v.0 ∷ []) (exprs_tokens v.1) (rights_pass w s.locals v.1))
 
-unwritten_grows : (w : World) (s : Checked) (names : List (Item IdentTree)) (v : Option (ℕ × List (Item ExprTree))) →
+unwritten_grows : (w : World) (s : FoundSoFar) (names : List (Item IdentTree)) (v : Option (ℕ × List (Item ExprTree))) →
     Grows w s (check_untyped_local w s names v) (tokens_if (value_tokens expr_tokens) v)
 unfolding check_untyped_local
 unwritten_grows w s names None = λ ts h. pass_append w s.uses [] ts [] h (pass_none w [])
@@ -206,12 +206,12 @@ unwritten_grows w s names (Some v) = λ ts h.
     pass_append w s.uses (rhs w s.locals v.1).uses ts (value_tokens expr_tokens v) h
     (pass_before w (rhs w s.locals v.1).uses (sign kind.Assign v.0 ∷ []) (exprs_tokens v.1) (rights_pass w s.locals v.1))
 
-local_of_grows : (w : World) (s : Checked) (names : List (Item IdentTree)) (t : Option TypeTree) (v : Option (ℕ × List (Item ExprTree))) →
+local_of_grows : (w : World) (s : FoundSoFar) (names : List (Item IdentTree)) (t : Option TypeTree) (v : Option (ℕ × List (Item ExprTree))) →
     Grows w s (check_local_of w s names t v) (tokens_if (value_tokens expr_tokens) v)
 local_of_grows w s names None v = unwritten_grows w s names v
 local_of_grows w s names (Some t) v = written_grows w s names (judge_type w t) v
 
-local_grows : (w : World) (s : Checked) (l : LocalTree) → Grows w s (check_local w s l) (local_tokens l)
+local_grows : (w : World) (s : FoundSoFar) (l : LocalTree) → Grows w s (check_local w s l) (local_tokens l)
 unfolding check_local local_tokens
 local_grows w s l =
     grows_after w s (check_local_of w s l.names l.type_use l.values) (list_tokens kind.Comma ident_tokens l.names)
@@ -219,13 +219,13 @@ local_grows w s l =
     (grows_after w s (check_local_of w s l.names l.type_use l.values) (tokens_if type_tokens l.type_use) (tokens_if (value_tokens expr_tokens) l.values)
     (local_of_grows w s l.names l.type_use l.values))
 
-init_grows : (w : World) (s : Checked) (i : Option InitTree) → Grows w s (check_init w s i) (tokens_if init_tokens i)
+init_grows : (w : World) (s : FoundSoFar) (i : Option InitTree) → Grows w s (check_init w s i) (tokens_if init_tokens i)
 unfolding init_tokens
 init_grows w s None = grows_none w s []
 init_grows w s (Some i) =
     grows_before w s (check_optional_simple w s i.simple) (tokens_if simple_tokens i.simple) (sign kind.Semicolon i.semicolon ∷ []) (optional_grows w s i.simple)
 
-header_grows : (w : World) (s : Checked) (f : ForTree) → Grows w s (check_for_header w s f) (for_tokens f)
+header_grows : (w : World) (s : FoundSoFar) (f : ForTree) → Grows w s (check_for_header w s f) (for_tokens f)
 unfolding check_for_header for_tokens
 header_grows w s forever = grows_none w s []
 header_grows w s (while e) = condition_grows w s e
@@ -239,7 +239,7 @@ header_grows w s (clauses init p condition q post) =
     (grows_then w a b c (tokens_if expr_tokens condition) (sign kind.Semicolon q ∷ tokens_if simple_tokens post) (optional_condition_grows w a condition)
     (grows_behind w b c (sign kind.Semicolon q) (tokens_if simple_tokens post) (optional_grows w b post))))
 
-return_grows : (w : World) (s : Checked) (place : ℕ) (results : List Target) (es : List (Item ExprTree)) →
+return_grows : (w : World) (s : FoundSoFar) (place : ℕ) (results : List Target) (es : List (Item ExprTree)) →
     Grows w s (check_return w s place results es) (exprs_tokens es)
 unfolding check_return
 return_grows w s place results es = λ ts h. pass_append w s.uses (rhs w s.locals es).uses ts (exprs_tokens es) h (rights_pass w s.locals es)
@@ -247,7 +247,7 @@ return_grows w s place results es = λ ts h. pass_append w s.uses (rhs w s.local
 mutual
   unfolding check_statement check_block check_statements check_if check_else statement_tokens block_tokens statements_tokens if_tokens else_tokens
 
-  statement_grows : (w : World) (results : List Target) (s : Checked) (x : StatementTree) → Grows w s (check_statement w results s x) (statement_tokens x)
+  statement_grows : (w : World) (results : List Target) (s : FoundSoFar) (x : StatementTree) → Grows w s (check_statement w results s x) (statement_tokens x)
   statement_grows w results s Empty = grows_none w s []
   statement_grows w results s (Var p g) =
       grows_behind w s (check_group (check_local w) s g) (sign kind.Var p) (group_tokens local_tokens g)
@@ -265,13 +265,13 @@ mutual
   statement_grows w results s (Return p es) =
       grows_behind w s (check_return w s p results es) (sign kind.Return p) (exprs_tokens es) (return_grows w s p results es)
 
-  block_grows : (w : World) (results : List Target) (s : Checked) (b : BlockTree) → Grows w s (check_block w results s b) (block_tokens b)
+  block_grows : (w : World) (results : List Target) (s : FoundSoFar) (b : BlockTree) → Grows w s (check_block w results s b) (block_tokens b)
   block_grows w results s (block o ss c) =
       let a = check_statements w results s ss in
       grows_behind w s a (sign kind.LeftBrace o) (statements_tokens ss ++ (sign kind.RightBrace c ∷ []))
       (grows_before w s a (statements_tokens ss) (sign kind.RightBrace c ∷ []) (statements_grow w results s ss))
 
-  statements_grow : (w : World) (results : List Target) (s : Checked) (ss : StatementTrees) → Grows w s (check_statements w results s ss) (statements_tokens ss)
+  statements_grow : (w : World) (results : List Target) (s : FoundSoFar) (ss : StatementTrees) → Grows w s (check_statements w results s ss) (statements_tokens ss)
   statements_grow w results s no_statement = grows_none w s []
   statements_grow w results s (statement x p rest) =
       let a = check_statement w results s x in
@@ -279,7 +279,7 @@ mutual
       grows_then w s a b (statement_tokens x) (sign_if kind.Semicolon p ++ statements_tokens rest) (statement_grows w results s x)
       (grows_after w a b (sign_if kind.Semicolon p) (statements_tokens rest) (statements_grow w results a rest))
 
-  if_grows : (w : World) (results : List Target) (s : Checked) (i : IfTree) → Grows w s (check_if w results s i) (if_tokens i)
+  if_grows : (w : World) (results : List Target) (s : FoundSoFar) (i : IfTree) → Grows w s (check_if w results s i) (if_tokens i)
   if_grows w results s (if_tree p init e x rest) =
       let a = check_init w s init in
       let b = check_condition w a e in
@@ -290,26 +290,26 @@ mutual
       (grows_then w a b d (expr_tokens e) (block_tokens x ++ else_tokens rest) (condition_grows w a e)
       (grows_then w b c d (block_tokens x) (else_tokens rest) (block_grows w results b x) (else_grows w results c rest))))
 
-  else_grows : (w : World) (results : List Target) (s : Checked) (x : ElseTree) → Grows w s (check_else w results s x) (else_tokens x)
+  else_grows : (w : World) (results : List Target) (s : FoundSoFar) (x : ElseTree) → Grows w s (check_else w results s x) (else_tokens x)
   else_grows w results s no_else = grows_none w s []
   else_grows w results s (else_if p i) = grows_behind w s (check_if w results s i) (sign kind.Else p) (if_tokens i) (if_grows w results s i)
   else_grows w results s (else_block p b) = grows_behind w s (check_block w results s b) (sign kind.Else p) (block_tokens b) (block_grows w results s b)
 
 -- functions, declarations and files
 
-noted : (w : World) (a b : Checked) (rs : List Token) → b.uses ≡ a.uses ++ [] → Grows w a b rs
+noted : (w : World) (a b : FoundSoFar) (rs : List Token) → b.uses ≡ a.uses ++ [] → Grows w a b rs
 noted w a b rs e ts h = subst (λ us. Passes w us (ts ++ rs)) (sym e) (pass_append w a.uses [] ts rs h (pass_none w rs))
 
-receiver_grows : (w : World) (s : Checked) (r : Option ReceiverTree) → Grows w s (check_optional_receiver w s r) (tokens_if receiver_tokens r)
+receiver_grows : (w : World) (s : FoundSoFar) (r : Option ReceiverTree) → Grows w s (check_optional_receiver w s r) (tokens_if receiver_tokens r)
 unfolding check_receiver
 receiver_grows w s None = grows_none w s []
 receiver_grows w s (Some r) = noted w s (check_receiver w s r) (receiver_tokens r) refl
 
-param_grows : (w : World) (s : Checked) (p : ParamTree) → Grows w s (check_param w s p) (param_tokens p)
+param_grows : (w : World) (s : FoundSoFar) (p : ParamTree) → Grows w s (check_param w s p) (param_tokens p)
 unfolding check_param
 param_grows w s p = noted w s (check_param w s p) (param_tokens p) refl
 
-function_grows : (w : World) (is_init : Bool) (s : Checked) (f : FuncTree) → Grows w s (check_function w is_init s f) (func_tokens f)
+function_grows : (w : World) (is_init : Bool) (s : FoundSoFar) (f : FuncTree) → Grows w s (check_function w is_init s f) (func_tokens f)
 unfolding check_function check_signature func_tokens
 function_grows w is_init s f =
     let a = check_optional_receiver w s f.receiver in
@@ -326,7 +326,7 @@ function_grows w is_init s f =
     (grows_then w b c d (sign kind.RightParen f.rparen ∷ results) (block_tokens f.body) (noted w b c (sign kind.RightParen f.rparen ∷ results) refl)
     (block_grows w (judge_results w f.result).wanted c f.body))))
 
-decl_grows : (w : World) (is_init : ℕ → Bool) (s : Checked) (d : DeclTree) → Grows w s (check_decl w is_init s d) (decl_tokens d)
+decl_grows : (w : World) (is_init : ℕ → Bool) (s : FoundSoFar) (d : DeclTree) → Grows w s (check_decl w is_init s d) (decl_tokens d)
 unfolding check_decl decl_tokens
 decl_grows w is_init s (VarDecl k g c) =
     let a = check_group (check_global w) s g in
@@ -343,7 +343,7 @@ decl_grows w is_init s (FuncDecl k f c) =
     grows_behind w s a (sign kind.Func k) (func_tokens f ++ (sign kind.Semicolon c ∷ []))
     (grows_before w s a (func_tokens f) (sign kind.Semicolon c ∷ []) (function_grows w (is_init f.name) s f))
 
-decls_grow : (w : World) (is_init : ℕ → Bool) (s : Checked) (ds : List DeclTree) → Grows w s (check_decls w is_init s ds) (all_tokens decl_tokens ds)
+decls_grow : (w : World) (is_init : ℕ → Bool) (s : FoundSoFar) (ds : List DeclTree) → Grows w s (check_decls w is_init s ds) (all_tokens decl_tokens ds)
 unfolding check_decls all_tokens
 decls_grow w is_init s [] = grows_none w s []
 decls_grow w is_init s (d ∷ ds) =

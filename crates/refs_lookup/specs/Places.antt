@@ -9,7 +9,7 @@ use Rattle.law_tokens.specs.Roles.{IsOfKind, FollowsDot}
 use Rattle.law_tokens.specs.Tokens.{is_ident_token}
 
 -- The token is an identifier or `_` that is bound to a package, and no dot is before it.
-pub record IsPackageName (w : World) (c : CutText) (token : ℕ) : Type 0 where
+pub record IsBoundToPackage (w : World) (c : CutText) (token : ℕ) : Type 0 where
   pub kind : Kind
   pub of_kind : IsOfKind c token kind
   pub named : is_ident_token kind ≡ true
@@ -19,4 +19,4 @@ pub record IsPackageName (w : World) (c : CutText) (token : ℕ) : Type 0 where
 -- A colon follows the token, or a dot precedes it that does not come after the name of a package.
 pub data IsMemberToken (w : World) (c : CutText) (place : ℕ) : Type 0 where
   as_key : IsOfKind c (suc place) Colon → IsMemberToken w c place
-  as_selected : FollowsDot c place → ((token : ℕ) → suc (suc token) ≡ place → IsPackageName w c token → ⊥) → IsMemberToken w c place
+  as_selected : FollowsDot c place → ((token : ℕ) → suc (suc token) ≡ place → IsBoundToPackage w c token → ⊥) → IsMemberToken w c place

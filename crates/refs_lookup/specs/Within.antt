@@ -7,16 +7,16 @@ use Rattle.workspace_graph.specs.Packages.{IsInClosure}
 use Rattle.workspace_check.specs.Verdicts.{Verdicts}
 use Rattle.refs_binding.specs.declared.declaration.Declaration.{Declaration}
 use Rattle.refs_binding.specs.declared.declaration.Declaration.TheVariants.{Predeclared}
-use Rattle.refs_binding.specs.Binding.{IsPredeclared}
-use Rattle.refs_binding.specs.Uses.{IsPackage}
+use Rattle.refs_binding.specs.Binding.{IsPredeclaredNumber}
+use Rattle.refs_binding.specs.Uses.{IsCheckedPackage}
 use Rattle.refs_binding.specs.DeclaringPlaces.{IsDeclaredAt}
 
 -- The declaration is declared at this place, in a file of a package in the closure of `p`.
 pub record DeclaresWithin (w : Workspace) (known : Verdicts) (p : List ℕ) (d : Declaration) (place : Place) : Type 0 where
-  pub declared : IsDeclaredAt (IsPackage w known) d place
+  pub declared : IsDeclaredAt (IsCheckedPackage w known) d place
   pub in_closure : IsInClosure w p (folder place.path)
 
 -- The declaration is predeclared, or is declared in a package in the closure of `p`.
 pub data IsDeclaredWithin (w : Workspace) (known : Verdicts) (p : List ℕ) : Declaration → Type 0 where
-  predeclared : {n : ℕ} → IsPredeclared n → IsDeclaredWithin w known p (Predeclared n)
+  predeclared : {n : ℕ} → IsPredeclaredNumber n → IsDeclaredWithin w known p (Predeclared n)
   stands : {d : Declaration} (place : Place) → DeclaresWithin w known p d place → IsDeclaredWithin w known p d

@@ -12,7 +12,7 @@ ghost use Rattle.workspace_check.specs.Closures.{HasSameClosure};
 ghost use Rattle.workspace_check.specs.Laws.{IsSameVerdict};
 ghost use Rattle.workspace_check.specs.Verdicts.{Verdicts, AreVerdicts};
 ghost use Rattle.refs_binding.specs.declared.declaration.Declaration.{Declaration};
-ghost use Rattle.refs_binding.specs.Uses.{IsPackage, IsBoundTo, IsUseOf, HasDeclaration};
+ghost use Rattle.refs_binding.specs.Uses.{IsCheckedPackage, IsBoundToDeclaration, IsUseOf, HasDeclaration};
 ghost use Rattle.refs_lookup.specs.Reached.{HasSameReached};
 ghost use Rattle.refs_lookup.specs.Within.{DeclaresWithin, IsDeclaredWithin};
 
@@ -26,7 +26,7 @@ pub fn closures_stay()
 /// declarations and types. Its verdict is equal in both, too.
 pub fn packages_stay()
     ensures checked { (w : Workspace) → (x : Workspace) → (before : Verdicts) → (after : Verdicts) → AreVerdicts w before → AreVerdicts x after →
-        (p : Package) → HasSameClosure w x p.path → IsPackage w before p ↔ IsPackage x after p }
+        (p : Package) → HasSameClosure w x p.path → IsCheckedPackage w before p ↔ IsCheckedPackage x after p }
     ensures known { (w : Workspace) → (x : Workspace) → (before : Verdicts) → (after : Verdicts) → AreVerdicts w before → AreVerdicts x after →
         (path : List ℕ) → Contains (package_paths w) path → HasSameClosure w x path → IsSameVerdict (before path) (after path) }
 {}
@@ -34,7 +34,7 @@ pub fn packages_stay()
 /// If the closure of a package has the same texts in two workspaces, its identifiers are bound to the same declarations in both.
 pub fn bindings_stay()
     ensures { (w : Workspace) → (x : Workspace) → (before : Verdicts) → (after : Verdicts) → AreVerdicts w before → AreVerdicts x after →
-        (p : Package) → HasSameClosure w x p.path → IsPackage w before p → (u : ℕ) → (d : Declaration) → IsBoundTo w before p u d ↔ IsBoundTo x after p u d }
+        (p : Package) → HasSameClosure w x p.path → IsCheckedPackage w before p → (u : ℕ) → (d : Declaration) → IsBoundToDeclaration w before p u d ↔ IsBoundToDeclaration x after p u d }
 {}
 
 /// If the closure of a file's package has the same texts in two workspaces, a declaration has the same uses in the file. The identifier at
@@ -50,8 +50,8 @@ pub fn uses_stay()
 /// An identifier of a package is bound to a predeclared name or to a declaration in the package's closure. If the closure has the same
 /// texts in two workspaces, the declaration has the same place in both.
 pub fn declarations_stand()
-    ensures within { (w : Workspace) → (known : Verdicts) → AreVerdicts w known → (p : Package) → IsPackage w known p → (u : ℕ) → (d : Declaration) →
-        IsBoundTo w known p u d → IsDeclaredWithin w known p.path d }
+    ensures within { (w : Workspace) → (known : Verdicts) → AreVerdicts w known → (p : Package) → IsCheckedPackage w known p → (u : ℕ) → (d : Declaration) →
+        IsBoundToDeclaration w known p u d → IsDeclaredWithin w known p.path d }
     ensures stay { (w : Workspace) → (x : Workspace) → (before : Verdicts) → (after : Verdicts) → AreVerdicts w before → AreVerdicts x after →
         (path : List ℕ) → HasSameClosure w x path → (d : Declaration) → (place : Place) →
         DeclaresWithin w before path d place ↔ DeclaresWithin x after path d place }

@@ -3,9 +3,9 @@ ghost use Rattle.std.specs.Prelude.{◌<◌, length, IfOk};
 ghost use Rattle.types_declared.specs.PackageView.{package_of, IsIndexOf};
 ghost use Rattle.refs_binding.specs.declared.declaration.Declaration.{Declaration as Bound};
 ghost use Rattle.refs_binding.specs.Binding.{BindsByScope, BindsQualified};
-ghost use Rattle.refs_binding.specs.Indexed.{IsNumbered, IsPackageNumbered, IsIndexed};
+ghost use Rattle.refs_binding.specs.Indexed.{IsPackageNumber, IsPackageNumbered, IsIndexed};
 ghost use Rattle.refs_binding.specs.Steps.{IsDeclarationResult};
-ghost use Rattle.refs_binding.specs.Uses.{IsPackage, IsBoundTo};
+ghost use Rattle.refs_binding.specs.Uses.{IsCheckedPackage, IsBoundToDeclaration};
 ghost use Rattle.refs_binding.specs.Workspaces.{known_in, ExportsAs, IsExportedNumber, BindsMember, FindsDeclaration, FindsDeclarationAt, FindsDeclarationIn};
 
 use crate::exported::exported_as;
@@ -25,7 +25,7 @@ fn exported_number(
     at: Numbered<'_>,
     name: &[u8],
 ) -> Result<Option<usize>, AllocError>
-    requires { IsNumbered at }
+    requires { IsPackageNumber at }
     ensures { IfOk result (IsExportedNumber at.entry.workspace.now.graph (known_in at.entry.workspace.now.findings) at.entry.number name.now) }
 {
     let reader = PackageReader::of(alloc, at)?;
@@ -67,7 +67,7 @@ fn declaration_by_package(
 ) -> Result<Option<Declaration>, AllocError>
     requires index { IsIndexOf (package_of unit) index.now }
     requires in_range { u < length unit.table.now.sites }
-    ensures { IfOk result (IsDeclarationResult (BindsQualified (IsPackage workspace.now.graph (known_in workspace.now.findings)) (package_of unit.entry) u)) }
+    ensures { IfOk result (IsDeclarationResult (BindsQualified (IsCheckedPackage workspace.now.graph (known_in workspace.now.findings)) (package_of unit.entry) u)) }
 {
     match qualifying_path(unit, index, u) {
         None => Ok(None),
@@ -101,7 +101,7 @@ fn declaration_beyond(
     requires indexed { IsIndexed of.now }
     requires in_range { u < length of.now.unit.table.now.sites }
     requires unbound { (d : Bound) → BindsByScope (package_of of.now.unit) u d → ⊥ }
-    ensures { IfOk result (IsDeclarationResult (IsBoundTo workspace.now.graph (known_in workspace.now.findings) (package_of of.now.unit) u)) }
+    ensures { IfOk result (IsDeclarationResult (IsBoundToDeclaration workspace.now.graph (known_in workspace.now.findings) (package_of of.now.unit) u)) }
 {
     match declaration_by_package(alloc, workspace, of.unit, of.index, u)? {
         Some(declaration) => Ok(Some(declaration)),
@@ -118,7 +118,7 @@ fn declaration_of(
 ) -> Result<Option<Declaration>, AllocError>
     requires indexed { IsIndexed of.now }
     requires in_range { u < length of.now.unit.table.now.sites }
-    ensures { IfOk result (IsDeclarationResult (IsBoundTo workspace.now.graph (known_in workspace.now.findings) (package_of of.now.unit) u)) }
+    ensures { IfOk result (IsDeclarationResult (IsBoundToDeclaration workspace.now.graph (known_in workspace.now.findings) (package_of of.now.unit) u)) }
 {
     match declaration_in_scope(of.unit, u)? {
         Some(declaration) => Ok(Some(declaration)),
@@ -160,7 +160,7 @@ fn declaration_by(
     file: &Path,
     offset: usize,
 ) -> Result<Declaration, Refusal>
-    requires numbered { IsNumbered at }
+    requires numbered { IsPackageNumber at }
     requires unit { IsPackageNumbered at (package_of unit) }
     ensures { FindsDeclarationAt at.entry.workspace.now.graph (known_in at.entry.workspace.now.findings) at.entry.number file.now offset result }
 {
@@ -176,7 +176,7 @@ fn declaration_in(
     file: &Path,
     offset: usize,
 ) -> Result<Declaration, Refusal>
-    requires { IsNumbered at }
+    requires { IsPackageNumber at }
     ensures { FindsDeclarationAt at.entry.workspace.now.graph (known_in at.entry.workspace.now.findings) at.entry.number file.now offset result }
 {
     let reader = PackageReader::of(alloc, at)?;

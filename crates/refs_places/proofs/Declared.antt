@@ -18,12 +18,12 @@ use Rattle.types_declared.specs.Package.{Package}
 use Rattle.workspace_check.specs.Verdicts.{Verdicts}
 use Rattle.refs_binding.specs.declared.declaration.Declaration.{Declaration}
 use Rattle.refs_binding.specs.declared.declaration.Declaration.TheVariants.{Predeclared, Declared, Field, Method}
-use Rattle.refs_binding.specs.Binding.{IsPredeclared}
+use Rattle.refs_binding.specs.Binding.{IsPredeclaredNumber}
 use Rattle.refs_binding.specs.Steps.{ArePlaces}
-use Rattle.refs_binding.specs.Uses.{IsPackage}
+use Rattle.refs_binding.specs.Uses.{IsCheckedPackage}
 use Rattle.refs_binding.proofs.NamedPlaces.{one_field_place, one_method_place}
 use Rattle.refs_binding.proofs.Units.{one_package}
-use Rattle.refs_binding.specs.DeclaringPlaces.{InPackage, TokenAt, IsScopeAt, IsPositionOf, DeclaresAt, IsDeclaredAt}
+use Rattle.refs_binding.specs.DeclaringPlaces.{InPackage, TokenAt, IsScopeAt, IsPositionOf, HasDeclarationAt, IsDeclaredAt}
 use Rattle.refs_binding.proofs.PackageNumbers.{in_package, of_package}
 use Rattle.base_edits.proofs.Ending.{pushed_get}
 use Rattle.refs_places.specs.declared.declared_places.DeclaredPlaces.{DeclaredPlaces}
@@ -46,7 +46,7 @@ own_bound l names d e declares bound =
 
 -- where a declaration of scopes stands
 pub predeclared_nowhere : (p : Package) (d : ℕ) → d < 11 → (at : Position) → IsScopeAt p d at → ⊥
-predeclared_nowhere p d lt at h = let is : IsPredeclared d = lt in h.own is
+predeclared_nowhere p d lt at h = let is : IsPredeclaredNumber d = lt in h.own is
 
 pub uncounted_nowhere : (p : Package) (d : ℕ) (r : Bool) → r ≡ false → IsTrue r ↔ Counts p.layout p.names d → (at : Position) → IsScopeAt p d at → ⊥
 uncounted_nowhere p d r denied is at h = false≢true (sym denied ∙ is.1 h.counts)
@@ -136,28 +136,28 @@ pub no_packages : (w : Workspace) (known : Verdicts) (all : List DeclaredPlaces)
 no_packages w known all e = record { size = ap length e; each = λ n places has. absurd (none-some places (sym (ap (λ l. slice_get l n) e) ∙ has)) }
 
 -- where a declaration of a package stands
-pub stands_in : (p : Package) (d : Declaration) (place : Place) → IsPlacedBy (IsPositionOf p d) p place → DeclaresAt p d place
+pub stands_in : (p : Package) (d : Declaration) (place : Place) → IsPlacedBy (IsPositionOf p d) p place → HasDeclarationAt p d place
 stands_in p d place s = record { at = s.at; is_at = s.is_at; begins = s.begins }
 
-pub stands_by : (p : Package) (d : Declaration) (place : Place) → DeclaresAt p d place → IsPlacedBy (IsPositionOf p d) p place
+pub stands_by : (p : Package) (d : Declaration) (place : Place) → HasDeclarationAt p d place → IsPlacedBy (IsPositionOf p d) p place
 stands_by p d place s = record { at = s.at; is_at = s.is_at; begins = s.begins }
 
 pub place_in : (p : Package) (d : Declaration) (o : Option (Bor Place)) (x : Option Place) → option_copied o ≡ x →
     IsChoice (IsPlacedBy (IsPositionOf p d) p) x → IsPlaceIn p d o
-place_in p d o x e h = found_in_as (IsPlacedBy (IsPositionOf p d) p) (DeclaresAt p d) o (stands_in p d) (stands_by p d)
+place_in p d o x e h = found_in_as (IsPlacedBy (IsPositionOf p d) p) (HasDeclarationAt p d) o (stands_in p d) (stands_by p d)
     (found_copied (IsPlacedBy (IsPositionOf p d) p) o x e h)
 
 -- the same in the package of a path
 pub place_under : (w : Workspace) (known : Verdicts) (n : ℕ) (path : List ℕ) (d : Declaration) (all : List DeclaredPlaces) (places : DeclaredPlaces)
     (o : Option (Bor Place)) → AreAllPlaces w known all →
     slice_get (package_paths w) n ≡ Some path → slice_get all n ≡ Some places → ((p : Package) → AreDeclaredIn p places → IsPlaceIn p d o) →
-    IsChoiceIn (λ (place : Place). InPackage (IsPackage w known) path (λ p. DeclaresAt p d place)) o
+    IsChoiceIn (λ (place : Place). InPackage (IsCheckedPackage w known) path (λ p. HasDeclarationAt p d place)) o
 place_under w known n path d all places o are at has told =
     let here = are.each n places has in
     let p = here.inside in
-    found_in_as (DeclaresAt p d) (λ (place : Place). InPackage (IsPackage w known) path (λ q. DeclaresAt q d place)) o
-    (λ place s. in_package w known n p path (λ q. DeclaresAt q d place) here.is_package at s)
-    (λ place h. of_package w known n p path (λ q. DeclaresAt q d place) here.is_package at h) (told p here.declared)
+    found_in_as (HasDeclarationAt p d) (λ (place : Place). InPackage (IsCheckedPackage w known) path (λ q. HasDeclarationAt q d place)) o
+    (λ place s. in_package w known n p path (λ q. HasDeclarationAt q d place) here.is_package at s)
+    (λ place h. of_package w known n p path (λ q. HasDeclarationAt q d place) here.is_package at h) (told p here.declared)
 
 pub no_places_there : (w : Workspace) (known : Verdicts) (n : ℕ) (path : List ℕ) (all : List DeclaredPlaces) → AreAllPlaces w known all →
     slice_get (package_paths w) n ≡ Some path → length all ≤ n → ⊥
@@ -170,18 +170,18 @@ one_position p (Declared path n) a b h k = one_scope_place p n a b h k
 one_position p (Field s) a b h k = one_field_place p s.rank a b h k
 one_position p (Method s) a b h k = one_method_place p s.rank a b h k
 
-one_in : (p : Package) (d : Declaration) (a b : Place) → DeclaresAt p d a → DeclaresAt p d b → a ≡ b
+one_in : (p : Package) (d : Declaration) (a b : Place) → HasDeclarationAt p d a → HasDeclarationAt p d b → a ≡ b
 one_in p d a b h k = token_once (slice_get p.files k.at.file) k.at.index a b
     (subst (λ x. TokenAt p x a) (one_position p d h.at k.at h.is_at k.is_at) h.begins) k.begins
 
-one_under : (w : Workspace) (known : Verdicts) (path : List ℕ) (d : Declaration) (a b : Place) → InPackage (IsPackage w known) path (λ p. DeclaresAt p d a) →
-    InPackage (IsPackage w known) path (λ p. DeclaresAt p d b) → a ≡ b
+one_under : (w : Workspace) (known : Verdicts) (path : List ℕ) (d : Declaration) (a b : Place) → InPackage (IsCheckedPackage w known) path (λ p. HasDeclarationAt p d a) →
+    InPackage (IsCheckedPackage w known) path (λ p. HasDeclarationAt p d b) → a ≡ b
 one_under w known path d a b h k =
     let same : h.inside ≡ k.inside = one_package w known h.inside k.inside h.is_package k.is_package (h.of_path ∙ sym k.of_path) in
-    one_in k.inside d a b (subst (λ p. DeclaresAt p d a) same h.holds) k.holds
+    one_in k.inside d a b (subst (λ p. HasDeclarationAt p d a) same h.holds) k.holds
 
-pub one_place : (w : Workspace) (known : Verdicts) (d : Declaration) (a b : Place) → IsDeclaredAt (IsPackage w known) d a →
-    IsDeclaredAt (IsPackage w known) d b → a ≡ b
+pub one_place : (w : Workspace) (known : Verdicts) (d : Declaration) (a b : Place) → IsDeclaredAt (IsCheckedPackage w known) d a →
+    IsDeclaredAt (IsCheckedPackage w known) d b → a ≡ b
 one_place w known (Predeclared n) a b h k = absurd h
 one_place w known (Declared path n) a b h k = one_under w known path (Declared path n) a b h k
 one_place w known (Field s) a b h k = one_under w known s.package (Field s) a b h k

@@ -9,7 +9,7 @@ use Rattle.go_scope.specs.declared.model.Position.{Position}
 use Rattle.go_scope.specs.Bindings.{is_implied}
 use Rattle.types_declared.proofs.PathParts.{source_at as file_at}
 use Rattle.types_declared.specs.Package.{Package}
-use Rattle.refs_binding.specs.Identifiers.{IsName, NameBegins, BeginsAt, file_of}
+use Rattle.refs_binding.specs.Identifiers.{IsNameToken, NameBegins, BeginsAt, file_of}
 use Rattle.refs_binding.proofs.Files.{no_file}
 use Rattle.refs_binding.proofs.PlaceOrder.{place_is}
 use Rattle.refs_binding.specs.DeclaringPlaces.{TokenBegins}
@@ -26,7 +26,7 @@ pub a_token : (files : List FileParts) (k token : ℕ) (f : FileParts) (place : 
 a_token files k token f place lt is h = subst (λ o. TokenBegins o token place) (sym (file_at files k f lt is)) h
 
 -- names
-pub a_name : (f : FileParts) (token : ℕ) (place : Place) → IsName (slice_get (tokens_in f.cut) token) → TokenBegins (Some (source_of f)) token place →
+pub a_name : (f : FileParts) (token : ℕ) (place : Place) → IsNameToken (slice_get (tokens_in f.cut) token) → TokenBegins (Some (source_of f)) token place →
     NameBegins (Some (source_of f)) token place.path place.offset
 a_name f token place named h = (named, h.0, h.1)
 

@@ -11,7 +11,7 @@ use Rattle.workspace_check.specs.Verdicts.{Verdicts}
 use Rattle.refs_binding.specs.declared.declaration.Declaration.{Declaration}
 use Rattle.refs_binding.specs.Binding.{IsFieldAt, IsMethodAt}
 use Rattle.refs_binding.specs.Workspaces.{IsPackageAt}
-use Rattle.refs_binding.specs.DeclaringPlaces.{TokenBegins, TokenAt, IsScopeAt, DeclaresAt}
+use Rattle.refs_binding.specs.DeclaringPlaces.{TokenBegins, TokenAt, IsScopeAt, HasDeclarationAt}
 use Rattle.refs_places.specs.declared.declared_places.DeclaredPlaces.{DeclaredPlaces}
 
 -- `found` satisfies `P`, or is `None` and nothing does.
@@ -65,4 +65,4 @@ AreAllPlaces w known all = AreDeclaredBelow w known (length (package_paths w)) a
 
 -- `found` is the place of a declaration of the package.
 abbrev pub IsPlaceIn : Package → Declaration → Option (Bor Place) → Type 0
-IsPlaceIn p d found = IsChoiceIn (DeclaresAt p d) found
+IsPlaceIn p d found = IsChoiceIn (HasDeclarationAt p d) found

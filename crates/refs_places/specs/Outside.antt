@@ -14,7 +14,7 @@ declaring_path (Field s) = Some s.package
 declaring_path (Method s) = Some s.package
 
 -- The workspace has the package of the declaration, and it is not marked.
-pub record IsOutside (w : Workspace) (marks : List Bool) (d : Declaration) : Type 0 where
+pub record IsUnmarked (w : Workspace) (marks : List Bool) (d : Declaration) : Type 0 where
   pub path : List ℕ
   pub of_path : declaring_path d ≡ Some path
   pub number : ℕ

@@ -10,10 +10,10 @@ ghost use Rattle.types_declared.specs.PackageView.{package_of, IsIndexOf};
 ghost use Rattle.base_files.specs.declared.place.Place.{Place as At};
 ghost use Rattle.workspace_check.specs.Verdicts.{Verdicts};
 ghost use Rattle.refs_binding.specs.Steps.{ArePlaces};
-ghost use Rattle.refs_binding.specs.Uses.{IsPackage};
-ghost use Rattle.refs_binding.specs.Packages.{ArePackages};
+ghost use Rattle.refs_binding.specs.Uses.{IsCheckedPackage};
+ghost use Rattle.refs_binding.specs.Packages.{ArePackagesRead};
 ghost use Rattle.refs_binding.specs.Workspaces.{known_in};
-ghost use Rattle.refs_binding.specs.DeclaringPlaces.{InPackage, IsScopeAt, DeclaresAt, IsDeclaredAt};
+ghost use Rattle.refs_binding.specs.DeclaringPlaces.{InPackage, IsScopeAt, HasDeclarationAt, IsDeclaredAt};
 ghost use Rattle.refs_places.specs.Outside.{declaring_path};
 ghost use Rattle.refs_places.specs.DeclaredPlaces.{IsChoice, IsChoiceIn, TokenBeginsAt, ArePlacesOf, AreDeclaredIn, AreDeclaredAt, AreAllPlaces, IsPlaceIn};
 
@@ -135,7 +135,7 @@ fn places_at(
     number: usize,
 ) -> Result<DeclaredPlaces, AllocError>
     requires in_range { number < length (package_paths packages.now.workspace.now.graph) }
-    requires read { ArePackages packages.now }
+    requires read { ArePackagesRead packages.now }
     ensures { IfOk result (AreDeclaredAt packages.now.workspace.now.graph (known_in packages.now.workspace.now.findings) number) }
 {
     let unit = packages.unit(number);
@@ -147,7 +147,7 @@ pub fn declared_places(
     alloc: Global,
     packages: &Packages<'_>,
 ) -> Result<Vec<DeclaredPlaces>, AllocError>
-    requires { ArePackages packages.now }
+    requires { ArePackagesRead packages.now }
     ensures { IfOk result (λ all. AreAllPlaces packages.now.workspace.now.graph (known_in packages.now.workspace.now.findings) all.items) }
 {
     let mut all = Vec::new(alloc);
@@ -224,7 +224,7 @@ fn declared_under<'a>(
     path: &SharedPath,
     declaration: &Declaration,
 ) -> Option<&'a Place>
-    ensures { (known : Verdicts) → AreAllPlaces workspace.now.graph known all.now → IsChoiceIn (λ (place : At). InPackage (IsPackage workspace.now.graph known) path.now (λ p. DeclaresAt p declaration.now place)) result }
+    ensures { (known : Verdicts) → AreAllPlaces workspace.now.graph known all.now → IsChoiceIn (λ (place : At). InPackage (IsCheckedPackage workspace.now.graph known) path.now (λ p. HasDeclarationAt p declaration.now place)) result }
 {
     match number_by_hint(workspace, near, path.path()) {
         None => None,
@@ -242,7 +242,7 @@ pub fn declared_near<'a>(
     near: &mut usize,
     declaration: &Declaration,
 ) -> Option<&'a Place>
-    ensures { (known : Verdicts) → AreAllPlaces workspace.now.graph known all.now → IsChoiceIn (IsDeclaredAt (IsPackage workspace.now.graph known) declaration.now) result }
+    ensures { (known : Verdicts) → AreAllPlaces workspace.now.graph known all.now → IsChoiceIn (IsDeclaredAt (IsCheckedPackage workspace.now.graph known) declaration.now) result }
 {
     match declaration {
         Declaration::Predeclared(_) => None,
@@ -262,7 +262,7 @@ pub fn declared_at<'a>(
     all: &'a [DeclaredPlaces],
     declaration: &Declaration,
 ) -> Option<&'a Place>
-    ensures { (known : Verdicts) → AreAllPlaces workspace.now.graph known all.now → IsChoiceIn (IsDeclaredAt (IsPackage workspace.now.graph known) declaration.now) result }
+    ensures { (known : Verdicts) → AreAllPlaces workspace.now.graph known all.now → IsChoiceIn (IsDeclaredAt (IsCheckedPackage workspace.now.graph known) declaration.now) result }
 {
     let mut near = 0;
     declared_near(workspace, all, &mut near, declaration)

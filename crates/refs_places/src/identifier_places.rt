@@ -5,7 +5,7 @@ ghost use Rattle.base_files.specs.declared.place.Place.{Place as At};
 ghost use Rattle.types_declared.specs.PackageView.{package_of};
 ghost use Rattle.refs_binding.specs.Bindings.{AddsAll};
 ghost use Rattle.refs_binding.specs.Identifiers.{BeginsAt};
-ghost use Rattle.refs_binding.specs.Packages.{ArePackages};
+ghost use Rattle.refs_binding.specs.Packages.{ArePackagesRead};
 ghost use Rattle.refs_binding.specs.Workspaces.{known_in};
 ghost use Rattle.refs_places.specs.Identified.{IsIdentifierAt};
 ghost use Rattle.refs_places.specs.Identified.{BeginsInPackageAt};
@@ -47,7 +47,7 @@ fn add_package(
     number: usize,
 ) -> Result<(), AllocError>
     requires in_range { number < length (package_paths packages.now.workspace.now.graph) }
-    requires read { ArePackages packages.now }
+    requires read { ArePackagesRead packages.now }
     ensures { OnOk result (AddsAll places.old.items places.new.items (BeginsInPackageAt packages.now.workspace.now.graph (known_in packages.now.workspace.now.findings) number)) }
 {
     let unit = packages.unit(number);
@@ -56,7 +56,7 @@ fn add_package(
 
 /// Adds the places of the identifiers of all packages.
 fn add_all(places: &mut Vec<Place>, packages: &Packages<'_>) -> Result<(), AllocError>
-    requires { ArePackages packages.now }
+    requires { ArePackagesRead packages.now }
     ensures { OnOk result (AddsAll places.old.items places.new.items (IsIdentifierAt packages.now.workspace.now.graph (known_in packages.now.workspace.now.findings))) }
 {
     for number in 0..packages.workspace.len() {
@@ -67,7 +67,7 @@ fn add_all(places: &mut Vec<Place>, packages: &Packages<'_>) -> Result<(), Alloc
 
 /// Returns the places of all identifiers. Path literals of imports are left out.
 pub fn identifier_places(alloc: Global, packages: &Packages<'_>) -> Result<Vec<Place>, AllocError>
-    requires { ArePackages packages.now }
+    requires { ArePackagesRead packages.now }
     ensures { IfOk result (λ places. (place : At) → Contains places.items place ↔ IsIdentifierAt packages.now.workspace.now.graph (known_in packages.now.workspace.now.findings) place) }
 {
     let mut places = Vec::new(alloc);

@@ -22,7 +22,7 @@ use Rattle.refs_binding.specs.declared.declaration.Declaration.{Declaration}
 use Rattle.refs_binding.specs.declared.declaration.Declaration.TheVariants.{Field, Method}
 use Rattle.refs_binding.specs.Binding.{declaration_of, UsesMemberAt}
 use Rattle.refs_binding.specs.Members.{AreOwnDefinitions}
-use Rattle.refs_binding.specs.Uses.{IsPackage}
+use Rattle.refs_binding.specs.Uses.{IsCheckedPackage}
 use Rattle.refs_binding.specs.Workspaces.{home_path}
 use Rattle.refs_binding.proofs.Units.{one_package}
 use Rattle.refs_lookup.proofs.OwnedMembers.{IsNamedField, IsNamedMethod, HasOwner, IsFieldSeen, IsMethodSeen, IsOwnedAs, member_named}
@@ -57,13 +57,13 @@ away_shown own s true h away = refl
 away_shown own s false h away = absurd (away (sym ((bytes_decides own s.package).0 h)))
 
 -- a package of a path is the one of it
-same_home : (w : Workspace) (known : Verdicts) (p : List ℕ) (Counts : Package → ℕ → Type 0) (s : Symbol) (home : Package) → IsPackage w known home →
+same_home : (w : Workspace) (known : Verdicts) (p : List ℕ) (Counts : Package → ℕ → Type 0) (s : Symbol) (home : Package) → IsCheckedPackage w known home →
     s.package ≡ home.path → HasOwner w known p Counts s → Counts home s.rank
 same_home w known p Counts s home is of h =
     subst (λ (x : Package). Counts x s.rank) (one_package w known h.inside home h.is_package is (h.of_path ∙ of)) h.counts
 
-module _ (w : Workspace) (known : Verdicts) (right : AreVerdicts w known) (home : Package) (is_home : IsPackage w known home) (s : Symbol)
-    (of : s.package ≡ home.path) (name : List ℕ) (p : Package) (is : IsPackage w known p) where
+module _ (w : Workspace) (known : Verdicts) (right : AreVerdicts w known) (home : Package) (is_home : IsCheckedPackage w known home) (s : Symbol)
+    (of : s.package ≡ home.path) (name : List ℕ) (p : Package) (is : IsCheckedPackage w known p) where
   module _ (definitions : Symbol → plain.Definition) (are : AreDefinitions p definitions) (spelling : List ℕ) (t : PlainType) where
     -- what the spelling denotes is declared under it
     denoted : (d : Declaration) (o : Option Member) → member_by definitions p.path spelling t ≡ o → option_map declaration_of o ≡ Some d →
@@ -119,9 +119,9 @@ there home own are k d at (Some x) has some =
     let is = subst (λ o. IsDefinition home k (definition_or_none (symbol_in home k) o)) at (are.each k x has) in
     (is.fields, is.methods)
 
-module _ (w : Workspace) (known : Verdicts) (right : AreVerdicts w known) (home : Package) (is_home : IsPackage w known home) (own : List Definition)
+module _ (w : Workspace) (known : Verdicts) (right : AreVerdicts w known) (home : Package) (is_home : IsCheckedPackage w known home) (own : List Definition)
     (are : AreOwnDefinitions home own) (s : Symbol) (of : s.package ≡ home.path) (name : List ℕ) where
-  pub field_named : HasOneOf own (λ d. NamesField d s.rank name) → (p : Package) → IsPackage w known p → IsOnlyName p (Field s) name
+  pub field_named : HasOneOf own (λ d. NamesField d s.rank name) → (p : Package) → IsCheckedPackage w known p → IsOnlyName p (Field s) name
   field_named h p is =
       let x = h.has in
       let found = (there home own are h.number h.definition h.is_there (slice_get (package_types home) h.number) refl
@@ -130,7 +130,7 @@ module _ (w : Workspace) (known : Verdicts) (right : AreVerdicts w known) (home 
       field_only w known right home is_home s of name p is h.number c.0
       (subst (λ rank. IsFieldOf home h.number name rank c.0) x.of_rank c.1.0.is_field)
 
-  pub method_named : HasOneOf own (λ d. NamesMethod d s.rank name) → (p : Package) → IsPackage w known p → IsOnlyName p (Method s) name
+  pub method_named : HasOneOf own (λ d. NamesMethod d s.rank name) → (p : Package) → IsCheckedPackage w known p → IsOnlyName p (Method s) name
   method_named h p is =
       let x = h.has in
       let found = (there home own are h.number h.definition h.is_there (slice_get (package_types home) h.number) refl

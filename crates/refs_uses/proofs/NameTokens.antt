@@ -26,7 +26,7 @@ use Rattle.law_tokens.proofs.Places.{place_has_one, named_has_one}
 use Rattle.types_declared.specs.Package.{Package}
 use Rattle.types_info.specs.PackageOf.{package_in}
 use Rattle.workspace_check.specs.Verdicts.{Verdicts, IsPackageIn}
-use Rattle.refs_binding.specs.Identifiers.{IsName, NameBegins}
+use Rattle.refs_binding.specs.Identifiers.{IsNameToken, NameBegins}
 use Rattle.refs_binding.specs.Steps.{AtToken}
 use Rattle.refs_binding.proofs.Tokens.{Begins, token_begins}
 
@@ -104,7 +104,7 @@ named_from n text (p ∷ ps) (suc i) x e with_names =
     let next : (n + 1) + i ≡ n + suc i = omega arith in
     inr (subst (λ m. IsNamed m (kinds_from (n + 1) text ps)) next (named_from (n + 1) text ps i x e with_names))
 
-name_there : (c : CutText) (i : ℕ) (o : Option Piece) → slice_get (tokens_in c) i ≡ o → IsName o → IsAmong i (identifiers_among (kinds_of c))
+name_there : (c : CutText) (i : ℕ) (o : Option Piece) → slice_get (tokens_in c) i ≡ o → IsNameToken o → IsAmong i (identifiers_among (kinds_of c))
 name_there c i None e h = absurd h
 name_there c i (Some x) e h =
     let zeroed : 0 + i ≡ i = omega arith in

@@ -14,7 +14,7 @@ use Rattle.types_declared.specs.Package.{Package}
 use Rattle.workspace_check.specs.Verdicts.{Verdicts}
 use Rattle.refs_binding.specs.declared.declaration.Declaration.{Declaration}
 use Rattle.refs_binding.specs.Binding.{declaration_of}
-use Rattle.refs_binding.specs.Uses.{IsPackage}
+use Rattle.refs_binding.specs.Uses.{IsCheckedPackage}
 use Rattle.refs_binding.specs.Workspaces.{home_path}
 
 -- `spelling`, written in the package `p` behind a value of the type `t`, denotes the member `d`.
@@ -30,7 +30,7 @@ pub record IsOnlyName (p : Package) (d : Declaration) (name : List ℕ) : Type 0
 
 -- If a name was found, it is the only one that denotes the member `d`.
 abbrev pub IsNameFound : Workspace → Verdicts → Declaration → Option (List ℕ) → Type 0
-IsNameFound w known d found = (name : List ℕ) → found ≡ Some name → (p : Package) → IsPackage w known p → IsOnlyName p d name
+IsNameFound w known d found = (name : List ℕ) → found ≡ Some name → (p : Package) → IsCheckedPackage w known p → IsOnlyName p d name
 
 -- The definition has under this name the field of this rank.
 pub record NamesField (definition : plain.Definition) (rank : ℕ) (name : List ℕ) : Type 0 where

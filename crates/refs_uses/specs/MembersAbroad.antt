@@ -9,13 +9,13 @@ use Rattle.workspace_check.specs.Verdicts.{Verdicts}
 use Rattle.refs_binding.specs.declared.declaration.Declaration.{Declaration}
 use Rattle.refs_binding.specs.declared.declaration.Declaration.TheVariants.{Predeclared, Declared, Field, Method}
 use Rattle.refs_binding.specs.Members.{definitions_known}
-use Rattle.refs_binding.specs.Uses.{IsPackage}
+use Rattle.refs_binding.specs.Uses.{IsCheckedPackage}
 use Rattle.refs_uses.specs.declared.members_abroad.KnownUses.{KnownUses}
 use Rattle.refs_uses.specs.Abroad.{IsAbroad}
 
 -- `of` has the trees of the package `p`, the type definitions that it knows, and its uses of members.
 pub record IsKnownOf (w : Workspace) (known : Verdicts) (p : Package) (of : KnownUses) : Type 0 where
-  pub is_package : IsPackage w known p
+  pub is_package : IsCheckedPackage w known p
   pub files : map source_of of.files.now ≡ p.files
   pub path : of.types.path.now ≡ p.path
   pub definitions : AreDefinitions p (definitions_known of.types)

@@ -2,9 +2,9 @@
 ghost use Rattle.std.specs.Prelude.{option_map, IfOk, Some};
 ghost use Rattle.types_declared.specs.PackageView.{package_of};
 ghost use Rattle.refs_binding.specs.declared.declaration.Declaration.TheVariants.{Declared};
-ghost use Rattle.refs_binding.specs.Indexed.{IsNumbered};
+ghost use Rattle.refs_binding.specs.Indexed.{IsPackageNumber};
 ghost use Rattle.refs_binding.specs.Steps.{IsExportedBy};
-ghost use Rattle.refs_binding.specs.Workspaces.{known_in, name_bytes, IsExportedUnder, IsNameAt};
+ghost use Rattle.refs_binding.specs.Workspaces.{known_in, name_bytes, IsExportedUnder, IsExportedName};
 ghost use Rattle.go_scope.specs.Named.{name_value};
 
 use refs_binding::indexed::Numbered;
@@ -30,8 +30,8 @@ pub(crate) fn own_name(
 
 /// Reads the package of a number, and returns the name under which it exports its declaration `d`, if it does.
 fn name_at(alloc: Global, at: Numbered<'_>, d: usize) -> Result<Option<Vec<u8>>, AllocError>
-    requires { IsNumbered at }
-    ensures { IfOk result (λ name. IsNameAt at.entry.workspace.now.graph (known_in at.entry.workspace.now.findings) at.entry.number d (option_map name_bytes name)) }
+    requires { IsPackageNumber at }
+    ensures { IfOk result (λ name. IsExportedName at.entry.workspace.now.graph (known_in at.entry.workspace.now.findings) at.entry.number d (option_map name_bytes name)) }
 {
     let reader = PackageReader::of(alloc, at)?;
     let table = reader.table(alloc)?;

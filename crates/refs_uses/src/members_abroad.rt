@@ -9,7 +9,7 @@ ghost use Rattle.types_expr.specs.World.{member_by};
 ghost use Rattle.types_declared.specs.Package.{Package as Checked};
 ghost use Rattle.workspace_check.specs.Verdicts.{Verdicts};
 ghost use Rattle.refs_binding.specs.Binding.{declaration_of, BindsByMember};
-ghost use Rattle.refs_binding.specs.Indexed.{IsNumbered};
+ghost use Rattle.refs_binding.specs.Indexed.{IsPackageNumber};
 ghost use Rattle.refs_binding.specs.Members.{definitions_known, member_at, IsMemberUseOf, IsMemberUseAmong};
 ghost use Rattle.refs_binding.specs.Packages.{IsSeenBy};
 ghost use Rattle.refs_binding.specs.Steps.{AddsPlaces, UsesIn};
@@ -145,7 +145,7 @@ fn add_members_by(
     seen: &ExportTable,
     sought: &Sought<'_>,
 ) -> Result<(), AllocError>
-    requires numbered { IsNumbered at }
+    requires numbered { IsPackageNumber at }
     requires seen { IsSeenBy at.workspace.now.graph (known_in at.workspace.now.findings) at.number seen.now }
     requires named { IsNameFound at.workspace.now.graph (known_in at.workspace.now.findings) sought.now.declaration.now (name_value sought.now.member) }
     requires abroad { IsMemberAbroad at.workspace.now.graph (known_in at.workspace.now.findings) at.number sought.now.declaration.now }
@@ -173,7 +173,7 @@ pub(crate) fn add_members_abroad(
     at: Numbered<'_>,
     sought: &Sought<'_>,
 ) -> Result<(), AllocError>
-    requires numbered { IsNumbered at }
+    requires numbered { IsPackageNumber at }
     requires named { IsNameFound at.workspace.now.graph (known_in at.workspace.now.findings) sought.now.declaration.now (name_value sought.now.member) }
     requires abroad { IsMemberAbroad at.workspace.now.graph (known_in at.workspace.now.findings) at.number sought.now.declaration.now }
     ensures { OnOk result ((name : Option (List ℕ)) → AddsPlaces spots.old.items spots.new.items
@@ -185,7 +185,7 @@ pub(crate) fn add_members_abroad(
 
 /// Whether a declaration is a field or method of another package than that of the number.
 pub(crate) fn is_member_abroad(at: Numbered<'_>, declaration: &Declaration) -> bool
-    requires { IsNumbered at }
+    requires { IsPackageNumber at }
     ensures { IsTrue result → IsMemberAbroad at.entry.workspace.now.graph (known_in at.entry.workspace.now.findings) at.entry.number declaration.now }
 {
     match declaration {

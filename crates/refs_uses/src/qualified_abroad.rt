@@ -6,7 +6,7 @@ ghost use Rattle.go_scope.specs.Named.{name_value};
 ghost use Rattle.types_declared.specs.Package.{Package as Checked, spelled_at};
 ghost use Rattle.types_info.specs.Lists.{list_path as path_under};
 ghost use Rattle.refs_binding.specs.declared.declaration.Declaration.TheVariants.{Declared};
-ghost use Rattle.refs_binding.specs.Indexed.{IsNumbered};
+ghost use Rattle.refs_binding.specs.Indexed.{IsPackageNumber};
 ghost use Rattle.refs_binding.specs.Steps.{AddsPlaces};
 ghost use Rattle.refs_binding.specs.Workspaces.{known_in, IsPackageAt, IsUseAt};
 ghost use Rattle.refs_uses.specs.Abroad.{IsAbroad, IsPathAbroad, IsSpelledAt, IsSpelledAmong, IsSpelledUnder, IsSpelledListed, IsQualifiedUseOf};
@@ -115,7 +115,7 @@ fn add_behind(
     path: &[u8],
     name: &[u8],
 ) -> Result<(), AllocError>
-    requires { IsNumbered at }
+    requires { IsPackageNumber at }
     ensures { OnOk result (AddsPlaces spots.old.items spots.new.items (IsQualifiedUseOf at.entry.workspace.now.graph (known_in at.entry.workspace.now.findings) at.entry.number path.now name.now)) }
 {
     at.workspace.has_no_faults();
@@ -132,7 +132,7 @@ pub(crate) fn add_abroad(
     path: &SharedPath,
     name: Option<&[u8]>,
 ) -> Result<(), AllocError>
-    requires numbered { IsNumbered at }
+    requires numbered { IsPackageNumber at }
     requires abroad { IsAbroad at.workspace.now.graph (known_in at.workspace.now.findings) at.number path.now }
     ensures { OnOk result ((d : ℕ) → AddsPlaces spots.old.items spots.new.items
         (IsUseAt at.entry.workspace.now.graph (known_in at.entry.workspace.now.findings) (Declared path.now d) (name_value name.entry) at.entry.number)) }
@@ -152,7 +152,7 @@ fn is_same(own: &SharedPath, path: &SharedPath) -> bool
 
 /// Whether the package of a number has this path.
 pub(crate) fn is_home(at: Numbered<'_>, path: &SharedPath) -> bool
-    requires { IsNumbered at }
+    requires { IsPackageNumber at }
     ensures { (p : Checked) → IsPackageAt at.entry.workspace.now.graph (known_in at.entry.workspace.now.findings) at.entry.number p → IsTrue result ↔ (p.path ≡ path.now) }
 {
     is_same(path_of(at.workspace, at.number), path)
@@ -163,7 +163,7 @@ pub(crate) fn path_abroad<'a>(
     at: Numbered<'_>,
     declaration: &'a Declaration,
 ) -> Option<&'a SharedPath>
-    requires { IsNumbered at }
+    requires { IsPackageNumber at }
     ensures { IsPathAbroad at.entry.workspace.now.graph (known_in at.entry.workspace.now.findings) at.entry.number declaration.now result }
 {
     match declaration {

@@ -6,7 +6,7 @@ ghost use Rattle.go_scope.specs.Named.{name_value};
 ghost use Rattle.types_declared.specs.PackageView.{package_of};
 ghost use Rattle.workspace_check.specs.Found.{AreFindings};
 ghost use Rattle.refs_binding.specs.declared.declaration.Declaration.TheVariants.{Declared};
-ghost use Rattle.refs_binding.specs.Indexed.{IsNumbered, IsPackageNumbered, IsIndexed};
+ghost use Rattle.refs_binding.specs.Indexed.{IsPackageNumber, IsPackageNumbered, IsIndexed};
 ghost use Rattle.refs_uses.specs.MemberNames.{IsNameFound};
 ghost use Rattle.refs_uses.specs.Sought.{IsSought};
 ghost use Rattle.refs_binding.specs.Steps.{AddsPlaces};
@@ -56,7 +56,7 @@ fn add_uses_by(
     unit: Package<'_>,
     sought: &Sought<'_>,
 ) -> Result<(), AllocError>
-    requires numbered { IsNumbered at }
+    requires numbered { IsPackageNumber at }
     requires unit { IsPackageNumbered at (package_of unit) }
     ensures { OnOk result (AddsPlaces spots.old.items spots.new.items
         (IsUseAt at.entry.workspace.now.graph (known_in at.entry.workspace.now.findings) sought.now.declaration.now (name_value sought.now.name) at.entry.number)) }
@@ -73,7 +73,7 @@ fn add_package_uses(
     at: Numbered<'_>,
     sought: &Sought<'_>,
 ) -> Result<(), AllocError>
-    requires { IsNumbered at }
+    requires { IsPackageNumber at }
     ensures { OnOk result (AddsPlaces spots.old.items spots.new.items
         (IsUseAt at.entry.workspace.now.graph (known_in at.entry.workspace.now.findings) sought.now.declaration.now (name_value sought.now.name) at.entry.number)) }
 {
@@ -90,7 +90,7 @@ fn add_members_or_read(
     at: Numbered<'_>,
     sought: &Sought<'_>,
 ) -> Result<(), AllocError>
-    requires numbered { IsNumbered at }
+    requires numbered { IsPackageNumber at }
     requires named { IsNameFound at.workspace.now.graph (known_in at.workspace.now.findings) sought.now.declaration.now (name_value sought.now.member) }
     ensures { OnOk result (AddsPlaces spots.old.items spots.new.items
         (IsUseAt at.entry.workspace.now.graph (known_in at.entry.workspace.now.findings) sought.now.declaration.now (name_value sought.now.name) at.entry.number)) }
@@ -110,7 +110,7 @@ fn add_where_used(
     at: Numbered<'_>,
     sought: &Sought<'_>,
 ) -> Result<(), AllocError>
-    requires numbered { IsNumbered at }
+    requires numbered { IsPackageNumber at }
     requires named { IsNameFound at.workspace.now.graph (known_in at.workspace.now.findings) sought.now.declaration.now (name_value sought.now.member) }
     ensures { OnOk result (AddsPlaces spots.old.items spots.new.items
         (IsUseAt at.entry.workspace.now.graph (known_in at.entry.workspace.now.findings) sought.now.declaration.now (name_value sought.now.name) at.entry.number)) }
@@ -128,7 +128,7 @@ fn add_if_used(
     at: Numbered<'_>,
     sought: &Sought<'_>,
 ) -> Result<(), AllocError>
-    requires numbered { IsNumbered at }
+    requires numbered { IsPackageNumber at }
     requires sought { IsSought at.workspace.now.graph (known_in at.workspace.now.findings) sought.now }
     ensures { OnOk result (AddsPlaces spots.old.items spots.new.items
         (IsUseAt at.entry.workspace.now.graph (known_in at.entry.workspace.now.findings) sought.now.declaration.now (name_value sought.now.name) at.entry.number)) }
@@ -169,7 +169,7 @@ fn add_uses_at(
     number: usize,
     sought: &Sought<'_>,
 ) -> Result<(), AllocError>
-    requires numbered { IsNumbered read }
+    requires numbered { IsPackageNumber read }
     requires unit { IsPackageNumbered read (package_of of.now.unit) }
     requires indexed { IsIndexed of.now }
     requires in_range { number < length (package_paths read.workspace.now.graph) }
@@ -195,7 +195,7 @@ fn add_uses_beyond(
     of: &Indexed<'_>,
     sought: &Sought<'_>,
 ) -> Result<(), AllocError>
-    requires numbered { IsNumbered read }
+    requires numbered { IsPackageNumber read }
     requires unit { IsPackageNumbered read (package_of of.now.unit) }
     requires indexed { IsIndexed of.now }
     requires sought { IsSought read.workspace.now.graph (known_in read.workspace.now.findings) sought.now }
@@ -215,7 +215,7 @@ fn scope_name(
     path: &SharedPath,
     d: usize,
 ) -> Result<Option<Vec<u8>>, AllocError>
-    requires numbered { IsNumbered read }
+    requires numbered { IsPackageNumber read }
     requires unit { IsPackageNumbered read (package_of unit) }
     ensures { IfOk result (λ name. IsExportedUnder read.entry.workspace.now.graph (known_in read.entry.workspace.now.findings) (Declared path.now d) (option_map name_bytes name)) }
 {
@@ -233,7 +233,7 @@ fn name_by_read(
     unit: Package<'_>,
     declaration: &Declaration,
 ) -> Result<Option<Vec<u8>>, AllocError>
-    requires numbered { IsNumbered read }
+    requires numbered { IsPackageNumber read }
     requires unit { IsPackageNumbered read (package_of unit) }
     ensures { IfOk result (λ name. IsExportedUnder read.entry.workspace.now.graph (known_in read.entry.workspace.now.findings) declaration.now (option_map name_bytes name)) }
 {
@@ -262,7 +262,7 @@ fn list_named(
     declaration: &Declaration,
     name: Option<&[u8]>,
 ) -> Result<Places, AllocError>
-    requires numbered { IsNumbered read }
+    requires numbered { IsPackageNumber read }
     requires unit { IsPackageNumbered read (package_of of.now.unit) }
     requires indexed { IsIndexed of.now }
     requires name { IsExportedUnder read.workspace.now.graph (known_in read.workspace.now.findings) declaration.now (name_value name) }
@@ -290,7 +290,7 @@ pub fn list_uses_from(
     of: &Indexed<'_>,
     declaration: &Declaration,
 ) -> Result<Places, AllocError>
-    requires numbered { IsNumbered read }
+    requires numbered { IsPackageNumber read }
     requires unit { IsPackageNumbered read (package_of of.now.unit) }
     requires indexed { IsIndexed of.now }
     ensures { IfOk result (ListsFound read.entry.workspace.now.graph (known_in read.entry.workspace.now.findings) declaration.now) }
@@ -344,7 +344,7 @@ fn uses_known(
     path: &Path,
     offset: usize,
 ) -> Result<Places, Refusal>
-    requires numbered { IsNumbered at }
+    requires numbered { IsPackageNumber at }
     requires folder { slice_get (package_paths at.workspace.now.graph) at.number ≡ Some (folder path.now) }
     requires unit { IsPackageNumbered at (package_of of.now.unit) }
     requires indexed { IsIndexed of.now }
@@ -365,7 +365,7 @@ fn uses_by(
     path: &Path,
     offset: usize,
 ) -> Result<Places, Refusal>
-    requires numbered { IsNumbered at }
+    requires numbered { IsPackageNumber at }
     requires folder { slice_get (package_paths at.workspace.now.graph) at.number ≡ Some (folder path.now) }
     requires unit { IsPackageNumbered at (package_of unit) }
     ensures { AnswersUsesAt at.entry.workspace.now.graph path.now offset result }
@@ -382,7 +382,7 @@ fn uses_of_package(
     path: &Path,
     offset: usize,
 ) -> Result<Places, Refusal>
-    requires numbered { IsNumbered at }
+    requires numbered { IsPackageNumber at }
     requires folder { slice_get (package_paths at.workspace.now.graph) at.number ≡ Some (folder path.now) }
     ensures { AnswersUsesAt at.entry.workspace.now.graph path.now offset result }
 {

@@ -15,7 +15,7 @@ use Rattle.types_declared.specs.Package as seen
 use Rattle.types_expr.specs.declared.exports.ExportData.{ExportData}
 use Rattle.types_declared.specs.declared.export_tables.ExportTable.{ExportTable}
 use Rattle.types_declared.specs.ExportTablesView.{export_of, known_name, known_scope, name_or_none, scope_export, export_data_known}
-use Rattle.types_check.specs.Known.{entry_value, KnownDefinition, known_definition, Known, known_at_path, known_values, IsKnownAlike}
+use Rattle.types_check.specs.Known.{entry_value, KnownDefinition, known_definition, PlainExports, known_at_path, known_values, IsKnownAlike}
 
 -- the value of a name in a list of entries
 abbrev value_named : {Y : Type 0} → List ℕ → List (List ℕ × Y) → Option Y
@@ -56,7 +56,7 @@ definition_known : (s : Symbol) (d : Option Definition) → definition_or_none s
 definition_known s None = refl
 definition_known s (Some d) = plain_known d
 
-abbrev plain_name : Option Known → Option (List ℕ)
+abbrev plain_name : Option PlainExports → Option (List ℕ)
 plain_name None = None
 plain_name (Some k) = Some k.scope.name
 
@@ -64,7 +64,7 @@ name_same : (known : Option ExportData) → known_name known ≡ plain_name (kno
 name_same None = refl
 name_same (Some i) = refl
 
-abbrev plain_export : Option Known → List ℕ → Option seen.Export
+abbrev plain_export : Option PlainExports → List ℕ → Option seen.Export
 plain_export None name = None
 plain_export (Some k) name = value_named name k.scope.exported
 
@@ -72,7 +72,7 @@ export_same : (known : Option ExportData) (name : List ℕ) → scope_export (kn
 export_same None name = refl
 export_same (Some i) name = value_found export_of name i.scope.exported.entries
 
-abbrev plain_at : Symbol → Option Known → ℕ → plain.Definition
+abbrev plain_at : Symbol → Option PlainExports → ℕ → plain.Definition
 plain_at s None rank = no_definition s
 plain_at s (Some k) rank = plain_or_none s (slice_get k.definitions rank)
 
@@ -82,7 +82,7 @@ definition_same s None rank = refl
 definition_same s (Some i) rank =
     definition_known s (slice_get i.definitions.items rank) ∙ ap (plain_or_none s) (sym (slice_get-map known_definition i.definitions.items rank))
 
-abbrev plain_export_data : (path : List ℕ) → Option Known → seen.ExportData
+abbrev plain_export_data : (path : List ℕ) → Option PlainExports → seen.ExportData
 plain_export_data path k = record {
   name = name_or_none (plain_name k);
   exported = λ name. plain_export k name;

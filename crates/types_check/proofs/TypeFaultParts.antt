@@ -17,7 +17,7 @@ use Rattle.types_expr.specs.WorldView.{world_of}
 use Rattle.types_stmt.specs.View.{is_init_in}
 use Rattle.types_expr.specs.declared.found.MemberUse.{MemberUse as FoundUse}
 use Rattle.types_expr.specs.Judge.{MemberUse}
-use Rattle.types_stmt.specs.Checked.{Checked}
+use Rattle.types_stmt.specs.Checked.{FoundSoFar}
 use Rattle.types_stmt.specs.Declarations.{check_file}
 use Rattle.types_declared.specs.Package.{Package}
 use Rattle.types_info.specs.Worlds.{IsWorldOf, is_init}
@@ -58,7 +58,7 @@ all_tokens file tokens i a b e h = subst (λ ts. AddsFaults a b (IsAtToken file 
 
 -- The faults of a file
 
-fault_in : (p : Package) (file : ℕ) (c : Checked) → IsChecked p file c → (f : Fault) → IsAtToken file c.faults f → IsTypeFaultIn p file f
+fault_in : (p : Package) (file : ℕ) (c : FoundSoFar) → IsChecked p file c → (f : Fault) → IsAtToken file c.faults f → IsTypeFaultIn p file f
 fault_in p file c ch f h = record {
   in_file = h.in_file;
   fault = record {
@@ -71,7 +71,7 @@ fault_in p file c ch f h = record {
   };
 }
 
-fault_from_file : (p : Package) → HasOneWorld p → (file : ℕ) (c : Checked) → IsChecked p file c → (f : Fault) → IsTypeFaultIn p file f →
+fault_from_file : (p : Package) → HasOneWorld p → (file : ℕ) (c : FoundSoFar) → IsChecked p file c → (f : Fault) → IsTypeFaultIn p file f →
     IsAtToken file c.faults f
 fault_from_file p one file c ch f h =
     let t = h.fault in
@@ -84,7 +84,7 @@ fault_from_file p one file c ch f h =
     ap (λ s. check_file t.world (is_init s) s.tree) source ∙ ap (λ w. check_file w (is_init ch.source) ch.source.tree) world ∙ sym ch.is in
     record { in_file = h.in_file; at = subst (λ z. Contains z.faults f.token) same t.found; kind = t.kind }
 
-pub faults_of_file : (p : Package) → HasOneWorld p → (file : ℕ) (c : Checked) (a b : List Fault) → IsChecked p file c → AddsFaults a b (IsAtToken file c.faults) →
+pub faults_of_file : (p : Package) → HasOneWorld p → (file : ℕ) (c : FoundSoFar) (a b : List Fault) → IsChecked p file c → AddsFaults a b (IsAtToken file c.faults) →
     AddsFaults a b (IsTypeFaultIn p file)
 faults_of_file p one file c a b ch h = adds_as a b (IsAtToken file c.faults) (IsTypeFaultIn p file) h (fault_in p file c ch) (fault_from_file p one file c ch)
 
@@ -103,7 +103,7 @@ all_faults p n found e h =
 
 -- Member uses
 
-pub uses_of_file : (p : Package) (file : ℕ) (c : Checked) (old new : List (Vec FoundUse)) → IsChecked p file c → AddsUses old new c.uses →
+pub uses_of_file : (p : Package) (file : ℕ) (c : FoundSoFar) (old new : List (Vec FoundUse)) → IsChecked p file c → AddsUses old new c.uses →
     AddsFile p file old new
 uses_of_file p file c old new ch h = (
   c.uses,
@@ -138,7 +138,7 @@ pub all_uses : (p : Package) (n : ℕ) (members : List (List MemberUse)) → n �
 all_uses p n members e h = subst (λ k. AreMemberUsesBelow p k members) e h
 
 -- the result of checking a file in the program's world
-pub checked_by : (p : Package) (file : ℕ) (x : FileParts) (w : FileWorld) (c : Checked) (t : FileTree) → slice_get p.files file ≡ Some (source_of x) →
+pub checked_by : (p : Package) (file : ℕ) (x : FileParts) (w : FileWorld) (c : FoundSoFar) (t : FileTree) → slice_get p.files file ≡ Some (source_of x) →
     IsWorldOf p file (source_of x) (world_of w) →
     is_init_in w ≡ is_init (source_of x) → t ≡ (source_of x).tree → c ≡ check_file (world_of w) (is_init_in w) t → IsChecked p file c
 checked_by p file x w c t at judged init tree is = record {

@@ -39,20 +39,20 @@ known_definition d = record {
 }
 
 -- the plain values of a package's export data
-pub record Known : Type 0 where
+pub record PlainExports : Type 0 where
   pub scope : KnownScope
   pub definitions : List KnownDefinition
 
 -- the plain values of export data
-abbrev pub known_as : ExportData → Known
+abbrev pub known_as : ExportData → PlainExports
 known_as i = record { scope = known_scope i.scope; definitions = map known_definition i.definitions.items }
 
 -- the plain values of export data, if there is any
-abbrev pub known_values : Option ExportData → Option Known
+abbrev pub known_values : Option ExportData → Option PlainExports
 known_values known = option_map known_as known
 
 -- the plain values of the export data that a table has for a path
-abbrev pub known_at_path : ExportTable → List ℕ → Option Known
+abbrev pub known_at_path : ExportTable → List ℕ → Option PlainExports
 known_at_path i path = known_values (known_at i.definitions path)
 
 -- the known export data gives the package the name and the export data that the table has for its path

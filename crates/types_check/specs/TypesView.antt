@@ -4,14 +4,14 @@ use Rattle.base_files.specs.declared.fault_kind.FaultKind.TheVariants as kind
 use Rattle.types_declared.specs.declared.fault.Fault.{Fault}
 use Rattle.go_ast.specs.SourceFile.{SourceFile}
 use Rattle.types_expr.specs.World.{World}
-use Rattle.types_stmt.specs.Checked.{Checked}
+use Rattle.types_stmt.specs.Checked.{FoundSoFar}
 use Rattle.types_stmt.specs.Declarations.{check_file}
 use Rattle.types_declared.specs.Package.{Package}
 use Rattle.types_info.specs.Worlds.{IsWorldOf, is_init}
 use Rattle.types_check.specs.TypeFaults.{IsTypeFault}
 
 -- c is the result of checking this file in its world
-pub record IsChecked (p : Package) (file : ℕ) (c : Checked) : Type 0 where
+pub record IsChecked (p : Package) (file : ℕ) (c : FoundSoFar) : Type 0 where
   pub source : SourceFile
   pub in_file : slice_get p.files file ≡ Some source
   pub world : World

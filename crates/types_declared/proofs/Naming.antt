@@ -13,7 +13,7 @@ use Rattle.types_expr.specs.declared.types.Basic.TheVariants as basic
 use Rattle.types_expr.specs.Types.{PlainType, BasicType, Defined, Meaning, TypeName}
 use Rattle.types_expr.specs.Types.{Pointer as PointerType, Slice as SliceType}
 use Rattle.types_declared.specs.Package.{Package, Export, type_place, package_types, laid_of, symbol_in, spelled}
-use Rattle.types_declared.specs.Written.{BindsToken, ImportsPath, IsExportOf, IsExportAt, NamesExport, basic_name, DenotesType, predeclared, defined, imported}
+use Rattle.types_declared.specs.Written.{BindsToken, DeclaresImport, IsExportOf, IsExportAt, NamesExport, basic_name, DenotesType, predeclared, defined, imported}
 use Rattle.types_declared.specs.Written.{pointer, slice}
 use Rattle.types_declared.specs.WrittenView.{DeclaresPlain}
 use Rattle.types_declared.specs.WrittenView as found
@@ -25,7 +25,7 @@ pub one_binding : (p : Package) → WellFormed p.layout → (file token d e : �
 one_binding p w file token d e a b = bound_once p.layout (nests p.layout w) p.names a.identifier d e a.bound (same_bound p file token a.identifier e a.found b)
 
 -- an import has at most one path
-pub one_import_path : (p : Package) (d : ℕ) (v w : List ℕ) → ImportsPath p d v → ImportsPath p d w → v ≡ w
+pub one_import_path : (p : Package) (d : ℕ) (v w : List ℕ) → DeclaresImport p d v → DeclaresImport p d w → v ≡ w
 one_import_path p d v w a b = one_path one_string_value p.files (laid_of p) d v w a.of_path b.of_path
 
 -- a qualified identifier denotes at most one export

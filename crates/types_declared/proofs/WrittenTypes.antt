@@ -13,7 +13,7 @@ use Rattle.types_expr.specs.declared.types.Basic.{Basic}
 use Rattle.types_expr.specs.Types.{PlainType, TypeName}
 use Rattle.types_expr.specs.Types.{Pointer as PointerType, Slice as SliceType}
 use Rattle.types_declared.specs.Package.{Package, type_place, package_types, spelled}
-use Rattle.types_declared.specs.Written.{BindsToken, IsPredeclared, DeclaresType, ImportsPath, IsExportOf, IsExportAt, NamesExport, basic_name, DenotesType}
+use Rattle.types_declared.specs.Written.{BindsToken, IsPredeclared, DeclaresType, DeclaresImport, IsExportOf, IsExportAt, NamesExport, basic_name, DenotesType}
 use Rattle.types_declared.specs.Written.{predeclared, defined, imported, pointer, slice, Mentions, by_name, by_pointer, by_slice}
 use Rattle.types_declared.specs.WrittenView.{DeclaresPlain, IsTypeDeclared, IsNamedBy, IsMentionedBy, IsOneExport}
 use Rattle.types_declared.specs.WrittenView as found
@@ -78,8 +78,8 @@ named_slice p file o c tree (Some t) h = slice h
 
 -- Exports
 
-pub export_by_path : (p : Package) (d file name : ℕ) (path : List ℕ) (o : Option (Bor Export)) → ImportsPath p d path →
-    ((other : List ℕ) → ImportsPath p d other → other ≡ path) →
+pub export_by_path : (p : Package) (d file name : ℕ) (path : List ℕ) (o : Option (Bor Export)) → DeclaresImport p d path →
+    ((other : List ℕ) → DeclaresImport p d other → other ≡ path) →
     option_map (λ e. export_of e.now) o ≡ (p.export_data_of path).exported (spelled p file name) → IsOneExport (IsExportOf p d file name) o
 export_by_path p d file name path None is only e = λ x h.
     none-some x (e ∙ sym (ap (λ v. (p.export_data_of v).exported (spelled p file name)) (only h.path h.imports)) ∙ h.exported)

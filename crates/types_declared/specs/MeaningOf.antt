@@ -14,7 +14,7 @@ use Rattle.types_expr.specs.World.{Bound, Local, BrokenVariable, BrokenFunction,
 use Rattle.types_expr.specs.World.{Means as Stands}
 use Rattle.types_declared.specs.Package.{Package, PlacedVariable, PlacedFunction, IsRanked, package_variables, package_functions, variable_place}
 use Rattle.types_declared.specs.Package.{function_place, symbol_in}
-use Rattle.types_declared.specs.Written.{IsPredeclared, DeclaresType, ImportsPath, basic_name, IsBroken, IsTypeOf}
+use Rattle.types_declared.specs.Written.{IsPredeclared, DeclaresType, DeclaresImport, basic_name, IsBroken, IsTypeOf}
 
 -- Meanings of predeclared identifiers
 
@@ -75,7 +75,7 @@ IsFunction p d f = IsPackageLevel p.layout d × ((rank : ℕ) × (DeclaresFuncti
 -- The declaration d has this meaning where it is used. Methods and functions `init` are declared in no block and have no meaning.
 pub data IsMeaningOf (p : Package) (d : ℕ) : Bound → Type 0 where
   predeclared : {name : List ℕ} {m : Meaning} → IsPredeclared p d name → PredeclaredMeans name m → IsMeaningOf p d (Stands m)
-  import_name : {path : List ℕ} → ImportsPath p d path → IsMeaningOf p d (Stands PackageName)
+  import_name : {path : List ℕ} → DeclaresImport p d path → IsMeaningOf p d (Stands PackageName)
   local : {file from to : ℕ} → block_of (p.layout.role d) ≡ Inner file from to → IsMeaningOf p d (Local (p.layout.place d).index)
   variable : {v : PlacedVariable} {t : PlainType} → IsVariable p d v → IsTypeOf p v.file v.type_use t → IsMeaningOf p d (Stands (Value (Typed t) true))
   broken_variable : {v : PlacedVariable} → IsVariable p d v → ((t : PlainType) → IsTypeOf p v.file v.type_use t → ⊥) → IsMeaningOf p d BrokenVariable

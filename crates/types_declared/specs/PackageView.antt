@@ -7,7 +7,7 @@ use Rattle.types_declared.specs.declared.index.Package.{Package}
 use Rattle.types_declared.specs.declared.index.Index.{Index}
 use Rattle.types_declared.specs.Package as plain
 use Rattle.types_declared.specs.Package.{package_variables, package_types, package_functions, variable_place, type_place, function_place}
-use Rattle.types_declared.specs.Written.{ImportsPath}
+use Rattle.types_declared.specs.Written.{DeclaresImport}
 use Rattle.go_scope.specs.ByToken.{numbers_in, AreIdentifiers}
 use Rattle.types_declared.specs.DeclaredView.{variable_of, type_of, function_of}
 use Rattle.types_declared.specs.RanksView.{AreRanks}
@@ -33,7 +33,7 @@ path_in (Some (Some v)) = Some v.items
 -- the list has for each identifier below n the path of the import that it declares, or none
 pub record ArePaths (p : plain.Package) (n : ℕ) (paths : List (Option (Vec ℕ))) : Type 0 where
   pub all : length paths ≡ n
-  pub each : (d : ℕ) → d < n → MatchOption (path_in (slice_get paths d)) ((v : List ℕ) → ImportsPath p d v → ⊥) (λ v. ImportsPath p d v)
+  pub each : (d : ℕ) → d < n → MatchOption (path_in (slice_get paths d)) ((v : List ℕ) → DeclaresImport p d v → ⊥) (λ v. DeclaresImport p d v)
 
 -- the index has exactly the declarations, ranks, identifiers and import paths of the package
 pub record IsIndexOf (p : plain.Package) (index : Index) : Type 0 where

@@ -29,7 +29,7 @@ abbrev pub DeclaresType : Package → (d rank : ℕ) → Type 0
 DeclaresType p d rank = IsRanked type_place (package_types p) p.layout d rank
 
 -- d declares an import of this path
-pub record ImportsPath (p : Package) (d : ℕ) (path : List ℕ) : Type 0 where
+pub record DeclaresImport (p : Package) (d : ℕ) (path : List ℕ) : Type 0 where
   pub is_import : IsImport p.layout d
   pub of_path : IsPathOf p.files (laid_of p) d path
 
@@ -42,7 +42,7 @@ basic_name basic.String = codes "string"
 -- the package of the import d exports e under the name spelled at the token
 pub record IsExportOf (p : Package) (d file name : ℕ) (e : Export) : Type 0 where
   pub path : List ℕ
-  pub imports : ImportsPath p d path
+  pub imports : DeclaresImport p d path
   pub exported : (p.export_data_of path).exported (spelled p file name) ≡ Some e
 
 -- the qualified identifier `p.N` denotes the export e: p is bound to an import whose package exports e as N

@@ -3,7 +3,7 @@ ghost use Rattle.std.specs.Prelude.{◌≡◌, ◌<◌, ℕ, List, length, slice
 ghost use Rattle.go_scope.specs.Named.{name_value};
 ghost use Rattle.types_declared.specs.Package.{spelled};
 ghost use Rattle.types_declared.specs.MeaningOf.{DeclaresVariable, DeclaresFunction};
-ghost use Rattle.types_declared.specs.Written.{BindsToken, DeclaresType, ImportsPath};
+ghost use Rattle.types_declared.specs.Written.{BindsToken, DeclaresType, DeclaresImport};
 ghost use Rattle.types_declared.specs.PackageView.{package_of, path_in, IsIndexOf, ArePaths};
 
 use crate::declared::Declared;
@@ -40,7 +40,7 @@ pub struct Index<'a> {
 /// Returns the path of the import that the identifier `d` declares; none where it declares no import.
 fn import_path(alloc: Global, pkg: Package<'_>, d: usize) -> Result<Option<Vec<u8>>, AllocError>
     requires { d < length pkg.table.now.sites }
-    ensures { IfOk result (λ path. MatchOption path ((v : List ℕ) → ImportsPath (package_of pkg.entry) d v → ⊥) (λ v. ImportsPath (package_of pkg.entry) d v.items)) }
+    ensures { IfOk result (λ path. MatchOption path ((v : List ℕ) → DeclaresImport (package_of pkg.entry) d v → ⊥) (λ v. DeclaresImport (package_of pkg.entry) d v.items)) }
 {
     if is_import(pkg.table, d) {
         path_of(alloc, pkg.table, pkg.files, d)
@@ -144,8 +144,8 @@ impl<'a> Index<'a> {
     pub fn path(&self, pkg: Package<'_>, d: usize) -> Option<&[u8]>
         requires index { IsIndexOf (package_of pkg) self.now }
         requires in_range { d < length pkg.table.now.sites }
-        ensures { MatchOption result ((v : List ℕ) → ImportsPath (package_of pkg.entry) d v → ⊥)
-            (λ v. ImportsPath (package_of pkg.entry) d v.now × ((other : List ℕ) → ImportsPath (package_of pkg.entry) d other → other ≡ v.now)) }
+        ensures { MatchOption result ((v : List ℕ) → DeclaresImport (package_of pkg.entry) d v → ⊥)
+            (λ v. DeclaresImport (package_of pkg.entry) d v.now × ((other : List ℕ) → DeclaresImport (package_of pkg.entry) d other → other ≡ v.now)) }
     {
         go_scanner::laws::one_string_value();
         path_at(&self.paths, d)

@@ -4,7 +4,7 @@ use Rattle.std.proofs.Common.{◌&&◌, ◌||◌}
 use Rattle.std.proofs.Math.Bool.{or-false}
 use Rattle.types_expr.specs.declared.found.FoundInFile.{FoundInFile}
 use Rattle.types_expr.specs.declared.keys.ElementKey.{ElementKey}
-use Rattle.types_expr.specs.Types.{Meaning, Kind, PlainType}
+use Rattle.types_expr.specs.Types.{Meaning, ValueKind, PlainType}
 use Rattle.types_expr.specs.World.{World, Member, member_symbol}
 use Rattle.types_expr.specs.View.{type_of}
 use Rattle.types_expr.specs.Judge.{Judged, followed, means, JudgedList, ListValue, with_values, value_before, value_kind, JudgedElements, JudgedKey, TypeJudged}
@@ -118,7 +118,7 @@ adds_values {vs} rule {old} {mid} {new} {xs} {r} a b =
 abbrev pub Same : ListValue → ListValue → Type 0
 Same a b = a ≡ b
 
-pub argued_at : {p q : ℕ} {k l : Option Kind} → p ≡ q → k ≡ l → Same (record { place = p; kind = k }) (record { place = q; kind = l })
+pub argued_at : {p q : ℕ} {k l : Option ValueKind} → p ≡ q → k ≡ l → Same (record { place = p; kind = k }) (record { place = q; kind = l })
 argued_at {p} {q} {k} {l} e f = ap (λ x. record { place = x; kind = k }) e ∙ ap (λ x. record { place = q; kind = x }) f
 
 pub reached_list_end : {total rest : JudgedList} {before now : FoundInFile} {vs : List ListValue} → ReachedList total rest before now vs →
@@ -194,7 +194,7 @@ reached_elements_start total = record {
 }
 
 -- an element: its key, its value, and whether the value fits
-pub reached_element : (w : World) (k : JudgedKey) (place at : ℕ) (j : Judged) (kind : Option Kind) (wanted : Option PlainType)
+pub reached_element : (w : World) (k : JudgedKey) (place at : ℕ) (j : Judged) (kind : Option ValueKind) (wanted : Option PlainType)
     {total rest more : JudgedElements} {before now keyed valued new : FoundInFile} {whole unkeyed key_whole key_unkeyed fits : Bool} {m : Meaning} →
     ReachedElements total rest before now whole unkeyed → (key : ElementKey) → AddsKey k now keyed key → AddsJudged j keyed valued m →
     AddsMisfits (misfit_if w at kind wanted) valued new fits →

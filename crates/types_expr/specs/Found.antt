@@ -36,7 +36,7 @@ unfoldable pub seen_of : SeenFields → judge.Seen
 seen_of s rank = contains nat_cmp s.ranks rank
 
 -- the plain key that a `LiteralKey` of src/ stands for
-unfoldable pub key_of : LiteralKey → judge.Key
+unfoldable pub key_of : LiteralKey → judge.KeyMeaning
 key_of (key.Field rank t) = judge.FieldKey rank (type_of t.now)
 key_of key.Broken = judge.BrokenKey
 key_of key.Wrong = judge.WrongKey

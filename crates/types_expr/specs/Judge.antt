@@ -12,7 +12,7 @@ use Rattle.types_expr.specs.declared.types.Builtin.{Builtin}
 use Rattle.types_expr.specs.declared.types.Builtin.TheVariants as builtin
 use Rattle.types_expr.specs.declared.symbol.Symbol.{Symbol}
 use Rattle.types_expr.specs.Places.{first_token, first_of_type, place_of}
-use Rattle.types_expr.specs.Types.{PlainType, BasicType, Pointer, Slice, Underlying, SliceOf, Struct, Kind, Typed, Untyped, Signature, Meaning, Value}
+use Rattle.types_expr.specs.Types.{PlainType, BasicType, Pointer, Slice, Underlying, SliceOf, Struct, ValueKind, Typed, Untyped, Signature, Meaning, Value}
 use Rattle.types_expr.specs.Types.{TypeName, Function, BuiltinName, Package, Results, Broken, is_pointer, points, element_of}
 use Rattle.types_expr.specs.World.{World, Locals, Bound, Local, Means, BrokenVariable, BrokenType, Member, AField, AMethod, ABrokenMethod, member_symbol}
 use Rattle.types_expr.specs.World.{underlying, name_meaning}
@@ -45,7 +45,7 @@ means_or_wrong None place = wrong place
 means_or_wrong (Some m) place = means m
 
 -- a value of kind k, not addressable, or a fault at `place` where there is no kind
-abbrev pub value_or_wrong : Option Kind → ℕ → Judged
+abbrev pub value_or_wrong : Option ValueKind → ℕ → Judged
 value_or_wrong None place = wrong place
 value_or_wrong (Some k) place = means (Value k false)
 
@@ -65,7 +65,7 @@ as_value place Broken = means Broken
 as_value place m = wrong place
 
 -- the kind of a value, none for any other meaning
-unfoldable pub value_kind : Meaning → Option Kind
+unfoldable pub value_kind : Meaning → Option ValueKind
 value_kind (Value k a) = Some k
 value_kind m = None
 
@@ -109,7 +109,7 @@ select w locals place name m = wrong place
 -- a value of a list: the token of its faults, and its kind, none where it is broken
 pub record ListValue : Type 0 where
   pub place : ℕ
-  pub kind : Option Kind
+  pub kind : Option ValueKind
 
 -- the judgement of a list of expressions: their values, faults and member uses
 pub record JudgedList : Type 0 where
@@ -118,7 +118,7 @@ pub record JudgedList : Type 0 where
   pub uses : List MemberUse
 
 -- whether a value is not broken
-abbrev pub is_whole : Option Kind → Bool
+abbrev pub is_whole : Option ValueKind → Bool
 is_whole None = false
 is_whole (Some k) = true
 
@@ -128,7 +128,7 @@ all_whole [] = true
 all_whole (v ∷ vs) = is_whole v.kind && all_whole vs
 
 -- a fault at `place` where a value of kind k does not fit type t; none for a broken value
-unfoldable pub misfit : World → ℕ → Option Kind → PlainType → List ℕ
+unfoldable pub misfit : World → ℕ → Option ValueKind → PlainType → List ℕ
 misfit w place None t = []
 misfit w place (Some k) t = if fits w k t then [] else place ∷ []
 
@@ -167,7 +167,7 @@ call_function w start s vs =
     else wrong_if_whole (all_whole vs) start
 
 -- the conversion of a value to type t
-abbrev pub convert_one : World → ℕ → PlainType → Option Kind → Judged
+abbrev pub convert_one : World → ℕ → PlainType → Option ValueKind → Judged
 convert_one w start t None = means Broken
 convert_one w start t (Some k) = if converts w k t then means (Value (Typed t) false) else wrong start
 
@@ -177,12 +177,12 @@ convert w start t (v ∷ []) = convert_one w start t v.kind
 convert w start t vs = wrong_if_whole (all_whole vs) start
 
 -- the call of `append` whose first argument has kind k, with elements of the given type, if it is a slice
-abbrev pub append_to : World → ℕ → Kind → Option PlainType → List ListValue → Judged
+abbrev pub append_to : World → ℕ → ValueKind → Option PlainType → List ListValue → Judged
 append_to w start k None vs = wrong_if_whole (all_whole vs) start
 append_to w start k (Some t) vs = unless_faults (all_misfits w vs t) (all_whole vs) (Value k false)
 
 -- the call of `append` whose first argument has the given kind, none where it is broken
-abbrev pub append_first : World → ℕ → Option Kind → List ListValue → Judged
+abbrev pub append_first : World → ℕ → Option ValueKind → List ListValue → Judged
 append_first w start None vs = means Broken
 append_first w start (Some k) vs = append_to w start k (element_of_kind w k) vs
 
@@ -192,7 +192,7 @@ append w start [] = wrong start
 append w start (v ∷ vs) = append_first w start v.kind vs
 
 -- whether `len` takes the value: it has a length, or is broken
-abbrev pub len_value : World → Option Kind → Bool
+abbrev pub len_value : World → Option ValueKind → Bool
 len_value w None = true
 len_value w (Some k) = has_length (class_of w k)
 
@@ -202,7 +202,7 @@ len_fits w (v ∷ []) = len_value w v.kind
 len_fits w vs = false
 
 -- whether `print` and `println` take the value: it is a bool, int or string, or is broken
-abbrev pub is_printed_value : World → Option Kind → Bool
+abbrev pub is_printed_value : World → Option ValueKind → Bool
 is_printed_value w None = true
 is_printed_value w (Some k) = is_printed (class_of w k)
 
@@ -239,7 +239,7 @@ with_values vs rule = record { meaning = (rule vs.values).meaning; faults = vs.f
 -- Indexes and operators
 
 -- an index that is no int is a fault at its place
-unfoldable pub bad_index : World → ℕ → Option Kind → List ℕ
+unfoldable pub bad_index : World → ℕ → Option ValueKind → List ℕ
 bad_index w place None = []
 bad_index w place (Some k) = if is_int (class_of w k) then [] else place ∷ []
 
@@ -258,7 +258,7 @@ unfoldable pub index_of : World → (start place : ℕ) → Meaning → Meaning 
 index_of w start place s i = indexed w start (bad_index w place (value_kind i)) (is_whole (value_kind i)) s
 
 -- a binary operation on operands of these kinds, none where one is broken
-abbrev pub operation_on : World → BinaryOp → ℕ → Option Kind → Option Kind → Judged
+abbrev pub operation_on : World → BinaryOp → ℕ → Option ValueKind → Option ValueKind → Judged
 operation_on w o start (Some a) (Some b) = value_or_wrong (operate w o a b) start
 operation_on w o start a b = means Broken
 
@@ -333,10 +333,10 @@ address_of m = means Broken
 
 -- What a key of a struct literal is: a field by its rank, with its type; a method whose signature is broken, which is no fault again; or a
 -- fault. All fields of a struct are declared in one package, so their ranks tell them apart.
-pub data Key : Type 0 where
-  FieldKey : ℕ → PlainType → Key
-  BrokenKey : Key
-  WrongKey : Key
+pub data KeyMeaning : Type 0 where
+  FieldKey : ℕ → PlainType → KeyMeaning
+  BrokenKey : KeyMeaning
+  WrongKey : KeyMeaning
 
 -- the ranks of the fields that earlier keys named
 abbrev pub Seen : Type 0
@@ -346,13 +346,13 @@ abbrev pub none_seen : Seen
 none_seen = λ rank. false
 
 -- The key whose name denotes this member. A field that an earlier key named is a fault, and so is a method.
-abbrev pub key_of_member : Seen → Option Member → Key
+abbrev pub key_of_member : Seen → Option Member → KeyMeaning
 key_of_member seen (Some (AField s t)) = if seen s.rank then WrongKey else FieldKey s.rank t
 key_of_member seen (Some (ABrokenMethod s)) = BrokenKey
 key_of_member seen m = WrongKey
 
 -- the key in a literal of this underlying type; a fault where that is no struct
-abbrev pub key_in : Underlying → Seen → Option Member → Key
+abbrev pub key_in : Underlying → Seen → Option Member → KeyMeaning
 key_in (Struct s) seen m = key_of_member seen m
 key_in u seen m = WrongKey
 
@@ -362,23 +362,23 @@ symbol_of_key (Struct s) m = option_map member_symbol m
 symbol_of_key u m = None
 
 -- the fault of a key at token `place`, if it is one
-abbrev pub key_faults : Key → ℕ → List ℕ
+abbrev pub key_faults : KeyMeaning → ℕ → List ℕ
 key_faults WrongKey place = place ∷ []
 key_faults k place = []
 
 -- whether a key names a field that no earlier key named
-abbrev pub is_whole_key : Key → Bool
+abbrev pub is_whole_key : KeyMeaning → Bool
 is_whole_key (FieldKey rank t) = true
 is_whole_key k = false
 
 -- the fields that keys named, with this key's
-abbrev pub seen_with : Key → Seen → Seen
+abbrev pub seen_with : KeyMeaning → Seen → Seen
 seen_with (FieldKey rank t) seen = λ other. other == rank || seen other
 seen_with k seen = seen
 
 -- The type that the value after a key has to fit: the field's type. In a slice literal it is the element type, though a key is a fault
 -- there.
-abbrev pub wanted_after_key : Key → Underlying → Option PlainType
+abbrev pub wanted_after_key : KeyMeaning → Underlying → Option PlainType
 wanted_after_key (FieldKey rank t) u = Some t
 wanted_after_key k u = element_of u
 
@@ -390,7 +390,7 @@ pub record JudgedElements : Type 0 where
   pub uses : List MemberUse
 
 -- a fault where a value does not fit the type that it has to fit, if that is known
-abbrev pub misfit_if : World → ℕ → Option Kind → Option PlainType → List ℕ
+abbrev pub misfit_if : World → ℕ → Option ValueKind → Option PlainType → List ℕ
 misfit_if w place k None = []
 misfit_if w place k (Some t) = misfit w place k t
 
@@ -416,7 +416,7 @@ abbrev pub no_key : World → PlainType → JudgedKey
 no_key w t = record { whole = true; unkeyed = true; wanted = element_of (underlying w t); faults = []; uses = [] }
 
 -- an element with the key k at token `place`, in a literal of type t
-abbrev pub judge_key : World → PlainType → ℕ → Key → JudgedKey
+abbrev pub judge_key : World → PlainType → ℕ → KeyMeaning → JudgedKey
 judge_key w t place k = record {
   whole = is_whole_key k;
   unkeyed = false;
@@ -426,7 +426,7 @@ judge_key w t place k = record {
 }
 
 -- what the key at token `place` is, in a literal of type t
-abbrev pub key_at : World → Seen → PlainType → ℕ → Key
+abbrev pub key_at : World → Seen → PlainType → ℕ → KeyMeaning
 key_at w seen t place = key_in (underlying w t) seen (w.member place t)
 
 -- the judgement of the key, if any, of an element of a literal; the literal's type is none where it is broken

@@ -9,25 +9,25 @@ use Rattle.types_expr.specs.declared.classes.ValueClass.{ValueClass}
 use Rattle.types_expr.specs.declared.classes.ValueClass.TheVariants as class
 use Rattle.types_expr.specs.declared.classes.Family.{Family}
 use Rattle.types_expr.specs.declared.classes.Family.TheVariants as family
-use Rattle.types_expr.specs.Types.{PlainType, Underlying, Plain, PointerTo, SliceOf, Struct, Kind, Typed, Untyped, Nil, Meaning, Value, same_basic, same_type}
+use Rattle.types_expr.specs.Types.{PlainType, Underlying, Plain, PointerTo, SliceOf, Struct, ValueKind, Typed, Untyped, Nil, Meaning, Value, same_basic, same_type}
 use Rattle.types_expr.specs.Types.{same_underlying, is_named, either_unnamed, has_nil, element_of}
 use Rattle.types_expr.specs.World.{World, underlying}
 
 -- Whether a value fits a type (Go specification, "Assignability"). Either its type is identical. Or one of the two types is not named and
 -- the underlying types are identical. Or the value has no type: an untyped constant fits its own basic type, and nil fits pointers and
 -- slices.
-unfoldable pub fits : World → Kind → PlainType → Bool
+unfoldable pub fits : World → ValueKind → PlainType → Bool
 fits w (Typed v) t = same_type v t || (either_unnamed (is_named v) (is_named t) && same_underlying (underlying w v) (underlying w t))
 fits w (Untyped b) t = same_underlying (Plain b) (underlying w t)
 fits w Nil t = has_nil (underlying w t)
 
 -- whether a value converts to a type (Go specification, "Conversions"): it fits, or the underlying types are identical
-abbrev pub converts : World → Kind → PlainType → Bool
+abbrev pub converts : World → ValueKind → PlainType → Bool
 converts w (Typed v) t = fits w (Typed v) t || same_underlying (underlying w v) (underlying w t)
 converts w v t = fits w v t
 
 -- the common kind of two operands of a binary operation, none where they do not go together
-unfoldable pub joined : World → Kind → Kind → Option Kind
+unfoldable pub joined : World → ValueKind → ValueKind → Option ValueKind
 joined w (Typed a) (Typed b) = if same_type a b then Some (Typed a) else None
 joined w (Typed a) v = if fits w v a then Some (Typed a) else None
 joined w v (Typed b) = if fits w v b then Some (Typed b) else None
@@ -35,7 +35,7 @@ joined w (Untyped a) (Untyped b) = if same_basic a b then Some (Untyped a) else 
 joined w Nil Nil = Some Nil
 joined w a b = None
 
-unfoldable pub is_nil : Kind → Bool
+unfoldable pub is_nil : ValueKind → Bool
 is_nil Nil = true
 is_nil v = false
 
@@ -47,7 +47,7 @@ class_of_underlying (SliceOf t) = class.Slice
 class_of_underlying (Struct s) = class.Struct
 
 -- the class of the values of a kind
-unfoldable pub class_of : World → Kind → ValueClass
+unfoldable pub class_of : World → ValueKind → ValueClass
 class_of w (Typed t) = class_of_underlying (underlying w t)
 class_of w (Untyped b) = class.Of b
 class_of w Nil = class.Nil
@@ -104,7 +104,7 @@ abbrev pub when : {A : Type 0} → Bool → A → Option A
 when test a = if test then Some a else None
 
 -- the kind of an operation on operands of class c and common kind k, none where the class has no such operation
-unfoldable pub result_of : Family → Bool → ValueClass → Kind → Option Kind
+unfoldable pub result_of : Family → Bool → ValueClass → ValueKind → Option ValueKind
 result_of family.Arithmetic with_nil c k = when (is_int c) k
 result_of family.Addition with_nil c k = when (is_ordered c) k
 result_of family.Equality with_nil c k = when (compares with_nil c) (Untyped basic.Bool)
@@ -112,16 +112,16 @@ result_of family.Order with_nil c k = when (is_ordered c) (Untyped basic.Bool)
 result_of family.Logic with_nil c k = when (is_bool c) k
 
 -- the kind of an operation of this family on operands of the given common kind, none where they have none
-abbrev pub operate_on : World → Family → Bool → Option Kind → Option Kind
+abbrev pub operate_on : World → Family → Bool → Option ValueKind → Option ValueKind
 operate_on w f with_nil None = None
 operate_on w f with_nil (Some k) = result_of f with_nil (class_of w k) k
 
 -- the kind of a binary operation, none where it breaks a rule
-unfoldable pub operate : World → BinaryOp → Kind → Kind → Option Kind
+unfoldable pub operate : World → BinaryOp → ValueKind → ValueKind → Option ValueKind
 operate w o a b = operate_on w (family_of o) (is_nil a || is_nil b) (joined w a b)
 
 -- the element type of a slice value, none for any other value
-abbrev pub element_of_kind : World → Kind → Option PlainType
+abbrev pub element_of_kind : World → ValueKind → Option PlainType
 element_of_kind w (Typed t) = element_of (underlying w t)
 element_of_kind w k = None
 
@@ -131,15 +131,15 @@ pointee (PointerTo t) = Some (Value (Typed t) true)
 pointee u = None
 
 -- the variable that a value points to, none where it is no pointer
-abbrev pub pointee_of_kind : World → Kind → Option Meaning
+abbrev pub pointee_of_kind : World → ValueKind → Option Meaning
 pointee_of_kind w (Typed t) = pointee (underlying w t)
 pointee_of_kind w k = None
 
-abbrev pub value_when : Bool → Kind → Option Meaning
+abbrev pub value_when : Bool → ValueKind → Option Meaning
 value_when test k = if test then Some (Value k false) else None
 
 -- the meaning of a prefix operator on a value of kind k, none where it breaks a rule
-unfoldable pub prefixed : World → PrefixOp → Kind → Option Meaning
+unfoldable pub prefixed : World → PrefixOp → ValueKind → Option Meaning
 prefixed w prefix.Plus k = value_when (is_int (class_of w k)) k
 prefixed w prefix.Minus k = value_when (is_int (class_of w k)) k
 prefixed w prefix.Not k = value_when (is_bool (class_of w k)) k

@@ -21,10 +21,10 @@ pub data Underlying : Type 0 where
   Struct : Symbol → Underlying
 
 -- the kind of a value: its type, the basic type of an untyped constant, or nil
-pub data Kind : Type 0 where
-  Typed : PlainType → Kind
-  Untyped : Basic → Kind
-  Nil : Kind
+pub data ValueKind : Type 0 where
+  Typed : PlainType → ValueKind
+  Untyped : Basic → ValueKind
+  Nil : ValueKind
 
 pub record Signature : Type 0 where
   pub parameters : List PlainType
@@ -33,7 +33,7 @@ pub record Signature : Type 0 where
 -- The meaning of an expression. Results: a call with none or several results. Broken: the expression or a part of it is a fault, or it uses
 -- a declaration that has a broken part.
 pub data Meaning : Type 0 where
-  Value : Kind → (addressable : Bool) → Meaning
+  Value : ValueKind → (addressable : Bool) → Meaning
   TypeName : PlainType → Meaning
   Function : Signature → Meaning
   BuiltinName : Builtin → Meaning

@@ -13,7 +13,7 @@ type_of (type.Defined s) = types.Defined s
 type_of (type.Pointer' p t) = types.Pointer (type_of t)
 type_of (type.Slice' p t) = types.Slice (type_of t)
 
-unfoldable pub kind_of : ValueKind → types.Kind
+unfoldable pub kind_of : ValueKind → types.ValueKind
 kind_of (kind.Typed t) = types.Typed (type_of t)
 kind_of (kind.Untyped b) = types.Untyped b
 kind_of kind.Nil = types.Nil

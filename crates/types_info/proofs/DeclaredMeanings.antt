@@ -19,7 +19,7 @@ use Rattle.types_declared.specs.declared.declared.Function.{Function as Func}
 use Rattle.go_ast.specs.View.{type_view}
 use Rattle.types_declared.specs.DeclaredView.{variable_of, function_of}
 use Rattle.types_declared.specs.Package.{Package, PlacedVariable, PlacedFunction, package_variables, package_functions}
-use Rattle.types_declared.specs.Written.{DeclaresType, ImportsPath, basic_name}
+use Rattle.types_declared.specs.Written.{DeclaresType, DeclaresImport, basic_name}
 use Rattle.types_declared.specs.MeaningOf.{builtin_name, PredeclaredMeans, a_type, a_truth, an_untruth, a_nil, a_function, DeclaresVariable, DeclaresFunction}
 use Rattle.types_declared.specs.MeaningOf.{IsMeaningOf, predeclared, import_name, local, variable, broken_variable, function, broken_function, definition}
 use Rattle.types_declared.specs.MeaningOf.{broken_definition}
@@ -104,7 +104,7 @@ no_universe_meaning p d e i b m = true≢false (sym (universal_only p d b e m).0
 -- A declaration of a file's block
 
 pub imported_only : (p : Package) (d file : ℕ) (b : Bound) → block_of (p.layout.role d) ≡ File file → IsMeaningOf p d b →
-    ((path : List ℕ) × ImportsPath p d path) × (b ≡ Stands PackageName)
+    ((path : List ℕ) × DeclaresImport p d path) × (b ≡ Stands PackageName)
 imported_only p d file _ e (predeclared is means) = let q : Universe ≡ File file = sym is.universe ∙ e in let z : ⊥ = cc in absurd z
 imported_only p d file _ e (import_name {path = path} is) = ((path, is), refl)
 imported_only p d file _ e (local {file = f} {from = a} {to = b} is) = let q : File file ≡ Inner f a b = sym e ∙ is in let z : ⊥ = cc in absurd z
@@ -115,7 +115,7 @@ imported_only p d file _ e (broken_function is s) = let q : File file ≡ Packag
 imported_only p d file _ e (definition is r w) = let q : File file ≡ PackageBlock = sym e ∙ is in let z : ⊥ = cc in absurd z
 imported_only p d file _ e (broken_definition is r w) = let q : File file ≡ PackageBlock = sym e ∙ is in let z : ⊥ = cc in absurd z
 
-pub no_import_meaning : (p : Package) (d file : ℕ) → block_of (p.layout.role d) ≡ File file → ((path : List ℕ) → ImportsPath p d path → ⊥) → (b : Bound) →
+pub no_import_meaning : (p : Package) (d file : ℕ) → block_of (p.layout.role d) ≡ File file → ((path : List ℕ) → DeclaresImport p d path → ⊥) → (b : Bound) →
     IsMeaningOf p d b → ⊥
 no_import_meaning p d file e none b m = let found = (imported_only p d file b e m).0 in none found.0 found.1
 

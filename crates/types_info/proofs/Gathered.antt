@@ -6,7 +6,7 @@ use Rattle.std.proofs.lemmas.Bool.{cases_lt}
 use Rattle.go_scope.specs.declared.model.Position.{Position}
 use Rattle.go_scope.specs.Named.{name_value}
 use Rattle.types_declared.specs.Package.{Package}
-use Rattle.types_declared.specs.Written.{ImportsPath}
+use Rattle.types_declared.specs.Written.{DeclaresImport}
 use Rattle.types_info.specs.declared.lists.Qualified.{Qualified}
 use Rattle.types_info.specs.declared.lists.Lists.{Lists}
 use Rattle.types_info.specs.Lists.{IsListedUnder, path_for, AreWithin, AddsDeclaration, AddsUnder}
@@ -19,17 +19,17 @@ pub no_lists : (p : Package) (lists : Lists) → AreWithin lists → AreListsBel
 no_lists p lists within = record { within = within; paths = λ d path lt. absurd (omega arith) }
 
 pub next_list : (p : Package) (d : ℕ) (old new : Lists) (o : Option (Bor (List ℕ))) → AreListsBelow p d old → length old.numbers.items ≡ d →
-    AddsDeclaration old new (name_value o) → IsOnePath (ImportsPath p d) o → AreListsBelow p (d + 1) new
+    AddsDeclaration old new (name_value o) → IsOnePath (DeclaresImport p d) o → AreListsBelow p (d + 1) new
 next_list p d old new o h size adds one = record {
   within = adds.within;
   paths = λ e path lt. elim (cases_lt e d) [
     | inl below ↦
-        subst (λ x. (x ≡ Some path) ↔ ImportsPath p e path) (sym (adds.kept e (subst (λ n. e < n) (sym size) below))) (h.paths e path below)
+        subst (λ x. (x ≡ Some path) ↔ DeclaresImport p e path) (sym (adds.kept e (subst (λ n. e < n) (sym size) below))) (h.paths e path below)
     | inr ge ↦
         let here : d ≡ e = omega arith in
         let its : path_for new d ≡ name_value o = ap (path_for new) (sym size) ∙ adds.here in
-        subst (λ n. (path_for new n ≡ Some path) ↔ ImportsPath p n path) here
-        (subst (λ x. (x ≡ Some path) ↔ ImportsPath p d path) (sym its) (path_is (ImportsPath p d) o path one))
+        subst (λ n. (path_for new n ≡ Some path) ↔ DeclaresImport p n path) here
+        (subst (λ x. (x ≡ Some path) ↔ DeclaresImport p d path) (sym its) (path_is (DeclaresImport p d) o path one))
   ];
 }
 
@@ -43,12 +43,12 @@ not_listed p u lists are none = record {
 }
 
 pub is_listed : (p : Package) (u d : ℕ) (at : Position) (old new : Lists) → AreListsBelow p p.size old → d < p.size → p.layout.place u ≡ at →
-    ((path : List ℕ) → IsQualifiedByPath p u path ↔ ImportsPath p d path) → AreWithin new → ((e : ℕ) → path_for new e ≡ path_for old e) →
+    ((path : List ℕ) → IsQualifiedByPath p u path ↔ DeclaresImport p d path) → AreWithin new → ((e : ℕ) → path_for new e ≡ path_for old e) →
     AddsUnder old.all.items new.all.items (path_for old d) at → ListsIdentifier p u old new
 is_listed p u d at old new are lt place before within kept adds = record {
   lists = record {
     within = within;
-    paths = λ e path below. subst (λ x. (x ≡ Some path) ↔ ImportsPath p e path) (sym (kept e)) (are.paths e path below);
+    paths = λ e path below. subst (λ x. (x ≡ Some path) ↔ DeclaresImport p e path) (sym (kept e)) (are.paths e path below);
   };
   listed = λ path x. (
     λ h. elim ((adds path x).0 h) [ inl o ↦ inl o | inr q ↦ inr ((before path).1 ((are.paths d path lt).0 q.0), place ∙ q.1) ],

@@ -7,7 +7,7 @@ use Rattle.go_scope.specs.declared.model.Role.TheVariants.{NotLexical}
 use Rattle.go_scope.specs.declared.model.Purpose.TheVariants as purpose
 use Rattle.go_scope.specs.Named.{name_value}
 use Rattle.types_declared.specs.Package.{Package}
-use Rattle.types_declared.specs.Written.{BindsToken, ImportsPath}
+use Rattle.types_declared.specs.Written.{BindsToken, DeclaresImport}
 use Rattle.types_info.specs.QualifiedIdentifiers.{NamesPackage, IsQualifiedByPath, IsOnePath, IsQualifierFound}
 
 before_is : (p : Package) (u before : ℕ) (path : List ℕ) → (p.layout.place u).index ≡ suc (suc before) → IsQualifiedByPath p u path →
@@ -23,7 +23,7 @@ pub bound_before : (p : Package) (u before : ℕ) (o : Option ℕ) → p.layout.
     MatchOption o (Unit {0}) (λ d. (e : ℕ) → BindsToken p (p.layout.place u).file before e → e ≡ d) → IsQualifierFound p u o
 bound_before p u before None role e bound only = λ path b. let n = before_is p u before path e b in bound n.import n.binds
 bound_before p u before (Some d) role e bound only = λ path. (
-  (λ b. let n = before_is p u before path e b in subst (λ i. ImportsPath p i path) (only n.import n.binds) n.imports),
+  (λ b. let n = before_is p u before path e b in subst (λ i. DeclaresImport p i path) (only n.import n.binds) n.imports),
   (λ i. record { selected = role; before = before; behind_dot = e; named = record { import = d; binds = bound; imports = i } }),
 )
 
@@ -32,8 +32,8 @@ pub not_behind : (p : Package) (u : ℕ) (path : List ℕ) → (p.layout.place u
 not_behind p u path lt h = let k : (p.layout.place u).index ≡ suc (suc h.before) = h.behind_dot in absurd (omega arith)
 
 -- the path of the import to which that name is bound
-pub path_before : (p : Package) (u d : ℕ) (o : Option (Bor (List ℕ))) → ((path : List ℕ) → IsQualifiedByPath p u path ↔ ImportsPath p d path) →
-    MatchOption o ((v : List ℕ) → ImportsPath p d v → ⊥) (λ v. ImportsPath p d v.now × ((other : List ℕ) → ImportsPath p d other → other ≡ v.now)) →
+pub path_before : (p : Package) (u d : ℕ) (o : Option (Bor (List ℕ))) → ((path : List ℕ) → IsQualifiedByPath p u path ↔ DeclaresImport p d path) →
+    MatchOption o ((v : List ℕ) → DeclaresImport p d v → ⊥) (λ v. DeclaresImport p d v.now × ((other : List ℕ) → DeclaresImport p d other → other ≡ v.now)) →
     IsOnePath (IsQualifiedByPath p u) o
 path_before p u d None same h = λ path b. h path ((same path).0 b)
 path_before p u d (Some v) same h = ((same v.now).1 h.0, λ other b. h.1 other ((same other).0 b))

@@ -5,7 +5,7 @@ use Rattle.go_scope.specs.declared.model.Position.{Position}
 use Rattle.go_scope.specs.declared.model.Role.TheVariants.{NotLexical}
 use Rattle.go_scope.specs.declared.model.Purpose.TheVariants as purpose
 use Rattle.types_declared.specs.Package.{Package}
-use Rattle.types_declared.specs.Written.{BindsToken, ImportsPath}
+use Rattle.types_declared.specs.Written.{BindsToken, DeclaresImport}
 use Rattle.types_info.specs.declared.lists.Qualified.{Qualified}
 use Rattle.types_info.specs.declared.lists.Lists.{Lists}
 use Rattle.types_info.specs.Lists.{IsListedUnder, path_for, AreWithin}
@@ -14,7 +14,7 @@ use Rattle.types_info.specs.Lists.{IsListedUnder, path_for, AreWithin}
 pub record NamesPackage (p : Package) (file token : ℕ) (path : List ℕ) : Type 0 where
   pub import : ℕ
   pub binds : BindsToken p file token import
-  pub imports : ImportsPath p import path
+  pub imports : DeclaresImport p import path
 
 -- u is the name in `p.u`, where p is bound to an import of this path
 pub record IsQualifiedByPath (p : Package) (u : ℕ) (path : List ℕ) : Type 0 where
@@ -31,7 +31,7 @@ IsOnePath P found = MatchOption found ((path : List ℕ) → P path → ⊥) (λ
 -- no package qualifies u.
 abbrev pub IsQualifierFound : Package → ℕ → Option ℕ → Type 0
 IsQualifierFound p u found =
-    MatchOption found ((path : List ℕ) → IsQualifiedByPath p u path → ⊥) (λ d. (path : List ℕ) → IsQualifiedByPath p u path ↔ ImportsPath p d path)
+    MatchOption found ((path : List ℕ) → IsQualifiedByPath p u path → ⊥) (λ d. (path : List ℕ) → IsQualifiedByPath p u path ↔ DeclaresImport p d path)
 
 -- an identifier below n is at the position and is qualified by the package of this path
 pub record IsQualifiedAt (p : Package) (n : ℕ) (path : List ℕ) (at : Position) : Type 0 where
@@ -51,7 +51,7 @@ AreQualified p all = AreQualifiedBelow p p.size all
 -- each declaration below n that imports a path, and no other, has a list, with this path
 pub record AreListsBelow (p : Package) (n : ℕ) (lists : Lists) : Type 0 where
   pub within : AreWithin lists
-  pub paths : (d : ℕ) (path : List ℕ) → d < n → (path_for lists d ≡ Some path) ↔ ImportsPath p d path
+  pub paths : (d : ℕ) (path : List ℕ) → d < n → (path_for lists d ≡ Some path) ↔ DeclaresImport p d path
 
 -- the position of u was listed, if u is a qualified identifier, and nothing else was
 pub record ListsIdentifier (p : Package) (u : ℕ) (old new : Lists) : Type 0 where

@@ -6,7 +6,7 @@ use Rattle.types_expr.specs.Types.{Meaning, PlainType}
 use Rattle.types_expr.specs.World.{World, Locals}
 use Rattle.types_expr.specs.Judge.{Judged, JudgedList, TypeJudged, MemberUse, ListValue}
 use Rattle.types_expr.specs.Found.{use_of, AddsJudged, AddsJudgedList, AddsType}
-use Rattle.types_stmt.specs.Checked.{Checked, with_judged, with_found, with_declared}
+use Rattle.types_stmt.specs.Checked.{FoundSoFar, with_judged, with_found, with_declared}
 use Rattle.types_stmt.specs.Sides.{Target, Wants, Lefts, given_faults}
 use Rattle.types_stmt.specs.Simple.{with_given, name_targets, written_targets}
 use Rattle.types_stmt.specs.Statements.{returned, returning}
@@ -14,7 +14,7 @@ use Rattle.types_stmt.specs.Headers.{ResultsJudged}
 use Rattle.types_stmt.specs.View.{checked_with, AddsLefts, AddsResults, AddsFaultsAt}
 
 pub checked_path : {ls ks : Locals} {fs gs : List ℕ} {us vs : List MemberUse} → ls ≡ ks → fs ≡ gs → us ≡ vs →
-    let a : Checked = record { locals = ls; faults = fs; uses = us } in let b : Checked = record { locals = ks; faults = gs; uses = vs } in a ≡ b
+    let a : FoundSoFar = record { locals = ls; faults = fs; uses = us } in let b : FoundSoFar = record { locals = ks; faults = gs; uses = vs } in a ≡ b
 checked_path {ls} {ks} {fs} {gs} {us} {vs} e f g =
     ap (λ x. record { locals = x; faults = fs; uses = us }) e ∙
     (ap (λ x. record { locals = ks; faults = x; uses = us }) f ∙ ap (λ x. record { locals = ks; faults = gs; uses = x }) g)

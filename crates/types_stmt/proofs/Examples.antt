@@ -15,7 +15,7 @@ use Rattle.types_expr.specs.Operations.{fits, operate, joined, class_of}
 use Rattle.types_expr.specs.Places.{first_token, place_of, place_of_links}
 use Rattle.types_expr.specs.Judge.{judge, as_value, value_kind, select, select_member, all_whole, misfit, misfits, unless_faults, call_function, convert}
 use Rattle.types_expr.specs.Judge.{call_builtin, call_of, all_printed, judge_type, named_type, imported_type}
-use Rattle.types_stmt.specs.Checked.{Checked}
+use Rattle.types_stmt.specs.Checked.{FoundSoFar}
 use Rattle.types_stmt.specs.Sides.{Wants, rhs, values_of, judge_each, given_faults, refused_at, nil_refused, all_refused, assignable, own_type, assigned}
 use Rattle.types_stmt.specs.Sides.{assigned_one, defined, defined_one, no_name, default_type, inferred_type, inferred, with_locals, defined_name, named, ident_place}
 use Rattle.types_stmt.specs.Sides.{first_of_exprs, first_of_idents}
@@ -63,14 +63,14 @@ field p t = if p == 33 then Some (AField structure int) else (if p == 35 then So
 abbrev w : World
 w = record { bound = names; member = field; definition = λ s. if s.rank == 1 then PointerTo int else Struct s }
 
-abbrev start : Checked
+abbrev start : FoundSoFar
 start = record { locals = no_locals; faults = []; uses = [] }
 
 -- the types of x at 70 and of y at 72, and the faults
-abbrev found : Checked → Option PlainType × List ℕ
+abbrev found : FoundSoFar → Option PlainType × List ℕ
 found s = (s.locals 70, s.faults)
 
-abbrev found_both : Checked → Option PlainType × Option PlainType × List ℕ
+abbrev found_both : FoundSoFar → Option PlainType × Option PlainType × List ℕ
 found_both s = (s.locals 70, s.locals 72, s.faults)
 
 abbrev item : ExprTree → Item ExprTree

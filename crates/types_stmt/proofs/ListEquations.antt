@@ -12,7 +12,7 @@ use Rattle.types_expr.specs.Places.{place_of}
 use Rattle.types_expr.specs.Types.{PlainType}
 use Rattle.types_expr.specs.World.{World, Locals}
 use Rattle.types_expr.specs.Judge.{judge_type, judge_value, judge_arguments, value_before, ListValue}
-use Rattle.types_stmt.specs.Checked.{Checked, check_items}
+use Rattle.types_stmt.specs.Checked.{FoundSoFar, check_items}
 use Rattle.types_stmt.specs.Headers.{judge_types, with_result}
 use Rattle.types_stmt.specs.Declarations.{field_faults, check_decl, check_decls}
 use Rattle.types_stmt.specs.Sides.{judge_each, assigned, assigned_one, defined, defined_one, join_lefts, Target, refused_at, all_refused, with_locals}
@@ -74,21 +74,21 @@ pub judge_types_end : (w : World) → judge_types w (list_view type_view []) ≡
 unfolding judge_types
 judge_types_end w = refl
 
-pub items_step : {X Y : Type 0} (check : Checked → Y → Checked) (view : X → Y) (s : Checked) (x : Item X) (xs : List (Item X)) →
+pub items_step : {X Y : Type 0} (check : FoundSoFar → Y → FoundSoFar) (view : X → Y) (s : FoundSoFar) (x : Item X) (xs : List (Item X)) →
     check_items check s (list_view view (x ∷ xs)) ≡ check_items check (check s (view x.value)) (list_view view xs)
 unfolding check_items
 items_step check view s x xs = refl
 
-pub items_end : {X Y : Type 0} (check : Checked → Y → Checked) (view : X → Y) (s : Checked) → check_items check s (list_view view []) ≡ s
+pub items_end : {X Y : Type 0} (check : FoundSoFar → Y → FoundSoFar) (view : X → Y) (s : FoundSoFar) → check_items check s (list_view view []) ≡ s
 unfolding check_items
 items_end check view s = refl
 
-pub decls_step : (w : World) (is_init : ℕ → Bool) (s : Checked) (x : Decl) (xs : List Decl) →
+pub decls_step : (w : World) (is_init : ℕ → Bool) (s : FoundSoFar) (x : Decl) (xs : List Decl) →
     check_decls w is_init s (map decl_view (x ∷ xs)) ≡ check_decls w is_init (check_decl w is_init s (decl_view x)) (map decl_view xs)
 unfolding check_decls
 decls_step w is_init s x xs = refl
 
-pub decls_end : (w : World) (is_init : ℕ → Bool) (s : Checked) → check_decls w is_init s (map decl_view []) ≡ s
+pub decls_end : (w : World) (is_init : ℕ → Bool) (s : FoundSoFar) → check_decls w is_init s (map decl_view []) ≡ s
 unfolding check_decls
 decls_end w is_init s = refl
 

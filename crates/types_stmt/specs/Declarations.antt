@@ -6,7 +6,7 @@ use Rattle.types_expr.specs.declared.types.Basic.TheVariants as basic
 use Rattle.types_expr.specs.Types.{PlainType, Untyped}
 use Rattle.types_expr.specs.World.{World, no_locals}
 use Rattle.types_expr.specs.Judge.{ListValue, judge_type}
-use Rattle.types_stmt.specs.Checked.{Checked, with_found, check_group}
+use Rattle.types_stmt.specs.Checked.{FoundSoFar, with_found, check_group}
 use Rattle.types_stmt.specs.Sides.{Wants, all_refused}
 use Rattle.types_stmt.specs.Headers.{check_function}
 
@@ -51,23 +51,23 @@ body_faults w (Struct p o fs c) = field_faults w fs
 
 -- Declarations and files
 
-abbrev pub check_global : World → Checked → GlobalTree → Checked
+abbrev pub check_global : World → FoundSoFar → GlobalTree → FoundSoFar
 check_global w s g = with_found s (global_faults w g) []
 
-abbrev pub check_type : World → Checked → TypeSpecTree → Checked
+abbrev pub check_type : World → FoundSoFar → TypeSpecTree → FoundSoFar
 check_type w s t = with_found s (body_faults w t.body) []
 
 -- the check of a declaration; is_init: whether the name at a token is `init`
-unfoldable pub check_decl : World → (is_init : ℕ → Bool) → Checked → DeclTree → Checked
+unfoldable pub check_decl : World → (is_init : ℕ → Bool) → FoundSoFar → DeclTree → FoundSoFar
 check_decl w is_init s (VarDecl p g c) = check_group (check_global w) s g
 check_decl w is_init s (TypeDecl p g c) = check_group (check_type w) s g
 check_decl w is_init s (FuncDecl p f c) = check_function w (is_init f.name) s f
 
 -- the check of declarations in turn
-unfoldable pub check_decls : World → (is_init : ℕ → Bool) → Checked → List DeclTree → Checked
+unfoldable pub check_decls : World → (is_init : ℕ → Bool) → FoundSoFar → List DeclTree → FoundSoFar
 check_decls w is_init s [] = s
 check_decls w is_init s (d ∷ ds) = check_decls w is_init (check_decl w is_init s d) ds
 
 -- the check of a file: the types of its locals, its type faults and its member uses
-unfoldable pub check_file : World → (is_init : ℕ → Bool) → FileTree → Checked
+unfoldable pub check_file : World → (is_init : ℕ → Bool) → FileTree → FoundSoFar
 check_file w is_init f = check_decls w is_init (record { locals = no_locals; faults = []; uses = [] }) f.decls

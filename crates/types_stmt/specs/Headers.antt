@@ -4,7 +4,7 @@ use Rattle.go_ast.specs.Tree.{Item, TypeTree, ReceiverTree, ParamTree, ResultTre
 use Rattle.types_expr.specs.Types.{PlainType, Defined, Pointer, points}
 use Rattle.types_expr.specs.World.{World}
 use Rattle.types_expr.specs.Judge.{TypeJudged, good_type, no_type_at, named_type, judge_type, under}
-use Rattle.types_stmt.specs.Checked.{Checked, with_declared, with_found, fault_if, check_items}
+use Rattle.types_stmt.specs.Checked.{FoundSoFar, with_declared, with_found, fault_if, check_items}
 use Rattle.types_stmt.specs.Sides.{Target, Wants, with_locals, named}
 use Rattle.types_stmt.specs.Simple.{written_locals}
 use Rattle.types_stmt.specs.Statements.{check_block}
@@ -40,19 +40,19 @@ unfoldable pub judge_receiver : World → ReceiverTree → TypeJudged
 judge_receiver w r = starred r.star (receiver_base w r.type_name)
 
 -- the check of a receiver: it declares its name
-unfoldable pub check_receiver : World → Checked → ReceiverTree → Checked
+unfoldable pub check_receiver : World → FoundSoFar → ReceiverTree → FoundSoFar
 check_receiver w s r =
     with_declared s (with_locals s.locals (named r.name ∷ []) ((judge_receiver w r).type_of ∷ [])) (judge_receiver w r).faults []
 
 -- the check of the receiver, if there is one
-abbrev pub check_optional_receiver : World → Checked → Option ReceiverTree → Checked
+abbrev pub check_optional_receiver : World → FoundSoFar → Option ReceiverTree → FoundSoFar
 check_optional_receiver w s None = s
 check_optional_receiver w s (Some r) = check_receiver w s r
 
 -- Parameters
 
 -- the check of parameters of one type: they declare their names
-unfoldable pub check_param : World → Checked → ParamTree → Checked
+unfoldable pub check_param : World → FoundSoFar → ParamTree → FoundSoFar
 check_param w s p = with_declared s (written_locals s.locals p.names (judge_type w p.type_use).type_of) (judge_type w p.type_use).faults []
 
 -- Results
@@ -90,11 +90,11 @@ unfoldable pub is_bad_init : Bool → FuncTree → List Target → Bool
 is_bad_init is_init f wanted = is_init && (is_none f.receiver && (if is_empty_list f.params then (if is_empty_list wanted then false else true) else true))
 
 -- the check of a function's header: what it declares, and its faults
-unfoldable pub check_signature : World → Bool → Checked → FuncTree → Checked
+unfoldable pub check_signature : World → Bool → FoundSoFar → FuncTree → FoundSoFar
 check_signature w is_init s f =
     with_found (check_items (check_param w) (check_optional_receiver w s f.receiver) f.params)
     ((judge_results w f.result).faults ++ fault_if (is_bad_init is_init f (judge_results w f.result).wanted) f.name) []
 
 -- the check of a function: its header, then its body
-unfoldable pub check_function : World → Bool → Checked → FuncTree → Checked
+unfoldable pub check_function : World → Bool → FoundSoFar → FuncTree → FoundSoFar
 check_function w is_init s f = check_block w (judge_results w f.result).wanted (check_signature w is_init s f) f.body

@@ -3,7 +3,7 @@
 use Rattle.std.specs.Prelude.{ℕ, ◌==◌, Bool, true, false, ◌&&◌, if◌then◌else◌, List, [], ◌∷◌, ◌++◌, Option, Some, None, length, map}
 use Rattle.std.specs.List.{list_all}
 use Rattle.go_ast.specs.Tree.{Item, IdentTree, Named, Underscore, ExprTree, Name, Blank}
-use Rattle.types_expr.specs.Types.{PlainType, BasicType, Kind, Typed, Untyped, Nil, Meaning, Value, Results, Broken}
+use Rattle.types_expr.specs.Types.{PlainType, BasicType, ValueKind, Typed, Untyped, Nil, Meaning, Value, Results, Broken}
 use Rattle.types_expr.specs.World.{World, Bound, Local, Locals, declared}
 use Rattle.types_expr.specs.Places.{place_of, first_token}
 use Rattle.types_expr.specs.Judge.{Judged, MemberUse, ListValue, JudgedList, judge, judge_value, as_value, value_kind, value_before, misfit, means, wrong}
@@ -60,12 +60,12 @@ abbrev pub all_unbroken : List Target → Bool
 all_unbroken ts = list_all is_unbroken ts
 
 -- a fault where nil is given to a new name or `_`: nil has no type that they could take (`x := nil`)
-unfoldable pub nil_refused : ℕ → Option Kind → List ℕ
+unfoldable pub nil_refused : ℕ → Option ValueKind → List ℕ
 nil_refused place (Some Nil) = place ∷ []
 nil_refused place k = []
 
 -- a fault at `place`, where the value stands, if its target refuses it
-unfoldable pub refused_at : World → ℕ → Option Kind → Target → List ℕ
+unfoldable pub refused_at : World → ℕ → Option ValueKind → Target → List ℕ
 refused_at w place k (Wants None) = []
 refused_at w place k (Wants (Some t)) = misfit w place k t
 refused_at w place k Takes = nil_refused place k
@@ -155,13 +155,13 @@ defined w ls (i ∷ is) = join_lefts (defined_one w ls i.value) (defined w ls is
 -- name that is assigned. A type is none where it is broken.
 
 -- the default type of a value's kind (Go specification, "Constants"); nil has none
-unfoldable pub default_type : Kind → Option PlainType
+unfoldable pub default_type : ValueKind → Option PlainType
 default_type (Typed t) = Some t
 default_type (Untyped b) = Some (BasicType b)
 default_type Nil = None
 
 -- the type that a local takes from a value, none where the value is broken
-unfoldable pub inferred_type : Option Kind → Option PlainType
+unfoldable pub inferred_type : Option ValueKind → Option PlainType
 inferred_type None = None
 inferred_type (Some k) = default_type k
 

@@ -6,37 +6,37 @@ use Rattle.go_ast.specs.declared.syntax.UpdateOp.{UpdateOp}
 use Rattle.go_ast.specs.declared.syntax.UpdateOp.TheVariants as update
 use Rattle.go_ast.specs.Tree.{Item, IdentTree, TypeTree, ExprTree, Chain, LinkTrees, no_link, selector, index, call, SimpleTree, Alone, Step, Update}
 use Rattle.go_ast.specs.Tree.{Assign, Define, LocalTree}
-use Rattle.types_expr.specs.Types.{PlainType, Kind, Meaning, Function, BuiltinName, Broken}
+use Rattle.types_expr.specs.Types.{PlainType, ValueKind, Meaning, Function, BuiltinName, Broken}
 use Rattle.types_expr.specs.World.{World, Locals}
 use Rattle.types_expr.specs.Operations.{operate, class_of, is_int, is_bool}
 use Rattle.types_expr.specs.Places.{place_of, first_token}
 use Rattle.types_expr.specs.declared.types.Builtin.{Builtin}
 use Rattle.types_expr.specs.declared.types.Builtin.TheVariants as builtin
 use Rattle.types_expr.specs.Judge.{JudgedList, TypeJudged, judge, judge_value, judge_type, value_kind}
-use Rattle.types_stmt.specs.Checked.{Checked, with_declared, with_found, with_judged}
+use Rattle.types_stmt.specs.Checked.{FoundSoFar, with_declared, with_found, with_judged}
 use Rattle.types_stmt.specs.Sides.{rhs, Target, Takes, Wants, given_faults, Lefts, judge_operand, assigned, defined, with_inferred, with_locals, defined_names}
 use Rattle.types_stmt.specs.Sides.{all_named, first_of_exprs, first_of_idents}
 
 -- Conditions: a value whose underlying type is bool
 
 -- the fault of a condition of kind k at `place`; none for a broken one
-unfoldable pub condition_faults : World → ℕ → Option Kind → List ℕ
+unfoldable pub condition_faults : World → ℕ → Option ValueKind → List ℕ
 condition_faults w place None = []
 condition_faults w place (Some k) = if is_bool (class_of w k) then [] else place ∷ []
 
 -- the check of the condition of an `if` or `for`
-unfoldable pub check_condition : World → Checked → ExprTree → Checked
+unfoldable pub check_condition : World → FoundSoFar → ExprTree → FoundSoFar
 check_condition w s e = with_judged s (judge_value w s.locals e) (condition_faults w (place_of e) (value_kind (judge_value w s.locals e).meaning))
 
 -- `++` and `--`: an assignable operand whose underlying type is int
 
 -- the fault of an operand of kind k at `place`; none for a broken one
-unfoldable pub step_faults : World → ℕ → Option Kind → List ℕ
+unfoldable pub step_faults : World → ℕ → Option ValueKind → List ℕ
 step_faults w place None = []
 step_faults w place (Some k) = if is_int (class_of w k) then [] else place ∷ []
 
 -- the check of `++` and `--`
-unfoldable pub check_step : World → Checked → ExprTree → Checked
+unfoldable pub check_step : World → FoundSoFar → ExprTree → FoundSoFar
 check_step w s e = with_judged s (judge_operand w s.locals e) (step_faults w (place_of e) (value_kind (judge_operand w s.locals e).meaning))
 
 -- `x op= y`: the binary operation `x op y`, the result of which has to fit x
@@ -50,17 +50,17 @@ binary_of update.Divide = binary.Divide
 binary_of update.Remainder = binary.Remainder
 
 -- a fault at `place`, where there is no kind
-abbrev pub fault_if_none : Option Kind → ℕ → List ℕ
+abbrev pub fault_if_none : Option ValueKind → ℕ → List ℕ
 fault_if_none None place = place ∷ []
 fault_if_none (Some k) place = []
 
 -- The fault of `x op= y` at `start`, the first token of x. Where the operation has a result, that has the type of x, and so fits x.
-unfoldable pub update_faults : World → ℕ → BinaryOp → Option Kind → Option Kind → List ℕ
+unfoldable pub update_faults : World → ℕ → BinaryOp → Option ValueKind → Option ValueKind → List ℕ
 update_faults w start o (Some a) (Some b) = fault_if_none (operate w o a b) start
 update_faults w start o a b = []
 
 -- the check of `x op= y`
-unfoldable pub check_update : World → Checked → BinaryOp → ExprTree → ExprTree → Checked
+unfoldable pub check_update : World → FoundSoFar → BinaryOp → ExprTree → ExprTree → FoundSoFar
 check_update w s o x y =
     with_found s ((judge_operand w s.locals x).faults ++ ((judge_value w s.locals y).faults
     ++ update_faults w (first_token x) o (value_kind (judge_operand w s.locals x).meaning) (value_kind (judge_value w s.locals y).meaning)))
@@ -118,26 +118,26 @@ statement_faults place false Broken = []
 statement_faults place false m = place ∷ []
 
 -- the check of an expression statement
-unfoldable pub check_expr_statement : World → Checked → ExprTree → Checked
+unfoldable pub check_expr_statement : World → FoundSoFar → ExprTree → FoundSoFar
 check_expr_statement w s e = with_judged s (judge w s.locals e) (statement_faults (place_of e) (is_statement w s.locals e) (judge w s.locals e).meaning)
 
 -- Assignments and definitions
 
 -- left sides l given the values r of right sides, where the statement changes the locals to `locals`; a wrong count is a fault at `place`
-abbrev pub with_given : World → Checked → ℕ → Locals → Lefts → JudgedList → Checked
+abbrev pub with_given : World → FoundSoFar → ℕ → Locals → Lefts → JudgedList → FoundSoFar
 with_given w s place locals l r = with_declared s locals (l.faults ++ (r.faults ++ given_faults w place r.values l.targets)) (l.uses ++ r.uses)
 
 -- the check of `xs = ys`
-unfoldable pub check_assign : World → Checked → List (Item ExprTree) → List (Item ExprTree) → Checked
+unfoldable pub check_assign : World → FoundSoFar → List (Item ExprTree) → List (Item ExprTree) → FoundSoFar
 check_assign w s xs ys = with_given w s (first_of_exprs xs) s.locals (assigned w s.locals xs) (rhs w s.locals ys)
 
 -- the check of `xs := ys`
-unfoldable pub check_define : World → Checked → List (Item ExprTree) → List (Item ExprTree) → Checked
+unfoldable pub check_define : World → FoundSoFar → List (Item ExprTree) → List (Item ExprTree) → FoundSoFar
 check_define w s xs ys =
     with_given w s (first_of_exprs xs) (with_inferred s.locals (defined_names w xs) (rhs w s.locals ys).values) (defined w s.locals xs) (rhs w s.locals ys)
 
 -- the check of a simple statement
-unfoldable pub check_simple : World → Checked → SimpleTree → Checked
+unfoldable pub check_simple : World → FoundSoFar → SimpleTree → FoundSoFar
 check_simple w s (Alone e) = check_expr_statement w s e
 check_simple w s (Step e op p) = check_step w s e
 check_simple w s (Update x o p y) = check_update w s (binary_of o) x y
@@ -145,12 +145,12 @@ check_simple w s (Assign xs p ys) = check_assign w s xs ys
 check_simple w s (Define xs p ys) = check_define w s xs ys
 
 -- the check of a simple statement, if there is one
-abbrev pub check_optional_simple : World → Checked → Option SimpleTree → Checked
+abbrev pub check_optional_simple : World → FoundSoFar → Option SimpleTree → FoundSoFar
 check_optional_simple w s None = s
 check_optional_simple w s (Some a) = check_simple w s a
 
 -- the check of a condition, if there is one
-abbrev pub check_optional_condition : World → Checked → Option ExprTree → Checked
+abbrev pub check_optional_condition : World → FoundSoFar → Option ExprTree → FoundSoFar
 check_optional_condition w s None = s
 check_optional_condition w s (Some e) = check_condition w s e
 
@@ -169,22 +169,22 @@ abbrev pub written_locals : Locals → List (Item IdentTree) → Option PlainTyp
 written_locals ls names t = with_locals ls (all_named names) (map (λ i. t) names)
 
 -- the check of a local declaration with a written type, with or without values
-unfoldable pub check_typed_local : World → Checked → List (Item IdentTree) → TypeJudged → Option (ℕ × List (Item ExprTree)) → Checked
+unfoldable pub check_typed_local : World → FoundSoFar → List (Item IdentTree) → TypeJudged → Option (ℕ × List (Item ExprTree)) → FoundSoFar
 check_typed_local w s names t None = with_declared s (written_locals s.locals names t.type_of) t.faults []
 check_typed_local w s names t (Some v) = with_given w s (first_of_idents names) (written_locals s.locals names t.type_of) (written_targets names t)
     (rhs w s.locals v.1)
 
 -- The check of a local declaration without a written type. It has values: the grammar has no declaration without both.
-unfoldable pub check_untyped_local : World → Checked → List (Item IdentTree) → Option (ℕ × List (Item ExprTree)) → Checked
+unfoldable pub check_untyped_local : World → FoundSoFar → List (Item IdentTree) → Option (ℕ × List (Item ExprTree)) → FoundSoFar
 check_untyped_local w s names None = with_declared s (with_locals s.locals (all_named names) []) [] []
 check_untyped_local w s names (Some v) =
     with_given w s (first_of_idents names) (with_inferred s.locals (all_named names) (rhs w s.locals v.1).values) (name_targets names Takes) (rhs w s.locals v.1)
 
 -- the check of a local declaration, with or without a written type
-abbrev pub check_local_of : World → Checked → List (Item IdentTree) → Option TypeTree → Option (ℕ × List (Item ExprTree)) → Checked
+abbrev pub check_local_of : World → FoundSoFar → List (Item IdentTree) → Option TypeTree → Option (ℕ × List (Item ExprTree)) → FoundSoFar
 check_local_of w s names (Some t) values = check_typed_local w s names (judge_type w t) values
 check_local_of w s names None values = check_untyped_local w s names values
 
 -- the check of a declaration of locals
-unfoldable pub check_local : World → Checked → LocalTree → Checked
+unfoldable pub check_local : World → FoundSoFar → LocalTree → FoundSoFar
 check_local w s l = check_local_of w s l.names l.type_use l.values

@@ -15,11 +15,11 @@ use Rattle.types_stmt.specs.Sides as sides
 use Rattle.types_stmt.specs.Headers.{ResultsJudged}
 
 -- the plain value of some locals and of what was found
-abbrev pub checked_with : Locals → FoundInFile → pure.Checked
+abbrev pub checked_with : Locals → FoundInFile → pure.FoundSoFar
 checked_with ls f = record { locals = ls; faults = f.faults.items; uses = map use_of f.uses.items }
 
 -- the plain value of a `CheckedBody`
-abbrev pub checked_of : CheckedBody → pure.Checked
+abbrev pub checked_of : CheckedBody → pure.FoundSoFar
 checked_of s = checked_with (locals_of s.locals) s.found
 
 unfoldable pub target_of : Target → sides.Target

@@ -17,9 +17,9 @@ use Rattle.types_declared.proofs.ByteKeys.{cases_bytes}
 use Rattle.types_info.specs.declared.lists.Qualified.{Qualified}
 use Rattle.workspace_check.specs.declared.fault.FileFault.{FileFault}
 use Rattle.workspace_check.specs.declared.finding.Finding.{Finding}
-use Rattle.workspace_check.specs.declared.judging.Judged.{Judged}
+use Rattle.workspace_check.specs.declared.judging.JudgedPackage.{JudgedPackage}
 use Rattle.workspace_check.specs.Verdicts.{BuildsOn, Verdicts, IsFaultBy, HasExportData, IsVerdictBy}
-use Rattle.workspace_check.specs.FaultLists.{AreListed}
+use Rattle.workspace_check.specs.FaultLists.{AreListedFaults}
 use Rattle.workspace_check.specs.KnownFindings.{is_unknown, verdicts_by, AreNamedEntries, AreUsesOf, AreQualifiedOf, IsFinding}
 use Rattle.workspace_check.specs.Steps.{IsBuildOrder, IsJudged, AddsOptional, LearnsFinding}
 use Rattle.workspace_check.proofs.Alike.{KnowsAlike, alike_back, package_as, fault_as}
@@ -41,7 +41,7 @@ whole_by all more p (Some i) whole s q gone = elim (cases_bytes q p) [
 ]
 
 verdict_found : (w : Workspace) (known : Verdicts) (p : List ℕ) (faults : List FileFault) (o : Option FoundExportData) (all more : ExportTable) →
-    name_in all p ≡ None → AreListed (IsFaultBy w known p) faults →
+    name_in all p ≡ None → AreListedFaults (IsFaultBy w known p) faults →
     MatchOption o (faults ≡ [] → ⊥) (λ i. (faults ≡ []) × HasExportData w known p (export_data_of p i)) → AddsOptional all more p o →
     IsVerdictBy w known p (verdicts_by more p)
 verdict_found w known p faults None all more fresh listed some e =
@@ -60,13 +60,13 @@ verdict_found w known p faults (Some i) all more fresh listed found s =
       has_export_data = λ e. subst (HasExportData w known p) (sym s.has_export_data) found.1;
     }
 
-pub learns_by : (w : Workspace) (p : List ℕ) (all more : ExportTable) (j : Judged) (f : Finding) → name_in all p ≡ None → AreNamedEntries all →
+pub learns_by : (w : Workspace) (p : List ℕ) (all more : ExportTable) (j : JudgedPackage) (f : Finding) → name_in all p ≡ None → AreNamedEntries all →
     IsJudged w (verdicts_by all) p j → AddsOptional all more p j.export_data →
     f.path ≡ p → f.faults ≡ j.faults → f.members ≡ j.members → f.qualified ≡ j.qualified → LearnsFinding w p f all more
 learns_by w p all more j f fresh whole h may path faults members qualified = record {
   is_finding = record {
     has_path = path;
-    listed = subst (λ (v : Vec FileFault). AreListed (IsFaultBy w (verdicts_by all) p) v.items) (sym faults) h.listed;
+    listed = subst (λ (v : Vec FileFault). AreListedFaults (IsFaultBy w (verdicts_by all) p) v.items) (sym faults) h.listed;
     members = λ e.
         subst (λ (v : Vec (Vec MemberUse)). AreUsesOf w (verdicts_by all) p v.items) (sym members) (h.uses (sym (ap (λ (v : Vec FileFault). v.items) faults) ∙ e));
     qualified = λ e.

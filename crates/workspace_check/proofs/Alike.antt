@@ -10,7 +10,7 @@ use Rattle.types_resolve.specs.Stages.{IsOuterFault}
 use Rattle.types_declared.specs.Package.{Package, ExportData}
 use Rattle.workspace_check.specs.declared.fault.FileFault.{FileFault}
 use Rattle.workspace_check.specs.Verdicts.{BuildsOn, Verdict, Verdicts, IsStateOf, is_missing, is_on_cycle, is_faulty, is_good, AreStates, IsSeenAs, seen}
-use Rattle.workspace_check.specs.Verdicts.{unseen, IsPackageIn, IsInnerFault, IsReadFault, IsFaultBy, HasExportData, IsVerdictBy}
+use Rattle.workspace_check.specs.Verdicts.{unseen, IsPackageIn, IsFaultBehindOuter, IsReadFault, IsFaultBy, HasExportData, IsVerdictBy}
 use Rattle.workspace_check.specs.Laws.{IsSameVerdict}
 
 -- Both verdict tables agree on all packages that `p` builds on.
@@ -55,7 +55,7 @@ module _ (w : Workspace) (p : List ℕ) (a b : Verdicts) (same : KnowsAlike w p 
     is_package = h.is_package;
   }
 
-  inner_as : (f : Fault) → IsInnerFault w a p f → IsInnerFault w b p f
+  inner_as : (f : Fault) → IsFaultBehindOuter w a p f → IsFaultBehindOuter w b p f
   inner_as f h = record { checked = h.checked; is_package = package_as h.checked h.is_package; is_fault = h.is_fault }
 
   read_as : (f : FileFault) → IsReadFault w a p f → IsReadFault w b p f
@@ -67,7 +67,7 @@ module _ (w : Workspace) (p : List ℕ) (a b : Verdicts) (same : KnowsAlike w p 
         state = h.state;
         are_states = states_as h.state h.are_states;
         fault = h.fault;
-        is_fault = first_as P (IsInnerFault w a p) P (IsInnerFault w b p) (λ g x. x) (λ g x. x) inner_as h.fault h.is_fault;
+        is_fault = first_as P (IsFaultBehindOuter w a p) P (IsFaultBehindOuter w b p) (λ g x. x) (λ g x. x) inner_as h.fault h.is_fault;
         source = h.source;
         in_file = h.in_file;
         at = h.at;

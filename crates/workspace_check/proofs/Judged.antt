@@ -25,9 +25,9 @@ use Rattle.types_info.specs.declared.lists.Qualified.{Qualified}
 use Rattle.types_info.specs.QualifiedIdentifiers.{AreQualified}
 use Rattle.types_check.specs.Check.{IsFindingBy, IsLaterFault, IsFindingIn, outside, inside}
 use Rattle.workspace_check.specs.declared.fault.FileFault.{FileFault}
-use Rattle.workspace_check.specs.declared.judging.Judged.{Judged}
+use Rattle.workspace_check.specs.declared.judging.JudgedPackage.{JudgedPackage}
 use Rattle.workspace_check.specs.Faults.{placed_in, fault_cmp}
-use Rattle.workspace_check.specs.Verdicts.{Verdicts, AreStates, AreSeen, IsPackageIn, IsInnerFault, IsReadFault, IsFaultBy, HasExportData}
+use Rattle.workspace_check.specs.Verdicts.{Verdicts, AreStates, AreSeen, IsPackageIn, IsFaultBehindOuter, IsReadFault, IsFaultBy, HasExportData}
 use Rattle.workspace_check.specs.Steps.{IsPlacedFault, IsSomePlacedFault, IsJudged}
 use Rattle.workspace_check.proofs.FaultFiles.{in_outer, in_later, identifiers_stand, some_source}
 use Rattle.workspace_check.proofs.Importing.{outer_as}
@@ -86,7 +86,7 @@ module _ (w : Workspace) (known : Verdicts) (p : List ℕ) (own : Contains (pack
     at = r.at;
   }
 
-  read_by : (f : Fault) (y : FileFault) → IsPlacedFault files f y → FirstOf Outer (IsInnerFault w known p) f → IsReadFault w known p y
+  read_by : (f : Fault) (y : FileFault) → IsPlacedFault files f y → FirstOf Outer (IsFaultBehindOuter w known p) f → IsReadFault w known p y
   read_by f y a is = record {
     files = files;
     parsed = parsed;
@@ -102,7 +102,7 @@ module _ (w : Workspace) (known : Verdicts) (p : List ℕ) (own : Contains (pack
   -- which faults are listed
 
   listed_by : (P : Fault → Type 0) (faults : List Fault) (found : List FileFault) → HoldsExactly P faults →
-      ((y : FileFault) → Contains found y ↔ IsSomePlacedFault files faults y) → ((f : Fault) → P f → FirstOf Outer (IsInnerFault w known p) f) →
+      ((y : FileFault) → Contains found y ↔ IsSomePlacedFault files faults y) → ((f : Fault) → P f → FirstOf Outer (IsFaultBehindOuter w known p) f) →
       ((y : FileFault) (r : IsReadFault w known p y) → P r.fault) → (y : FileFault) → Contains found y ↔ IsFaultBy w known p y
   listed_by P faults found lists each there back y = (
     λ c. (let a = (each y).0 c in inr (read_by a.fault y a.is_placed (there a.fault (lists.only a.fault a.among)))),
@@ -120,7 +120,7 @@ module _ (w : Workspace) (known : Verdicts) (p : List ℕ) (own : Contains (pack
     | inr i ↦ (let x = some_in faults some in absurd (i.0 x.0 (outer_there y r x.0 (lists.only x.0 x.1))))
   ]
 
-  pub judged_outside : (c : Checked) (j : Judged) → (c.faults.items ≡ [] → ⊥) → HoldsExactly Outer c.faults.items → c.export_data ≡ None →
+  pub judged_outside : (c : Checked) (j : JudgedPackage) → (c.faults.items ≡ [] → ⊥) → HoldsExactly Outer c.faults.items → c.export_data ≡ None →
       j.export_data ≡ c.export_data → IsStrictlySortedBy fault_cmp j.faults.items →
       ((y : FileFault) → Contains j.faults.items y ↔ IsSomePlacedFault files c.faults.items y) → IsJudged w known p j
   judged_outside c j some lists gone same sorted each =
@@ -165,7 +165,7 @@ module _ (w : Workspace) (known : Verdicts) (p : List ℕ) (own : Contains (pack
         let path : c.path ≡ p = ap (λ (x : Package). x.path) h.is_package in
         (from m.0, record { checked = c; is_package = is_checked c h; is_export_data = subst (λ q. IsExportData c (export_data_of q i)) path m.1 })
 
-    pub judged_inside : (c : Package) (x : Checked) (j : Judged) → HasNoFault Outer → IsPackageOf p files name_of export_data_at c →
+    pub judged_inside : (c : Package) (x : Checked) (j : JudgedPackage) → HasNoFault Outer → IsPackageOf p files name_of export_data_at c →
         IsFindingBy (IsLaterFault c) c x → j.export_data ≡ x.export_data → j.members ≡ x.members → j.qualified ≡ x.qualified →
         IsStrictlySortedBy fault_cmp j.faults.items →
         ((y : FileFault) → Contains j.faults.items y ↔ IsSomePlacedFault files x.faults.items y) → IsJudged w known p j
@@ -195,7 +195,7 @@ module _ (w : Workspace) (known : Verdicts) (p : List ℕ) (own : Contains (pack
           };
         }
 
-    pub judged_by : (x : Checked) (j : Judged) → IsFindingIn p files state name_of export_data_at x → j.export_data ≡ x.export_data → j.members ≡ x.members →
+    pub judged_by : (x : Checked) (j : JudgedPackage) → IsFindingIn p files state name_of export_data_at x → j.export_data ≡ x.export_data → j.members ≡ x.members →
         j.qualified ≡ x.qualified → IsStrictlySortedBy fault_cmp j.faults.items →
         ((y : FileFault) → Contains j.faults.items y ↔ IsSomePlacedFault files x.faults.items y) → IsJudged w known p j
     judged_by x j (outside some lists gone) same_export_data same_members same_qualified sorted each =

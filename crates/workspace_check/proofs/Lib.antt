@@ -26,7 +26,7 @@ pub mod Stopping
 pub mod CycleNumbers
 pub mod Placed
 pub mod Unread
-pub mod Judged
+pub mod JudgedPackage
 pub mod Knowing
 pub mod Adding
 pub mod Telling

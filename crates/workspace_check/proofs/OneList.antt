@@ -8,13 +8,13 @@ use Rattle.base_files.specs.Packages.{package_paths}
 use Rattle.workspace_check.specs.declared.fault.FileFault.{FileFault}
 use Rattle.workspace_check.specs.Faults.{fault_cmp_total}
 use Rattle.workspace_check.specs.Verdicts.{Verdicts, IsFaultBy, HasExportData, AreVerdictsBelow, AreVerdicts}
-use Rattle.workspace_check.specs.FaultLists.{AreListed, IsFaultOfSome, ListsPackageFaults, ListsFaults}
+use Rattle.workspace_check.specs.FaultLists.{AreListedFaults, IsFaultOfSome, ListsPackageFaults, ListsFaults}
 use Rattle.workspace_check.proofs.Alike.{fault_as}
 use Rattle.workspace_check.proofs.Members.{one_sorted}
 use Rattle.workspace_check.proofs.OneVerdict.{right_alike, right_below, verdict_by}
 
-one_listed : (P Q : FileFault → Type 0) (a b : List FileFault) → ((f : FileFault) → P f → Q f) → ((f : FileFault) → Q f → P f) → AreListed P a →
-    AreListed Q b → a ≡ b
+one_listed : (P Q : FileFault → Type 0) (a b : List FileFault) → ((f : FileFault) → P f → Q f) → ((f : FileFault) → Q f → P f) → AreListedFaults P a →
+    AreListedFaults Q b → a ≡ b
 one_listed P Q a b there back h k =
     one_sorted fault_cmp_total a b h.in_order k.in_order (λ f c. (k.each f).1 (there f ((h.each f).0 c))) (λ f c. (h.each f).1 (back f ((k.each f).0 c)))
 

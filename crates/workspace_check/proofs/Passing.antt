@@ -12,7 +12,7 @@ use Rattle.workspace_graph.specs.Search.{IsMarked}
 use Rattle.workspace_graph.proofs.ByPath.{number}
 use Rattle.workspace_graph.proofs.PackagePaths.{paths_sorted, one_number}
 use Rattle.workspace_check.specs.declared.reuse.PassedPackages.{PassedPackages}
-use Rattle.workspace_check.specs.PassedMarks.{AffectsImporters, IsPassed, Passes, ArePassedBelow}
+use Rattle.workspace_check.specs.PassedMarks.{AffectsImporters, IsPassed, PassesPackage, ArePassedBelow}
 use Rattle.workspace_check.specs.Verdicts.{BuildsOn}
 use Rattle.workspace_check.proofs.Closed.{from_package}
 
@@ -41,7 +41,7 @@ passed_below w s numbers n p at stirs passed below m q at_m on =
     ]
 
 -- one package further
-pub passed_next : (w : Workspace) (xs ys : List ℕ) (n : ℕ) (old new : PassedPackages) → ((m : ℕ) → Contains ys m → Contains xs m ⊎ (n ≡ m)) → Passes w n old new →
+pub passed_next : (w : Workspace) (xs ys : List ℕ) (n : ℕ) (old new : PassedPackages) → ((m : ℕ) → Contains ys m → Contains xs m ⊎ (n ≡ m)) → PassesPackage w n old new →
     ArePassed xs old → ArePassed ys new
 passed_next w xs ys n old new more passes passed m has = elim (more m has) [
   | inl before ↦ passes.kept m (passed m before)
@@ -50,7 +50,7 @@ passed_next w xs ys n old new more passes passed m has = elim (more m has) [
 
 -- the marks of a package that is passed
 pub passes_same : (w : Workspace) (n : ℕ) (old new : PassedPackages) → n < length old.marks.items → new.marks.items ≡ set old.marks.items n true →
-    new.affected.items ≡ old.affected.items → Passes w n old new
+    new.affected.items ≡ old.affected.items → PassesPackage w n old new
 passes_same w n old new within marks affected =
     let here : IsMarked new.marks.items n = subst (λ (ms : List Bool). IsMarked ms n) (sym marks) (get_or-set_same old.marks.items n true false within) in
     record {
@@ -65,7 +65,7 @@ passes_same w n old new within marks affected =
     }
 
 pub passes_other : (w : Workspace) (n : ℕ) (old new : PassedPackages) → new.marks.items ≡ set old.marks.items n false → IsMarked new.affected.items n →
-    ((m : ℕ) → IsMarked old.affected.items m → IsMarked new.affected.items m) → Passes w n old new
+    ((m : ℕ) → IsMarked old.affected.items m → IsMarked new.affected.items m) → PassesPackage w n old new
 passes_other w n old new marks here kept = record {
   here = inr here;
   kept = λ m passed. elim (cases_eq m n) [

@@ -7,7 +7,7 @@ use Rattle.go_ast.specs.Tree.{one_result, results, FuncTree, ImportTree, Imports
 use Rattle.go_scope.specs.declared.model.Block.{Block}
 use Rattle.go_scope.specs.declared.model.Role.{Role}
 use Rattle.go_scope.specs.declared.model.Role.TheVariants.{Use, Declaring, NotLexical}
-use Rattle.go_scope.specs.Site.{Site, Source, site}
+use Rattle.go_scope.specs.Site.{Site, TokenSpellings, site}
 use Rattle.go_scope.specs.ExpressionSites.{sites_if, list_sites, type_sites}
 use Rattle.go_scope.specs.StatementSites.{ident_sites, open_of, block_sites}
 use Rattle.go_scope.specs.FileSites.{global_name, member_name, spec_sites, global_sites, field_sites, body_sites, type_spec_sites, receiver_sites}
@@ -17,7 +17,7 @@ use Rattle.go_scope.proofs.Regions.{Each, each_append}
 use Rattle.workspace_check.proofs.PlacedExpressions.{each_listed, each_flat, each_perhaps, in_type}
 use Rattle.workspace_check.proofs.PlacedStatements.{in_ident, in_block, in_group}
 
-module _ (s : Source) (P : Site → Type 0) (all : (i : ℕ) (role : Role) → P (site s i role)) where
+module _ (s : TokenSpellings) (P : Site → Type 0) (all : (i : ℕ) (role : Role) → P (site s i role)) where
   -- declarations
 
   in_spec : {X : Type 0} (f : X → List Site) → ((x : X) → Each P (f x)) → (g : Group X) → Each P (spec_sites f g)

@@ -6,7 +6,7 @@ use Rattle.go_ast.specs.Tree.{Item, TypeTree, Local, Imported, Pointer, Slice, E
 use Rattle.go_ast.specs.Tree.{Chain, Binary, OperandTrees, no_operand, operand, LinkTrees, no_link, selector, index, call, ArgumentTrees, no_argument}
 use Rattle.go_ast.specs.Tree.{argument, LiteralTree, literal, ElementTrees, no_element, element}
 use Rattle.go_scope.specs.declared.model.Role.{Role}
-use Rattle.go_scope.specs.Site.{Site, Source, site}
+use Rattle.go_scope.specs.Site.{Site, TokenSpellings, site}
 use Rattle.go_scope.specs.ExpressionSites.{sites_if, list_sites, type_sites, key_sites, expr_sites, operand_sites, link_sites, argument_sites}
 use Rattle.go_scope.specs.ExpressionSites.{literal_sites, element_sites, exprs_sites}
 use Rattle.go_scope.proofs.Regions.{Each, each_append}
@@ -23,7 +23,7 @@ pub each_perhaps : (P : Site → Type 0) {X : Type 0} (f : X → List Site) → 
 each_perhaps P f h None = tt
 each_perhaps P f h (Some x) = h x
 
-module _ (s : Source) (P : Site → Type 0) (all : (i : ℕ) (role : Role) → P (site s i role)) where
+module _ (s : TokenSpellings) (P : Site → Type 0) (all : (i : ℕ) (role : Role) → P (site s i role)) where
   -- types and expressions
 
   pub in_type : (t : TypeTree) → Each P (type_sites s t)

@@ -2,7 +2,7 @@
 -- package's files.
 use Rattle.std.proofs.Common.{ℕ, suc, ◌+◌, ◌<◌, ◌≤◌, List, [], ◌∷◌, length, arith}
 use Rattle.std.specs.Prelude.{map}
-use Rattle.go_scope.specs.Site.{Site, Source}
+use Rattle.go_scope.specs.Site.{Site, TokenSpellings}
 use Rattle.go_scope.specs.FileSites.{file_sites, universe, universe_site, SpelledFile, files_sites, package_sites}
 use Rattle.go_scope.proofs.Regions.{Each, each_append}
 use Rattle.workspace_check.proofs.PlacedDeclarations.{in_file}
@@ -16,7 +16,7 @@ in_files : (n rank : ℕ) (fs : List SpelledFile) → rank + length fs ≤ n →
 unfolding files_sites
 in_files n rank [] le = tt
 in_files n rank (f ∷ fs) le =
-    let s : Source = record { rank = rank; spell = f.spell } in
+    let s : TokenSpellings = record { rank = rank; spell = f.spell } in
     each_append (StandsBelow n) (file_sites s f.tree) (files_sites (suc rank) fs)
     (in_file s (StandsBelow n) (λ i role. (let lt : rank < n = omega arith in lt)) f.tree)
     (in_files n (suc rank) fs (omega arith))

@@ -9,14 +9,14 @@ use Rattle.go_scope.specs.declared.model.Block.{Block}
 use Rattle.go_scope.specs.declared.model.Block.TheVariants as blocks
 use Rattle.go_scope.specs.declared.model.Role.{Role}
 use Rattle.go_scope.specs.declared.model.Role.TheVariants.{Declaring}
-use Rattle.go_scope.specs.Site.{Site, Source, site}
+use Rattle.go_scope.specs.Site.{Site, TokenSpellings, site}
 use Rattle.go_scope.specs.ExpressionSites.{sites_if, list_sites, type_sites, expr_sites, exprs_sites}
 use Rattle.go_scope.specs.StatementSites.{ident_sites, left_sites, assigned_sites, simple_sites, value_sites, local_sites, separated_sites, group_sites}
 use Rattle.go_scope.specs.StatementSites.{init_sites, for_sites, open_of, statement_sites, block_sites, statements_sites, if_sites, else_sites}
 use Rattle.go_scope.proofs.Regions.{Each, each_append}
 use Rattle.workspace_check.proofs.PlacedExpressions.{each_listed, each_flat, each_perhaps, in_type, in_expr, in_exprs}
 
-module _ (s : Source) (P : Site → Type 0) (all : (i : ℕ) (role : Role) → P (site s i role)) where
+module _ (s : TokenSpellings) (P : Site → Type 0) (all : (i : ℕ) (role : Role) → P (site s i role)) where
   -- statements
 
   pub in_ident : (role : Role) (x : IdentTree) → Each P (ident_sites s role x)

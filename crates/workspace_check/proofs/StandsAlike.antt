@@ -13,9 +13,9 @@ use Rattle.types_resolve.specs.Stages.{IsOuterFault}
 use Rattle.types_declared.specs.Package.{Package, ExportData}
 use Rattle.workspace_check.specs.declared.fault.FileFault.{FileFault}
 use Rattle.workspace_check.specs.Verdicts.{BuildsOn, Verdict, Verdicts, IsStateOf, is_missing, is_on_cycle, is_faulty, is_good, AreStates, IsSeenAs, seen}
-use Rattle.workspace_check.specs.Verdicts.{unseen, IsPackageIn, IsUnreadFault, IsInnerFault, IsReadFault, IsFaultBy, HasExportData, IsVerdictBy}
+use Rattle.workspace_check.specs.Verdicts.{unseen, IsPackageIn, IsUnreadFault, IsFaultBehindOuter, IsReadFault, IsFaultBy, HasExportData, IsVerdictBy}
 use Rattle.workspace_check.specs.declared.finding.Finding.{Finding}
-use Rattle.workspace_check.specs.FaultLists.{AreListed}
+use Rattle.workspace_check.specs.FaultLists.{AreListedFaults}
 use Rattle.workspace_check.specs.KnownFindings.{IsFinding}
 use Rattle.workspace_check.proofs.Alike.{first_as}
 
@@ -64,7 +64,7 @@ module _ (w x : Workspace) (p : List ℕ) (stands : StandsAlike w x p) (known : 
     at = h.at;
   }
 
-  inner_there : (f : Fault) → IsInnerFault w known p f → IsInnerFault x known p f
+  inner_there : (f : Fault) → IsFaultBehindOuter w known p f → IsFaultBehindOuter x known p f
   inner_there f h = record { checked = h.checked; is_package = package_there h.checked h.is_package; is_fault = h.is_fault }
 
   read_there : (f : FileFault) → IsReadFault w known p f → IsReadFault x known p f
@@ -76,7 +76,7 @@ module _ (w x : Workspace) (p : List ℕ) (stands : StandsAlike w x p) (known : 
         state = h.state;
         are_states = states_there h.state h.are_states;
         fault = h.fault;
-        is_fault = first_as P (IsInnerFault w known p) P (IsInnerFault x known p) (λ g r. r) (λ g r. r) inner_there h.fault h.is_fault;
+        is_fault = first_as P (IsFaultBehindOuter w known p) P (IsFaultBehindOuter x known p) (λ g r. r) (λ g r. r) inner_there h.fault h.is_fault;
         source = h.source;
         in_file = h.in_file;
         at = h.at;
@@ -98,7 +98,7 @@ module _ (w x : Workspace) (p : List ℕ) (there : StandsAlike w x p) (here : St
     has_export_data = λ e. export_data_there w x p there known v.export_data (h.has_export_data e);
   }
 
-  pub listed_there : (list : List FileFault) → AreListed (IsFaultBy w known p) list → AreListed (IsFaultBy x known p) list
+  pub listed_there : (list : List FileFault) → AreListedFaults (IsFaultBy w known p) list → AreListedFaults (IsFaultBy x known p) list
   listed_there list h = record {
     in_order = h.in_order;
     each = λ f. (λ has. fault_there w x p there known f ((h.each f).0 has), λ is. (h.each f).1 (fault_there x w p here known f is));

@@ -20,7 +20,7 @@ use Rattle.workspace_graph.specs.FaultyFiles.{FaultyParts}
 use Rattle.workspace_graph.specs.Parsed.{AreParsed, none, tree, fault}
 use Rattle.workspace_graph.proofs.OneFile.{same_cut, file_or_fault}
 use Rattle.workspace_check.specs.declared.fault.FileFault.{FileFault}
-use Rattle.workspace_check.specs.declared.judging.Judged.{Judged}
+use Rattle.workspace_check.specs.declared.judging.JudgedPackage.{JudgedPackage}
 use Rattle.workspace_check.specs.Faults.{placed, fault_cmp}
 use Rattle.types_declared.specs.ExportTablesView.{export_data_of}
 use Rattle.workspace_check.specs.Verdicts.{Verdicts, IsUnreadFault, HasExportData}
@@ -118,7 +118,7 @@ none_unread w p ts parsed f h = nothing_in (placed h.path h.fault) (among_listed
 
 -- what is found of such a package
 pub unread_judged : (w : Workspace) (known : Verdicts) (p : List ℕ) (ts : List FileParts) (fs : List FaultyParts) → AreParsed (package_files w p) ts fs →
-    (fs ≡ [] → ⊥) → (j : Judged) → IsStrictlySortedBy fault_cmp j.faults.items →
+    (fs ≡ [] → ⊥) → (j : JudgedPackage) → IsStrictlySortedBy fault_cmp j.faults.items →
     ((f : FileFault) → Contains j.faults.items f ↔ Contains (unread_faults fs) f) → j.export_data ≡ None → IsJudged w known p j
 unread_judged w known p ts fs parsed some j sorted same gone =
     let filled : j.faults.items ≡ [] → ⊥ = filled_by fs some (λ f c. (same f).1 c) in

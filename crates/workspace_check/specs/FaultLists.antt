@@ -8,7 +8,7 @@ use Rattle.workspace_check.specs.Faults.{fault_cmp}
 use Rattle.workspace_check.specs.Verdicts.{Verdicts, IsFaultBy, AreVerdicts, AreVerdictsBelow}
 
 -- The list holds just the faults of `P`, each once, sorted by package, path, offset and kind.
-pub record AreListed (P : FileFault → Type 0) (list : List FileFault) : Type 0 where
+pub record AreListedFaults (P : FileFault → Type 0) (list : List FileFault) : Type 0 where
   pub in_order : IsStrictlySortedBy fault_cmp list
   pub each : (f : FileFault) → Contains list f ↔ P f
 
@@ -22,10 +22,10 @@ pub record IsFaultOfSome (w : Workspace) (known : Verdicts) (f : FileFault) : Ty
 pub record ListsPackageFaults (w : Workspace) (p : List ℕ) (list : List FileFault) : Type 0 where
   pub known : Verdicts
   pub right : AreVerdictsBelow w p known
-  pub listed : AreListed (IsFaultBy w known p) list
+  pub listed : AreListedFaults (IsFaultBy w known p) list
 
 -- The list holds just the faults of all packages of the workspace, sorted by package, path, offset and kind.
 pub record ListsFaults (w : Workspace) (list : List FileFault) : Type 0 where
   pub known : Verdicts
   pub right : AreVerdicts w known
-  pub listed : AreListed (IsFaultOfSome w known) list
+  pub listed : AreListedFaults (IsFaultOfSome w known) list

@@ -11,7 +11,7 @@ use Rattle.types_info.specs.declared.lists.Qualified.{Qualified}
 use Rattle.types_info.specs.QualifiedIdentifiers.{AreQualified}
 use Rattle.types_declared.specs.declared.export_tables.ExportTable.{ExportTable}
 use Rattle.workspace_check.specs.Verdicts.{Verdict, Verdicts, IsPackageIn, IsFaultBy, IsVerdict, AreVerdictsBelow}
-use Rattle.workspace_check.specs.FaultLists.{AreListed}
+use Rattle.workspace_check.specs.FaultLists.{AreListedFaults}
 use Rattle.workspace_check.specs.declared.finding.Finding.{Finding}
 use Rattle.workspace_check.specs.declared.known.KnownVerdict.{KnownVerdict}
 
@@ -46,7 +46,7 @@ pub record AreQualifiedOf (w : Workspace) (known : Verdicts) (p : List ℕ) (qua
 -- `f` has the faults of `p`, and if there are none, its uses of members and its qualified identifiers.
 pub record IsFinding (w : Workspace) (known : Verdicts) (p : List ℕ) (f : Finding) : Type 0 where
   pub has_path : f.path ≡ p
-  pub listed : AreListed (IsFaultBy w known p) f.faults.items
+  pub listed : AreListedFaults (IsFaultBy w known p) f.faults.items
   pub members : f.faults.items ≡ [] → AreUsesOf w known p f.members.items
   pub qualified : f.faults.items ≡ [] → AreQualifiedOf w known p f.qualified.items
 

@@ -18,7 +18,7 @@ abbrev pub IsPassed : PassedPackages → ℕ → Type 0
 IsPassed s n = IsMarked s.marks.items n ⊎ IsMarked s.affected.items n
 
 -- The package `number` was passed, and those that were passed before still are.
-pub record Passes (w : Workspace) (number : ℕ) (old new : PassedPackages) : Type 0 where
+pub record PassesPackage (w : Workspace) (number : ℕ) (old new : PassedPackages) : Type 0 where
   pub here : IsPassed new number
   pub kept : (n : ℕ) → IsPassed old n → IsPassed new n
 

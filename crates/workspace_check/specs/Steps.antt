@@ -24,12 +24,12 @@ use Rattle.types_check.specs.declared.checking.Checked.{Checked}
 use Rattle.types_check.specs.Check.{IsFindingIn}
 use Rattle.workspace_check.specs.Faults.{placed, placed_in}
 use Rattle.workspace_check.specs.Verdicts.{Verdicts, BuildsOn, IsFaultBy, HasExportData, IsVerdictBy, IsVerdict, AreStates, AreSeen}
-use Rattle.workspace_check.specs.FaultLists.{AreListed}
+use Rattle.workspace_check.specs.FaultLists.{AreListedFaults}
 use Rattle.workspace_check.specs.KnownFindings.{verdicts_by, AreNamedEntries, AreUsesOf, AreQualifiedOf, IsFinding, IsFindingOf}
 use Rattle.workspace_check.specs.declared.fault.FileFault.{FileFault}
 use Rattle.workspace_check.specs.declared.finding.Finding.{Finding}
 use Rattle.workspace_check.specs.declared.found_package.FoundPackage.{FoundPackage}
-use Rattle.workspace_check.specs.declared.judging.Judged.{Judged}
+use Rattle.workspace_check.specs.declared.judging.JudgedPackage.{JudgedPackage}
 use Rattle.workspace_check.specs.declared.gathered.Gathered.{Gathered}
 use Rattle.workspace_check.specs.declared.gathered.Taken.{Taken}
 use Rattle.workspace_check.specs.declared.known.KnownVerdict.{KnownVerdict}
@@ -120,8 +120,8 @@ pub record IsStoppedResult (w : Workspace) (known : Verdicts) (p : List ℕ) (c 
   pub export_data : c.export_data ≡ None
 
 -- The faults of `p`, or else its export data, its uses of members and its qualified identifiers.
-pub record IsJudged (w : Workspace) (known : Verdicts) (p : List ℕ) (j : Judged) : Type 0 where
-  pub listed : AreListed (IsFaultBy w known p) j.faults.items
+pub record IsJudged (w : Workspace) (known : Verdicts) (p : List ℕ) (j : JudgedPackage) : Type 0 where
+  pub listed : AreListedFaults (IsFaultBy w known p) j.faults.items
   pub has_export_data : MatchOption j.export_data (j.faults.items ≡ [] → ⊥) (λ i. (j.faults.items ≡ []) × HasExportData w known p (export_data_of p i))
   pub uses : j.faults.items ≡ [] → AreUsesOf w known p j.members.items
   pub qualified : j.faults.items ≡ [] → AreQualifiedOf w known p j.qualified.items

@@ -73,7 +73,7 @@ pub record IsUnreadFault (w : Workspace) (p : List ℕ) (f : FileFault) : Type 0
   pub at : f ≡ placed path fault
 
 -- A fault of the later stages of checking `p`: of scopes, members or types.
-pub record IsInnerFault (w : Workspace) (known : Verdicts) (p : List ℕ) (fault : Fault) : Type 0 where
+pub record IsFaultBehindOuter (w : Workspace) (known : Verdicts) (p : List ℕ) (fault : Fault) : Type 0 where
   pub checked : Package
   pub is_package : IsPackageIn w known p checked
   pub is_fault : IsLaterFault checked fault
@@ -85,7 +85,7 @@ pub record IsReadFault (w : Workspace) (known : Verdicts) (p : List ℕ) (f : Fi
   pub state : List ℕ → ImportState
   pub are_states : AreStates w known p state
   pub fault : Fault
-  pub is_fault : FirstOf (IsOuterFault state (map source_of files)) (IsInnerFault w known p) fault
+  pub is_fault : FirstOf (IsOuterFault state (map source_of files)) (IsFaultBehindOuter w known p) fault
   pub source : SourceFile
   pub in_file : slice_get (map source_of files) fault.file ≡ Some source
   pub at : f ≡ placed_in source fault

@@ -15,7 +15,7 @@ use crate::cycles::cycles;
 use crate::earlier::Earlier;
 use crate::finding::{Finding, SharedFinding};
 use crate::gathered::{Gathered, all_known_verdicts, gather};
-use crate::judging::{Judged, judge};
+use crate::judging::{JudgedPackage, judge};
 use crate::known::Known;
 use crate::order::order;
 use crate::reuse::{PassedPackages, keeps_export_data, reusable_verdict};
@@ -57,12 +57,12 @@ fn add(
 pub(crate) fn enter_judged(
     alloc: Global,
     path: SharedPath,
-    judged: Judged,
+    judged: JudgedPackage,
     all: &mut ExportTable,
 ) -> Result<Finding, AllocError>
     ensures { IfOk result (λ finding. (w : Workspace) → (p : List ℕ) → path ≡ p → AreNamedEntries all.old → name_in all.old p ≡ None → IsJudged w (verdicts_by all.old) p judged → LearnsFinding w p finding all.old all.new) }
 {
-    let Judged {
+    let JudgedPackage {
         faults,
         export_data,
         members,

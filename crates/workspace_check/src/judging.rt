@@ -22,7 +22,7 @@ use workspace_graph::{Graph, ParsedPackage};
 
 /// The sorted faults of a package, or else its export data, its uses of members (a list for each file), and its qualified identifiers.
 #[derive(Drop)]
-pub(crate) struct Judged {
+pub(crate) struct JudgedPackage {
     pub(crate) faults: Vec<FileFault>,
     pub(crate) export_data: Option<ExportData>,
     pub(crate) members: Vec<Vec<MemberUse>>,
@@ -30,13 +30,13 @@ pub(crate) struct Judged {
 }
 
 /// Judges a package of which some file has no tree: finds just the faults of such files.
-fn judge_unread(alloc: Global, files: &ParsedPackage) -> Result<Judged, AllocError>
+fn judge_unread(alloc: Global, files: &ParsedPackage) -> Result<JudgedPackage, AllocError>
     requires { files.now.faulty.items ≡ [] → ⊥ }
     ensures { IfOk result (λ j. (w : Workspace) → (number : ℕ) → (known : Verdicts) → IsPackage w number files.now → OfPackage w number (λ p. IsJudged w known p j)) }
 {
     let mut faults = unread_faults(alloc, &files.faulty)?;
     sort(&mut faults);
-    Ok(Judged {
+    Ok(JudgedPackage {
         faults,
         export_data: None,
         members: Vec::new(alloc),
@@ -49,7 +49,7 @@ pub(crate) fn place_checked(
     alloc: Global,
     files: &ParsedPackage,
     checked: Checked,
-) -> Result<Judged, AllocError>
+) -> Result<JudgedPackage, AllocError>
     ensures checked { IfOk result (λ j. (w : Workspace) → (known : Verdicts) → (p : List ℕ) → Contains (package_paths w) p → AreParsed (package_files w p) files.now.trees.items [] → IsCheckResult w known p checked → IsJudged w known p j) }
     ensures stopped { IfOk result (λ j. (w : Workspace) → (known : Verdicts) → (p : List ℕ) → Contains (package_paths w) p → AreParsed (package_files w p) files.now.trees.items [] → IsStoppedResult w known p checked → IsJudged w known p j) }
 {
@@ -61,7 +61,7 @@ pub(crate) fn place_checked(
     } = checked;
     let mut faults = placed_faults(alloc, &files.trees, &faults)?;
     sort(&mut faults);
-    Ok(Judged {
+    Ok(JudgedPackage {
         faults,
         export_data,
         members,
@@ -90,7 +90,7 @@ fn judge_stopped(
     path: &SharedPath,
     cycles: &[usize],
     all: &ExportTable,
-) -> Result<Judged, AllocError>
+) -> Result<JudgedPackage, AllocError>
     requires in_range { number < length (package_paths graph.now) }
     requires files { IsPackage graph.now number files.now }
     requires read { files.now.faulty.items ≡ [] }
@@ -114,7 +114,7 @@ fn judge_read(
     path: &SharedPath,
     cycles: &[usize],
     all: &ExportTable,
-) -> Result<Judged, AllocError>
+) -> Result<JudgedPackage, AllocError>
     requires in_range { number < length (package_paths graph.now) }
     requires files { IsPackage graph.now number files.now }
     requires read { files.now.faulty.items ≡ [] }
@@ -139,7 +139,7 @@ pub(crate) fn judge(
     path: &SharedPath,
     cycles: &[usize],
     all: &ExportTable,
-) -> Result<Judged, AllocError>
+) -> Result<JudgedPackage, AllocError>
     requires in_range { number < length (package_paths graph.now) }
     requires path { OfPackage graph.now number (λ p. path.now ≡ p) }
     requires cycles { DecideCycles graph.now cycles.now }

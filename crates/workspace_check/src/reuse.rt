@@ -6,7 +6,7 @@ ghost use Rattle.base_files.specs.Workspace.{Workspace};
 ghost use Rattle.workspace_graph.specs.Graphs.{IsPackage, OfPackage};
 ghost use Rattle.workspace_graph.specs.Search.{IsMarked};
 ghost use Rattle.workspace_check.specs.Earlier.{AreVerdictsByNumber, HaveSameImports, IsReusableVerdict, KeepsExportData, tree_file};
-ghost use Rattle.workspace_check.specs.PassedMarks.{ArePassedBelow, Passes, AffectsImporters};
+ghost use Rattle.workspace_check.specs.PassedMarks.{ArePassedBelow, PassesPackage, AffectsImporters};
 
 use crate::earlier::Earlier;
 use crate::known::KnownVerdict;
@@ -130,7 +130,7 @@ impl PassedPackages {
         requires stirs { AffectsImporters graph.now self.old }
         ensures marks { OnOk result (self.new.marks.items ≡ slice_set self.old.marks.items number same) }
         ensures stirs { OnOk result (AffectsImporters graph.now self.new) }
-        ensures passes { OnOk result (Passes graph.now number self.old self.new) }
+        ensures passes { OnOk result (PassesPackage graph.now number self.old self.new) }
     {
         self.marks[number] = same;
         if !same {

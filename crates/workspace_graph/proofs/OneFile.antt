@@ -8,7 +8,7 @@ use Rattle.go_scanner.proofs.OneCutLemmas.{one_cut, cut_or_fault}
 use Rattle.go_ast.specs.Faults.{IsParsable, IsFaultOf, IsFaultOfTokens}
 use Rattle.go_ast.specs.Kinds.{kinds_of}
 use Rattle.go_ast.specs.SourceFile.{SourceFile}
-use Rattle.go_ast.specs.Verdict.{IsWhole, Verdict, Whole, Faulty}
+use Rattle.go_ast.specs.Verdict.{IsWhole, FileVerdict, Whole, Faulty}
 use Rattle.go_ast.specs.WellFormed.{IsTreeOf}
 use Rattle.go_parser.proofs.OneTree.{one_tree}
 use Rattle.go_ast.proofs.OneVerdict.{one_verdict}
@@ -26,7 +26,7 @@ one_file path text f g a b =
     let trees : f.tree ≡ g.tree = one_tree (subst (λ (c : CutText). IsTreeOf f.tree (kinds_of c)) cuts a.is_file.is_tree) b.is_file.is_tree in
     λ i. record { path = paths i; cut = cuts i; tree = trees i }
 
-abbrev is_whole : Verdict → Bool
+abbrev is_whole : FileVerdict → Bool
 is_whole Whole = true
 is_whole (Faulty kind left) = false
 

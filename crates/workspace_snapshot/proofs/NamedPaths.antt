@@ -18,39 +18,39 @@ use Rattle.workspace_graph.specs.Borrows.{names}
 use Rattle.workspace_graph.specs.SameGoFiles.{DiffersOnlyAt}
 use Rattle.workspace_snapshot.specs.Made.{IsMadeByEdits}
 use Rattle.workspace_snapshot.specs.declared.change.Change.{Change}
-use Rattle.workspace_snapshot.specs.Named.{AddsAll, HasAll, NamesPath, IsPathOfChange}
+use Rattle.workspace_snapshot.specs.Named.{AddsEachPath, HasAll, NamesPath, IsPathOfChange}
 
 -- ---- one path more
-pub adds_path : (old new : List (Bor (List ℕ))) (k : Bor (List ℕ)) → new ≡ old ++ k ∷ [] → AddsAll (λ p. k.now ≡ p) (names old) (names new)
+pub adds_path : (old new : List (Bor (List ℕ))) (k : Bor (List ℕ)) → new ≡ old ++ k ∷ [] → AddsEachPath (λ p. k.now ≡ p) (names old) (names new)
 adds_path old new k is =
-    subst (AddsAll (λ p. k.now ≡ p) (names old)) (sym (ap names is ∙ map_push (λ (path : Bor (List ℕ)). path.now) old k)) (record {
+    subst (AddsEachPath (λ p. k.now ≡ p) (names old)) (sym (ap names is ∙ map_push (λ (path : Bor (List ℕ)). path.now) old k)) (record {
       kept = λ p has. Contains-append_left (names old) (k.now ∷ []) p has;
       each = λ p same. subst (Contains (names old ++ k.now ∷ [])) same (Contains-push (names old) k.now);
     })
 
 -- ---- several
-pub adds_none : (P : List ℕ → Type 0) (old : List (List ℕ)) → ((p : List ℕ) → P p → ⊥) → AddsAll P old old
+pub adds_none : (P : List ℕ → Type 0) (old : List (List ℕ)) → ((p : List ℕ) → P p → ⊥) → AddsEachPath P old old
 adds_none P old none = record { kept = λ f has. has; each = λ p is. absurd (none p is) }
 
-pub adds_more : (P Q S : List ℕ → Type 0) (a b c : List (List ℕ)) → ((p : List ℕ) → S p → P p ⊎ Q p) → AddsAll P a b → AddsAll Q b c → AddsAll S a c
+pub adds_more : (P Q S : List ℕ → Type 0) (a b c : List (List ℕ)) → ((p : List ℕ) → S p → P p ⊎ Q p) → AddsEachPath P a b → AddsEachPath Q b c → AddsEachPath S a c
 adds_more P Q S a b c cases first second = record {
   kept = λ f has. second.kept f (first.kept f has);
   each = λ p is. ⊎_elim (λ (x : P p). second.kept p (first.each p x)) (λ (y : Q p). second.each p y) (cases p is);
 }
 
-pub adds_fewer : (P Q : List ℕ → Type 0) (a b : List (List ℕ)) → ((p : List ℕ) → Q p → P p) → AddsAll P a b → AddsAll Q a b
+pub adds_fewer : (P Q : List ℕ → Type 0) (a b : List (List ℕ)) → ((p : List ℕ) → Q p → P p) → AddsEachPath P a b → AddsEachPath Q a b
 adds_fewer P Q a b gives adds = record { kept = adds.kept; each = λ p is. adds.each p (gives p is) }
 
 -- ---- the paths of one change
-pub change_stays : (c : FileChange) (old new : List (List ℕ)) → new_path c.fate ≡ None → AddsAll (λ p. c.path ≡ p) old new →
-    AddsAll (IsPathOfChange c) old new
+pub change_stays : (c : FileChange) (old new : List (List ℕ)) → new_path c.fate ≡ None → AddsEachPath (λ p. c.path ≡ p) old new →
+    AddsEachPath (IsPathOfChange c) old new
 change_stays c old new none adds = adds_fewer (λ p. c.path ≡ p) (IsPathOfChange c) old new
     (λ p named. ⊎_elim (λ (same : c.path ≡ p). same) (λ (to : new_path c.fate ≡ Some p). absurd (none-some p (sym none ∙ to))) named)
     adds
 
-pub change_moves : (c : FileChange) (to : List ℕ) (a b d : List (List ℕ)) → new_path c.fate ≡ Some to → AddsAll (λ p. c.path ≡ p) a b →
-    AddsAll (λ p. to ≡ p) b d
-    → AddsAll (IsPathOfChange c) a d
+pub change_moves : (c : FileChange) (to : List ℕ) (a b d : List (List ℕ)) → new_path c.fate ≡ Some to → AddsEachPath (λ p. c.path ≡ p) a b →
+    AddsEachPath (λ p. to ≡ p) b d
+    → AddsEachPath (IsPathOfChange c) a d
 change_moves c to a b d is first second = adds_more (λ p. c.path ≡ p) (λ p. to ≡ p) (IsPathOfChange c) a b d
     (λ p named. ⊎_elim (λ (same : c.path ≡ p). inl same) (λ (goes : new_path c.fate ≡ Some p). inr (same_Some to p (sym is ∙ goes))) named)
     first second

@@ -26,6 +26,6 @@ abbrev pub HasAll : (List ℕ → Type 0) → List (List ℕ) → Type 0
 HasAll P paths = (path : List ℕ) → P path → Contains paths path
 
 -- The list `new` contains the paths of `old`, and each path of which `P` holds.
-pub record AddsAll (P : List ℕ → Type 0) (old new : List (List ℕ)) : Type 0 where
+pub record AddsEachPath (P : List ℕ → Type 0) (old new : List (List ℕ)) : Type 0 where
   pub kept : (path : List ℕ) → Contains old path → Contains new path
   pub each : HasAll P new

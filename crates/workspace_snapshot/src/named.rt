@@ -1,7 +1,7 @@
 //! Collects the paths of the files that an edit set names.
 ghost use Rattle.std.specs.Prelude.{◌≡◌, IfOk, OnOk};
 ghost use Rattle.workspace_graph.specs.Borrows.{names};
-ghost use Rattle.workspace_snapshot.specs.Named.{AddsAll, HasAll, NamesPath, IsPathOfAdded, IsPathOfChange, IsPathOfChanges};
+ghost use Rattle.workspace_snapshot.specs.Named.{AddsEachPath, HasAll, NamesPath, IsPathOfAdded, IsPathOfChange, IsPathOfChanges};
 
 use base_edits::{EditSet, Fate, FileChange};
 use base_files::{FileText, Path};
@@ -9,7 +9,7 @@ use std::alloc::{AllocError, Global};
 
 /// Adds a path.
 fn add_path<'a>(paths: &mut Vec<&'a Path>, path: &'a Path) -> Result<(), AllocError>
-    ensures { OnOk result (AddsAll (λ p. path.now ≡ p) (names paths.old.items) (names paths.new.items)) }
+    ensures { OnOk result (AddsEachPath (λ p. path.now ≡ p) (names paths.old.items) (names paths.new.items)) }
 {
     paths.push(path)?;
     Ok(())
@@ -17,7 +17,7 @@ fn add_path<'a>(paths: &mut Vec<&'a Path>, path: &'a Path) -> Result<(), AllocEr
 
 /// Adds the path of a changed file, and the path to which it moves, if it does.
 fn add_change<'a>(paths: &mut Vec<&'a Path>, change: &'a FileChange) -> Result<(), AllocError>
-    ensures { OnOk result (AddsAll (IsPathOfChange change.now) (names paths.old.items) (names paths.new.items)) }
+    ensures { OnOk result (AddsEachPath (IsPathOfChange change.now) (names paths.old.items) (names paths.new.items)) }
 {
     add_path(paths, &change.path)?;
     match &change.fate {
@@ -29,7 +29,7 @@ fn add_change<'a>(paths: &mut Vec<&'a Path>, change: &'a FileChange) -> Result<(
 
 /// Adds the paths of all changes, as `add_change` does for one.
 fn add_changes<'a>(paths: &mut Vec<&'a Path>, changes: &'a [FileChange]) -> Result<(), AllocError>
-    ensures { OnOk result (AddsAll (IsPathOfChanges changes.now) (names paths.old.items) (names paths.new.items)) }
+    ensures { OnOk result (AddsEachPath (IsPathOfChanges changes.now) (names paths.old.items) (names paths.new.items)) }
 {
     for change in changes {
         add_change(paths, change)?;
@@ -39,7 +39,7 @@ fn add_changes<'a>(paths: &mut Vec<&'a Path>, changes: &'a [FileChange]) -> Resu
 
 /// Adds the paths of the added files.
 fn add_added<'a>(paths: &mut Vec<&'a Path>, added: &'a [(Path, FileText)]) -> Result<(), AllocError>
-    ensures { OnOk result (AddsAll (IsPathOfAdded added.now) (names paths.old.items) (names paths.new.items)) }
+    ensures { OnOk result (AddsEachPath (IsPathOfAdded added.now) (names paths.old.items) (names paths.new.items)) }
 {
     for file in added {
         add_path(paths, &file.0)?;

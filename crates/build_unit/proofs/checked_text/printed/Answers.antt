@@ -4,7 +4,7 @@ use Rattle.std.specs.Prelude.{map}
 use Rattle.std.proofs.lemmas.Result.{IfOk-weaker}
 use Rattle.types_declared.specs.PackageView.{package_of}
 use Rattle.types_info.specs.MemberUses.{AreMemberUses, uses_in}
-use Rattle.build_object.specs.ObjectView.{AreOwnDefinitions}
+use Rattle.build_object.specs.ObjectView.{AreObjectDefinitions}
 use Rattle.build_object.specs.Sources.{IsObjectText}
 use Rattle.build_unit.proofs.checked_text.printed.Goals as goal
 
@@ -12,7 +12,7 @@ pub checked_object-requires : goal.checked_object-requires
 checked_object-requires c = record {
   index = c.requires.index;
   bounds = c.requires.bounds;
-  definitions = subst (AreOwnDefinitions (package_of c.args.unit)) (sym c.found_definitions.ensures) c.requires.definitions;
+  definitions = subst (AreObjectDefinitions (package_of c.args.unit)) (sym c.found_definitions.ensures) c.requires.definitions;
 }
 
 pub returns : goal.returns

@@ -9,7 +9,7 @@ use Rattle.types_declared.specs.declared.states.ImportState.{ImportState}
 use Rattle.types_declared.specs.ExportTablesView.{name_in, export_data_in}
 use Rattle.types_info.specs.PackageOf.{IsPackageOf, package_in}
 use Rattle.types_check.specs.Check.{IsSoundTable, inside}
-use Rattle.build_unit.specs.Compiling.{IsPackageAt}
+use Rattle.build_unit.specs.Compiling.{IsPackageToBuild}
 use Rattle.build_unit.proofs.CheckedText.{parsed_all}
 use Rattle.build_unit.proofs.checked_text.table_text.Goals as goal
 
@@ -18,7 +18,7 @@ unit_text-requires c =
     let at = c.requires.at in
     record {
       number = slice_get_within (package_paths c.args.at.graph.now) c.args.at.number c.args.of.path.now at.has_path;
-      at = λ q there. subst (IsPackageAt c.args.at) (same_Some c.args.of.path.now q (sym at.has_path ∙ there)) at;
+      at = λ q there. subst (IsPackageToBuild c.args.at) (same_Some c.args.of.path.now q (sym at.has_path ∙ there)) at;
     }
 
 pub returns : goal.returns

@@ -9,7 +9,7 @@ use Rattle.types_expr.specs.declared.world.Definitions.{Definitions}
 use Rattle.types_expr.specs.WorldView.{known_at}
 use Rattle.types_declared.specs.ExportTablesView.{export_data_known}
 use Rattle.workspace_check.specs.KnownFindings.{verdicts_by}
-use Rattle.build_unit.specs.Compiling.{IsFaultless}
+use Rattle.build_unit.specs.Compiling.{IsFaultlessPackage}
 use Rattle.build_unit.specs.Units.{IsCompiled}
 use Rattle.build_unit.proofs.compiling.faultless_unit.Goals as goal
 
@@ -35,7 +35,7 @@ object_of-requires c =
       at = c.requires.at;
       found = record {
         known = known;
-        faultless = subst (λ (k : Option ExportData). IsFaultless w known k p c.args.members.now) (sym own) c.requires.found;
+        faultless = subst (λ (k : Option ExportData). IsFaultlessPackage w known k p c.args.members.now) (sym own) c.requires.found;
         are_seen = c.in_ok-export_table.ensures.seen p c.requires.at.has_path;
       };
     }

@@ -5,12 +5,12 @@ use Rattle.base_files.specs.Workspace.{Workspace}
 use Rattle.types_expr.specs.WorldView.{known_at}
 use Rattle.workspace_check.specs.declared.finding.Finding.{Finding}
 use Rattle.types_declared.specs.declared.export_tables.ExportTable.{ExportTable}
-use Rattle.workspace_check.specs.FaultLists.{AreListed}
+use Rattle.workspace_check.specs.FaultLists.{AreListedFaults}
 use Rattle.workspace_check.specs.Found.{IsFindingWith}
 use Rattle.workspace_check.specs.KnownFindings.{verdicts_by}
 use Rattle.workspace_check.specs.Verdicts.{IsFaultBy}
 use Rattle.workspace_check.proofs.Members.{vec_empty, vec_holds}
-use Rattle.build_unit.specs.Compiling.{HoldsFaults, IsFaultless}
+use Rattle.build_unit.specs.Compiling.{HoldsFaults, IsFaultlessPackage}
 use Rattle.workspace_check.specs.declared.fault.FileFault.{FileFault}
 use Rattle.build_unit.specs.declared.unit.Unit.{Unit as PackageUnit}
 use Rattle.build_unit.specs.declared.unit.Compiled.TheVariants as compiled
@@ -25,11 +25,11 @@ faults_alone p list (compiled.Done export_data object) e = absurd (cc)
 
 -- of one that has no faults
 without_faults : (w : Workspace) (p : List ℕ) (all : ExportTable) (f : Finding) → IsFindingWith w p all f → f.faults.items ≡ [] →
-    IsFaultless w (verdicts_by all) (known_at all.definitions p) p f.members.items
+    IsFaultlessPackage w (verdicts_by all) (known_at all.definitions p) p f.members.items
 without_faults w p all f is empty = record {
   below = is.below;
   verdict = is.own;
-  listed = subst (λ l. AreListed (IsFaultBy w (verdicts_by all) p) l) empty is.finding.listed;
+  listed = subst (λ l. AreListedFaults (IsFaultBy w (verdicts_by all) p) l) empty is.finding.listed;
   uses = is.finding.members empty;
 }
 
@@ -46,7 +46,7 @@ returns-then-not-is_empty c =
     let list = c.deref.result.now in
     let is = c.requires.found in
     let some = λ (e : list ≡ []). vec_holds f.faults c.is_empty.result c.is_empty.ensures c.if-not-is_empty.true (sym c.deref.ensures.value ∙ e) in
-    let listed = subst (λ l. AreListed (IsFaultBy w (verdicts_by all) p) l) (sym c.deref.ensures.value) is.finding.listed in
+    let listed = subst (λ l. AreListedFaults (IsFaultBy w (verdicts_by all) p) l) (sym c.deref.ensures.value) is.finding.listed in
     IfOk-weaker c.copied_unit.result (HoldsFaults list) (IsUnitOf w p)
     (λ unit holds. record {
       value = subst (IsUnitValue w p) (sym (holds p)) (record { known = verdicts_by all; right = is.below; listed = listed }, some);
@@ -64,7 +64,7 @@ faultless_unit-requires c =
     record {
       at = c.requires.at;
       whole = c.requires.found.whole;
-      found = subst (IsFaultless w (verdicts_by all) (known_at all.definitions p) p) (sym c.deref-in-None.ensures.value)
+      found = subst (IsFaultlessPackage w (verdicts_by all) (known_at all.definitions p) p) (sym c.deref-in-None.ensures.value)
           (without_faults w p all f c.requires.found empty);
     }
 

@@ -8,7 +8,7 @@ use Rattle.workspace_graph.specs.Parsed.{AreParsed}
 use Rattle.types_declared.specs.ExportTablesView.{name_in, export_data_in, export_data_known}
 use Rattle.types_info.specs.MemberUses.{uses_in}
 use Rattle.build_object.specs.ObjectView.{OwnDefinitionsOf, IsObjectTextOf}
-use Rattle.build_unit.specs.Compiling.{IsPackageAt}
+use Rattle.build_unit.specs.Compiling.{IsPackageToBuild}
 use Rattle.build_unit.specs.Units.{IsCompiled}
 use Rattle.build_unit.proofs.Faultless.{definitions_by, compiled_by}
 use Rattle.build_unit.proofs.known_text.object_of.Goals as goal
@@ -21,7 +21,7 @@ names_below-requires c =
     let at = c.requires.at in
     record {
       number = slice_get_within (package_paths c.args.at.graph.now) c.args.at.number c.args.path.now at.has_path;
-      at = λ q there. subst (IsPackageAt c.args.at) (same_Some c.args.path.now q (sym at.has_path ∙ there)) at;
+      at = λ q there. subst (IsPackageToBuild c.args.at) (same_Some c.args.path.now q (sym at.has_path ∙ there)) at;
     }
 
 pub object-requires : goal.object-requires

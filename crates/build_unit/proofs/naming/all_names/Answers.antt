@@ -10,14 +10,14 @@ use Rattle.base_files.specs.Entries.{IsAfterAllPaths}
 use Rattle.types_info.proofs.MeaningLists.{slice_get_some}
 use Rattle.workspace_check.proofs.Members.{taken_or_next, still_taken, next_taken}
 use Rattle.workspace_check.proofs.Underway.{above_taken}
-use Rattle.build_unit.specs.Compiling.{IsPackageAt}
+use Rattle.build_unit.specs.Compiling.{IsPackageToBuild}
 use Rattle.build_unit.specs.Units.{AreFilesOf}
 use Rattle.build_unit.specs.declared.package_at.PackageAt.{PackageAt}
 use Rattle.build_unit.proofs.Named.{AreNamed, none_named, named_next, all_named}
 use Rattle.build_unit.proofs.naming.all_names.Goals as goal
 
 -- a package of the closure is one of the graph
-within : (at : PackageAt) (p : List ℕ) → IsPackageAt at p → (k : ℕ) → k < length at.closure.now →
+within : (at : PackageAt) (p : List ℕ) → IsPackageToBuild at p → (k : ℕ) → k < length at.closure.now →
     get_or at.closure.now k 0 < length (package_paths at.graph.now)
 within at p is k lt =
     let items = at.closure.now in
@@ -25,7 +25,7 @@ within at p is k lt =
     slice_get_within (package_paths at.graph.now) (get_or items k 0) s.0 s.1
 
 -- those before it have lower numbers
-above : (at : PackageAt) (p : List ℕ) → IsPackageAt at p → (k : ℕ) → k < length at.closure.now → (m : ℕ) → Contains (take k at.closure.now) m →
+above : (at : PackageAt) (p : List ℕ) → IsPackageToBuild at p → (k : ℕ) → k < length at.closure.now → (m : ℕ) → Contains (take k at.closure.now) m →
     m < get_or at.closure.now k 0
 above at p is k lt m has = above_taken at.closure.now is.rising k m lt has
 

@@ -2,7 +2,7 @@
 use Rattle.std.proofs.Common.{◌<◌, arith}
 use Rattle.std.proofs.lemmas.Result.{IfOk-weaker}
 use Rattle.refs_binding.specs.declared.declaration.Declaration.TheVariants.{Declared}
-use Rattle.refs_binding.specs.Binding.{IsPredeclared}
+use Rattle.refs_binding.specs.Binding.{IsPredeclaredNumber}
 use Rattle.refactor_after.specs.ScopedPackages.{IsScopedIn}
 use Rattle.refs_binding.specs.DeclaringPlaces.{IsDeclaredAt}
 use Rattle.refs_places.specs.DeclaredPlaces.{IsChoice}
@@ -25,6 +25,6 @@ returns-in-Some c =
     let path = c.args.path.now in
     let d = c.args.d in
     let s = c.in-Some.scopes.now in
-    let unknown : IsPredeclared d → ⊥ = λ h. let lt : d < 11 = h in absurd (omega arith) in
+    let unknown : IsPredeclaredNumber d → ⊥ = λ h. let lt : d < 11 = h in absurd (omega arith) in
     IfOk-weaker c.own_place.result (IsChoice (IsDeclaringToken s d)) (IsChoice (IsDeclaredAt (IsScopedIn w) (Declared path d)))
     (λ o h. own_standing w path d s c.in-Some.ensures.is_scoped unknown c.requires.counts o h) c.own_place.ensures

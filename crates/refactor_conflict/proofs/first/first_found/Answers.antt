@@ -4,7 +4,7 @@ use Rattle.std.specs.Prelude.{None, IfOk}
 use Rattle.base_files.specs.Workspace.{Workspace}
 use Rattle.base_edits.specs.Moved.{moved}
 use Rattle.refs_binding.specs.Exports.{AreExports}
-use Rattle.refs_binding.specs.Uses.{IsPackage}
+use Rattle.refs_binding.specs.Uses.{IsCheckedPackage}
 use Rattle.refs_places.specs.DeclaredPlaces.{AreAllPlaces}
 use Rattle.refactor_after.specs.NewMembers.{AreAllNewMembers}
 use Rattle.refactor_conflict.specs.Conflicts.{IsConflict, Takes, HoldsBefore}
@@ -23,7 +23,7 @@ first_judged-requires c =
       read = c.requires.read;
       exports = subst (AreExports w known) (sym c.deref-2.ensures.value) c.requires.before.exports;
       places = subst (AreAllPlaces w known) (sym c.deref-3.ensures.value) c.requires.before.places;
-      old = subst (AreOldPlaces (IsPackage w known) (moved c.args.moves.now)) (sym c.deref-4.ensures.value) c.requires.before.old;
+      old = subst (AreOldPlaces (IsCheckedPackage w known) (moved c.args.moves.now)) (sym c.deref-4.ensures.value) c.requires.before.old;
       after = c.requires.after;
       scoped = c.requires.scoped;
       bound = subst (AreScopeBindings c.args.after.now) (sym c.deref-5.ensures.value) c.in_ok-bound.ensures;

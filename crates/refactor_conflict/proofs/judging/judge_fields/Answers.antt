@@ -5,7 +5,7 @@ use Rattle.std.proofs.lemmas.List.{get_or_read}
 use Rattle.go_scope.specs.declared.model.Position.{Position}
 use Rattle.types_declared.specs.PackageView.{package_of}
 use Rattle.refs_binding.specs.Binding.{IsFieldAt}
-use Rattle.refs_binding.specs.Uses.{IsPackage}
+use Rattle.refs_binding.specs.Uses.{IsCheckedPackage}
 use Rattle.refs_binding.proofs.NamedPlaces.{one_field_place}
 use Rattle.refactor_after.specs.MembersAfter.{CountsAfter}
 use Rattle.refactor_conflict.specs.Conflicts.{IsConflictIn, IsLostAtFound}
@@ -34,15 +34,15 @@ loop-rank-preserved c =
     let a = c.loop-rank.first in
     let b = c.judge_counting_field.new.first in
     let P = IsConflictIn w known r p in
-    let K = FieldStays (IsPackage w known) r p in
+    let K = FieldStays (IsCheckedPackage w known) r p in
     let lt : rank < length places = omega (arith, c.loop-rank-test.true, c.len-rank-end.ensures) in
     let is = subst (λ (o : Option Position). MatchOption o ((x : Position) → IsFieldAt p rank x → ⊥) (λ x. IsFieldAt p rank x))
     (sym (get_or_read places rank at lt c.index.ensures None)) (c.in_ok-fields.ensures rank) in
-    let here = takes_as (IsLostAtFound (IsPackage w known) r p at (field_at p.path rank)) P a b (field_in w known r p rank at is)
+    let here = takes_as (IsLostAtFound (IsCheckedPackage w known) r p at (field_at p.path rank)) P a b (field_in w known r p rank at is)
     c.in_ok-judge_counting_field.ensures.takes in (
       takes_then P c.args.first.now a b c.loop-rank.invariant.0 here,
       next_below K rank b (still_holds P (Below K rank) a b here c.loop-rank.invariant.1)
-          (names_stay (IsFieldAt p) (one_field_place p) p rank at is (CountsAfter (IsPackage w known) r (field_at p.path rank)) b
+          (names_stay (IsFieldAt p) (one_field_place p) p rank at is (CountsAfter (IsCheckedPackage w known) r (field_at p.path rank)) b
           c.in_ok-judge_counting_field.ensures.stays),
     )
 

@@ -1,7 +1,7 @@
 -- The answers to the goals of `imports::first_in`.
 use Rattle.std.proofs.Common.{◌+◌, sym, subst}
 use Rattle.types_declared.specs.PackageView.{package_of}
-use Rattle.refs_binding.specs.Uses.{IsPackage}
+use Rattle.refs_binding.specs.Uses.{IsCheckedPackage}
 use Rattle.refs_binding.specs.Workspaces.{known_in}
 use Rattle.refs_binding.proofs.Units.{list_of_sound}
 use Rattle.refactor_decide.proofs.Written.{all_count}
@@ -23,6 +23,6 @@ loop-d-preserved c =
     let p = package_of c.args.unit in
     let path = c.args.new.path.now in
     let name = c.args.new.name.now in
-    subst (IsFirstOfImports (IsPackage w (known_in found)) p path name (c.loop-d.d + 1)) (sym c.earlier-first.ensures)
+    subst (IsFirstOfImports (IsCheckedPackage w (known_in found)) p path name (c.loop-d.d + 1)) (sym c.earlier-first.ensures)
     (next_below w (list_of_sound w found c.has_no_faults.ensures) (known_in found) c.has_no_faults.ensures.findings.right path name p
     c.requires.unit.is_package c.loop-d.d c.loop-d.first c.in_ok-found.found c.loop-d.invariant c.in_ok-found.ensures)

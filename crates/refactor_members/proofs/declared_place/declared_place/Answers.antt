@@ -2,7 +2,7 @@
 use Rattle.std.proofs.Common.{ap, ◌∙◌}
 use Rattle.std.specs.Prelude.{Some}
 use Rattle.std.proofs.lemmas.Result.{IfOk-weaker}
-use Rattle.refs_binding.specs.DeclaringPlaces.{DeclaresAt}
+use Rattle.refs_binding.specs.DeclaringPlaces.{HasDeclarationAt}
 use Rattle.refactor_members.proofs.Homes.{choice_home}
 use Rattle.refactor_members.proofs.declared_place.declared_place.Goals as goal
 
@@ -14,4 +14,4 @@ returns-in-Some-number_of c =
     (λ found h.
     choice_home w.graph w.findings c.has_no_faults.ensures c.in-Some-number_of.number c.in-Some.path.now (c.in-Some-number_of.ensures ∙ ap Some
     c.path.ensures) d
-    c.in-Some.ensures (λ q. DeclaresAt q d) found h) c.place_at.ensures
+    c.in-Some.ensures (λ q. HasDeclarationAt q d) found h) c.place_at.ensures

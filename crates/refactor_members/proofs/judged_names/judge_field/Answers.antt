@@ -9,7 +9,7 @@ use Rattle.refs_binding.specs.declared.declaration.Declaration.TheVariants.{Fiel
 use Rattle.refactor_after.specs.MembersAfter.{CountsAfter}
 use Rattle.refactor_after.specs.OldPlaces.{field_at}
 use Rattle.refactor_conflict.specs.Conflicts.{IsConflictIn}
-use Rattle.refactor_members.specs.Judging.{JudgesIn, ListedFieldStays, NameStays}
+use Rattle.refactor_members.specs.Judging.{JudgesIn, ListedFieldStays, NewNameCounts}
 use Rattle.refactor_members.specs.Renames.{by, packages_before, rename_revision, verdicts_in, workspace_before}
 use Rattle.refactor_members.proofs.Counting.{field_counts}
 use Rattle.refactor_members.proofs.Judged.{judged_as, judged_none}
@@ -32,9 +32,9 @@ returns-in_ok-symbol-in-Some c =
     let b = c.judge_member.new.first in
     let same : Field c.in_ok-symbol-in-Some.field-0 ≡ field_at s.package rank = ap Field c.in_ok-symbol-in-Some.ensures in
     let P = IsConflictIn (workspace_before m.of) (verdicts_in m.of) (rename_revision m) p in
-    judged_as m P P (NameStays m p (field_at s.package rank)) (ListedFieldStays m p c.args.listed) a b (λ knows x k. k)
+    judged_as m P P (NewNameCounts m p (field_at s.package rank)) (ListedFieldStays m p c.args.listed) a b (λ knows x k. k)
     (λ knows place. listed_field m p s.package of c.args.listed rank c.in-Some.is place)
-    (subst (λ (d : Declaration). JudgesIn m p (NameStays m p d) a b) same
+    (subst (λ (d : Declaration). JudgesIn m p (NewNameCounts m p d) a b) same
     (h edits p is (ap Some (ap (λ (x : Symbol). x.package) c.in_ok-symbol-in-Some.ensures ∙ sym of))
     (λ knows. subst (λ (d : Declaration). IsTrue c.is_rank-counts.result ↔ CountsAfter (packages_before m.of) (rename_revision m) d) (sym same)
     (field_counts m knows p is.is_package s.package of s.rank rank (named knows rank c.in-Some.is) c.first_field.result (c.first_field.ensures edits knows)

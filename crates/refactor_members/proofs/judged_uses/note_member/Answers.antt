@@ -5,7 +5,7 @@ use Rattle.std.proofs.lemmas.Option.{same_Some}
 use Rattle.std.proofs.lemmas.Result.{on_ok_weaker}
 use Rattle.types_expr.specs.WorldView.{member_of}
 use Rattle.refs_binding.specs.Binding.{declaration_of}
-use Rattle.refs_binding.specs.Uses.{IsPackage}
+use Rattle.refs_binding.specs.Uses.{IsCheckedPackage}
 use Rattle.refs_binding.specs.Workspaces.{known_in}
 use Rattle.refactor_conflict.specs.Conflicts.{IsConflictBy, IsOtherMember}
 use Rattle.refactor_conflict.proofs.KeepingFirst.{takes_as, call_takes}
@@ -14,7 +14,7 @@ use Rattle.refactor_members.proofs.judged_uses.note_member.Goals as goal
 
 pub returns-in-None-clause-takes : goal.returns-in-None-clause-takes
 returns-in-None-clause-takes c =
-    let Known = IsPackage c.args.workspace.now.graph (known_in c.args.workspace.now.findings) in
+    let Known = IsCheckedPackage c.args.workspace.now.graph (known_in c.args.workspace.now.findings) in
     let now = c.args.now in
     let old = declaration_of (member_of c.args.old) in
     takes_as (IsConflictBy c.args.used None) (IsOtherMember Known (λ e. now ≡ Some e) c.args.used old) c.args.first.now c.keep.new.first
@@ -22,7 +22,7 @@ returns-in-None-clause-takes c =
 
 pub returns-in-Some-clause-takes : goal.returns-in-Some-clause-takes
 returns-in-Some-clause-takes c =
-    let Known = IsPackage c.args.workspace.now.graph (known_in c.args.workspace.now.findings) in
+    let Known = IsCheckedPackage c.args.workspace.now.graph (known_in c.args.workspace.now.findings) in
     let now = c.args.now in
     let old = declaration_of (member_of c.args.old) in
     let d = c.in-Some.declaration in

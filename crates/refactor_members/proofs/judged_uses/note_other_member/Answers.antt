@@ -4,7 +4,7 @@ use Rattle.std.specs.Prelude.{Some}
 use Rattle.std.proofs.lemmas.Bool.{false≢true}
 use Rattle.types_expr.specs.WorldView.{member_of}
 use Rattle.refs_binding.specs.Binding.{declaration_of}
-use Rattle.refs_binding.specs.Uses.{IsPackage}
+use Rattle.refs_binding.specs.Uses.{IsCheckedPackage}
 use Rattle.refs_binding.specs.Workspaces.{known_in}
 use Rattle.refactor_conflict.specs.Conflicts.{IsConflictBy, IsOtherMember}
 use Rattle.refactor_conflict.proofs.KeepingFirst.{takes_as}
@@ -13,7 +13,7 @@ use Rattle.refactor_members.proofs.judged_uses.note_other_member.Goals as goal
 
 pub returns-clause-takes : goal.returns-clause-takes
 returns-clause-takes c =
-    let Known = IsPackage c.args.workspace.now.graph (known_in c.args.workspace.now.findings) in
+    let Known = IsCheckedPackage c.args.workspace.now.graph (known_in c.args.workspace.now.findings) in
     let old = declaration_of (member_of c.args.old) in
     takes_as (IsConflictBy c.args.used (Some c.in_ok-by.by)) (IsOtherMember Known (λ e. e ≡ c.args.now.now) c.args.used old)
     c.args.first.now c.keep.new.first

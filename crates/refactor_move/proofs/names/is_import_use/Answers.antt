@@ -3,7 +3,7 @@ use Rattle.std.proofs.Common.{◌≡◌, subst}
 use Rattle.std.proofs.lemmas.Bool.{false≢true}
 use Rattle.types_declared.specs.Laid.{literal_of}
 use Rattle.types_declared.specs.PackageView.{package_of}
-use Rattle.types_declared.specs.Written.{ImportsPath}
+use Rattle.types_declared.specs.Written.{DeclaresImport}
 use Rattle.refactor_move.proofs.names.is_import_use.Goals as goal
 
 pub returns-in-None : goal.returns-in-None
@@ -15,5 +15,5 @@ returns-in-Some c =
       (λ t. let x = c.is_import_of.ensures.0 t in record { import = c.in-Some.d; binds = c.in-Some.ensures.bound; unnamed = x.0; imports = x.1 }),
       (λ h.
           let e = c.in-Some.ensures.only h.import h.binds in
-          c.is_import_of.ensures.1 (subst (λ i. literal_of p.layout i ≡ i) e h.unnamed, subst (λ i. ImportsPath p i c.args.moved.now.from) e h.imports)),
+          c.is_import_of.ensures.1 (subst (λ i. literal_of p.layout i ≡ i) e h.unnamed, subst (λ i. DeclaresImport p i c.args.moved.now.from) e h.imports)),
     )

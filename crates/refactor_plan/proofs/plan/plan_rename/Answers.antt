@@ -1,6 +1,6 @@
 -- The answers to the goals of `plan::plan_rename`.
 use Rattle.std.proofs.Common.{rules, subst}
-use Rattle.refs_binding.specs.Uses.{IsFile}
+use Rattle.refs_binding.specs.Uses.{HasFileAt}
 use Rattle.refactor_rename.specs.NewName.{IsNewName}
 use Rattle.refactor_plan.specs.Steps.{PlansAtByte}
 use Rattle.refactor_plan.proofs.Planned.{planned}
@@ -12,7 +12,7 @@ returns-clause-planned c =
     let snapshot = c.args.snapshot.now in
     let path = c.args.path.now in
     let name = c.args.name.now in
-    let is : IsFile snapshot.files path = search rules in
+    let is : HasFileAt snapshot.files path = search rules in
     let form : IsNewName name = search rules in
     planned snapshot path c.args.offset name is form (change_in c.plan_in.result)
     (subst (λ n. PlansAtByte snapshot path c.args.offset n (change_in c.plan_in.result)) c.as_bytes.ensures.value

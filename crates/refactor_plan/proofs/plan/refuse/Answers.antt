@@ -1,6 +1,6 @@
 -- The answers to the goals of `plan::refuse`.
 use Rattle.std.proofs.Common.{subst, ◌∙◌}
-use Rattle.refs_binding.specs.Uses.{IsPackage}
+use Rattle.refs_binding.specs.Uses.{IsCheckedPackage}
 use Rattle.refs_binding.specs.WorkspaceFindings.{WorkspaceFindings}
 use Rattle.refs_binding.specs.Workspaces.{known_in}
 use Rattle.refactor_rename.specs.Naming.{RefusesName}
@@ -12,5 +12,5 @@ refuse_name-requires-clause-home c = same_home c.args.declaration.now ∙ c.requ
 
 pub returns : goal.returns
 returns c =
-    subst (λ (v : WorkspaceFindings). RefusesName (IsPackage v.graph (known_in v.findings)) c.args.declaration.now c.args.name.now c.refuse_name.result)
+    subst (λ (v : WorkspaceFindings). RefusesName (IsCheckedPackage v.graph (known_in v.findings)) c.args.declaration.now c.args.name.now c.refuse_name.result)
     c.requires.read.same c.refuse_name.ensures

@@ -6,9 +6,9 @@ use Rattle.std.proofs.lemmas.Result.{IfOk-weaker}
 use Rattle.types_declared.specs.PackageView.{package_of}
 use Rattle.refs_binding.specs.declared.declaration.Declaration.{Declaration}
 use Rattle.refs_binding.specs.declared.declaration.Declaration.TheVariants.{Declared}
-use Rattle.refs_binding.specs.Uses.{IsPackage}
+use Rattle.refs_binding.specs.Uses.{IsCheckedPackage}
 use Rattle.refs_binding.specs.Workspaces.{home_path, known_in}
-use Rattle.refactor_rename.specs.Literals.{IsLiteralIn, IsLiteralOf, IsLiteralFound}
+use Rattle.refactor_rename.specs.Literals.{IsPathLiteralIn, IsPathLiteralOf, IsLiteralFound}
 use Rattle.refactor_rename.proofs.Literals.{found_in}
 use Rattle.refactor_rename.proofs.literal.literal_of.Goals as goal
 
@@ -21,5 +21,5 @@ returns-in-Declared c =
     let d = c.in-Declared.d in
     let home : path ≡ p.path = same_Some path p.path (subst (λ (x : Declaration). home_path x ≡ Some p.path) c.in-Declared.is c.requires.home) in
     rw c.in-Declared.is
-    (IfOk-weaker c.literal_in.result (IsLiteralFound (IsLiteralIn p d)) (IsLiteralFound (IsLiteralOf (IsPackage w known) (Declared path d)))
+    (IfOk-weaker c.literal_in.result (IsLiteralFound (IsPathLiteralIn p d)) (IsLiteralFound (IsPathLiteralOf (IsCheckedPackage w known) (Declared path d)))
     (found_in w known c.args.at.number p path d c.requires.unit (c.requires.unit.has_number ∙ ap Some (sym home))) c.literal_in.ensures)

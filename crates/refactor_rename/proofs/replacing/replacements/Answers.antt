@@ -5,7 +5,7 @@ use Rattle.std.specs.Ordering.{nat_cmp}
 use Rattle.std.proofs.lemmas.Option.{slice_get_read}
 use Rattle.base_files.specs.declared.place.Place.{Place}
 use Rattle.go_scanner.specs.CutText.{CutText, tokens_in}
-use Rattle.go_scanner.specs.Spans.{FollowFrom, AreInOrder, starts}
+use Rattle.go_scanner.specs.Spans.{FollowFrom, AreTokensInOrder, starts}
 use Rattle.go_ast.specs.SourceFile.{source_of}
 use Rattle.refactor_rename.specs.Here.{AddsReplacement}
 use Rattle.refactor_rename.proofs.PlaceEdits.{placing_first, placing_next, placed}
@@ -24,7 +24,7 @@ pub loop-k-preserved : goal.loop-k-preserved
 loop-k-preserved c =
     let f = source_of c.args.file.now in
     let ts = c.tokens-tokens.result.now in
-    let order = subst (λ l. AreInOrder c.pieces.result.now.text l) (sym c.tokens-tokens.ensures.tokens) c.tokens-tokens.ensures.order in
+    let order = subst (λ l. AreTokensInOrder c.pieces.result.now.text l) (sym c.tokens-tokens.ensures.tokens) c.tokens-tokens.ensures.order in
     let here = c.args.here.now in
     placing_next ts (length f.cut.text) c.args.name.now here order.rise
     (subst (λ (v : CutText). FollowFrom 0 ts (length v.text)) c.pieces.ensures order.follow) c.requires c.loop-k.k c.index-here-k.result
@@ -38,7 +38,7 @@ pub returns : goal.returns
 returns c =
     let f = source_of c.args.file.now in
     let ts = c.tokens-tokens.result.now in
-    let order = subst (λ l. AreInOrder c.pieces.result.now.text l) (sym c.tokens-tokens.ensures.tokens) c.tokens-tokens.ensures.order in
+    let order = subst (λ l. AreTokensInOrder c.pieces.result.now.text l) (sym c.tokens-tokens.ensures.tokens) c.tokens-tokens.ensures.order in
     placed ts (length f.cut.text) c.args.name.now c.args.here.now order.rise
     (subst (λ (v : CutText). FollowFrom 0 ts (length v.text)) c.pieces.ensures order.follow) c.requires f c.loop-k.edits.items c.loop-k.k
     (c.tokens-tokens.ensures.tokens ∙ ap tokens_in c.pieces.ensures) refl (omega arith) c.loop-k.invariant

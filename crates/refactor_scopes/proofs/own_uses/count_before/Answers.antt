@@ -4,7 +4,7 @@ use Rattle.std.proofs.lemmas.Bool.{false≢true}
 use Rattle.go_scope.specs.Packages.{ScopedPackage, layout_in, names_in}
 use Rattle.go_scope.specs.WellFormed.{InPlaceOrder, IsNotAfter}
 use Rattle.go_scope.specs.declared.model.Position.{Position}
-use Rattle.refactor_scopes.specs.Conflicts.{IsUseOf}
+use Rattle.refactor_scopes.specs.Conflicts.{IsUseInScopes}
 use Rattle.refactor_scopes.proofs.Listing.{at_place, read_at}
 use Rattle.refactor_scopes.proofs.Taken.{behind_middle, before_middle}
 use Rattle.refactor_scopes.proofs.own_uses.count_before.Goals as goal
@@ -28,7 +28,7 @@ loop-low-preserved-then-is_not_after c =
       order = omega arith;
       within = omega arith;
       before = c.loop-low.invariant.before;
-      behind = behind_middle l size placed uses (λ i lt. (at_place (IsUseOf l (names_in table) c.args.rename.now.declaration) size uses c.requires.uses i lt).0)
+      behind = behind_middle l size placed uses (λ i lt. (at_place (IsUseInScopes l (names_in table) c.args.rename.now.declaration) size uses c.requires.uses i lt).0)
           c.requires.uses.ascending c.args.start m there (subst Q (placed_at ∙ place_is) (c.is_not_after.ensures.0 c.if-is_not_after.true));
     }
 
@@ -50,7 +50,7 @@ loop-low-preserved c =
     record {
       order = omega arith;
       within = c.loop-low.invariant.within;
-      before = before_middle l size placed uses (λ i lt. (at_place (IsUseOf l (names_in table) c.args.rename.now.declaration) size uses c.requires.uses i lt).0)
+      before = before_middle l size placed uses (λ i lt. (at_place (IsUseInScopes l (names_in table) c.args.rename.now.declaration) size uses c.requires.uses i lt).0)
           c.requires.uses.ascending c.args.start m there
           (λ not. false≢true (sym c.if-is_not_after.false ∙ c.is_not_after.ensures.1 (subst Q (sym (placed_at ∙ place_is)) not)));
       behind = c.loop-low.invariant.behind;

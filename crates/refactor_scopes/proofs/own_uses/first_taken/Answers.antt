@@ -1,7 +1,7 @@
 -- The answers to the goals of `own_uses::first_taken`.
 use Rattle.std.proofs.Common.{ℕ, ◌+◌, ◌<◌, length, sym, subst, arith, Option}
 use Rattle.go_scope.specs.Packages.{layout_in, names_in}
-use Rattle.refactor_scopes.specs.Conflicts.{IsUseOf, WouldTake}
+use Rattle.refactor_scopes.specs.Conflicts.{IsUseInScopes, WouldTake}
 use Rattle.refactor_scopes.specs.Numbers.{IsFirstNumber}
 use Rattle.refactor_scopes.proofs.Listing.{read_at}
 use Rattle.refactor_scopes.proofs.Renames.{declared_listed, named_at}
@@ -21,7 +21,7 @@ loop-i-preserved c =
     let i = c.loop-i.i in
     let within : i < length r.named.items = omega (arith, c.loop-i-test.true, c.len-i-end.ensures, r.named.ok.0) in
     let read = read_at r.named.items i c.index.result.now within c.index.ensures in
-    let U : ℕ → Type 0 = λ u. IsUseOf l names r.declaration u in
+    let U : ℕ → Type 0 = λ u. IsUseInScopes l names r.declaration u in
     let T : ℕ → ℕ → Type 0 = λ u v. WouldTake l names r.declaration r.name.now u v in
     let F : ℕ → Type 0 = λ v. IsFirstNumber (λ u. U u × T u v) c.first_taken_by.result in
     let G : Option ℕ → Type 0 = λ o. IsFirstNumber (λ u. U u × IsTakenBelow T r.named.items (i + 1) u) o in
@@ -33,5 +33,5 @@ returns c =
     let r = c.args.rename.now in
     let l = layout_in r.table.now in
     let names = names_in r.table.now in
-    all_taken (λ u. IsUseOf l names r.declaration u) (λ u v. WouldTake l names r.declaration r.name.now u v) r.named.items c.loop-i.i c.loop-i.first
+    all_taken (λ u. IsUseInScopes l names r.declaration u) (λ u v. WouldTake l names r.declaration r.name.now u v) r.named.items c.loop-i.i c.loop-i.first
     (omega (arith, c.loop-i-test.false, c.len-i-end.ensures, r.named.ok.0)) (λ u v t. declared_listed r c.requires v t.declares t.named) c.loop-i.invariant

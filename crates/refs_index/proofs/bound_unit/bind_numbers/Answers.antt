@@ -4,7 +4,7 @@ use Rattle.types_declared.specs.PackageView.{package_of}
 use Rattle.refs_binding.specs.Binding.{BindsByScope, BindsQualified}
 use Rattle.refs_binding.specs.Bindings.{BoundIn, bound_place}
 use Rattle.refs_binding.specs.Identifiers.{BeginsAt}
-use Rattle.refs_binding.specs.Uses.{IsPackage}
+use Rattle.refs_binding.specs.Uses.{IsCheckedPackage}
 use Rattle.refs_binding.specs.Workspaces.{known_in}
 use Rattle.refs_binding.proofs.AddingAll.{none_below, next_below, all_numbers}
 use Rattle.refs_index.proofs.bound_unit.bind_numbers.Goals as goal
@@ -19,7 +19,7 @@ loop-u-preserved c = next_below _ c.args.bound.now.items c.loop-u.bound.items c.
 pub returns : goal.returns
 returns c =
     let p = package_of c.args.unit in
-    let P = IsPackage c.args.exports.now.workspace.now.graph (known_in c.args.exports.now.workspace.now.findings) in
+    let P = IsCheckedPackage c.args.exports.now.workspace.now.graph (known_in c.args.exports.now.workspace.now.findings) in
     let e : c.loop-u.u ≡ length c.args.unit.table.now.sites = omega (arith, c.len-u-end.ensures) in
     all_numbers (λ u b. BeginsAt p (bound_place b).path (bound_place b).offset u × (BindsByScope p u b.declaration ⊎ BindsQualified P p u b.declaration))
     (BoundIn p (λ u d. BindsByScope p u d ⊎ BindsQualified P p u d))

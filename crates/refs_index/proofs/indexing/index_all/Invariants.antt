@@ -1,5 +1,5 @@
 -- The invariants of the loops of `indexing::index_all`.
-use Rattle.refs_binding.specs.Bindings.{AddsAll, IsBoundAt}
+use Rattle.refs_binding.specs.Bindings.{AddsAll, IsBoundInPackage}
 use Rattle.refs_binding.specs.Workspaces.{known_in}
 use Rattle.refs_binding.proofs.AddingAll.{BelowAll}
 use Rattle.refs_places.specs.DeclaredPlaces.{AreDeclaredBelow}
@@ -10,5 +10,5 @@ abbrev pub invariant-loop-number : goal.invariant-loop-number
 invariant-loop-number l = record {
   places : AreDeclaredBelow l.packages.workspace.now.graph (known_in l.packages.workspace.now.findings) l.number l.all.items;
   bound : AddsAll l.initial.bound.items l.bound.items
-      (BelowAll (IsBoundAt l.packages.workspace.now.graph (known_in l.packages.workspace.now.findings)) l.number);
+      (BelowAll (IsBoundInPackage l.packages.workspace.now.graph (known_in l.packages.workspace.now.findings)) l.number);
 }

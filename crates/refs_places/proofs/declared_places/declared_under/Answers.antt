@@ -4,14 +4,14 @@ use Rattle.std.specs.Prelude.{Some, Contains, slice_get}
 use Rattle.std.proofs.lemmas.Option.{slice_get-get_or}
 use Rattle.base_lemmas.proofs.Tests.{not_below}
 use Rattle.base_files.specs.Packages.{package_paths}
-use Rattle.refs_binding.specs.DeclaringPlaces.{DeclaresAt}
+use Rattle.refs_binding.specs.DeclaringPlaces.{HasDeclarationAt}
 use Rattle.refs_binding.proofs.PackageNumbers.{no_package}
 use Rattle.refs_places.proofs.Declared.{place_under, no_places_there}
 use Rattle.refs_places.proofs.declared_places.declared_under.Goals as goal
 
 pub returns-in-None : goal.returns-in-None
 returns-in-None c = λ known are place h.
-    no_package c.args.workspace.now.graph known c.args.path.now (λ p. DeclaresAt p c.args.declaration.now place)
+    no_package c.args.workspace.now.graph known c.args.path.now (λ p. HasDeclarationAt p c.args.declaration.now place)
     (subst (λ q. Contains (package_paths c.args.workspace.now.graph) q → ⊥) c.path.ensures c.in-None.ensures) h
 
 pub returns-in-None-get : goal.returns-in-None-get

@@ -3,7 +3,7 @@ use Rattle.std.specs.Prelude.{option_map}
 use Rattle.std.proofs.lemmas.Result.{IfOk-weaker}
 use Rattle.types_declared.specs.PackageView.{package_of}
 use Rattle.refs_binding.specs.Steps.{IsExportedBy}
-use Rattle.refs_binding.specs.Workspaces.{known_in, name_bytes, IsNameAt}
+use Rattle.refs_binding.specs.Workspaces.{known_in, name_bytes, IsExportedName}
 use Rattle.refs_binding.proofs.PackageReaders.{package_read}
 use Rattle.refs_uses.proofs.exported_name.name_at.Goals as goal
 
@@ -13,5 +13,5 @@ returns c =
     let p = package_of c.unit.result in
     let is = package_read at c.in_ok-reader.reader p c.in_ok-reader.ensures.at c.unit.ensures in
     IfOk-weaker c.own_name.result (λ name. IsExportedBy p c.args.d (option_map name_bytes name))
-    (λ name. IsNameAt at.workspace.now.graph (known_in at.workspace.now.findings) at.number c.args.d (option_map name_bytes name))
+    (λ name. IsExportedName at.workspace.now.graph (known_in at.workspace.now.findings) at.number c.args.d (option_map name_bytes name))
     (λ name h. (p, (is, h))) c.own_name.ensures

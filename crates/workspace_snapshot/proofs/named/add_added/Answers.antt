@@ -3,7 +3,7 @@ use Rattle.std.proofs.Common.{◌≡◌, ◌+◌, ℕ, List, [], take, subst, ar
 use Rattle.std.proofs.lemmas.List.{take_all}
 use Rattle.base_lemmas.proofs.Elements.{nothing_in}
 use Rattle.workspace_graph.specs.Borrows.{names}
-use Rattle.workspace_snapshot.specs.Named.{AddsAll, IsPathOfAdded}
+use Rattle.workspace_snapshot.specs.Named.{AddsEachPath, IsPathOfAdded}
 use Rattle.workspace_snapshot.proofs.NamedPaths.{adds_none, adds_more, one_more}
 use Rattle.workspace_snapshot.proofs.named.add_added.Goals as goal
 
@@ -19,5 +19,5 @@ loop-file-preserved c =
     (one_more (λ (e : List ℕ × List ℕ) p. e.0 ≡ p) all k c.file-item.result c.loop-file-test.true c.file-item.is) c.loop-file.invariant c.in_ok-add_path.ensures
 
 pub returns : goal.returns
-returns c = subst (λ cs. AddsAll (IsPathOfAdded cs) (names c.args.paths.now.items) (names c.loop-file.paths.items))
+returns c = subst (λ cs. AddsEachPath (IsPathOfAdded cs) (names c.args.paths.now.items) (names c.loop-file.paths.items))
     (take_all c.loop-file.file-index c.args.added.now (omega (arith, c.loop-file-test.false))) c.loop-file.invariant

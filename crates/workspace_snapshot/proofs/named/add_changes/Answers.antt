@@ -3,7 +3,7 @@ use Rattle.std.proofs.Common.{◌+◌, [], take, subst, arith}
 use Rattle.std.proofs.lemmas.List.{take_all}
 use Rattle.base_lemmas.proofs.Elements.{nothing_in}
 use Rattle.workspace_graph.specs.Borrows.{names}
-use Rattle.workspace_snapshot.specs.Named.{AddsAll, IsPathOfChange, IsPathOfChanges}
+use Rattle.workspace_snapshot.specs.Named.{AddsEachPath, IsPathOfChange, IsPathOfChanges}
 use Rattle.workspace_snapshot.proofs.NamedPaths.{adds_none, adds_more, one_more}
 use Rattle.workspace_snapshot.proofs.named.add_changes.Goals as goal
 
@@ -19,5 +19,5 @@ loop-change-preserved c =
     (one_more IsPathOfChange all k c.change-item.result c.loop-change-test.true c.change-item.is) c.loop-change.invariant c.in_ok-add_change.ensures
 
 pub returns : goal.returns
-returns c = subst (λ cs. AddsAll (IsPathOfChanges cs) (names c.args.paths.now.items) (names c.loop-change.paths.items))
+returns c = subst (λ cs. AddsEachPath (IsPathOfChanges cs) (names c.args.paths.now.items) (names c.loop-change.paths.items))
     (take_all c.loop-change.change-index c.args.changes.now (omega (arith, c.loop-change-test.false))) c.loop-change.invariant

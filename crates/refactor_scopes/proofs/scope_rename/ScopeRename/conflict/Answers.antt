@@ -3,7 +3,7 @@ use Rattle.std.proofs.Common.{ℕ, ◌≡◌, ◌⊎◌, inl, inr, sym, subst, O
 use Rattle.go_scope.specs.Packages.{layout_in, names_in}
 use Rattle.go_scope.proofs.Nests.{nests}
 use Rattle.refactor_scopes.specs.declared.outcomes.ScopeConflict.{ScopeConflict}
-use Rattle.refactor_scopes.specs.Conflicts.{FirstConflictAmong, IsUseOf}
+use Rattle.refactor_scopes.specs.Conflicts.{FirstConflictAmong, IsUseInScopes}
 use Rattle.refactor_scopes.proofs.Firsts.{among_all, first_among}
 use Rattle.refactor_scopes.proofs.OutcomeLaws.{kept_stranger}
 use Rattle.refactor_scopes.proofs.scope_rename.ScopeRename.conflict.Goals as goal
@@ -18,7 +18,7 @@ returns c =
     let Named : ℕ → Type 0 = λ u. names u ≡ y in
     let Own : ℕ → Type 0 = λ u. u ≡ d in
     let Beside : ℕ → Type 0 = λ u. Named u ⊎ Own u in
-    let Use : ℕ → Type 0 = λ u. IsUseOf l names d u in
+    let Use : ℕ → Type 0 = λ u. IsUseInScopes l names d u in
     let F : Option ScopeConflict → Type 0 = λ o. FirstConflictAmong l names d y Beside o in
     let G : Option ScopeConflict → Type 0 = λ o. FirstConflictAmong l names d y (λ u. Beside u ⊎ Use u) o in
     let beside = subst F (sym c.first_of-beside.ensures)
