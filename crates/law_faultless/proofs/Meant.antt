@@ -60,7 +60,7 @@ literal_where (Some name) x true e = sym (unnamed_no_literal x.role e)
 literal_where None x true e = refl
 literal_where name x false e = refl
 
-literal_stays : (names : ℕ → Option (List ℕ)) (xs : List Site) (d : ℕ) →
+pub literal_stays : (names : ℕ → Option (List ℕ)) (xs : List Site) (d : ℕ) →
     is_literal (or_blank (slice_get (named_sites names xs) d)).role ≡ is_literal (or_blank (slice_get xs d)).role
 unfolding named_sites
 literal_stays names [] d = refl

@@ -77,7 +77,7 @@ fields_long rank (d ∷ ds) =
     omega (arith, first, later, a, b)
 
 -- as many names as functions
-functions_long : (path : List ℕ) (files : List SourceFile) (k : ℕ) (fs : List PlacedFunction) → length (functions_behind path files k fs) ≡ length fs
+pub functions_long : (path : List ℕ) (files : List SourceFile) (k : ℕ) (fs : List PlacedFunction) → length (functions_behind path files k fs) ≡ length fs
 functions_long path files k [] = refl
 functions_long path files k (f ∷ fs) = ap suc (functions_long path files (initializers_with files k f) fs)
 
@@ -106,7 +106,7 @@ signature_arity p f s h =
 
 -- files
 
-read_files : (w : Workspace) (known : Verdicts) (p q : List ℕ) (files : List SourceFile) → AreFilesSeen w p q files → IsInClosure w p q → (c : Package) →
+pub read_files : (w : Workspace) (known : Verdicts) (p q : List ℕ) (files : List SourceFile) → AreFilesSeen w p q files → IsInClosure w p q → (c : Package) →
     IsPackageIn w known q c → files ≡ c.files
 read_files w known p q files (within closed f) here c is =
     let whole = all_read f.parsed is.parsed in
@@ -115,7 +115,7 @@ read_files w known p q _ (beyond outside) here c is = absurd (outside here)
 
 -- members that are seen
 
-seen_one : {X : Type 0} (b : Bool) (x y : X) → (if b then Some x else None) ≡ Some y → Some x ≡ Some y
+pub seen_one : {X : Type 0} (b : Bool) (x y : X) → (if b then Some x else None) ≡ Some y → Some x ≡ Some y
 seen_one true x y e = e
 seen_one false x y e = absurd (none-some y e)
 

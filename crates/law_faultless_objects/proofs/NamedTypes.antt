@@ -30,14 +30,7 @@ use Rattle.law_faultless.specs.QuestionAnswers.{IsKnown}
 use Rattle.law_faultless.proofs.Fine.{seen_export_data}
 use Rattle.law_faultless.proofs.PackageWorlds.{have_all_worlds}
 use Rattle.law_faultless_objects.specs.Lines.{IsTypeNamed}
-
--- the files of a package that is seen are its own
-files_seen : (w : Workspace) (known : Verdicts) (p q : List ℕ) (files : List SourceFile) → AreFilesSeen w p q files → IsInClosure w p q → (c : Package) →
-    IsPackageIn w known q c → files ≡ c.files
-files_seen w known p q files (within closed f) here c is =
-    let whole = all_read f.parsed is.parsed in
-    f.are_files ∙ one_sources (subst (λ fs. AreParsed (package_files w q) f.parts fs) whole f.parsed) is.parsed ∙ sym (same_files w known q c is)
-files_seen w known p q _ (beyond outside) here c is = absurd (outside here)
+use Rattle.law_faultless.proofs.MembersSettled.{read_files}
 
 -- a type that a declaration means
 predeclared_named : (files_of : List ℕ → List SourceFile) {name : List ℕ} {m : Meaning} → PredeclaredMeans name m → (t : PlainType) → m ≡ TypeName t →
@@ -72,7 +65,7 @@ module _ (files_of : List ℕ → List SourceFile) (c : Package) (same : files_o
 module _ (w : Workspace) (sound : ListsFaults w []) (known : Verdicts) (right : AreVerdicts w known) (p : Package) (is : IsCheckedPackage w known p)
     (files_of : List ℕ → List SourceFile) (below : AreFilesBelow w p.path files_of) where
   own_files : files_of p.path ≡ p.files
-  own_files = files_seen w known p.path p.path (files_of p.path) (below p.path) (itself is.of_workspace) p is.is_checked
+  own_files = read_files w known p.path p.path (files_of p.path) (below p.path) (itself is.of_workspace) p is.is_checked
 
   seen_named : (q : List ℕ) (n : Option (List ℕ)) (i : ExportData) → IsSeenAs w sound.known p.path q n i → (name : List ℕ) (e : Export) →
       i.exported name ≡ Some e → (t : PlainType) → e.meaning ≡ TypeName t → IsTypeNamed files_of t
@@ -80,7 +73,7 @@ module _ (w : Workspace) (sound : ListsFaults w []) (known : Verdicts) (right : 
       let x = checked_package w sound q (to_package w p.path q on.imported) in
       let c = x.checked in
       let path : c.path ≡ q = ap (λ (y : Package). y.path) x.is_package.is_package.is_package in
-      let same : files_of c.path ≡ c.files = ap files_of path ∙ files_seen w sound.known p.path q (files_of q) (below q) on.imported c x.is_package in
+      let same : files_of c.path ≡ c.files = ap files_of path ∙ read_files w sound.known p.path q (files_of q) (below q) on.imported c x.is_package in
       let export = subst (IsExported c name) has (x.is_export_data.exported name) in
       meaning_named files_of c same export.declaration (Means e.meaning) export.by_declaration.means t (ap Means means)
   seen_named q _ _ (unseen away) name e has t means = absurd (none-some e has)

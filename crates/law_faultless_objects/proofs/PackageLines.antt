@@ -24,11 +24,7 @@ use Rattle.law_faultless.proofs.Bound.{file_typed}
 use Rattle.law_faultless.proofs.TypesBound.{Kept, all_kept}
 use Rattle.law_faultless_objects.specs.Lines.{Placed, placed_by, placed_in_file, HaveLines, none_left, HasEachLine, ObjectsHaveLines, TextsHaveLines}
 use Rattle.law_faultless_objects.proofs.DeclarationLines.{decls_lined, names_left}
-
--- as many names as functions
-functions_long : (path : List ℕ) (files : List SourceFile) (k : ℕ) (fs : List PlacedFunction) → length (functions_behind path files k fs) ≡ length fs
-functions_long path files k [] = refl
-functions_long path files k (f ∷ fs) = ap suc (functions_long path files (initializers_with files k f) fs)
+use Rattle.law_faultless.proofs.MembersSettled.{functions_long}
 
 module _ (w : Workspace) (sound : ListsFaults w []) (known : Verdicts) (right : AreVerdicts w known) (p : Package) (is : IsCheckedPackage w known p)
     (files_of : List ℕ → List SourceFile) (below : AreFilesBelow w p.path files_of) where

@@ -31,7 +31,7 @@ use Rattle.go_scope.proofs.Uniqueness.{same_or_not}
 use Rattle.types_declared.proofs.ByteKeys.{cases_bytes}
 use Rattle.workspace_check.specs.Verdicts.{Verdicts}
 use Rattle.workspace_snapshot.specs.declared.change.Change.{Change}
-use Rattle.law_tokens.proofs.HeldBytes.{one_index}
+use Rattle.law_tokens.proofs.HeldBytes.{one_index, follows}
 use Rattle.refactor_rename.specs.declared.renamed.Literal.{Literal}
 use Rattle.refactor_rename.specs.declared.renamed.Renamed.{Renamed}
 use Rattle.refactor_rename.specs.FileEdits.{IsLiteralAt, InsertsName, IsEditAt, AreFileEdits}
@@ -71,22 +71,14 @@ one_literal : (o : Option Literal) (path : List ℕ) (i j : ℕ) → IsLiteralAt
 one_literal None path i j h k = absurd h
 one_literal (Some l) path i j h k = sym h.1 ∙ k.1
 
--- tokens lie apart
-starts_from : (from to : ℕ) (ts : List Piece) → FollowFrom from ts to → (j : ℕ) (b : Piece) → slice_get ts j ≡ Some b → from ≤ b.span.start
-starts_from from to [] h j b at = absurd (none-some b at)
-starts_from from to (t ∷ ts) h zero b at = subst (λ (p : Piece). from ≤ p.span.start) (same_Some t b at) h.0
-starts_from from to (t ∷ ts) h (suc j) b at =
-    let rest : t.span.end ≤ b.span.start = starts_from t.span.end to ts h.2 j b at in
-    omega (arith, h.0, h.1, rest)
-
 lie_apart : (from to : ℕ) (ts : List Piece) → FollowFrom from ts to → (i j : ℕ) (a b : Piece) → (i ≡ j → ⊥) → slice_get ts i ≡ Some a →
     slice_get ts j ≡ Some b → (b.span.end ≤ a.span.start) ⊎ (a.span.end ≤ b.span.start)
 lie_apart from to [] h i j a b other is at = absurd (none-some a is)
 lie_apart from to (t ∷ ts) h zero zero a b other is at = absurd (other refl)
 lie_apart from to (t ∷ ts) h zero (suc j) a b other is at =
-    inr (subst (λ (p : Piece). p.span.end ≤ b.span.start) (same_Some t a is) (starts_from t.span.end to ts h.2 j b at))
+    inr (subst (λ (p : Piece). p.span.end ≤ b.span.start) (same_Some t a is) (follows t.span.end to ts h.2 j b at))
 lie_apart from to (t ∷ ts) h (suc i) zero a b other is at =
-    inl (subst (λ (p : Piece). p.span.end ≤ a.span.start) (same_Some t b at) (starts_from t.span.end to ts h.2 i a is))
+    inl (subst (λ (p : Piece). p.span.end ≤ a.span.start) (same_Some t b at) (follows t.span.end to ts h.2 i a is))
 lie_apart from to (t ∷ ts) h (suc i) (suc j) a b other is at = lie_apart t.span.end to ts h.2 i j a b (λ e. other (ap suc e)) is at
 
 not_below : (x : ℕ) → nat_cmp x x ≡ Less → ⊥

@@ -106,7 +106,7 @@ named_token : (o : Option Piece) → IsNameToken o → (t : Piece) × ((o ≡ So
 named_token None h = absurd h
 named_token (Some t) h = (t, (refl, h))
 
-file_at : (o : Option SourceFile) (i : ℕ) (path : List ℕ) (offset : ℕ) → NameBegins o i path offset → (s : SourceFile) × (o ≡ Some s)
+pub file_at : (o : Option SourceFile) (i : ℕ) (path : List ℕ) (offset : ℕ) → NameBegins o i path offset → (s : SourceFile) × (o ≡ Some s)
 file_at None i path offset h = absurd h
 file_at (Some s) i path offset h = (s, refl)
 

@@ -22,10 +22,7 @@ use Rattle.law_renamed_packages.proofs.NameTokens.{named_as_spelled}
 use Rattle.law_local_renames.specs.OtherPackages.{SelectorsKeepNames}
 use Rattle.law_local_renames.specs.LocalRenames.{IsLocalRename, IsApart}
 use Rattle.law_local_renames.proofs.KeptNames.{names_stay}
-
-file_at : (o : Option SourceFile) (i : ℕ) (path : List ℕ) (offset : ℕ) → NameBegins o i path offset → (s : SourceFile) × (o ≡ Some s)
-file_at None i path offset h = absurd h
-file_at (Some s) i path offset h = (s, refl)
+use Rattle.law_kept_members.proofs.Called.{file_at}
 
 module _ (w : Workspace) (known : Verdicts) (p : Package) (n : ℕ) (name : List ℕ) (s : FileChanges) (h : IsLocalRename w known p n name s) (x : Package)
     (is : IsCheckedPackage w known x) (u : ℕ) (place : Place) (begins : BeginsAt x place.path place.offset u) where

@@ -102,7 +102,7 @@ no_init true false = refl
 no_init false true = refl
 no_init false false = refl
 
-init_matters : (r : Option ReceiverTree) (old new breaks : Bool) → (r ≡ None → new ≡ old) →
+pub init_matters : (r : Option ReceiverTree) (old new breaks : Bool) → (r ≡ None → new ≡ old) →
     (new && (is_none r && breaks)) ≡ (old && (is_none r && breaks))
 init_matters None old new breaks e = ap (λ (z : Bool). z && breaks) (e refl)
 init_matters (Some r) old new breaks e = no_init old new

@@ -35,16 +35,12 @@ use Rattle.law_moved_types.proofs.Worlds.{worlds_move}
 use Rattle.law_moved_members.proofs.MembersStay.{use_called}
 use Rattle.law_move_agreement.specs.Moving.{AreScopedMoves, AreCheckedMoves}
 use Rattle.law_move_agreement.proofs.MovedTo.{Becomes, IsMovedTo, becomes, field_there, method_there, moved_declaration, moved_to, q, x}
+use Rattle.law_rename_agrees.proofs.MembersBound.{declared_here}
 
 member_moves : (g : PathMap) (m : Member) → declaration_of (moved_member g m) ≡ moved_declaration g (declaration_of m)
 member_moves g (AField s t) = refl
 member_moves g (AMethod s p f) = refl
 member_moves g (ABrokenMethod s) = refl
-
--- the name of a member is declared where it begins
-pub declared_here : (w : Workspace) (known : Verdicts) (p : Package) → IsCheckedPackage w known p → (u : ℕ) (place : Place) → BeginsAt p place.path place.offset u →
-    (d : Declaration) → DeclaresMember p u d → IsDeclaredAt (IsCheckedPackage w known) d place
-declared_here w known p is u place b d h = by_kind d h
   where
     token : TokenAt p (p.layout.place u) place
     token = name_token (slice_get p.files (p.layout.place u).file) (p.layout.place u).index place b.1

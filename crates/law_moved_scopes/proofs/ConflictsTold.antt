@@ -58,18 +58,10 @@ use Rattle.law_moved_scopes.proofs.NamesAt.{names_apart}
 use Rattle.law_moved_scopes.proofs.NamesMove.{is_there, named_old}
 use Rattle.law_moved_scopes.proofs.AfterMove as after
 use Rattle.law_moved_scopes.proofs.PlacesApart.{move_apart}
+use Rattle.law_scope_conflicts.proofs.Together.{binds_number}
 
 not_universal : PackageBlock ≡ Universe → ⊥
 not_universal e = cc
-
-binds_number : (p : Package) (u m : ℕ) (d : Declaration) → IsOwnNumber p m d → IsBoundTo p.layout p.names u m → BindsByScope p u d
-binds_number p u m (Predeclared k) h b = subst (λ j. IsPredeclaredNumber j × IsBoundTo p.layout p.names u j) (sym h.0) (h.1, b)
-binds_number p u m (Declared path k) h b =
-    let both : (IsPredeclaredNumber k → ⊥) × IsBoundTo p.layout p.names u k =
-    subst (λ j. (IsPredeclaredNumber j → ⊥) × IsBoundTo p.layout p.names u j) (sym h.1) (h.2, b) in
-    (h.0, both.0, both.1)
-binds_number p u m (Field f) h b = absurd h
-binds_number p u m (Method f) h b = absurd h
 
 -- the token of an identifier that begins at a place
 token_of : (p : Package) (u : ℕ) (place : Place) → BeginsAt p place.path place.offset u → IsToken p (p.layout.place u) place

@@ -41,6 +41,7 @@ use Rattle.refs_lookup.proofs.HeaderStrings.{is_import_literal}
 use Rattle.refs_lookup.proofs.ImportSites.{literal_within, literal_file, import_identifies}
 use Rattle.law_faultless.proofs.Declared.{given, name_is, old_site, role_is, sites}
 use Rattle.law_renamed_scopes.proofs.Standing.{literal_role}
+use Rattle.law_faultless.proofs.Meant.{literal_stays}
 
 -- names of imports do not change which identifiers are literals of imports with names
 
@@ -53,8 +54,6 @@ literal_where (Some name) x true e = sym (not_named x.role e)
 literal_where None x true e = refl
 literal_where name x false e = refl
 
-literal_stays : (names : ℕ → Option (List ℕ)) (xs : List Site) (d : ℕ) →
-    is_literal (or_blank (slice_get (named_sites names xs) d)).role ≡ is_literal (or_blank (slice_get xs d)).role
 unfolding named_sites
 literal_stays names [] d = refl
 literal_stays names (x ∷ xs) zero = literal_where (names 0) x (is_unnamed_import x.role) refl

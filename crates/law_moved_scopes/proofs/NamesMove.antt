@@ -79,6 +79,7 @@ use Rattle.law_moved_scopes.proofs.AfterMove.{after, bare_after, checked, checke
 use Rattle.law_moved_scopes.proofs.AfterMove.{moved, new_name, new_name_is, old_name, old_value, size_same, universe_same, v}
 use Rattle.law_moved_scopes.proofs.ImportTokens.{declares_name, has_path, literal_among, to_plain}
 use Rattle.law_moved_scopes.proofs.NamesAt.{called_so, name_put, name_stays, name_token}
+use Rattle.law_scoped_packages.proofs.There.{first_file}
 
 split_lexical : (r : Role) → is_lexical r ≡ true → (is_use r ≡ true) ⊎ (may_declare r ≡ true)
 split_lexical Use e = inl refl
@@ -107,12 +108,6 @@ implied_left (NotLexical p) e k = true≢false (sym e)
 unnamed_may : (r : Role) → is_unnamed_import r ≡ true → may_declare r ≡ true → ⊥
 unnamed_may (NotLexical purpose.UnnamedImport) e k = true≢false (sym k)
 unnamed_may r e k = true≢false (sym e)
-
--- the first file of a package
-first_file : (w : Workspace) (path : List ℕ) (e : List ℕ × List ℕ) → Contains (package_files w path) e → (es : List (List ℕ × List ℕ)) →
-    package_files w path ≡ es → (first : List ℕ × List ℕ) × ((rest : List (List ℕ × List ℕ)) × (package_files w path ≡ first ∷ rest))
-first_file w path e has [] is = absurd (nothing_in e (subst (λ es. Contains es e) is has))
-first_file w path e has (first ∷ rest) is = (first, (rest, is))
 
 -- In a workspace without faults no declaration is repeated.
 pub all_count : (w : Workspace) (known : Verdicts) (from to : List ℕ) (s : FileChanges) → IsMove w known from to s → (p : Package) →

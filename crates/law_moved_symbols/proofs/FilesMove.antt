@@ -31,6 +31,7 @@ use Rattle.law_moved_symbols.proofs.LiteralsMove.{moved_written, named_type_move
 use Rattle.law_moved_symbols.proofs.SidesMove.{moved_targets, rhs_moves, counts_stay, all_refused_stay, with_locals_moves}
 use Rattle.law_moved_symbols.proofs.PartsMove.{IsMoved, unchecked, same_as, and_then, part, faulty, declared_after, items, group}
 use Rattle.law_moved_symbols.proofs.SimpleMove.{condition, simple, optional_simple, optional_condition, local, written_locals_move, constant_moves}
+use Rattle.law_member_uses.proofs.FileUses.{init_matters}
 
 -- statements
 
@@ -197,11 +198,6 @@ no_init true true = refl
 no_init true false = refl
 no_init false true = refl
 no_init false false = refl
-
-init_matters : (r : Option ReceiverTree) (old new breaks : Bool) → (r ≡ None → new ≡ old) →
-    (new && (is_none r && breaks)) ≡ (old && (is_none r && breaks))
-init_matters None old new breaks e = ap (λ (z : Bool). z && breaks) (e refl)
-init_matters (Some r) old new breaks e = no_init old new
 
 empty_stays : (m : Move) (ts : List Target) → is_empty_list (moved_targets m ts) ≡ is_empty_list ts
 empty_stays m [] = refl

@@ -16,7 +16,7 @@ use Rattle.types_declared.specs.Written.{pointer, slice, basic_name, written_typ
 use Rattle.types_declared.specs.Written.{through, IsTypeOf}
 use Rattle.types_declared.specs.MeaningOf.{AreTypesOf}
 use Rattle.law_same_bindings.specs.SameBindings.{IsDotted, IsSelectedAt, AreTypesDotted}
-use Rattle.law_same_bindings.proofs.Alike.{ranked_by, got_by}
+use Rattle.law_same_bindings.proofs.Alike.{ranked_by, got_by, found_by}
 use Rattle.law_same_bindings.proofs.Dotted.{types_dotted}
 use Rattle.law_same_bindings.proofs.Listed.{same_variables, same_types, same_functions}
 use Rattle.law_moved_symbols.specs.Moved.{PathMap, IsInjective, moved_symbol, moved_type, moved_meaning}
@@ -25,11 +25,6 @@ use Rattle.law_moved_types.specs.MovedPackage.{IsMovedPackage, moved_export}
 use Rattle.law_moved_types.proofs.Inversions.{some_back, type_name_back}
 
 -- tokens
-
--- the identifier at a token, by equal layouts and sizes
-found_by : (l k : Layout) (m n : ℕ) (at : Position) (u : ℕ) → k ≡ l → n ≡ m → IsFoundAt l m at u → IsFoundAt k n at u
-found_by l k m n at u layout size found =
-    subst (λ (x : Layout). IsFoundAt x n at u) (sym layout) (subst (λ i. IsFoundAt l i at u) (sym size) found)
 
 module _ (g : PathMap) (inj : IsInjective g) (p q : Package) (a : IsMovedPackage g p q) where
   pub same_place_types : package_types q ≡ package_types p

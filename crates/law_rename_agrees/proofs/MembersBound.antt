@@ -39,7 +39,7 @@ use Rattle.law_rename_agrees.proofs.ScopedFaultless.{faultless}
 token_there : (p : Package) (u : ℕ) (place : Place) → BeginsAt p place.path place.offset u → TokenAt p (p.layout.place u) place
 token_there p u place b = name_token (slice_get p.files (p.layout.place u).file) (p.layout.place u).index place b.1
 
-declared_here : (w : Workspace) (known : Verdicts) (p : Package) → IsCheckedPackage w known p → (u : ℕ) (place : Place) → BeginsAt p place.path place.offset u →
+pub declared_here : (w : Workspace) (known : Verdicts) (p : Package) → IsCheckedPackage w known p → (u : ℕ) (place : Place) → BeginsAt p place.path place.offset u →
     (d : Declaration) → DeclaresMember p u d → IsDeclaredAt (IsCheckedPackage w known) d place
 declared_here w known p is u place b (Predeclared n) h = absurd h
 declared_here w known p is u place b (Declared path n) h = absurd h

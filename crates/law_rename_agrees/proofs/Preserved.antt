@@ -51,6 +51,7 @@ use Rattle.law_rename_agrees.specs.Agreement.{PlainPreservedLosesNone}
 use Rattle.law_rename_agrees.proofs.Premises.{HasMovedTokens, KeptPackagesAreRelaid, HasSameScopes, FaultlessPackagesAreScoped}
 use Rattle.law_rename_agrees.proofs.Premises.{IsKeptRename, SelectorsStayQualified, KeptMembersStay}
 use Rattle.law_rename_agrees.proofs.ScopedPlaces.{same_use}
+use Rattle.refs_lookup.proofs.Standing.{token_file}
 
 -- Bindings are kept whichever right verdicts they are found with.
 module _ (w : Workspace) (a b : Verdicts) (right : AreVerdicts w a) (also : AreVerdicts w b) where
@@ -130,11 +131,6 @@ module _ (q o : Package) (same : HasSameScopes q o) where
     };
     begins = subst (λ fs. TokenBegins (slice_get fs h.at.file) h.at.index place) (sym same.files) h.begins;
   }
-
--- a declaration is declared in the folder of its package
-token_file : (o : Option SourceFile) (token : ℕ) (place : Place) → TokenBegins o token place → (f : SourceFile) × ((o ≡ Some f) × (f.path ≡ place.path))
-token_file None token place h = absurd h
-token_file (Some f) token place h = (f, (refl, h.0))
 
 declared_folder : (w : Workspace) (known : Verdicts) (path : List ℕ) (n : ℕ) (place : Place) → IsDeclaredAt (IsCheckedPackage w known) (Declared path n) place →
     folder place.path ≡ path

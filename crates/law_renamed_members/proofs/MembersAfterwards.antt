@@ -16,12 +16,9 @@ use Rattle.refs_binding.proofs.MemberParts.{method_declared}
 use Rattle.refactor_after.specs.MembersAfter.{IsFieldOfStruct, IsMethodOfOwner, IsMemberAfter}
 use Rattle.law_renamed_packages.specs.MovedExports.{field_called, method_called}
 use Rattle.law_renamed_members.specs.MembersMoved.{HasFirstField, HasFirstMethod, IsDefinitionAfter}
+use Rattle.law_faultless.proofs.MembersSettled.{seen_one}
 
 -- a seen member is one of the definition
-
-kept : {X : Type 0} (b : Bool) (x y : X) → (if b then Some x else None) ≡ Some y → Some x ≡ Some y
-kept true x y e = e
-kept false x y e = absurd (none-some y e)
 
 pub kept_seen : {X : Type 0} (b : Bool) (x y : X) → (if b then Some x else None) ≡ Some y → b ≡ true
 kept_seen true x y e = refl
@@ -29,11 +26,11 @@ kept_seen false x y e = absurd (none-some y e)
 
 pub field_there : (own : List ℕ) (o : Option Field) (f : Field) → seen_field own o ≡ Some f → o ≡ Some f
 field_there own None f e = absurd (none-some f e)
-field_there own (Some g) f e = kept (is_seen own g.symbol g.exported) g f e
+field_there own (Some g) f e = seen_one (is_seen own g.symbol g.exported) g f e
 
 pub method_there : (own : List ℕ) (o : Option Method) (m : Method) → seen_method own o ≡ Some m → o ≡ Some m
 method_there own None m e = absurd (none-some m e)
-method_there own (Some n) m e = kept (is_seen own n.symbol n.exported) n m e
+method_there own (Some n) m e = seen_one (is_seen own n.symbol n.exported) n m e
 
 field_seen : (own : List ℕ) (f : Field) → is_seen own f.symbol f.exported ≡ true → seen_field own (Some f) ≡ Some f
 field_seen own f e = ap (λ b. if b then Some f else None) e

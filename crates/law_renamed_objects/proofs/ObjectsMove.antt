@@ -27,7 +27,7 @@ use Rattle.workspace_check.proofs.Closed.{to_package, from_package}
 use Rattle.workspace_check.proofs.PackageFiles.{at_rank}
 use Rattle.workspace_check.proofs.OnePackage.{all_read, one_sources}
 use Rattle.workspace_check.proofs.OneVerdict.{right_below}
-use Rattle.workspace_check.proofs.SameImports.{imports_back}
+use Rattle.workspace_check.proofs.SameImports.{imports_back, closed_by}
 use Rattle.refs_binding.specs.declared.declaration.Declaration.{Declaration}
 use Rattle.refs_binding.specs.Uses.{IsCheckedPackage}
 use Rattle.refs_lookup.proofs.OnePlace.{same_files}
@@ -63,10 +63,6 @@ use Rattle.law_replaced_names.proofs.DeclarationsBy.{object_with}
 use Rattle.law_renamed_objects.proofs.NamesMoved.{AreNames, MovesNames}
 use Rattle.law_renamed_objects.proofs.Sourced.{files_now, files_were, new, is_new, is_by}
 use Rattle.law_replaced_names.specs.SourcesBy.{AreSourcesBy, IsSourceBy, a_source, no_tree}
-
-closed_by : (v w : Workspace) → HaveSameImports v w → (p q : List ℕ) → IsInClosure v p q → IsInClosure w p q
-closed_by v w same p _ (itself has) = itself (subst (λ ps. Contains ps p) same.paths has)
-closed_by v w same p r (through {q = m} i rest) = through ((same.imports p m (from_package v m r rest)).0 i) (closed_by v w same m r rest)
 
 -- The names of the declarations of files.
 

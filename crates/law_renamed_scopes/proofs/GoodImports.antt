@@ -44,17 +44,12 @@ use Rattle.refs_binding.proofs.Alike.{package_for}
 use Rattle.types_info.proofs.MeaningLists.{slice_get_some}
 use Rattle.law_renamed_packages.proofs.NameEdits.{ranked}
 use Rattle.law_renamed_packages.proofs.Packages.{tree_of}
+use Rattle.refs_lookup.proofs.Faultless.{all_decided}
 
 -- what follows whether or not a claim is true of each path follows
 
 abbrev IsDecided : (List ℕ → Type 0) → List ℕ → Type 0
 IsDecided P q = P q ⊎ (P q → ⊥)
-
-all_decided : (P : List ℕ → Type 0) (qs : List (List ℕ)) → (((q : List ℕ) → Contains qs q → IsDecided P q) → ⊥) → ⊥
-all_decided P [] k = k (λ q h. absurd (nothing_in q h))
-all_decided P (q ∷ qs) k =
-    all_decided P qs
-    (λ rest. no_more (λ d. k (λ r h. elim (first_or_later q qs r h) [ inl e ↦ subst (IsDecided P) e d | inr c ↦ rest r c ])))
   where
     no_more : (IsDecided P q → ⊥) → ⊥
     no_more n = n (inr (λ a. n (inl a)))

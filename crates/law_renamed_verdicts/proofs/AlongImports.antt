@@ -31,7 +31,7 @@ use Rattle.workspace_check.proofs.FaultFiles.{in_outer, some_source}
 use Rattle.workspace_check.proofs.OneList.{no_fault, is_faultless}
 use Rattle.workspace_check.proofs.OnePackage.{one_checked, one_sources, layout_formed, files_in_order}
 use Rattle.workspace_check.proofs.OneVerdict.{one_verdict, right_below, verdict_by, without_faults}
-use Rattle.workspace_check.proofs.SameImports.{imports_back, builds_by}
+use Rattle.workspace_check.proofs.SameImports.{imports_back, builds_by, closed_by}
 use Rattle.workspace_check.proofs.Unread.{none_unread}
 use Rattle.refs_binding.specs.declared.declaration.Declaration.{Declaration}
 use Rattle.refs_binding.specs.Uses.{IsCheckedPackage}
@@ -51,10 +51,6 @@ use Rattle.law_renamed_verdicts.proofs.DeclaredNames.{level_names}
 use Rattle.law_renamed_verdicts.proofs.ExportsMove.{exports_move}
 use Rattle.law_renamed_verdicts.proofs.NoFaults.{NoFaultComesBelow}
 use Rattle.law_renamed_verdicts.proofs.OuterFaults.{new_sources, name_stays, no_outer_fault}
-
-closed_by : (v w : Workspace) → HaveSameImports v w → (p q : List ℕ) → IsInClosure v p q → IsInClosure w p q
-closed_by v w same p _ (itself has) = itself (subst (λ ps. Contains ps p) same.paths has)
-closed_by v w same p r (through {q = m} i rest) = through ((same.imports p m (from_package v m r rest)).0 i) (closed_by v w same m r rest)
 
 -- The verdicts on all packages that the package at the path builds on have moved.
 abbrev HaveMovedBelow : Workspace → (before after : Verdicts) → Revision → List ℕ → Type 0

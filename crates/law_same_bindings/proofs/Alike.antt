@@ -52,7 +52,7 @@ of_bound p q a = record {
 
 -- by layouts
 
-found_by : (l k : Layout) (m n : ℕ) (at : Position) (u : ℕ) → k ≡ l → n ≡ m → IsFoundAt l m at u → IsFoundAt k n at u
+pub found_by : (l k : Layout) (m n : ℕ) (at : Position) (u : ℕ) → k ≡ l → n ≡ m → IsFoundAt l m at u → IsFoundAt k n at u
 found_by l k m n at u layout size found =
     subst (λ (x : Layout). IsFoundAt x n at u) (sym layout) (subst (λ i. IsFoundAt l i at u) (sym size) found)
 

@@ -34,6 +34,7 @@ use Rattle.law_same_bindings.specs.SameBindings.{IsParsedPackage}
 use Rattle.law_same_bindings.proofs.Alike.{Alike, turned, symbols, got_by}
 use Rattle.law_same_bindings.proofs.Types.{has_underlying}
 use Rattle.law_same_bindings.proofs.Meanings.{name}
+use Rattle.types_info.proofs.OneWorld.{one_underlying_of}
 
 -- packages of parsed files
 
@@ -71,12 +72,6 @@ underlying_of p q a rank _ (has_none none) =
     (has_none (λ u h. none u
     (subst (λ (s : Symbol). HasUnderlying p (Defined s) u) (symbols p q a rank) (has_underlying q p back (Defined (symbol_in q rank)) u h))))
 
-one_of : (p : Package) → WellFormed p.layout → (rank : ℕ) (u v : Underlying) → IsUnderlyingOf p rank u → IsUnderlyingOf p rank v → u ≡ v
-one_of p w rank u v (has h) (has k) = one_underlying p w (Defined (symbol_in p rank)) u v h k
-one_of p w rank u _ (has h) (has_none none) = absurd (none u h)
-one_of p w rank _ v (has_none none) (has k) = absurd (none v k)
-one_of p w rank _ _ (has_none none) (has_none other) = refl
-
 module _ (p q : Package) (a : Alike p q) (w : WellFormed p.layout) (c d : Symbol → Definition) (before : AreDefinitions p c) (after : AreDefinitions q d) where
   by_rank : (rank : ℕ) (o : Option PlacedType) → slice_get (package_types p) rank ≡ o →
       (d (symbol_in q rank)).underlying ≡ (c (symbol_in p rank)).underlying
@@ -86,7 +81,7 @@ module _ (p q : Package) (a : Alike p q) (w : WellFormed p.layout) (c d : Symbol
       ∙ ap (λ s. (no_definition s).underlying) (symbols p q a rank)
       ∙ sym (ap (λ (x : Definition). x.underlying) (before.beyond rank at))
   by_rank rank (Some t) at =
-      one_of p w rank (d (symbol_in q rank)).underlying (c (symbol_in p rank)).underlying
+      one_underlying_of p w rank (d (symbol_in q rank)).underlying (c (symbol_in p rank)).underlying
       (underlying_of q p (turned p q a) rank (d (symbol_in q rank)).underlying
       (after.own rank t (got_by (package_types p) (package_types q) rank t a.types at)).underlying)
       (before.own rank t at).underlying

@@ -35,7 +35,7 @@ use Rattle.refactor_conflict.specs.BoundAfter.{HasBecome, IsExportAfter, IsBound
 use Rattle.refactor_conflict.specs.Conflicts.{IsCapturer, LostOrCaptured, is_lost, is_captured}
 use Rattle.refactor_conflict.specs.Staying.{StaysBound, StaysByPackage}
 use Rattle.refactor_conflict.specs.declared.conflict.Capturer.{Capturer}
-use Rattle.refactor_conflict.proofs.BoundAfter.{counted_export}
+use Rattle.refactor_conflict.proofs.BoundAfter.{counted_export, one_goal}
 use Rattle.law_renamed_scopes.proofs.OwnNames.{counted, in_universe, own_renames}
 use Rattle.law_renamed_scopes.proofs.Renamed.{bound_is_called, others_are_kept, others_stay}
 use Rattle.refs_binding.proofs.Excluding.{one_behind}
@@ -44,12 +44,6 @@ use Rattle.law_scope_conflicts.specs.Behind.{TurnsBehind, TakenBehind, TurnsQual
 use Rattle.law_scope_conflicts.specs.ScopeRenames.{IsRenameIn}
 use Rattle.law_scope_conflicts.proofs.Afterwards.{KeepsPackages, becomes_once, other_bindings, same_number, same_path}
 use Rattle.law_scope_conflicts.proofs.SeenAgain.{IsCalled, seen_once, seen_still, turns_lost, turns_caught, lost_unseen, caught_seen}
-
--- a package is moved to one folder
-one_goal : (w : Workspace) (r : Revision) (path a b : List ℕ) → PackageMovesTo w r path a → PackageMovesTo w r path b → a ≡ b
-one_goal w r path a b h k =
-    let first : h.first ≡ k.first = same_Some h.first k.first (ap (λ l. slice_get l 0) (sym h.files ∙ k.files)) in
-    h.goes ∙ ap (λ (f : List ℕ × List ℕ). folder (r.moved (record { path = f.0; offset = 0 })).path) first ∙ sym k.goes
 
 other_block : Universe ≡ PackageBlock → ⊥
 other_block e = cc

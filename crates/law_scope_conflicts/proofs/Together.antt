@@ -77,7 +77,7 @@ stays_by w known p n name s h keeps members place own free x is u begins = recor
 
 -- Each conflict is one of the change.
 
-binds_number : (p : Package) (u m : ℕ) (d : Declaration) → IsOwnNumber p m d → IsBoundTo p.layout p.names u m → BindsByScope p u d
+pub binds_number : (p : Package) (u m : ℕ) (d : Declaration) → IsOwnNumber p m d → IsBoundTo p.layout p.names u m → BindsByScope p u d
 binds_number p u m (Predeclared k) h b = subst (λ j. IsPredeclaredNumber j × IsBoundTo p.layout p.names u j) (sym h.0) (h.1, b)
 binds_number p u m (Declared path k) h b =
     let both : (IsPredeclaredNumber k → ⊥) × IsBoundTo p.layout p.names u k =

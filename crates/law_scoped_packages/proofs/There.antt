@@ -29,7 +29,7 @@ use Rattle.law_scoped_packages.proofs.PathsStay.{keeps_path}
 use Rattle.law_scoped_packages.proofs.ScopedAfter.{scoped_relaid}
 
 -- the first file of a package
-first_file : (w : Workspace) (path : List ℕ) (e : List ℕ × List ℕ) → Contains (package_files w path) e → (es : List (List ℕ × List ℕ)) →
+pub first_file : (w : Workspace) (path : List ℕ) (e : List ℕ × List ℕ) → Contains (package_files w path) e → (es : List (List ℕ × List ℕ)) →
     package_files w path ≡ es → (first : List ℕ × List ℕ) × ((rest : List (List ℕ × List ℕ)) × (package_files w path ≡ first ∷ rest))
 first_file w path e has [] is = absurd (nothing_in e (subst (λ es. Contains es e) is has))
 first_file w path e has (first ∷ rest) is = (first, (rest, is))

@@ -37,7 +37,7 @@ use Rattle.law_tokens.proofs.Places.{Marks, marked, one_has_place, plainly_stand
 
 -- the tokens of a cut, of which one holds a byte
 
-follows : (from to : ℕ) (ts : List Piece) → FollowFrom from ts to → (j : ℕ) (b : Piece) → slice_get ts j ≡ Some b → from ≤ b.span.start
+pub follows : (from to : ℕ) (ts : List Piece) → FollowFrom from ts to → (j : ℕ) (b : Piece) → slice_get ts j ≡ Some b → from ≤ b.span.start
 follows from to [] h j b at = absurd (none-some b at)
 follows from to (t ∷ ts) h zero b at = subst (λ (p : Piece). from ≤ p.span.start) (same_Some t b at) h.0
 follows from to (t ∷ ts) h (suc j) b at =

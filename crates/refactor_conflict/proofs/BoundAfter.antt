@@ -67,7 +67,7 @@ bound_here w bs place b e are is same =
 pub goes_nowhere : (w : Workspace) (r : Revision) (path : List ℕ) → package_files w path ≡ [] → (to : List ℕ) → PackageMovesTo w r path to → ⊥
 goes_nowhere w r path none to h = none-some h.first (ap (λ l. slice_get l 0) (sym none ∙ h.files))
 
-one_goal : (w : Workspace) (r : Revision) (path a b : List ℕ) → PackageMovesTo w r path a → PackageMovesTo w r path b → a ≡ b
+pub one_goal : (w : Workspace) (r : Revision) (path a b : List ℕ) → PackageMovesTo w r path a → PackageMovesTo w r path b → a ≡ b
 one_goal w r path a b h k =
     let first : h.first ≡ k.first = same_Some h.first k.first (ap (λ l. slice_get l 0) (sym h.files ∙ k.files)) in
     h.goes ∙ ap (λ (f : List ℕ × List ℕ). folder (r.moved (record { path = f.0; offset = 0 })).path) first ∙ sym k.goes

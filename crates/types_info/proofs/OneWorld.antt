@@ -78,7 +78,7 @@ one_method p w definition name (Some x) (Some y) a b =
 
 -- definitions
 
-one_underlying_of : (p : Package) → WellFormed p.layout → (rank : ℕ) (u v : Underlying) → IsUnderlyingOf p rank u → IsUnderlyingOf p rank v → u ≡ v
+pub one_underlying_of : (p : Package) → WellFormed p.layout → (rank : ℕ) (u v : Underlying) → IsUnderlyingOf p rank u → IsUnderlyingOf p rank v → u ≡ v
 one_underlying_of p w rank u v (has h) (has k) = one_underlying p w (Defined (symbol_in p rank)) u v h k
 one_underlying_of p w rank u _ (has h) (has_none none) = absurd (none u h)
 one_underlying_of p w rank _ v (has_none none) (has k) = absurd (none v k)

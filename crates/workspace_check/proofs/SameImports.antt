@@ -39,7 +39,7 @@ imports_back v w same = record {
   imports = λ p q has. (let both = same.imports p q (subst (λ ps. Contains ps q) (sym same.paths) has) in (both.1, both.0));
 }
 
-closed_by : (v w : Workspace) → HaveSameImports v w → (p q : List ℕ) → IsInClosure v p q → IsInClosure w p q
+pub closed_by : (v w : Workspace) → HaveSameImports v w → (p q : List ℕ) → IsInClosure v p q → IsInClosure w p q
 closed_by v w same p _ (itself has) = itself (subst (λ ps. Contains ps p) same.paths has)
 closed_by v w same p r (through {q = m} i rest) = through ((same.imports p m (from_package v m r rest)).0 i) (closed_by v w same m r rest)
 
