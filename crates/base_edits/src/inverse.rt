@@ -3,9 +3,11 @@ ghost use Rattle.std.specs.Prelude.{◌≡◌, IfOk, IfErr, OnOk, OnErr};
 ghost use Rattle.base_edits.specs.EditSet.{edited};
 ghost use Rattle.base_edits.specs.Fits.{Fits};
 ghost use Rattle.base_edits.specs.Inverse.{AreChanges, IsInverse};
+ghost use Rattle.base_edits.specs.Prepared.{IsPrepared};
 
 use crate::change::FileChange;
 use crate::prepared::{Prepared, prepare_changes};
+use crate::way_back::WayBack;
 use base_files::{FileText, Files, Path};
 use std::alloc::AllocError;
 use std::marker::Model;
@@ -37,6 +39,36 @@ impl Inverse {
         ensures { result ≡ record { changed = changed.items; added = added.items } }
     {
         Inverse { changed, added }
+    }
+
+    /// The changes of files.
+    pub fn changed(&self) -> &[FileChange]
+        ensures { result.now ≡ self.now.changed }
+    {
+        self.changed.as_slice()
+    }
+
+    /// The files that are added again, as pairs of path and text.
+    pub fn added(&self) -> &[(Path, FileText)]
+        ensures { result.now ≡ self.now.added }
+    {
+        self.added.as_slice()
+    }
+
+    /// Makes the files to which the inverse leads from these files, with the inverse of that. Nothing changes.
+    pub fn prepare(&self, files: &Files) -> Result<Prepared, AllocError>
+        requires { Fits self.now files.now }
+        ensures { IfOk result (IsPrepared self.now files.now) }
+    {
+        prepare_changes(*self.changed.allocator(), files, &self.changed, &self.added)
+    }
+
+    /// The same changes as plain data. It takes no memory.
+    pub fn set_aside(self) -> WayBack
+        ensures { result ≡ self }
+    {
+        let Inverse { changed, added } = self;
+        WayBack::new(changed, added)
     }
 
     /// Restores the files before the edit set, and returns the inverse of that. For want of memory nothing changes, and `Err` returns

@@ -1,7 +1,8 @@
 //! Edit sets: the files that they make, their inverses, and where they move places.
 //!
 //! Crates above rely on: `prepare` makes the files after a set that fits (`edited`), with an inverse that restores the files before it.
-//! `Moves` returns exactly the place to which an edit set moves a place (`moved`), and the new name of an identifier there (`new_name_at`).
+//! `Inverse::prepare` does so for the way back, which `WayBack` keeps as plain data. `Moves` returns exactly the place to which an edit
+//! set moves a place (`moved`), and the new name of an identifier there (`new_name_at`).
 #![tactic(auto)]
 
 mod change;
@@ -15,6 +16,7 @@ mod moves;
 mod new_text;
 mod prepared;
 mod reversing;
+mod way_back;
 
 pub use change::{Fate, FileChange};
 pub use edit::{Edit, Edits};
@@ -25,3 +27,4 @@ pub use laws::{
 };
 pub use moves::{FileMoves, Moves};
 pub use prepared::{Prepared, prepare};
+pub use way_back::WayBack;

@@ -14,6 +14,16 @@ fn copied(alloc: Global, bytes: &[u8]) -> Result<FileText, AllocError>
     FileText::new(alloc, Vec::from_slice(alloc, bytes)?)
 }
 
+/// A text with the bytes. It is that of the edit before where this has the same bytes, so that a name that was replaced often stands once.
+fn restored(alloc: Global, bytes: &[u8], before: Option<&Edit>) -> Result<FileText, AllocError>
+    ensures { IfOk result (λ text. text ≡ bytes.now) }
+{
+    match before {
+        Some(edit) if edit.text.bytes() == bytes => edit.text.clone(),
+        _ => copied(alloc, bytes),
+    }
+}
+
 /// The edits of the new text that restore the old text.
 pub(crate) fn reversed_edits(
     alloc: Global,
@@ -28,7 +38,7 @@ pub(crate) fn reversed_edits(
 {
     let size = new_text.len();
     let old = text.bytes();
-    let mut back = Vec::new(alloc);
+    let mut back = Vec::with_capacity(alloc, edits.len())?;
     let mut at = 0;
     let mut new = 0;
     for edit in edits {
@@ -36,7 +46,7 @@ pub(crate) fn reversed_edits(
         let end = start + edit.text.len();
         prove!(end <= size);
         let replaced = &old[edit.span.start..edit.span.end];
-        let text = copied(alloc, replaced)?;
+        let text = restored(alloc, replaced, back.last())?;
         back.push(Edit {
             span: Span { start, end },
             text,
