@@ -7,7 +7,7 @@ use Rattle.go_ast.specs.declared.syntax.PrefixOp.{PrefixOp}
 use Rattle.go_ast.specs.declared.syntax.PrefixOp.TheVariants as prefix
 use Rattle.go_ast.specs.declared.tree.Expr.{Expr}
 use Rattle.go_ast.specs.declared.tree.Expr.TheVariants as expr
-use Rattle.go_ast.specs.declared.tree.CodeOperand as operand
+use Rattle.go_ast.specs.declared.tree.Operand as operand
 use Rattle.go_ast.specs.declared.tree.CompositeLit.{CompositeLit, out-CompositeLit}
 use Rattle.go_ast.specs.declared.tree.Link.{Link}
 use Rattle.go_ast.specs.declared.tree.Link.TheVariants as link
@@ -163,7 +163,7 @@ pub prefix_stands : (s : Source) (slots : List ℕ) {e : Expr} (o : PrefixOp) (p
 prefix_stands s slots o p b is = prefixed_stands o _ ∙ sym (ap (λ q. q.mode) (prefix_here s slots o p b is b.value refl))
 
 -- operators behind others, in a loop whose numbers fall
-pub operations_turn : (s : Source) (slots : List ℕ) (xs : List operand.CodeOperand) (i : ℕ) (x : operand.CodeOperand) {old mid new : Code} → 0 < i →
+pub operations_turn : (s : Source) (slots : List ℕ) (xs : List operand.Operand) (i : ℕ) (x : operand.Operand) {old mid new : Code} → 0 < i →
     i - 1 < length xs → x ≡ get_or xs (i - 1) x →
     AppliesLines (λ a. operations s slots a (operands_in (drop i xs))) old mid →
     AppliesLines (λ a. operated x.op a (value_lines s slots (expr_view x.value))) mid new →

@@ -84,13 +84,13 @@ module _ (w : Workspace) (sound : ListsFaults w []) (known : Verdicts) (right : 
 
   -- names of scopes
 
-  by_number : (u n : ℕ) → scopes.IsBoundToDeclaration p.layout p.names u n → (d : Declaration) × IsBoundToDeclaration w known p u d
+  by_number : (u n : ℕ) → scopes.IsBoundTo p.layout p.names u n → (d : Declaration) × IsBoundToDeclaration w known p u d
   by_number u n b = elim (cases_lt n (length universe)) [
     | inl below ↦ (Predeclared n, by_scope (below, b))
     | inr ge ↦ (Declared p.path n, by_scope (refl, (λ below. let less : n < length universe = below in absurd (omega arith)), b))
   ]
 
-  unbound_no : (u : ℕ) → u < p.size → MayDeclare p.layout u ⊎ (is_use (p.layout.role u) ≡ true) → ((n : ℕ) → scopes.IsBoundToDeclaration p.layout p.names u n → ⊥) → ⊥
+  unbound_no : (u : ℕ) → u < p.size → MayDeclare p.layout u ⊎ (is_use (p.layout.role u) ≡ true) → ((n : ℕ) → scopes.IsBoundTo p.layout p.names u n → ⊥) → ⊥
   unbound_no u lt h none = elim h [
     | inr use_of ↦ uses_bound w sound known right p is u lt (inl use_of) none
     | inl may ↦ elim (declares p.layout p.names formed u) [

@@ -16,10 +16,10 @@ use Rattle.law_local_renames.specs.LocalRenames.{IsLocalRename, OwnScopesAloneBi
 module _ (w : Workspace) (known : Verdicts) (p : Package) (n : ℕ) (name : List ℕ) (s : FileChanges) (h : IsLocalRename w known p n name s) (x : Package)
     (is : IsCheckedPackage w known x) where
   -- only scopes bind to the declaration
-  bound_by : (u : ℕ) → IsBoundToDeclaration w known x u (Declared p.path n) → (x ≡ p) × scopes.IsBoundToDeclaration p.layout p.names u n
+  bound_by : (u : ℕ) → IsBoundToDeclaration w known x u (Declared p.path n) → (x ≡ p) × scopes.IsBoundTo p.layout p.names u n
   bound_by u (by_scope b) =
       let one : x ≡ p = one_package w known x p is h.is_package (sym b.0) in
-      (one, subst (λ (y : Package). scopes.IsBoundToDeclaration y.layout y.names u n) one b.2)
+      (one, subst (λ (y : Package). scopes.IsBoundTo y.layout y.names u n) one b.2)
   bound_by u (by_package b) =
       let one : b.other ≡ p = one_package w known b.other p b.is_package h.is_package b.of_path in
       absurd (h.local (subst (λ (y : Package). scopes.IsPackageLevel y.layout n) one b.seen.package_level))

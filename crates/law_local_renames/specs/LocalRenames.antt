@@ -28,11 +28,11 @@ OfLocalRenames K = (w : Workspace) (known : Verdicts) (p : Package) (n : ℕ) (n
 -- Only the scopes of its own package bind identifiers to the declaration.
 abbrev pub OwnScopesAloneBind : Type 0
 OwnScopesAloneBind = OfLocalRenames (λ w known p n s. (x : Package) → IsCheckedPackage w known x → (u : ℕ) → IsBoundToDeclaration w known x u (Declared p.path n) →
-    (x ≡ p) × scopes.IsBoundToDeclaration p.layout p.names u n)
+    (x ≡ p) × scopes.IsBoundTo p.layout p.names u n)
 
 -- The identifier at the position is none of those.
 abbrev pub IsApart : (p : Package) → (n : ℕ) → Package → Position → Type 0
-IsApart p n x at = (u : ℕ) → u < x.size → LiesAt x.layout at u → x ≡ p → scopes.IsBoundToDeclaration p.layout p.names u n → ⊥
+IsApart p n x at = (u : ℕ) → u < x.size → LiesAt x.layout at u → x ≡ p → scopes.IsBoundTo p.layout p.names u n → ⊥
 
 -- Every other name of the workspace stays.
 abbrev pub OtherNamesStay : Type 0

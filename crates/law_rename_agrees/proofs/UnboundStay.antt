@@ -153,10 +153,10 @@ module _ (w : Workspace) (sound : ListsFaults w []) (known : Verdicts) (right : 
           subst (λ (l : Layout). IsIdentifier l u) (sym relaid.layout) stands.1,
         )
 
-        by_lexical : (k : Role) → p.layout.role u ≡ k → is_bound_role k ≡ false → (n : ℕ) → scopes.IsBoundToDeclaration q.layout q.names u n → ⊥
+        by_lexical : (k : Role) → p.layout.role u ≡ k → is_bound_role k ≡ false → (n : ℕ) → scopes.IsBoundTo q.layout q.names u n → ⊥
         by_lexical k role unbound n b = unlexical k (ap (λ (l : Layout). l.role u) relaid.layout ∙ role) unbound n b
           where
-            unlexical : (k : Role) → q.layout.role u ≡ k → is_bound_role k ≡ false → (n : ℕ) → scopes.IsBoundToDeclaration q.layout q.names u n → ⊥
+            unlexical : (k : Role) → q.layout.role u ≡ k → is_bound_role k ≡ false → (n : ℕ) → scopes.IsBoundTo q.layout q.names u n → ⊥
             unlexical (NotLexical z) same unbound n b = never_bound q.layout q.names u n z same b
             unlexical Use same unbound n b = true≢false unbound
             unlexical (Declaring block start) same unbound n b = true≢false unbound

@@ -71,7 +71,7 @@ role_within xs u k = elim (cases_lt u (length xs)) [
       elim k [ inl e ↦ absurd (true≢false (sym e ∙ ap is_use role)) | inr e ↦ absurd (true≢false (sym e ∙ ap may_declare role)) ]
 ]
 
-pub counted : (l : Layout) (names : Names) (u d : ℕ) → scopes.IsBoundToDeclaration l names u d → Counts l names d
+pub counted : (l : Layout) (names : Names) (u d : ℕ) → scopes.IsBoundTo l names u d → Counts l names d
 counted l names u d (use_bound used b) = b.counts
 counted l names u d (own e c) = c
 
@@ -101,7 +101,7 @@ module _ (w : Workspace) (known_verdicts : Verdicts) (path : List ℕ) (p : Pack
     | inr e ↦ role_within xs u (inr (sym (ap may_declare (role_is w known_verdicts path p h u)) ∙ e))
   ])
 
-  pub bound_within : (u d : ℕ) → scopes.IsBoundToDeclaration p.layout p.names u d → u < p.size
+  pub bound_within : (u d : ℕ) → scopes.IsBoundTo p.layout p.names u d → u < p.size
   bound_within u d (use_bound used b) = elim used [ inl e ↦ role_inside u (inl e) | inr left ↦ role_inside u (inr (left_roles (p.layout.role u) left.0).0) ]
   bound_within u d (own e c) = role_inside u (inr (ap (λ k. may_declare (p.layout.role k)) e ∙ c.declares.may))
 
@@ -140,7 +140,7 @@ module _ (w : Workspace) (before : Verdicts) (path : List ℕ) (n : ℕ) (name :
   level_other level known =
       let z : Universe ≡ PackageBlock = sym (in_universe w before p.path p checked n known) ∙ level in cc
 
-  by_scopes : (x : Package) → IsCheckedPackage w before x → path ≡ x.path → (IsPredeclaredNumber n → ⊥) → (u : ℕ) → scopes.IsBoundToDeclaration x.layout x.names u n → IsOwn
+  by_scopes : (x : Package) → IsCheckedPackage w before x → path ≡ x.path → (IsPredeclaredNumber n → ⊥) → (u : ℕ) → scopes.IsBoundTo x.layout x.names u n → IsOwn
   by_scopes x also e other u b =
       let one : x ≡ p = one_package w before x p also is (sym e ∙ sym same) in
       record {
@@ -185,7 +185,7 @@ module _ (w : Workspace) (before : Verdicts) (path : List ℕ) (n : ℕ) (name :
 
   -- what is bound to it stands at a name
 
-  bound_stands : (u : ℕ) → u < p.size → scopes.IsBoundToDeclaration l p.names u n → StandsAtName p u
+  bound_stands : (u : ℕ) → u < p.size → scopes.IsBoundTo l p.names u n → StandsAtName p u
   bound_stands u lt (use_bound used b) = elim used [
     | inl use_of ↦ use_stands w before p.path p checked u lt use_of
     | inr left ↦
@@ -199,7 +199,7 @@ module _ (w : Workspace) (before : Verdicts) (path : List ℕ) (n : ℕ) (name :
       (declared_stands w before p.path p checked n (subst (λ k. k < p.size) e lt) c.declares.may identifies_it
       (not_laid (subst (λ k. k < p.size) e lt)))
 
-  bound_identifies : (u : ℕ) → scopes.IsBoundToDeclaration l p.names u n → is_implied (l.role u) ≡ false
+  bound_identifies : (u : ℕ) → scopes.IsBoundTo l p.names u n → is_implied (l.role u) ≡ false
   bound_identifies u (use_bound used b) = elim used [
     | inl use_of ↦ use_identifies (l.role u) use_of
     | inr left ↦ (left_roles (l.role u) left.0).1
@@ -213,7 +213,7 @@ module _ (w : Workspace) (before : Verdicts) (path : List ℕ) (n : ℕ) (name :
       use_identifies (Implied b start) e = absurd (true≢false (sym e))
   bound_identifies u (own e c) = ap (λ k. is_implied (l.role k)) e ∙ identifies_it
 
-  renamed_so : (u : ℕ) → scopes.IsBoundToDeclaration l p.names u n → q.names u ≡ name
+  renamed_so : (u : ℕ) → scopes.IsBoundTo l p.names u n → q.names u ≡ name
   renamed_so u b =
       let lt : u < p.size = bound_within w before p.path p checked u n b in
       let there = begins_there p u lt (bound_identifies u b) (bound_stands u lt b) in
@@ -222,7 +222,7 @@ module _ (w : Workspace) (before : Verdicts) (path : List ℕ) (n : ℕ) (name :
 
   -- nothing else is bound to it
 
-  bound_so : (u : ℕ) → IsInFiles p u → IsBoundToDeclaration w before p u (Declared path n) → scopes.IsBoundToDeclaration l p.names u n
+  bound_so : (u : ℕ) → IsInFiles p u → IsBoundToDeclaration w before p u (Declared path n) → scopes.IsBoundTo l p.names u n
   bound_so u inside (by_scope b) = b.2
   bound_so u inside (by_package b) =
       let found : exports_in p path (p.names u) ≡ true = is_found w h.rename.sound before h.rename.right p is u inside path b.behind in

@@ -41,7 +41,7 @@ named_token None h = absurd h
 named_token (Some t) h = (t, (refl, h))
 
 -- what scopes bind, by its number
-pub scope_number : (p : Package) (u e : ℕ) → scopes.IsBoundToDeclaration p.layout p.names u e → BindsByScope p u (Predeclared e) ⊎ BindsByScope p u (Declared p.path e)
+pub scope_number : (p : Package) (u e : ℕ) → scopes.IsBoundTo p.layout p.names u e → BindsByScope p u (Predeclared e) ⊎ BindsByScope p u (Declared p.path e)
 scope_number p u e b = elim (cases_lt e (length universe)) [
   | inl below ↦ inl (below, b)
   | inr ge ↦ inr (refl, (λ below. let less : e < length universe = below in absurd (omega arith)), b)

@@ -20,7 +20,7 @@ use Rattle.law_typing.specs.Assignments.{DefaultsTo, own, by_default, Taker, Fre
 use Rattle.law_typing.specs.Assignments.{Declare, no_name, no_local, new_local, DeclareAs, no_name_left, not_named, named}
 
 abbrev pub aim : Taker → Target
-aim Fresh = sides.TakesValue
+aim Fresh = sides.Takes
 aim (OfType t) = Wants (Some t)
 
 gives_kind : {k : ValueKind} {t : PlainType} → DefaultsTo k t → default_type k ≡ Some t

@@ -20,7 +20,7 @@ use Rattle.refs_lookup.proofs.Faultless.{no_fault_later}
 module _ (w : Workspace) (sound : ListsFaults w []) (known : Verdicts) (right : AreVerdicts w known) (p : Package) (is : IsCheckedPackage w known p)
     (u : ℕ) (lt : u < p.size)
     (unbound : (d : Declaration) → IsBoundToDeclaration w known p u d → ⊥) where
-  no_number : (n : ℕ) → scopes.IsBoundToDeclaration p.layout p.names u n → ⊥
+  no_number : (n : ℕ) → scopes.IsBoundTo p.layout p.names u n → ⊥
   no_number n b = elim (cases_lt n (length universe)) [
     | inl below ↦ unbound (Predeclared n) (by_scope (below, b))
     | inr ge ↦ unbound (Declared p.path n) (by_scope (refl, (λ below. let less : n < length universe = below in absurd (omega arith)), b))
