@@ -85,7 +85,7 @@ pub(crate) fn state_after(
     ensures edits { IfOk result (λ made. made.1 ≡ change.edits) }
 {
     let (finished, known) = carried_over(alloc, current, &change)?;
-    let change = change.into_change();
+    let (change, _) = change.into_parts();
     let files = change.files;
     let edits = EntryEdits::new(alloc, change.edits)?;
     let state = State {

@@ -13,6 +13,6 @@ mod snapshot;
 
 pub use change::{Change, ChangeKind};
 pub use fits::fits_limits;
-pub use made_change::MadeChange;
+pub use made_change::{MadeChange, graph_after};
 pub use plan::{plan_del, plan_put};
 pub use snapshot::Snapshot;

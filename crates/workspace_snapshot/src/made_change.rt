@@ -1,7 +1,8 @@
-//! Changes whose files are what their edit sets make of the base.
+//! Changes whose files are what their edit sets make of the base, with the way back.
 ghost use Rattle.std.specs.Prelude.{◌≡◌, IfOk};
 ghost use Rattle.base_edits.specs.EditSet.{edited};
 ghost use Rattle.base_edits.specs.Fits.{Fits};
+ghost use Rattle.base_edits.specs.Inverse.{IsInverse};
 ghost use Rattle.workspace_graph.specs.Borrows.{names};
 ghost use Rattle.workspace_snapshot.specs.Made.{IsMadeByEdits};
 ghost use Rattle.workspace_graph.specs.SameGoFiles.{DiffersOnlyAt};
@@ -9,28 +10,31 @@ ghost use Rattle.workspace_graph.specs.SameGoFiles.{DiffersOnlyAt};
 use crate::change::{Change, ChangeKind};
 use crate::named::named_paths;
 use crate::snapshot::Snapshot;
-use base_edits::{EditSet, Prepared, prepare};
-use base_files::{Files, Path};
+use base_edits::{EditSet, FileChange, Prepared, WayBack, prepare};
+use base_files::{FileText, Files, Path};
 use std::alloc::{AllocError, Global};
 use std::marker::Model;
 use workspace_graph::Graph;
 
-/// A change whose edit set fits its base and makes its files. Its value in contracts is the `Change` alone.
+/// A change whose edit set fits its base and makes its files, with the changes that lead back. Its value in contracts is the `Change` alone.
 pub struct MadeChange {
     change: Change,
+    back: WayBack,
 }
 
 /// Written out so that crates above need not prove again how each part is dropped.
 impl Drop for MadeChange {
     fn drop(self) {
-        let MadeChange { change } = self;
+        let MadeChange { change, back } = self;
         drop(change);
+        drop(back);
     }
 }
 
 impl Model for MadeChange {
     ghost use Rattle.workspace_snapshot.specs.contracts.change.Change.{the_row};
     ghost use Rattle.workspace_snapshot.specs.declared.change.Change.{Change};
+    ghost use Rattle.base_edits.specs.Inverse.{IsInverse};
     ghost use Rattle.workspace_snapshot.specs.Made.{IsMadeByEdits};
 
     ghost Value = { Change };
@@ -39,21 +43,22 @@ impl Model for MadeChange {
 
     ghost view = { λ a. a.change };
 
-    ghost invariant = { λ a. IsMadeByEdits a.change };
+    ghost invariant = { λ a. IsMadeByEdits a.change × IsInverse a.back a.change.files a.change.base };
 }
 
-/// The graph of the files after an edit set, made from the graph before it. Only files that the edit set names are looked at.
-fn graph_after(
+/// The graph of the files after an edit set or an inverse, made from the graph before it. Only files that its changes name are looked at.
+pub fn graph_after(
     alloc: Global,
     base: &Graph,
-    edits: &EditSet,
+    changed: &[FileChange],
+    added: &[(Path, FileText)],
     files: Files,
 ) -> Result<Graph, AllocError>
-    requires fits { Fits edits.now base.now }
-    requires files { files ≡ edited edits.now base.now }
+    requires fits { Fits (record { changed = changed.now; added = added.now }) base.now }
+    requires files { files ≡ edited (record { changed = changed.now; added = added.now }) base.now }
     ensures { IfOk result (λ graph. graph ≡ files) }
 {
-    let paths = named_paths(alloc, edits)?;
+    let paths = named_paths(alloc, changed, added)?;
     Graph::changed(alloc, base, files, &paths)
 }
 
@@ -70,15 +75,15 @@ impl MadeChange {
     {
         let base = &snapshot.files;
         let Prepared { files, inverse } = prepare(alloc, &edits, base.files())?;
-        inverse.retire();
-        let files = graph_after(alloc, base, &edits, files)?;
+        let back = inverse.set_aside();
+        let files = graph_after(alloc, base, edits.changed(), edits.added(), files)?;
         let change = Change {
             base: base.clone()?,
             kind,
             edits,
             files,
         };
-        Ok(MadeChange { change })
+        Ok(MadeChange { change, back })
     }
 
     /// The change.
@@ -88,13 +93,14 @@ impl MadeChange {
         &self.change
     }
 
-    /// The change, by value. Its edits make its files.
-    pub fn into_change(self) -> Change
-        ensures same { result ≡ self }
+    /// The change, by value, and what leads from its files back to its base. Its edits make its files.
+    pub fn into_parts(self) -> (Change, WayBack)
+        ensures same { result.0 ≡ self }
         ensures made { IsMadeByEdits self }
+        ensures back { IsInverse result.1 self.files self.base }
     {
-        let MadeChange { change } = self;
-        change
+        let MadeChange { change, back } = self;
+        (change, back)
     }
 
     /// The paths of all files that the edit set names, some perhaps several times. Go files at other paths have the same text before and
@@ -102,6 +108,7 @@ impl MadeChange {
     pub fn paths<'a>(&'a self, alloc: Global) -> Result<Vec<&'a Path>, AllocError>
         ensures { IfOk result (λ paths. DiffersOnlyAt (names paths.items) self.now.base self.now.files) }
     {
-        named_paths(alloc, &self.change.edits)
+        let edits = &self.change.edits;
+        named_paths(alloc, edits.changed(), edits.added())
     }
 }

@@ -3,7 +3,7 @@ ghost use Rattle.std.specs.Prelude.{◌≡◌, IfOk, OnOk};
 ghost use Rattle.workspace_graph.specs.Borrows.{names};
 ghost use Rattle.workspace_snapshot.specs.Named.{AddsEachPath, HasAll, NamesPath, IsPathOfAdded, IsPathOfChange, IsPathOfChanges};
 
-use base_edits::{EditSet, Fate, FileChange};
+use base_edits::{Fate, FileChange};
 use base_files::{FileText, Path};
 use std::alloc::{AllocError, Global};
 
@@ -47,15 +47,16 @@ fn add_added<'a>(paths: &mut Vec<&'a Path>, added: &'a [(Path, FileText)]) -> Re
     Ok(())
 }
 
-/// The paths of all files that an edit set names, some perhaps several times.
+/// The paths of all files that changes and added files name, some perhaps several times.
 pub(crate) fn named_paths<'a>(
     alloc: Global,
-    edits: &'a EditSet,
+    changed: &'a [FileChange],
+    added: &'a [(Path, FileText)],
 ) -> Result<Vec<&'a Path>, AllocError>
-    ensures { IfOk result (λ paths. HasAll (NamesPath edits.now) (names paths.items)) }
+    ensures { IfOk result (λ paths. HasAll (NamesPath (record { changed = changed.now; added = added.now })) (names paths.items)) }
 {
     let mut paths = Vec::new(alloc);
-    add_changes(&mut paths, edits.changed())?;
-    add_added(&mut paths, edits.added())?;
+    add_changes(&mut paths, changed)?;
+    add_added(&mut paths, added)?;
     Ok(paths)
 }

@@ -1,7 +1,8 @@
--- Files at paths that the edit set does not name are equal before and after it.
+-- Files at paths that no change names are equal before and after.
 use Rattle.std.proofs.Common.{List, ℕ, Bor, sym, subst}
 use Rattle.std.specs.List.{Contains}
 use Rattle.base_files.specs.Workspace.{Workspace}
+use Rattle.base_edits.specs.EditSet.{FileChanges}
 use Rattle.workspace_graph.specs.Borrows.{names}
 use Rattle.workspace_graph.specs.SameGoFiles.{DiffersOnlyAt}
 use Rattle.workspace_snapshot.proofs.NamedPaths.{differs_only_at}
@@ -9,7 +10,8 @@ use Rattle.workspace_snapshot.proofs.made_change.graph_after.Goals as goal
 
 pub changed-requires : goal.changed-requires
 changed-requires c =
+    let s : FileChanges = record { changed = c.args.changed.now; added = c.args.added.now } in
     let paths = names c.deref.result.now in
     subst (λ (w : Workspace). DiffersOnlyAt paths c.args.base.now w) (sym c.requires.files)
-    (differs_only_at c.args.edits.now c.args.base.now c.requires.fits paths
+    (differs_only_at s c.args.base.now c.requires.fits paths
     (λ p named. subst (λ (ps : List (Bor (List ℕ))). Contains (names ps) p) (sym c.deref.ensures.value) (c.in_ok-paths.ensures p named)))

@@ -1,6 +1,7 @@
--- The set is prepared on the files of the base.
-use Rattle.std.proofs.Common.{sym, subst}
+-- The set is prepared on the files of the base, and what leads back from the files that it makes is kept.
+use Rattle.std.proofs.Common.{◌≡◌, sym, subst, ◌∙◌}
 use Rattle.base_files.specs.Workspace.{Workspace}
+use Rattle.base_edits.specs.EditSet.{FileChanges}
 use Rattle.base_edits.specs.Fits.{Fits}
 use Rattle.workspace_snapshot.proofs.made_change.MadeChange.of.Goals as goal
 
