@@ -26,7 +26,7 @@ pub mod Stopping
 pub mod CycleNumbers
 pub mod Placed
 pub mod Unread
-pub mod JudgedPackage
+pub mod Judged
 pub mod Knowing
 pub mod Adding
 pub mod Telling
