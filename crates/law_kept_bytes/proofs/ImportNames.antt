@@ -32,12 +32,11 @@ use Rattle.types_declared.proofs.ByteKeys.{cases_bytes}
 use Rattle.workspace_check.specs.Verdicts.{Verdicts}
 use Rattle.workspace_snapshot.specs.declared.change.Change.{Change}
 use Rattle.law_tokens.proofs.HeldBytes.{one_index, follows}
-use Rattle.refactor_rename.specs.declared.renamed.Literal.{Literal}
 use Rattle.refactor_rename.specs.declared.renamed.Renamed.{Renamed}
 use Rattle.refactor_rename.specs.FileEdits.{IsLiteralAt, InsertsName, IsEditAt, AreFileEdits}
 use Rattle.refactor_rename.specs.RenameEdits.{AreEditsOf}
 use Rattle.refactor_rename.specs.Replacements.{EndsImport, FollowsImportWord, IsNameBefore, apart, joined}
-use Rattle.refactor_rename.proofs.Editing.{one_insertion}
+use Rattle.refactor_rename.proofs.Editing.{one_insertion, one_literal}
 use Rattle.refactor_rename.proofs.Sources.{source_file, source_text}
 use Rattle.law_kept_bytes.specs.GainedNames.{insertion, IsBeside, RenamesNameImports}
 use Rattle.law_kept_bytes.proofs.FilesKept.{file_there, bytes_stay}
@@ -66,11 +65,7 @@ follows_import f i (suc before) e = elim (ends_import f before (offset_of f i)) 
 some_name : (f : SourceFile) (i : ℕ) (name : List ℕ) → (put : List ℕ) × IsNameBefore f i name put
 some_name f i name = elim (follows_import f i i refl) [ inl h ↦ (_, joined h) | inr away ↦ (_, apart away) ]
 
--- one token at most is the literal
-one_literal : (o : Option Literal) (path : List ℕ) (i j : ℕ) → IsLiteralAt o path i → IsLiteralAt o path j → i ≡ j
-one_literal None path i j h k = absurd h
-one_literal (Some l) path i j h k = sym h.1 ∙ k.1
-
+-- tokens lie apart
 lie_apart : (from to : ℕ) (ts : List Piece) → FollowFrom from ts to → (i j : ℕ) (a b : Piece) → (i ≡ j → ⊥) → slice_get ts i ≡ Some a →
     slice_get ts j ≡ Some b → (b.span.end ≤ a.span.start) ⊎ (a.span.end ≤ b.span.start)
 lie_apart from to [] h i j a b other is at = absurd (none-some a is)

@@ -8,18 +8,16 @@ use Rattle.base_edits.specs.declared.edit.Edit.{Edit}
 use Rattle.go_scanner.specs.declared.piece.Class.TheVariants as class
 use Rattle.go_scanner.specs.declared.piece.Piece.{Piece}
 use Rattle.go_scanner.specs.CutText.{tokens_in}
-use Rattle.go_scanner.specs.Spans.{FollowFrom}
+use Rattle.go_scanner.specs.Spans.{AreTokensInOrder}
 use Rattle.go_scanner.proofs.SpanLemmas.{tokens_in_order}
 use Rattle.go_scope.proofs.Uniqueness.{same_or_not}
 use Rattle.go_ast.specs.SourceFile.{SourceFile, IsSourceFile, spelling_of, offset_of}
 use Rattle.types_declared.proofs.ByteKeys.{cases_bytes}
-use Rattle.refs_binding.specs.Bindings.{AddsAll}
-use Rattle.refs_binding.proofs.AddingAll.{all_none, all_then}
 use Rattle.refactor_rename.specs.declared.renamed.Literal.{Literal}
 use Rattle.refactor_rename.specs.declared.renamed.Renamed.{Renamed}
-use Rattle.refactor_rename.specs.FileEdits.{IsLiteralAt, RenamesToken, InsertsName, IsEditAt, EndBy, AreFileEdits}
+use Rattle.refactor_rename.specs.FileEdits.{AppendsEdit, stays, grows, AppendsEditsAt, AreFileEdits, EndBy, InsertsName, IsLiteralAt, RenamesToken}
 use Rattle.refactor_rename.specs.Replacements.{EndsImport, FollowsImportWord, IsNameBefore, apart, joined}
-use Rattle.refactor_rename.proofs.Editing.{Going, going_first, going_next, follow_at, end_more, end_push, all_one, all_edits, one_insertion}
+use Rattle.refactor_rename.proofs.Editing.{Going, going_first, going_next, follow_at, end_more, end_push, all_edits}
 use Rattle.law_faultless.proofs.Deciding.{Decided, both, turned}
 use Rattle.law_rename_edits.proofs.Listed.{name_class}
 
@@ -73,12 +71,12 @@ literal_at (Some l) path token = both (l.path ≡ path) (l.token ≡ token) (cas
 module _ (f : SourceFile) (r : Renamed) (i : ℕ) (token : Piece) (at : slice_get (tokens_in f.cut) i ≡ Some token)
     (span : token.span.start ≤ token.span.end) where
   Adds : (Edit → Type 0) → List Edit → ℕ → Type 0
-  Adds P old offset = (new : List Edit) × (EndBy new offset × AddsAll old new P)
+  Adds P old offset = (new : List Edit) × (EndBy new offset × AppendsEdit P old new)
 
   inserted : (old : List Edit) → EndBy old token.span.start → Adds (InsertsName f r i) old token.span.start
   unfolding Adds
   inserted old ends = elim (literal_at r.literal f.path i) [
-    | inr other ↦ (old, (ends, all_none old (InsertsName f r i) (λ e h. other h.is_literal)))
+    | inr other ↦ (old, (ends, stays (λ e h. other h.is_literal)))
     | inl literal ↦ (
         let n = token.span.start in
         let text = text_before f i r.name in
@@ -87,15 +85,10 @@ module _ (f : SourceFile) (r : Renamed) (i : ℕ) (token : Piece) (at : slice_ge
           old ++ e ∷ [],
           (
             end_push old (old ++ e ∷ []) e n n refl ends (omega arith) (omega arith) (omega arith),
-            all_one old (old ++ e ∷ []) e (InsertsName f r i) refl is (λ d h. one_insertion f r i e d is h),
+            grows e is,
           ),
         ))
   ]
-
-  one_replacement : (d e : Edit) → RenamesToken f r i d → RenamesToken f r i e → d ≡ e
-  one_replacement d e h k =
-      let same : h.token ≡ k.token = same_Some h.token k.token (sym h.at ∙ k.at) in
-      h.is_edit ∙ ap (λ (t : Piece). record { span = t.span; text = r.name }) same ∙ sym k.is_edit
 
   replaced : (old : List Edit) → EndBy old token.span.start → Adds (RenamesToken f r i) old token.span.end
   unfolding Adds
@@ -105,8 +98,7 @@ module _ (f : SourceFile) (r : Renamed) (i : ℕ) (token : Piece) (at : slice_ge
           old,
           (
             end_more old token.span.start token.span.end span ends,
-            all_none old (RenamesToken f r i)
-                (λ e h. let same : h.token ≡ token = same_Some h.token token (sym h.at ∙ at) in
+            stays (λ e h. let same : h.token ≡ token = same_Some h.token token (sym h.at ∙ at) in
                 other (subst (λ (t : Piece). (t.class ≡ class.Name) × Contains r.places (record { path = f.path; offset = t.span.start })) same
                 (h.is_name, h.among))),
           ),
@@ -117,26 +109,26 @@ module _ (f : SourceFile) (r : Renamed) (i : ℕ) (token : Piece) (at : slice_ge
               old ++ e ∷ [],
               (
                 end_push old (old ++ e ∷ []) e token.span.start token.span.end refl ends (omega arith) span (omega arith),
-                all_one old (old ++ e ∷ []) e (RenamesToken f r i) refl is (λ d h. one_replacement e d is h),
+                grows e is,
               ),
             ))
       ]
 
-  pub token_edits : (old : List Edit) → EndBy old token.span.start → (new : List Edit) × (EndBy new token.span.end × AddsAll old new (IsEditAt f r i))
+  pub token_edits : (old : List Edit) → EndBy old token.span.start → (new : List Edit) × (EndBy new token.span.end × AppendsEditsAt f r i old new)
   unfolding Adds
   token_edits old ends =
-      let one = inserted old ends in
-      let two = replaced one.0 one.1.0 in
-      (two.0, (two.1.0, all_then old one.0 two.0 (InsertsName f r i) (RenamesToken f r i) one.1.1 two.1.1))
+      let first = inserted old ends in
+      let two = replaced first.0 first.1.0 in
+      (two.0, (two.1.0, record { between = first.0; inserts = first.1.1; replaces = two.1.1 }))
 
 -- all tokens
 
-module _ (f : SourceFile) (r : Renamed) (follow : FollowFrom 0 (tokens_in f.cut) (length f.cut.text)) where
+module _ (f : SourceFile) (r : Renamed) (order : AreTokensInOrder f.cut.text (tokens_in f.cut)) where
   abbrev ts : List Piece
   ts = tokens_in f.cut
 
   going : (n : ℕ) → n ≤ length ts → (edits : List Edit) × Going f r ts n edits
-  going zero le = ([], going_first f r ts [] refl follow)
+  going zero le = ([], going_first f r ts [] refl order.follow)
   going (suc n) le =
       let lt : n < length ts = le in
       let old = going n (omega (arith, le)) in
@@ -145,10 +137,10 @@ module _ (f : SourceFile) (r : Renamed) (follow : FollowFrom 0 (tokens_in f.cut)
       let at : slice_get ts n ≡ Some token = slice_get-get_or ts n no_piece lt in
       let new = token_edits f r n token at follows.1 old.0 (end_more old.0 old.1.at token.span.start follows.0 old.1.end_by) in
       let next : n + 1 ≡ suc n = omega arith in
-      (new.0, subst (λ k. Going f r ts k new.0) next (going_next f r ts n no_piece old.0 new.0 lt old.1 new.1.0 new.1.1))
+      (new.0, subst (λ k. Going f r ts k new.0) next (going_next f r ts n no_piece old.0 new.0 order.rise lt old.1 new.1.0 new.1.1))
 
   pub file_edits_by : (edits : List Edit) × AreFileEdits f r edits
   file_edits_by = let all = going (length ts) (omega arith) in (all.0, all_edits f r ts all.0 (length ts) refl refl all.1)
 
 pub file_edits : (f : SourceFile) (r : Renamed) → IsSourceFile f → (edits : List Edit) × AreFileEdits f r edits
-file_edits f r is = file_edits_by f r (tokens_in_order f.cut.text f.cut.pieces is.is_cut).follow
+file_edits f r is = file_edits_by f r (tokens_in_order f.cut.text f.cut.pieces is.is_cut)

@@ -74,6 +74,7 @@ not_edited f r other = record {
       | inr replaces ↦ other (inl (record { path = f.path; offset = replaces.token.span.start }, (replaces.among, refl)))
     ])),
   );
+  once = tt;
 }
 
 -- The changes of the files that were passed, with the paths that are left.

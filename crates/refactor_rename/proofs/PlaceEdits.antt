@@ -22,9 +22,9 @@ use Rattle.refs_binding.proofs.AddingAll.{BelowAll, all_none, none_below, next_b
 use Rattle.refs_binding.proofs.MemberPlaces.{rank_of}
 use Rattle.refs_binding.proofs.PlaceOrder.{place_is}
 use Rattle.refactor_rename.specs.declared.renamed.Renamed.{Renamed}
-use Rattle.refactor_rename.specs.FileEdits.{IsLiteralAt, IsEditAt, EndBy, AreFileEdits}
-use Rattle.refactor_rename.specs.Here.{ArePlacesIn, OffsetsRise, ReplacesAt, AddsReplacement, none, one, AreReplacements}
-use Rattle.refactor_rename.proofs.Editing.{all_one, end_more, end_push, at_end}
+use Rattle.refactor_rename.specs.FileEdits.{AppendsEdit, stays, grows, AreFileEdits, EndBy, IsEditAt, IsLiteralAt, NoneTwice}
+use Rattle.refactor_rename.specs.Here.{ArePlacesIn, OffsetsRise, ReplacesAt, AreReplacements}
+use Rattle.refactor_rename.proofs.Editing.{all_one, appended_once, at_end, end_more, end_push}
 use Rattle.refactor_rename.proofs.KeySearch.{keys_rise}
 
 -- tokens in order
@@ -111,6 +111,7 @@ pub record Placing (ts : List Piece) (size : ℕ) (name : List ℕ) (here : List
   pub within : at ≤ size
   pub later : (j : ℕ) (p : Place) (t : Piece) → k ≤ j → slice_get here j ≡ Some p → Contains ts t → t.span.start ≡ p.offset → at ≤ t.span.start
   pub adds : AddsAll [] edits (BelowAll (IsEditOf ts name here) k)
+  pub once : NoneTwice edits
 
 pub placing_first : (ts : List Piece) (size : ℕ) (name : List ℕ) (here : List Place) (edits : List Edit) → edits ≡ [] → Placing ts size name here 0 edits
 placing_first ts size name here edits e = subst (Placing ts size name here 0) (sym e) (record {
@@ -119,7 +120,12 @@ placing_first ts size name here edits e = subst (Placing ts size name here 0) (s
   within = omega arith;
   later = λ j p t le is has same. omega arith;
   adds = none_below (IsEditOf ts name here) [];
+  once = tt;
 })
+
+-- an edit of the place begins at its offset
+begins_there : (ts : List Piece) (name : List ℕ) (offset : ℕ) (e : Edit) → ReplacesAt ts name offset e → e.span.start ≡ offset
+begins_there ts name offset e r = ap (λ (x : Edit). x.span.start) r.is_edit ∙ r.begins
 
 module _ (ts : List Piece) (size : ℕ) (name : List ℕ) (here : List Place) (rise : DoRise ts) (follow : FollowFrom 0 ts size) (offsets : OffsetsRise here) where
   -- the edits at two places of one offset are one
@@ -147,7 +153,21 @@ module _ (ts : List Piece) (size : ℕ) (name : List ℕ) (here : List Place) (r
     adds =
         next_below (IsEditOf ts name here) [] old old k h.adds
         (all_none old (IsEditOf ts name here k) (λ e q. empty e (at_index k p is e q)));
+    once = h.once;
   }
+
+  -- none of the edits so far is at a later place
+  none_earlier : (k : ℕ) (p : Place) (old : List Edit) → slice_get here k ≡ Some p → Placing ts size name here k old → (e : Edit) → Contains old e →
+      ReplacesAt ts name p.offset e → ⊥
+  none_earlier k p old is h e has r = elim (h.adds.only e has) [
+    | inl nowhere ↦ nothing_in e nowhere
+    | inr q ↦ (
+        let x = q.2 in
+        let less : x.place.offset < p.offset = next_offset q.0 k x.place p q.1 x.has_index is in
+        let there : e.span.start ≡ x.place.offset = begins_there ts name x.place.offset e x.replaces in
+        let here : e.span.start ≡ p.offset = begins_there ts name p.offset e r in
+        omega arith)
+  ]
 
   placing_one : (k : ℕ) (p : Place) (old : List Edit) (e : Edit) → slice_get here k ≡ Some p → ReplacesAt ts name p.offset e →
       Placing ts size name here k old → Placing ts size name here (k + 1) (old ++ e ∷ [])
@@ -169,12 +189,14 @@ module _ (ts : List Piece) (size : ℕ) (name : List ℕ) (here : List Place) (r
             next_below (IsEditOf ts name here) [] old (old ++ e ∷ []) k h.adds
             (all_one old (old ++ e ∷ []) e (IsEditOf ts name here k) refl (record { place = p; has_index = is; replaces = r })
             (λ y q. one_edit p.offset e y r (at_index k p is y q)));
+        once =
+            appended_once (ReplacesAt ts name p.offset) old (old ++ e ∷ []) (λ y has same. none_earlier k p old is h y has same) h.once (grows e r);
       }
 
-  pub placing_next : (k : ℕ) (p : Place) (old new : List Edit) → slice_get here k ≡ Some p → AddsReplacement ts name p.offset old new →
+  pub placing_next : (k : ℕ) (p : Place) (old new : List Edit) → slice_get here k ≡ Some p → AppendsEdit (ReplacesAt ts name p.offset) old new →
       Placing ts size name here k old → Placing ts size name here (k + 1) new
-  placing_next k p old _ is (none empty) h = placing_none k p old is empty h
-  placing_next k p old _ is (one e r) h = placing_one k p old e is r h
+  placing_next k p old _ is (stays empty) h = placing_none k p old is empty h
+  placing_next k p old _ is (grows e r) h = placing_one k p old e is r h
 
   pub placed : (f : SourceFile) (edits : List Edit) (n : ℕ) → ts ≡ tokens_in f.cut → size ≡ length f.cut.text → n ≡ length here →
       Placing ts size name here n edits → AreReplacements f name here edits
@@ -196,6 +218,7 @@ module _ (ts : List Piece) (size : ℕ) (name : List ℕ) (here : List Place) (r
             record { place = q.0; has_index = r.1; replaces = subst (λ l. ReplacesAt l name q.0.offset e) (sym tokens) q.1.1 },
           )),
     );
+    once = h.once;
   }
 
 -- the edits of a file without the literal are those at its places
@@ -232,4 +255,8 @@ module _ (f : SourceFile) (r : Renamed) (here : List Place) (edits : List Edit) 
   ]
 
   pub file_edits : AreFileEdits f r edits
-  file_edits = record { end_by = are.end_by; each = λ e. ((λ has. edit_at e ((are.each e).0 has)), (λ q. (are.each e).1 (place_at e q))) }
+  file_edits = record {
+    end_by = are.end_by;
+    each = λ e. ((λ has. edit_at e ((are.each e).0 has)), (λ q. (are.each e).1 (place_at e q)));
+    once = are.once;
+  }

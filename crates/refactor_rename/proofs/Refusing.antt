@@ -16,7 +16,8 @@ use Rattle.refs_binding.specs.Uses.{IsCheckedPackage}
 use Rattle.refs_binding.specs.Workspaces.{IsPackageAt, home_path}
 use Rattle.refs_binding.proofs.PackageNumbers.{in_package, of_package}
 use Rattle.refactor_rename.specs.NewName.{IsReserved}
-use Rattle.refactor_rename.specs.Naming.{IsFixed, IsMainIn, IsPredeclaredName, IsReservedFor, IsTopLevelIn, RefusesFor, RefusesName, RefusesNameIn}
+use Rattle.refactor_rename.specs.Naming.{IsFixed, IsMainIn, IsPredeclaredName, IsReservedFor, IsTopLevelIn, RefusesFor}
+use Rattle.refactor_rename.specs.Naming.{RefusesName, RefusesNameIn, RefusesOrLacks}
 
 -- two reasons that are one
 pub record Agree (one other : Type 0) : Type 0 where
@@ -28,7 +29,7 @@ agree_same one = record { there = λ h. h; back = λ h. h }
 
 module _ (F G B C D E : Type 0) (fixed : Agree F G) (reserved : Agree B C) (called : Agree D E) where
   refused_as : (r : Refusal) → RefusesFor F B D (Err r) → RefusesFor G C E (Err r)
-  refused_as refusal.Memory h = h
+  refused_as refusal.Memory h = absurd h
   refused_as refusal.BadCommand h = absurd h
   refused_as refusal.BadPath h = absurd h
   refused_as refusal.NoFile h = absurd h
@@ -57,6 +58,16 @@ module _ (F G B C D E : Type 0) (fixed : Agree F G) (reserved : Agree B C) (call
   refuses_as (Ok done) h = ((λ g. h.0 (fixed.back g)), (λ c. h.1 (reserved.back c)), (λ e. h.2 (called.back e)))
   refuses_as (Err r) h = refused_as r h
 
+  pub refuses_or_lacks : (r : Result (Unit {0}) Refusal) → RefusesOrLacks F B D r → RefusesOrLacks G C E r
+  refuses_or_lacks (Ok done) h = refuses_as (Ok done) h
+  refuses_or_lacks (Err refusal.Memory) h = h
+  refuses_or_lacks (Err r) h = refused_as r h
+
+pub or_lacks : (F B D : Type 0) (r : Result (Unit {0}) Refusal) → RefusesFor F B D r → RefusesOrLacks F B D r
+or_lacks F B D (Ok done) h = h
+or_lacks F B D (Err refusal.Memory) h = tt
+or_lacks F B D (Err r) h = h
+
 no_member : (name : List ℕ) → Agree ⊥ (⊥ × IsReserved name)
 no_member name = record { there = λ h. absurd h; back = λ h. h.0 }
 
@@ -65,17 +76,19 @@ pub member_refused : (IsAt : (rank : ℕ) → Position → Type 0) (p : Package)
     ((a b : Position) → IsAt rank a → IsAt rank b → a ≡ b) → (o : Option Position) (r : Result (Unit {0}) Refusal) →
     MatchOption o ((at : Position) → IsAt rank at → ⊥) (λ at. IsAt rank at) →
     MatchOption o (RefusesFor ⊥ ⊥ ⊥ r) (λ a. RefusesFor ⊥ ⊥ (spelled p a.file a.index ≡ name) r) →
-    RefusesFor ⊥ (⊥ × IsReserved name) (HasMemberName IsAt p rank name) r
+    RefusesOrLacks ⊥ (⊥ × IsReserved name) (HasMemberName IsAt p rank name) r
 member_refused IsAt p rank name one None r none h =
-    refuses_as ⊥ ⊥ ⊥ (⊥ × IsReserved name) ⊥ (HasMemberName IsAt p rank name) (agree_same ⊥) (no_member name)
-    (record { there = λ n. absurd n; back = λ c. none c.at c.is_at }) r h
+    or_lacks ⊥ (⊥ × IsReserved name) (HasMemberName IsAt p rank name) r
+    (refuses_as ⊥ ⊥ ⊥ (⊥ × IsReserved name) ⊥ (HasMemberName IsAt p rank name) (agree_same ⊥) (no_member name)
+    (record { there = λ n. absurd n; back = λ c. none c.at c.is_at }) r h)
 member_refused IsAt p rank name one (Some a) r is h =
-    refuses_as ⊥ ⊥ ⊥ (⊥ × IsReserved name) (spelled p a.file a.index ≡ name) (HasMemberName IsAt p rank name) (agree_same ⊥) (no_member name)
+    or_lacks ⊥ (⊥ × IsReserved name) (HasMemberName IsAt p rank name) r
+    (refuses_as ⊥ ⊥ ⊥ (⊥ × IsReserved name) (spelled p a.file a.index ≡ name) (HasMemberName IsAt p rank name) (agree_same ⊥) (no_member name)
     (record {
       there = λ e. record { at = a; is_at = is; called = e };
       back = λ c.
           subst (λ (x : Position). spelled p x.file x.index ≡ name) (one c.at a c.is_at is) c.called;
-    }) r h
+    }) r h)
 
 -- What holds of the package of a number holds of the package of each declaration of it.
 module _ (w : Workspace) (known : Verdicts) (n : ℕ) (p : Package) (is : IsPackageAt w known n p) where
@@ -106,7 +119,7 @@ module _ (w : Workspace) (known : Verdicts) (n : ℕ) (p : Package) (is : IsPack
   refused_at_home d e name r h =
       let main = at_home d e (λ q. IsMainIn q d) in
       let top = at_home d e (λ q. IsTopLevelIn q d) in
-      refuses_as (IsMainIn p d) (IsFixed Known d) (IsTopLevelIn p d × IsReserved name) (IsReservedFor Known d name) (HasDeclaredNameIn p d name)
+      refuses_or_lacks (IsMainIn p d) (IsFixed Known d) (IsTopLevelIn p d × IsReserved name) (IsReservedFor Known d name) (HasDeclaredNameIn p d name)
       (HasDeclaredName Known d name)
       (record { there = λ m. inr (main.there m); back = λ f. elim f [ inl named ↦ absurd (not_predeclared d e named) | inr m ↦ main.back m ] })
       (record { there = λ t. (top.there t.0, t.1); back = λ t. (top.back t.0, t.1) }) (at_home d e (λ q. HasDeclaredNameIn q d name)) r h

@@ -1,5 +1,5 @@
 -- The edits of a rename in one file: of identifiers, and of the string literal of an import without a name.
-use Rattle.std.specs.Prelude.{ℕ, ◌≡◌, ◌↔◌, ◌⊎◌, List, Option, Some, None, Contains, length, slice_get}
+use Rattle.std.specs.Prelude.{ℕ, ◌≡◌, ◌↔◌, ◌⊎◌, List, [], ◌∷◌, ◌++◌, Option, Some, None, Contains, length, slice_get}
 use Rattle.go_scanner.specs.declared.piece.Piece.{Piece}
 use Rattle.go_scanner.specs.declared.piece.Class.TheVariants.{Name}
 use Rattle.go_scanner.specs.CutText.{tokens_in}
@@ -38,12 +38,29 @@ pub record InsertsName (f : SourceFile) (r : Renamed) (i : ℕ) (e : Edit) : Typ
 abbrev pub IsEditAt : SourceFile → Renamed → ℕ → Edit → Type 0
 IsEditAt f r i e = InsertsName f r i e ⊎ RenamesToken f r i e
 
+-- The edit of which `IsNew` holds is appended, if there is one.
+pub data AppendsEdit (IsNew : Edit → Type 0) (old : List Edit) : List Edit → Type 0 where
+  stays : ((e : Edit) → IsNew e → ⊥) → AppendsEdit IsNew old old
+  grows : (e : Edit) → IsNew e → AppendsEdit IsNew old (old ++ e ∷ [])
+
+-- The edits of the token `i` are appended: the insertion, and then the replacement.
+pub record AppendsEditsAt (f : SourceFile) (r : Renamed) (i : ℕ) (old new : List Edit) : Type 0 where
+  pub between : List Edit
+  pub inserts : AppendsEdit (InsertsName f r i) old between
+  pub replaces : AppendsEdit (RenamesToken f r i) between new
+
+-- No edit stands twice.
+abbrev pub NoneTwice : List Edit → Type 0
+NoneTwice [] = Unit {0}
+NoneTwice (e ∷ edits) = ¬ (Contains edits e) × NoneTwice edits
+
 -- The edits are in order, and each ends at this offset or before it.
 pub record EndBy (edits : List Edit) (offset : ℕ) : Type 0 where
   pub in_order : AreInOrder 0 edits
   pub ends : LieWithin offset edits
 
--- These are the edits of all tokens of a file, in order.
+-- These are the edits of all tokens of a file, in order and each once.
 pub record AreFileEdits (f : SourceFile) (r : Renamed) (edits : List Edit) : Type 0 where
   pub end_by : EndBy edits (length f.cut.text)
   pub each : (e : Edit) → Contains edits e ↔ ((i : ℕ) × IsEditAt f r i e)
+  pub once : NoneTwice edits

@@ -1,5 +1,5 @@
 -- The places that lie in one file, and the edits that replace the identifiers there.
-use Rattle.std.specs.Prelude.{ℕ, ◌≡◌, ◌<◌, ◌↔◌, Bool, List, [], ◌∷◌, ◌++◌, Contains, length, get_or}
+use Rattle.std.specs.Prelude.{ℕ, ◌≡◌, ◌<◌, ◌↔◌, Bool, List, Contains, length, get_or}
 use Rattle.std.specs.Ordering.{is_lt}
 use Rattle.base_files.specs.Workspace.{path_cmp}
 use Rattle.base_files.specs.declared.place.Place.{Place}
@@ -8,7 +8,7 @@ use Rattle.go_scanner.specs.declared.piece.Class.TheVariants.{Name}
 use Rattle.go_scanner.specs.CutText.{tokens_in}
 use Rattle.go_ast.specs.SourceFile.{SourceFile}
 use Rattle.base_edits.specs.declared.edit.Edit.{Edit}
-use Rattle.refactor_rename.specs.FileEdits.{EndBy}
+use Rattle.refactor_rename.specs.FileEdits.{EndBy, NoneTwice}
 
 -- whether the place lies in a file before the path
 abbrev pub before : (path : List ℕ) → Place → Bool
@@ -30,12 +30,8 @@ pub record ReplacesAt (tokens : List Piece) (name : List ℕ) (offset : ℕ) (e 
   pub begins : token.span.start ≡ offset
   pub is_edit : e ≡ record { span = token.span; text = name }
 
--- The edit that replaces the identifier at this offset is appended, if one begins there.
-pub data AddsReplacement (tokens : List Piece) (name : List ℕ) (offset : ℕ) (old : List Edit) : List Edit → Type 0 where
-  none : ((e : Edit) → ReplacesAt tokens name offset e → ⊥) → AddsReplacement tokens name offset old old
-  one : (e : Edit) → ReplacesAt tokens name offset e → AddsReplacement tokens name offset old (old ++ e ∷ [])
-
--- These are the edits that replace the identifiers at places of one file, in order.
+-- These are the edits that replace the identifiers at places of one file, in order and each once.
 pub record AreReplacements (f : SourceFile) (name : List ℕ) (here : List Place) (edits : List Edit) : Type 0 where
   pub end_by : EndBy edits (length f.cut.text)
   pub each : (e : Edit) → Contains edits e ↔ ((p : Place) × (Contains here p × ReplacesAt (tokens_in f.cut) name p.offset e))
+  pub once : NoneTwice edits

@@ -48,14 +48,24 @@ RefusesFor fixed reserved called (Ok done) = ¬ fixed × ¬ reserved × ¬ calle
 RefusesFor fixed reserved called (Err NotRenamable) = fixed
 RefusesFor fixed reserved called (Err BadName) = ¬ fixed × reserved
 RefusesFor fixed reserved called (Err Same) = ¬ fixed × ¬ reserved × called
-RefusesFor fixed reserved called (Err Memory) = ⊤
 RefusesFor fixed reserved called (Err refusal) = ⊥
+
+-- The same where members are looked up, for which there may be no memory.
+abbrev pub RefusesOrLacks : (fixed reserved called : Type 0) → Result (Unit {0}) Refusal → Type 0
+RefusesOrLacks fixed reserved called (Err Memory) = ⊤
+RefusesOrLacks fixed reserved called result = RefusesFor fixed reserved called result
+
+-- The first reason against the name `name` for the declaration of the number `d` of the package `p`, or Ok.
+abbrev pub RefusesNumber : Package → (d : ℕ) → List ℕ → Result (Unit {0}) Refusal → Type 0
+RefusesNumber p d name result =
+    RefusesFor ((d < p.size) × (IsPackageLevel p.layout d × (p.names d ≡ codes "main")))
+    (((d < p.size) × (IsPackageLevel p.layout d ⊎ IsImport p.layout d)) × IsReserved name) ((d < p.size) × (p.names d ≡ name)) result
 
 -- The first reason against the name `name` for the declaration `d` of the package `p`, or Ok.
 abbrev pub RefusesNameIn : Package → Declaration → List ℕ → Result (Unit {0}) Refusal → Type 0
-RefusesNameIn p d name result = RefusesFor (IsMainIn p d) (IsTopLevelIn p d × IsReserved name) (HasDeclaredNameIn p d name) result
+RefusesNameIn p d name result = RefusesOrLacks (IsMainIn p d) (IsTopLevelIn p d × IsReserved name) (HasDeclaredNameIn p d name) result
 
 -- Ok where `name` is legal for the declaration `d` and not its present name, or the first reason against it: `NotRenamable`, `BadName` or
 -- `Same`.
 abbrev pub RefusesName : (Package → Type 0) → Declaration → List ℕ → Result (Unit {0}) Refusal → Type 0
-RefusesName IsPackage d name result = RefusesFor (IsFixed IsPackage d) (IsReservedFor IsPackage d name) (HasDeclaredName IsPackage d name) result
+RefusesName IsPackage d name result = RefusesOrLacks (IsFixed IsPackage d) (IsReservedFor IsPackage d name) (HasDeclaredName IsPackage d name) result

@@ -3,10 +3,9 @@ ghost use Rattle.std.specs.Prelude.{ℕ, ◌≡◌, ◌≤◌, ◌↔◌, ◌++�
 ghost use Rattle.std.specs.List.Sorted.{IsStrictlySortedBy};
 ghost use Rattle.go_scanner.specs.CutText.{tokens_in};
 ghost use Rattle.go_ast.specs.SourceFile.{source_of};
-ghost use Rattle.refs_binding.specs.Bindings.{AddsAll};
 ghost use Rattle.refs_binding.specs.Places.{place_cmp};
 ghost use Rattle.refactor_rename.specs.Replacements.{EndsImport, FollowsImportWord, IsNameBefore};
-ghost use Rattle.refactor_rename.specs.FileEdits.{IsLiteralAt, RenamesToken, InsertsName, IsEditAt, EndBy, AreFileEdits};
+ghost use Rattle.refactor_rename.specs.FileEdits.{IsLiteralAt, RenamesToken, InsertsName, AppendsEdit, AppendsEditsAt, EndBy, AreFileEdits};
 
 use crate::here::places_in;
 use crate::renamed::{Literal, Renamed};
@@ -101,7 +100,7 @@ fn add_insertion(
     requires at { slice_get (tokens_in (source_of file.now).cut) number ≡ Some token }
     requires order { EndBy edits.old.items token.span.start }
     ensures order { OnOk result (EndBy edits.new.items token.span.start) }
-    ensures adds { OnOk result (AddsAll edits.old.items edits.new.items (InsertsName (source_of file.now) renamed.now number)) }
+    ensures adds { OnOk result (AppendsEdit (InsertsName (source_of file.now) renamed.now number) edits.old.items edits.new.items) }
 {
     if is_literal(&renamed.literal, file.path(), number) {
         let start = token.span.start;
@@ -127,7 +126,7 @@ fn add_replacement(
     requires span { token.span.start ≤ token.span.end }
     requires order { EndBy edits.old.items token.span.start }
     ensures order { OnOk result (EndBy edits.new.items token.span.end) }
-    ensures adds { OnOk result (AddsAll edits.old.items edits.new.items (RenamesToken (source_of file.now) renamed.now number)) }
+    ensures adds { OnOk result (AppendsEdit (RenamesToken (source_of file.now) renamed.now number) edits.old.items edits.new.items) }
 {
     let places = renamed.places.as_slice();
     if token.class == Class::Name && is_among(places, file.path(), token.span.start) {
@@ -154,7 +153,7 @@ fn add_edits(
     requires span { token.span.start ≤ token.span.end }
     requires order { EndBy edits.old.items token.span.start }
     ensures order { OnOk result (EndBy edits.new.items token.span.end) }
-    ensures adds { OnOk result (AddsAll edits.old.items edits.new.items (IsEditAt (source_of file.now) renamed.now number)) }
+    ensures adds { OnOk result (AppendsEditsAt (source_of file.now) renamed.now number edits.old.items edits.new.items) }
 {
     add_insertion(alloc, edits, file, number, token, renamed)?;
     add_replacement(edits, file, number, token, renamed)

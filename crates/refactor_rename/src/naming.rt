@@ -1,14 +1,14 @@
 //! Whether a name is legal for a declaration.
-ghost use Rattle.std.specs.Prelude.{◌≡◌, ◌<◌, ◌↔◌, ◌⊎◌, ℕ, List, Some, length, slice_index_or, MatchOption, IsTrue, codes};
+ghost use Rattle.std.specs.Prelude.{◌≡◌, ◌<◌, ◌↔◌, ◌⊎◌, ℕ, Some, length, slice_index_or, MatchOption, IsTrue, codes};
 ghost use Rattle.go_scope.specs.Bindings.{IsPackageLevel, IsImport};
 ghost use Rattle.types_declared.specs.Package.{spelled};
 ghost use Rattle.types_declared.specs.PackageView.{package_of, IsIndexOf};
-ghost use Rattle.refs_binding.specs.declared.declaration.Declaration.TheVariants.{Declared, Field, Method};
+ghost use Rattle.refs_binding.specs.declared.declaration.Declaration.TheVariants.{Field, Method};
 ghost use Rattle.refs_binding.specs.Indexed.{IsPackageNumbered, IsIndexed};
 ghost use Rattle.refs_binding.specs.Uses.{IsCheckedPackage};
 ghost use Rattle.refs_binding.specs.Workspaces.{home_path, known_in};
 ghost use Rattle.refactor_rename.specs.NewName.{IsReserved};
-ghost use Rattle.refactor_rename.specs.Naming.{RefusesFor, RefusesNameIn, RefusesName};
+ghost use Rattle.refactor_rename.specs.Naming.{RefusesFor, RefusesNumber, RefusesNameIn, RefusesName};
 
 use crate::new_name::is_reserved;
 use base_files::Refusal;
@@ -74,7 +74,7 @@ fn refuse_in_scopes(unit: Package<'_>, d: usize, name: &[u8]) -> Result<(), Refu
 
 /// Refuses a name for the declaration of a number. Refuses none where the package has no such declaration.
 fn refuse_number(unit: Package<'_>, d: usize, name: &[u8]) -> Result<(), Refusal>
-    ensures { (path : List ℕ) → RefusesNameIn (package_of unit.entry) (Declared path d) name.now result }
+    ensures { RefusesNumber (package_of unit.entry) d name.now result }
 {
     if d < unit.table.len() {
         refuse_in_scopes(unit, d, name)

@@ -6,7 +6,8 @@ ghost use Rattle.go_scanner.specs.declared.piece.Class.TheVariants.{Name};
 ghost use Rattle.go_scanner.specs.declared.piece.Piece.{Piece as Token};
 ghost use Rattle.go_scanner.specs.Spans.{starts};
 ghost use Rattle.go_ast.specs.SourceFile.{source_of};
-ghost use Rattle.refactor_rename.specs.Here.{OffsetsRise, AddsReplacement, AreReplacements};
+ghost use Rattle.refactor_rename.specs.FileEdits.{AppendsEdit};
+ghost use Rattle.refactor_rename.specs.Here.{OffsetsRise, ReplacesAt, AreReplacements};
 
 use base_edits::Edit;
 use base_files::{FileText, Place};
@@ -43,7 +44,7 @@ fn add_replacement(
     name: &FileText,
 ) -> Result<(), AllocError>
     requires { IsStrictlySortedBy nat_cmp (starts tokens.now) }
-    ensures { OnOk result (AddsReplacement tokens.now name.now offset edits.old.items edits.new.items) }
+    ensures { OnOk result (AppendsEdit (ReplacesAt tokens.now name.now offset) edits.old.items edits.new.items) }
 {
     match token_at(tokens, offset) {
         None => Ok(()),

@@ -1,10 +1,11 @@
 -- The answers to the goals of `file_edits::add_insertion`.
-use Rattle.std.proofs.Common.{refl, subst, arith}
+use Rattle.std.proofs.Common.{refl, subst, sym, ◌∙◌, arith}
+use Rattle.std.proofs.lemmas.Bool.{false≢true}
 use Rattle.go_ast.specs.SourceFile.{source_of}
 use Rattle.base_edits.specs.declared.edit.Edit.{Edit}
-use Rattle.refactor_rename.specs.FileEdits.{InsertsName, IsLiteralAt}
+use Rattle.refactor_rename.specs.FileEdits.{AppendsEdit, stays, grows, InsertsName, IsLiteralAt}
 use Rattle.refactor_rename.specs.Replacements.{IsNameBefore}
-use Rattle.refactor_rename.proofs.Editing.{all_one, end_push, one_insertion}
+use Rattle.refactor_rename.proofs.Editing.{end_push}
 use Rattle.refactor_rename.proofs.file_edits.add_insertion.Goals as goal
 
 pub returns-in_ok-push-clause-order : goal.returns-in_ok-push-clause-order
@@ -27,4 +28,10 @@ returns-in_ok-push-clause-adds c =
       span = refl;
       text = subst (λ name. IsNameBefore f i name e.text) c.bytes.ensures c.in_ok-text.ensures;
     } in
-    all_one c.args.edits.now.items c.push.new.self.items e (InsertsName f r i) c.in_ok-push.ensures.items is (λ d h. one_insertion f r i e d is h)
+    subst (AppendsEdit (InsertsName f r i) c.args.edits.now.items) (sym c.in_ok-push.ensures.items) (grows e is)
+
+pub returns-else-is_literal-clause-adds : goal.returns-else-is_literal-clause-adds
+returns-else-is_literal-clause-adds c =
+    let r = c.args.renamed.now in
+    stays (λ e h. false≢true (sym c.if-is_literal.false ∙ c.is_literal.ensures.1
+    (subst (λ q. IsLiteralAt r.literal q c.args.number) (sym c.path.ensures) h.is_literal)))

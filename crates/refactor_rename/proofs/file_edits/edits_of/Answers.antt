@@ -1,9 +1,11 @@
 -- The answers to the goals of `file_edits::edits_of`.
 use Rattle.std.proofs.Common.{length, sym, ap, subst, ◌∙◌, arith, get_or}
+use Rattle.std.specs.List.Sorted.{IsStrictlySortedBy}
+use Rattle.std.specs.Ordering.{nat_cmp}
 use Rattle.go_scanner.specs.declared.piece.Class.TheVariants.{ByteOrderMark}
 use Rattle.go_scanner.specs.declared.piece.Piece.{Piece}
 use Rattle.go_scanner.specs.CutText.{CutText, tokens_in}
-use Rattle.go_scanner.specs.Spans.{FollowFrom}
+use Rattle.go_scanner.specs.Spans.{FollowFrom, starts}
 use Rattle.go_ast.specs.SourceFile.{source_of}
 use Rattle.refactor_rename.proofs.Editing.{going_first, going_next, follow_at, end_more, all_edits}
 use Rattle.refactor_rename.proofs.file_edits.edits_of.Goals as goal
@@ -37,7 +39,9 @@ pub loop-number-preserved : goal.loop-number-preserved
 unfolding no_piece
 loop-number-preserved c =
     going_next (source_of c.args.file.now) c.args.renamed.now c.tokens-tokens.result.now c.loop-number.number no_piece c.loop-number.edits.items
-    c.add_edits.new.edits.items c.loop-number-test.true c.loop-number.invariant
+    c.add_edits.new.edits.items
+    (subst (λ (v : CutText). IsStrictlySortedBy nat_cmp (starts (tokens_in v))) c.pieces.ensures c.tokens-tokens.ensures.order.rise)
+    c.loop-number-test.true c.loop-number.invariant
     c.in_ok-add_edits.ensures.order c.in_ok-add_edits.ensures.adds
 
 pub returns : goal.returns

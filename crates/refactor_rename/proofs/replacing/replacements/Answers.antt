@@ -7,7 +7,8 @@ use Rattle.base_files.specs.declared.place.Place.{Place}
 use Rattle.go_scanner.specs.CutText.{CutText, tokens_in}
 use Rattle.go_scanner.specs.Spans.{FollowFrom, AreTokensInOrder, starts}
 use Rattle.go_ast.specs.SourceFile.{source_of}
-use Rattle.refactor_rename.specs.Here.{AddsReplacement}
+use Rattle.refactor_rename.specs.FileEdits.{AppendsEdit}
+use Rattle.refactor_rename.specs.Here.{ReplacesAt}
 use Rattle.refactor_rename.proofs.PlaceEdits.{placing_first, placing_next, placed}
 use Rattle.refactor_rename.proofs.replacing.replacements.Goals as goal
 
@@ -30,7 +31,7 @@ loop-k-preserved c =
     (subst (λ (v : CutText). FollowFrom 0 ts (length v.text)) c.pieces.ensures order.follow) c.requires c.loop-k.k c.index-here-k.result
     c.loop-k.edits.items c.add_replacement.new.edits.items
     (slice_get_read here (length here) c.loop-k.k c.index-here-k.result refl (omega arith) c.index-here-k.is)
-    (subst (λ (p : Place). AddsReplacement ts c.args.name.now p.offset c.loop-k.edits.items c.add_replacement.new.edits.items) (sym c.index-here-k.is)
+    (subst (λ (p : Place). AppendsEdit (ReplacesAt ts c.args.name.now p.offset) c.loop-k.edits.items c.add_replacement.new.edits.items) (sym c.index-here-k.is)
     c.in_ok-add_replacement.ensures)
     c.loop-k.invariant
 
