@@ -3,7 +3,7 @@ use Rattle.std.proofs.Common.{ℕ, suc, ◌≡◌, ◌<◌, ◌≤◌, inl, inr,
 use Rattle.std.specs.List.{AllByRecursion}
 use Rattle.std.proofs.lemmas.Bool.{true≢false}
 use Rattle.base_lemmas.proofs.EachElement.{all_append, all_front, all_back}
-use Rattle.go_ast.specs.declared.syntax.ValueKind.TheVariants as kind
+use Rattle.go_ast.specs.declared.syntax.Kind.TheVariants as kind
 use Rattle.go_ast.specs.Flatten.{sign_if, all_tokens, item_tokens, expr_tokens, exprs_tokens}
 use Rattle.go_ast.specs.Tree.{Item, ExprTree}
 use Rattle.go_ast.specs.Tree as tree

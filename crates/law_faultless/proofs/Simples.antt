@@ -4,7 +4,7 @@ use Rattle.std.specs.List.{AllByRecursion}
 use Rattle.std.proofs.lemmas.Bool.{true≢false}
 use Rattle.std.proofs.lemmas.Option.{none-some, same_Some}
 use Rattle.base_lemmas.proofs.EachElement.{all_append, all_front, all_back}
-use Rattle.go_ast.specs.declared.syntax.ValueKind.TheVariants as kind
+use Rattle.go_ast.specs.declared.syntax.Kind.TheVariants as kind
 use Rattle.go_ast.specs.Flatten.{sign, sign_if, step_kind, update_kind, tokens_if, all_tokens, item_tokens, list_tokens, ident_tokens, type_tokens}
 use Rattle.go_ast.specs.Flatten.{expr_tokens, exprs_tokens, simple_tokens, value_tokens, local_tokens}
 use Rattle.go_ast.specs.Tree.{Item, IdentTree, Named, Underscore, TypeTree, ExprTree, SimpleTree, LocalTree}
