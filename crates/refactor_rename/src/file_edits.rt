@@ -2,6 +2,7 @@
 ghost use Rattle.std.specs.Prelude.{ℕ, ◌≡◌, ◌≤◌, ◌↔◌, ◌++◌, ◌∷◌, [], Contains, IsTrue, IfOk, OnOk, Some, slice_get};
 ghost use Rattle.std.specs.List.Sorted.{IsStrictlySortedBy};
 ghost use Rattle.go_scanner.specs.CutText.{tokens_in};
+ghost use Rattle.go_scanner.specs.declared.piece.Class.TheVariants.{Name};
 ghost use Rattle.go_ast.specs.SourceFile.{source_of};
 ghost use Rattle.refs_binding.specs.Places.{place_cmp};
 ghost use Rattle.refactor_rename.specs.Replacements.{EndsImport, FollowsImportWord, IsNameBefore};
@@ -9,11 +10,11 @@ ghost use Rattle.refactor_rename.specs.FileEdits.{IsLiteralAt, RenamesToken, Ins
 
 use crate::here::places_in;
 use crate::renamed::{Literal, Renamed};
-use crate::replacing::replacements;
+use crate::replacing::{is_identifier, replacements};
 use base_edits::Edit;
 use base_files::{FileText, Path, Place, Span};
 use go_ast::FileTree;
-use go_scanner::{Class, Piece};
+use go_scanner::Piece;
 use std::alloc::{AllocError, Global};
 use std::cmp::Ordering;
 
@@ -33,6 +34,14 @@ fn is_among(places: &[Place], path: &Path, offset: usize) -> bool
         Ok(_) => true,
         Err(_) => false,
     }
+}
+
+/// Whether a token of the file at this path is an identifier at one of the sorted places.
+fn is_renamed(places: &[Place], path: &Path, token: Piece) -> bool
+    requires { IsStrictlySortedBy place_cmp places.now }
+    ensures { IsTrue result ↔ ((token.class ≡ Name) × Contains places.now (record { path = path.now; offset = token.span.start })) }
+{
+    is_identifier(token) && is_among(places, path, token.span.start)
 }
 
 /// Whether the literal is the token with this number of the file at this path.
@@ -128,8 +137,7 @@ fn add_replacement(
     ensures order { OnOk result (EndBy edits.new.items token.span.end) }
     ensures adds { OnOk result (AppendsEdit (RenamesToken (source_of file.now) renamed.now number) edits.old.items edits.new.items) }
 {
-    let places = renamed.places.as_slice();
-    if token.class == Class::Name && is_among(places, file.path(), token.span.start) {
+    if is_renamed(renamed.places.as_slice(), file.path(), token) {
         let text = renamed.name.clone()?;
         edits.push(Edit {
             span: token.span,

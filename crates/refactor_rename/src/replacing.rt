@@ -27,7 +27,7 @@ fn token_at(tokens: &[Piece], offset: usize) -> Option<Piece>
 }
 
 /// Whether a token is an identifier.
-fn is_identifier(token: Piece) -> bool
+pub(crate) fn is_identifier(token: Piece) -> bool
     ensures { IsTrue result ↔ (token.class ≡ Name) }
 {
     match token.class {
