@@ -76,13 +76,15 @@ one_insertion f r i d e h k =
 -- A name before a literal is longer than the name.
 not_the_name : (f : SourceFile) (i : ℕ) (name text : List ℕ) → IsNameBefore f i name text → text ≡ name → ⊥
 not_the_name f i name _ (apart p) e =
-    let same : length (name ++ 32 ∷ []) ≡ length name = ap length e in
-    let single : length (32 ∷ []) ≡ 1 = refl in
-    omega (arith, same, single, length-append name (32 ∷ []))
+    let blank : List ℕ = 32 ∷ [] in
+    let same : length (name ++ blank) ≡ length name = ap length e in
+    let single : length blank ≡ 1 = refl in
+    omega (arith, same, single, length-append name blank)
 not_the_name f i name _ (joined p) e =
-    let same : length (32 ∷ [] ++ (name ++ 32 ∷ [])) ≡ length name = ap length e in
-    let single : length (32 ∷ []) ≡ 1 = refl in
-    omega (arith, same, single, length-append (32 ∷ []) (name ++ 32 ∷ []), length-append name (32 ∷ []))
+    let blank : List ℕ = 32 ∷ [] in
+    let same : length (blank ++ (name ++ blank)) ≡ length name = ap length e in
+    let single : length blank ≡ 1 = refl in
+    omega (arith, same, single, length-append blank (name ++ blank), length-append name blank)
 
 one_replacement : (f : SourceFile) (r : Renamed) (i : ℕ) (d e : Edit) → RenamesToken f r i d → RenamesToken f r i e → d ≡ e
 one_replacement f r i d e h k =
