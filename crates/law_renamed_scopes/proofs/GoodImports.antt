@@ -50,9 +50,6 @@ use Rattle.refs_lookup.proofs.Faultless.{all_decided}
 
 abbrev IsDecided : (List ℕ → Type 0) → List ℕ → Type 0
 IsDecided P q = P q ⊎ (P q → ⊥)
-  where
-    no_more : (IsDecided P q → ⊥) → ⊥
-    no_more n = n (inr (λ a. n (inl a)))
 
 -- what each path is to a package that may import it
 module _ (w : Workspace) (known : Verdicts) (p : List ℕ)
