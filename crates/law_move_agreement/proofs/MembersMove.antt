@@ -41,33 +41,6 @@ member_moves : (g : PathMap) (m : Member) → declaration_of (moved_member g m) 
 member_moves g (AField s t) = refl
 member_moves g (AMethod s p f) = refl
 member_moves g (ABrokenMethod s) = refl
-  where
-    token : TokenAt p (p.layout.place u) place
-    token = name_token (slice_get p.files (p.layout.place u).file) (p.layout.place u).index place b.1
-
-    by_kind : (d : Declaration) → DeclaresMember p u d → IsDeclaredAt (IsCheckedPackage w known) d place
-    by_kind (Predeclared n) h = absurd h
-    by_kind (Declared path n) h = absurd h
-    by_kind (Field s) h = record {
-      inside = p;
-      is_package = is;
-      of_path = sym h.0;
-      holds = record {
-        at = h.1.at;
-        is_at = h.1.is_at;
-        begins = subst (λ a. TokenAt p a place) (sym (stands_once p u h.1.at h.1.stands)) token;
-      };
-    }
-    by_kind (Method s) h = record {
-      inside = p;
-      is_package = is;
-      of_path = sym h.0;
-      holds = record {
-        at = h.1.at;
-        is_at = h.1.is_at;
-        begins = subst (λ a. TokenAt p a place) (sym (stands_once p u h.1.at h.1.stands)) token;
-      };
-    }
 
 -- A use that is found in a file of a package names its member.
 member_used : (p : Package) (file : ℕ) (f : SourceFile) (v : World) → slice_get p.files file ≡ Some f → IsWorldOf p file f v → (u : MemberUse) →

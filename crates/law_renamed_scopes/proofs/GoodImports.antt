@@ -44,12 +44,7 @@ use Rattle.refs_binding.proofs.Alike.{package_for}
 use Rattle.types_info.proofs.MeaningLists.{slice_get_some}
 use Rattle.law_renamed_packages.proofs.NameEdits.{ranked}
 use Rattle.law_renamed_packages.proofs.Packages.{tree_of}
-use Rattle.refs_lookup.proofs.Faultless.{all_decided}
-
--- what follows whether or not a claim is true of each path follows
-
-abbrev IsDecided : (List ℕ → Type 0) → List ℕ → Type 0
-IsDecided P q = P q ⊎ (P q → ⊥)
+use Rattle.refs_lookup.proofs.Faultless.{IsDecided, all_decided}
 
 -- what each path is to a package that may import it
 module _ (w : Workspace) (known : Verdicts) (p : List ℕ)
