@@ -1,0 +1,4 @@
+-- The lemmas of this crate.
+pub mod Qualifiers
+pub mod MemberNames
+pub mod UsedMembers
