@@ -43,22 +43,6 @@ use Rattle.law_faultless.proofs.Declared.{given, name_is, old_site, role_is, sit
 use Rattle.law_renamed_scopes.proofs.Standing.{literal_role}
 use Rattle.law_faultless.proofs.Meant.{literal_stays}
 
--- names of imports do not change which identifiers are literals of imports with names
-
-literal_where : (name : Option (List ℕ)) (x : Site) (b : Bool) → is_unnamed_import x.role ≡ b → is_literal (named_where b name x).role ≡ is_literal x.role
-literal_where (Some name) x true e = sym (not_named x.role e)
-  where
-    not_named : (r : Role) → is_unnamed_import r ≡ true → is_literal r ≡ false
-    not_named (NotLexical purpose.UnnamedImport) e = refl
-    not_named r e = absurd (true≢false (sym e))
-literal_where None x true e = refl
-literal_where name x false e = refl
-
-unfolding named_sites
-literal_stays names [] d = refl
-literal_stays names (x ∷ xs) zero = literal_where (names 0) x (is_unnamed_import x.role) refl
-literal_stays names (x ∷ xs) (suc d) = literal_stays (λ k. names (suc k)) xs d
-
 -- the name that is given to an import without a name
 given_where : (b : Bool) (x : Site) (o : Option (List ℕ)) (name : List ℕ) → b ≡ true → o ≡ Some name → (named_where b o x).name ≡ name
 given_where true x (Some n) name e is = same_Some n name is
