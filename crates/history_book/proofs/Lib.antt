@@ -5,3 +5,9 @@ pub mod Comes
 pub mod Numbers
 pub mod Needed
 pub mod OnCurrent
+pub mod AtRest
+pub mod Sides
+pub mod StepsTaken
+pub mod Advanced
+pub mod CurrentChanged
+pub mod Roomier

@@ -12,11 +12,12 @@ ghost use Rattle.history_machine.specs.declared.event.Event.TheVariants.{Commit,
 use crate::deliveries::{DeliveryOutcome, outcome_of, outcome_on_current};
 use crate::following::state_after;
 use crate::handed::{Handed, take_in};
-use crate::history::History;
+use crate::states::States;
 use base_files::{Limits, Refusal};
 use build_carry::Finished;
 use build_unit::{Built, Job, Out, PackageInputs, SharedPath};
-use history_machine::{EntryEdits, State, View, first_waiting};
+use history_inverses::History;
+use history_machine::{EntryEdits, KnownSnapshot, State, View, first_waiting};
 use std::alloc::{AllocError, Global};
 use std::marker::Model;
 use workspace_check::{Known, SharedKnown};
@@ -27,13 +28,13 @@ use workspace_snapshot::MadeChange;
 pub struct Content {
     pub(crate) alloc: Global,
     pub limits: Limits,
-    pub(crate) history: History,
+    pub(crate) history: States,
     pub out: Out,
 }
 
 impl Model for Content {
-    ghost use Rattle.std.specs.Prelude.{◌+◌, ◌≤◌, length};
-    ghost use Rattle.history_book.specs.Histories.{content_of};
+    ghost use Rattle.std.specs.Prelude.{◌≡◌};
+    ghost use Rattle.history_book.specs.Histories.{KeepStates, content_of};
     ghost use Rattle.history_machine.specs.Machine.{Content};
     ghost use Rattle.std.specs.Coded.{codes};
     ghost use Rattle.build_unit.specs.Codes.{unit_code, workspace_code};
@@ -44,7 +45,7 @@ impl Model for Content {
 
     ghost view = { λ a. content_of a.history a.limits a.out };
 
-    ghost invariant = { λ a. length a.history.earlier.items + length a.history.later.items ≤ a.limits.undo_depth };
+    ghost invariant = { λ a. (a.history.ways.depth ≡ a.limits.undo_depth) × KeepStates a.history };
 }
 
 /// Whether the base of a change has these files, byte for byte.
@@ -52,6 +53,16 @@ fn is_based(change: &MadeChange, files: &Graph) -> bool
     ensures { IsTrue result ↔ (change.now.base ≡ files.now) }
 {
     change.get().base.files().same(files.files())
+}
+
+/// A snapshot of a state, and its finished units. Both are shared.
+fn parts_shown(state: &State, limits: Limits) -> Result<(KnownSnapshot, Finished), AllocError>
+    ensures snapshot { IfOk result (λ parts. parts.0 ≡ record { number = state.now.number; limits = limits; files = state.now.files }) }
+    ensures finished { IfOk result (λ parts. parts.1 ≡ state.now.finished) }
+{
+    let snapshot = state.snapshot(limits)?;
+    let finished = state.finished.clone()?;
+    Ok((snapshot, finished))
 }
 
 impl Content {
@@ -66,7 +77,7 @@ impl Content {
         Ok(Content {
             alloc,
             limits,
-            history: History {
+            history: States {
                 earlier: Vec::new(alloc),
                 current: State {
                     number: 0,
@@ -75,6 +86,7 @@ impl Content {
                     known,
                 },
                 later: Vec::new(alloc),
+                ways: History::new(alloc, limits.undo_depth),
                 next: 1,
                 visit: 0,
             },
@@ -107,8 +119,7 @@ impl Content {
     pub fn look(&self) -> Result<View, Refusal>
         ensures { AnswersOrLacks self.now Look (looked result) self.now }
     {
-        let snapshot = self.history.current.snapshot(self.limits)?;
-        let finished = self.history.current.finished.clone()?;
+        let (snapshot, finished) = parts_shown(&self.history.current, self.limits)?;
         Ok(View {
             snapshot,
             finished,
@@ -124,13 +135,13 @@ impl Content {
         ensures answer { AnswersOrLacks self.old (Commit self.old.current.number change) (committed result) self.new }
         ensures edits { IfOk result (λ made. made.1 ≡ change.edits) }
     {
-        let (state, edits) = state_after(
+        let (state, edits, back) = state_after(
             self.alloc,
             &self.history.current,
             self.history.next,
             change,
         )?;
-        let number = self.history.advance(self.limits, state)?;
+        let number = self.history.advance(self.alloc, self.limits, state, back)?;
         Ok((number, edits))
     }
 
@@ -172,7 +183,7 @@ impl Content {
         requires { HasNumbersLeft self.old }
         ensures { AnswersOrLacks self.old (Undo basis) (done result) self.new }
     {
-        self.history.undo(basis)
+        self.history.undo(self.alloc, basis)
     }
 
     /// Makes the state current again that the last undo left, where the basis is the current number. Returns that state's number.
@@ -180,7 +191,7 @@ impl Content {
         requires { HasNumbersLeft self.old }
         ensures { AnswersOrLacks self.old (Redo basis) (done result) self.new }
     {
-        self.history.redo(basis)
+        self.history.redo(self.alloc, basis)
     }
 
     /// Hands out a Job of the first package that waits to be built, with the package's inputs.
@@ -284,16 +295,18 @@ impl Content {
             history,
             out,
         } = self;
-        let History {
+        let States {
             earlier,
             current,
             later,
+            ways,
             next: _,
             visit: _,
         } = history;
         drop(earlier);
         drop(current);
         drop(later);
+        ways.close();
         drop(out);
     }
 }

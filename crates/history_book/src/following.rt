@@ -1,11 +1,13 @@
 //! Makes the state after a change.
 ghost use Rattle.std.specs.Prelude.{◌≡◌, IfOk, IsTrue};
+ghost use Rattle.base_edits.specs.Inverse.{IsInverse};
 ghost use Rattle.workspace_check.specs.Found.{KnowsVerdicts};
 ghost use Rattle.build_carry.specs.Changes.{MarkChanges};
 ghost use Rattle.build_carry.specs.Finished.{HasNoUnit};
 ghost use Rattle.build_carry.specs.Carried.{IsCarried};
 ghost use Rattle.history_book.specs.Following.{IsStateAfter};
 
+use base_edits::WayBack;
 use build_carry::{Finished, Marks, carried_units, kept, marks_of, nothing_carried};
 use history_machine::{EntryEdits, State};
 use std::alloc::{AllocError, Global};
@@ -73,19 +75,20 @@ fn carried_over(
     carried_by(alloc, current, files, &marks)
 }
 
-/// The state after a change, with this number, and the change's edits.
+/// The state after a change, with this number, the change's edits, and what leads back to the state before.
 pub(crate) fn state_after(
     alloc: Global,
     current: &State,
     number: u64,
     change: MadeChange,
-) -> Result<(State, EntryEdits), AllocError>
+) -> Result<(State, EntryEdits, WayBack), AllocError>
     requires { change.base ≡ current.now.files }
     ensures state { IfOk result (λ made. IsStateAfter current.now number change made.0) }
     ensures edits { IfOk result (λ made. made.1 ≡ change.edits) }
+    ensures back { IfOk result (λ made. IsInverse made.2 made.0.files current.now.files) }
 {
     let (finished, known) = carried_over(alloc, current, &change)?;
-    let (change, _) = change.into_parts();
+    let (change, back) = change.into_parts();
     let files = change.files;
     let edits = EntryEdits::new(alloc, change.edits)?;
     let state = State {
@@ -94,5 +97,5 @@ pub(crate) fn state_after(
         finished,
         known,
     };
-    Ok((state, edits))
+    Ok((state, edits, back))
 }

@@ -16,9 +16,9 @@ mod following;
 mod fresh;
 mod handed;
 mod handing;
-mod history;
 mod question;
 mod reasons;
+mod states;
 
 pub use answering::{answer, enter};
 pub use asking::{Logging, Looking, Taking};
@@ -29,5 +29,5 @@ pub use entering::add_entry;
 pub use fresh::{fresh_number, number_of};
 pub use handed::Handed;
 pub use handing::HandingIn;
-pub use history::History;
 pub use question::{Answered, Asked, Question};
+pub use states::States;

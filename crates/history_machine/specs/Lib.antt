@@ -11,3 +11,4 @@ pub mod JournalSteps
 pub mod MayReply
 pub mod Run
 pub mod Current
+pub mod Resting

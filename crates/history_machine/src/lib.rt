@@ -9,6 +9,7 @@ mod entry;
 mod entry_edits;
 mod event;
 mod laws;
+mod resting;
 mod state;
 mod view;
 mod waiting;
@@ -20,6 +21,7 @@ pub use laws::{
     finished_units_are_current, journals_are_legal, numbers_are_used_once, refusals_keep_all,
     undo_and_redo_restore,
 };
+pub use resting::Resting;
 pub use state::State;
 pub use view::{KnownSnapshot, View};
 pub use waiting::first_waiting;

@@ -1,11 +1,13 @@
 //! A state of the history.
 ghost use Rattle.std.specs.Prelude.{◌≡◌, IfOk};
 ghost use Rattle.workspace_check.specs.Found.{KnowsVerdicts};
+ghost use Rattle.history_machine.specs.Resting.{IsRestOf};
 
+use crate::resting::{Resting, own_verdicts};
 use crate::view::KnownSnapshot;
 use base_files::Limits;
 use build_carry::Finished;
-use std::alloc::AllocError;
+use std::alloc::{AllocError, Global};
 use std::marker::Model;
 use workspace_check::SharedKnown;
 use workspace_graph::Graph;
@@ -72,6 +74,19 @@ impl State {
             files,
         };
         Ok(KnownSnapshot::new(snapshot, known))
+    }
+
+    /// What the state keeps at rest. The units and the verdicts are shared.
+    pub fn rest(&self, alloc: Global) -> Result<Resting, AllocError>
+        ensures { IfOk result (IsRestOf self.now) }
+    {
+        let finished = self.finished.clone()?;
+        let known = own_verdicts(alloc, &self.files, self.known.get())?;
+        Ok(Resting {
+            number: self.number,
+            finished,
+            known,
+        })
     }
 
     /// Keeps the findings of the packages of `files`, if the state has these files. Otherwise it drops them.

@@ -26,7 +26,9 @@ use Rattle.build_unit.specs.contracts.unit.Compiled.{the_row as compiled}
 use Rattle.build_unit.specs.contracts.unit.Unit.{the_row as unit}
 use Rattle.build_carry.specs.contracts.finished.Finished.{the_row as finished}
 use Rattle.history_machine.specs.contracts.state.State.{the_row as state}
-use Rattle.history_book.specs.contracts.history.History.{the_field as history_field}
+use Rattle.history_machine.specs.contracts.resting.Resting.{the_field as resting_field}
+use Rattle.history_inverses.proofs.history.History.TheSendSync.{the_send as Inverses-send}
+use Rattle.history_book.specs.contracts.states.States.{the_field as states_field}
 use Rattle.history_book.specs.contracts.content.Content.{the_row as content}
 use Rattle.history_book.specs.contracts.book.Book.{the_row as book}
 use Rattle.server_shared.specs.contracts.seat.Seat.{the_row as seat}
@@ -154,12 +156,15 @@ finished_sent = search (owned, SharedList-send, SharedList-sync, unit_sent, unit
 pub state_sent : IsSend state
 state_sent = search (owned, graph_sent, finished_sent, shared_known_sent) depth 30 fits 50000
 
--- as a field, as a package is above
-history_field_sent : IsSend history_field.row
-history_field_sent = search (owned, state_sent) depth 30 fits 50000
+-- as fields, as a package is above
+resting_field_sent : IsSend resting_field.row
+resting_field_sent = search (owned, finished_sent, shared_known_sent) depth 30 fits 50000
+
+states_field_sent : IsSend states_field.row
+states_field_sent = search (owned, state_sent, resting_field_sent, Inverses-send) depth 30 fits 50000
 
 pub content_sent : IsSend content
-content_sent = search (owned, history_field_sent, Out-send) depth 30 fits 50000
+content_sent = search (owned, states_field_sent, Out-send) depth 30 fits 50000
 
 pub book_sent : IsSend book
 book_sent = search (owned, content_sent, Entry-send) depth 30 fits 50000

@@ -25,7 +25,9 @@ advance-requires c = record {
   next = subst (λ (m : Content). m.next + 1 < 2 ^ 64) (sym c.self.view_is) c.requires.numbers.next;
   visit = subst (λ (m : Content). m.visit + 1 < 2 ^ 64) (sym c.self.view_is) c.requires.numbers.visit;
   number = c.in_ok-state.ensures.state.numbered;
-  depth = c.self.invariant;
+  back = c.in_ok-state.ensures.back;
+  depth = c.self.invariant.0;
+  keeps = c.self.invariant.1;
 }
 
 pub returns-clause-answer : goal.returns-clause-answer

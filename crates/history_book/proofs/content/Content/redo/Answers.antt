@@ -1,5 +1,5 @@
--- The states move whatever the limits are and whichever Jobs are out, and their count stays.
-use Rattle.std.proofs.Common.{◌<◌, ◌+◌, ◌^◌, arith, sym, subst}
+-- The states move whatever the limits are and whichever Jobs are out, and the inverses lead to them still.
+use Rattle.std.proofs.Common.{◌<◌, ◌+◌, ◌^◌, sym, subst, ◌∙◌}
 use Rattle.history_book.specs.Histories.{content_of}
 use Rattle.history_machine.specs.Machine.{Content}
 use Rattle.history_machine.specs.Step.{AnswersOrLacks, done}
@@ -7,10 +7,13 @@ use Rattle.history_machine.specs.declared.event.Event.TheVariants.{Redo}
 use Rattle.history_book.proofs.content.Content.redo.Goals as goal
 
 pub redo-requires : goal.redo-requires
-redo-requires c = subst (λ (m : Content). m.visit + 1 < 2 ^ 64) (sym c.self.view_is) c.requires.visit
+redo-requires c = record {
+  visit = subst (λ (m : Content). m.visit + 1 < 2 ^ 64) (sym c.self.view_is) c.requires.visit;
+  keeps = c.self.invariant.1;
+}
 
 pub invariant_of-self : goal.invariant_of-self
-invariant_of-self c = omega (arith, c.redo.ensures.count, c.self.invariant)
+invariant_of-self c = (c.redo.ensures.depth ∙ c.self.invariant.0, c.redo.ensures.keeps)
 
 pub returns : goal.returns
 returns c =

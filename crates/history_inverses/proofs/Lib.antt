@@ -1,0 +1,3 @@
+-- Proofs about histories.
+pub mod Walks
+pub mod Returns
