@@ -1,6 +1,10 @@
 //! The program `gorefd`: serves one session over a book of its own, from standard input to standard output, or sessions on a socket.
 #![tactic(auto)]
 
+ghost use Rattle.std.specs.Prelude.{◌≡◌, ◌≤◌, IfErr};
+ghost use Rattle.std.specs.Process.{exit_status};
+ghost use Rattle.gorefd.specs.Statuses.{IsStatusOf, IsUnread};
+
 mod fault;
 
 use base_files::Limits;
@@ -29,7 +33,9 @@ fn run(rt: &(impl Input + Print + AllocGlobal)) -> Result<(), ProgramFault> {
 }
 
 /// Prints how many entries the settled journal has, and returns the exit status.
-fn print_settled<R: Print + Eprint>(rt: &R, entries: u64) -> ExitCode {
+fn print_settled<R: Print + Eprint>(rt: &R, entries: u64) -> ExitCode
+    ensures { exit_status result ≤ 1 }
+{
     match println!(rt; "settled {entries}") {
         Ok(()) => ExitCode::SUCCESS,
         Err(_) => ended(rt, ProgramFault::Write),
@@ -37,13 +43,17 @@ fn print_settled<R: Print + Eprint>(rt: &R, entries: u64) -> ExitCode {
 }
 
 /// Prints on standard error why the program ended, and returns the exit status 1.
-fn ended(rt: &impl Eprint, fault: impl Display + Drop) -> ExitCode {
+fn ended(rt: &impl Eprint, fault: impl Display + Drop) -> ExitCode
+    ensures { exit_status result ≡ 1 }
+{
     let _ = eprintln!(rt; "gorefd: {fault}");
     ExitCode::from(1)
 }
 
 /// Prints the text of words that make no request, and returns the exit status: 0 for help and the version, 2 for a usage text.
-fn print_fault<R: Print + Eprint>(rt: &R, fault: &RequestFault) -> ExitCode {
+fn print_fault<R: Print + Eprint>(rt: &R, fault: &RequestFault) -> ExitCode
+    ensures { IsStatusOf fault.now (exit_status result) }
+{
     match fault {
         RequestFault::Memory => ended(rt, ProgramFault::Memory),
         RequestFault::Help(text) | RequestFault::Version(text) => match print!(rt; "{text}") {
@@ -58,7 +68,9 @@ fn print_fault<R: Print + Eprint>(rt: &R, fault: &RequestFault) -> ExitCode {
 }
 
 /// The words of the command line, the first of which is the program's name.
-fn words<R: Env + AllocGlobal>(rt: &R) -> Result<Vec<String>, RequestFault> {
+fn words<R: Env + AllocGlobal>(rt: &R) -> Result<Vec<String>, RequestFault>
+    ensures { IfErr result (IsUnread NOT_UTF8.now) }
+{
     match std::env::args(rt) {
         Ok(words) => Ok(words.collect(rt.alloc())?),
         Err(error) if error.kind() == ErrorKind::OutOfMemory => Err(RequestFault::Memory),

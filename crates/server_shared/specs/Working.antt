@@ -1,4 +1,4 @@
--- The calls of a worker at its seat.
+-- The calls of a worker.
 use Rattle.std.specs.Prelude.{◌≡◌, ◌⊎◌, ℕ, zero, suc, List, ⊤, true, false, Bool}
 use Rattle.base_files.specs.declared.refusal.Refusal.{Refusal}
 use Rattle.build_unit.specs.Builds.{IsBuiltOf}
@@ -11,45 +11,46 @@ use Rattle.history_machine.specs.declared.event.Event.TheVariants.{Take, Deliver
 use Rattle.history_machine.specs.declared.event.Reply.{Reply}
 use Rattle.history_machine.specs.declared.event.Reply.TheVariants.{Taken, Refused, Back}
 use Rattle.server_shared.specs.declared.receipt.Receipt.{Receipt}
-use Rattle.server_shared.specs.Call.{CallsWith}
-
--- the event is called at the seat, whatever its reply
-abbrev pub CallsEvent : ℕ → List Receipt → Event → List Receipt → Type 0
-CallsEvent most old event new = (reply : Reply) × CallsWith most old event reply new
 
 -- the reply brings the Job back
 abbrev pub ComesBack : Reply → Type 0
 ComesBack (Back refusal job unit) = ⊤
 ComesBack reply = ⊥
 
--- after this reply to a delivery the Job is given back if it came back; else nothing more is called
-abbrev pub AfterSeatDelivery : ℕ → List Receipt → JobRecord → Reply → List Receipt → Type 0
-AfterSeatDelivery most old job (Back refusal back unit) new = CallsEvent most old (GiveBack job) new
-AfterSeatDelivery most old job reply new = new ≡ old
+-- A worker's calls. `steps` are those of some caller, of which nothing else is known: what holds for every `steps` holds of the calls that
+-- were made, refused ones too. No other clause can tell that a call was made which left no entry.
+module _ {C : Type 0} (steps : C → Event → Reply → C → Type 0) where
+  -- the event is called, whatever its reply
+  abbrev pub CallsEvent : C → Event → C → Type 0
+  CallsEvent old event new = (reply : Reply) × steps old event reply new
 
--- what was built for the Job is delivered; a Job that comes back is given back
-abbrev pub DeliversAtSeat : ℕ → List Receipt → JobRecord → List Receipt → Type 0
-DeliversAtSeat most old job new =
-    (built : Built) × IsBuiltOf job built
-    × ((reply : Reply) × (mid : List Receipt) × CallsWith most old (Deliver job built) reply mid × AfterSeatDelivery most mid job reply new)
+  -- after this reply to a delivery the Job is given back if it came back; else nothing more is called
+  abbrev pub AfterReply : C → JobRecord → Reply → C → Type 0
+  AfterReply old job (Back refusal back unit) new = CallsEvent old (GiveBack job) new
+  AfterReply old job reply new = new ≡ old
 
--- The Job is built and delivered, or given back unbuilt. Each Job that was taken is so handed in once: it is delivered, given back, or
--- retired after giving it back failed. A Job in hand is not retired for want of memory at the seat (`MayLackRoom`): some book turned it
--- away, and in that book the Job was not out. No clause ties this book to the one that handed the Job out:
--- no fact spans two takings of the lock.
-abbrev pub HandsIn : ℕ → List Receipt → JobRecord → List Receipt → Type 0
-HandsIn most old job new = DeliversAtSeat most old job new ⊎ CallsEvent most old (GiveBack job) new
+  -- what was built for the Job is delivered; a Job that comes back is given back
+  abbrev pub DeliversBuilt : C → JobRecord → C → Type 0
+  DeliversBuilt old job new =
+      (built : Built) × IsBuiltOf job built
+      × ((reply : Reply) × (mid : C) × steps old (Deliver job built) reply mid × AfterReply mid job reply new)
 
--- a Take is refused; or a Job is taken and handed in
-abbrev pub WorksOnce : ℕ → List Receipt → List Receipt → Type 0
-WorksOnce most old new =
-    ((refusal : Refusal) × CallsWith most old Take (Refused refusal) new)
-    ⊎ ((job : JobRecord) × (mid : List Receipt) × CallsWith most old Take (Taken job) mid × HandsIn most mid job new)
+  -- The Job is built and delivered, or given back unbuilt. Each Job that was taken is so handed in once: it is delivered, given back, or
+  -- retired after giving it back failed. A Job in hand is not retired for want of memory at the seat (`MayLackRoom`): some book turned it
+  -- away, and in that book the Job was not out. No clause ties this book to the one that handed the Job out:
+  -- no fact spans two takings of the lock.
+  abbrev pub HandsIn : C → JobRecord → C → Type 0
+  HandsIn old job new = DeliversBuilt old job new ⊎ CallsEvent old (GiveBack job) new
 
--- So many times, one after another, a Take is refused, or a Job is taken and handed in.
-abbrev pub WorksOften : ℕ → ℕ → List Receipt → List Receipt → Type 0
-WorksOften most zero old new = new ≡ old
-WorksOften most (suc n) old new = (mid : List Receipt) × WorksOften most n old mid × WorksOnce most mid new
+  -- a Job is taken and handed in, or a Take is refused
+  abbrev pub TakesTurn : C → (took : Bool) → C → Type 0
+  TakesTurn old true new = (job : JobRecord) × (mid : C) × steps old Take (Taken job) mid × HandsIn mid job new
+  TakesTurn old false new = (refusal : Refusal) × steps old Take (Refused refusal) new
+
+  -- so many turns are taken, one after another
+  abbrev pub TakesTurns : ℕ → C → C → Type 0
+  TakesTurns zero old new = new ≡ old
+  TakesTurns (suc n) old new = (mid : C) × TakesTurns n old mid × ((took : Bool) × TakesTurn mid took new)
 
 -- whether a worker's events are of this kind
 abbrev pub is_work : EntryKind → Bool

@@ -5,16 +5,12 @@ ghost use Rattle.build_unit.specs.Builds.{IsBuiltOf};
 ghost use Rattle.history_machine.specs.declared.event.Event.TheVariants.{Deliver, GiveBack, Take};
 ghost use Rattle.history_machine.specs.declared.event.Reply.{Reply};
 ghost use Rattle.history_machine.specs.declared.event.Reply.TheVariants.{Refused, Taken};
-ghost use Rattle.server_shared.specs.Call.{CallsWith};
 ghost use Rattle.server_shared.specs.Working.{ComesBack, CallsEvent};
 
-use crate::opening::Opening;
-use crate::seat::Seat;
-use crate::shared::Shared;
+use crate::caller::Caller;
 use build_unit::{Built, Job, build};
 use history_book::{Handed, HandingIn, Taking};
 use std::alloc::{AllocError, Global};
-use std::sync::Wait;
 
 /// A Job that its worker must hand in, by `deliver` or `give_back`.
 #[must_use]
@@ -22,15 +18,11 @@ pub(crate) struct InHand {
     job: Job,
 }
 
-/// Takes a Job at a seat, if there is one.
-pub(crate) fn take<L: Opening, R: Wait>(
-    rt: &R,
-    shared: &Shared<L>,
-    seat: &mut Seat<L>,
-) -> Option<InHand>
-    ensures { MatchOption result ((refusal : WhyRefused) × CallsWith L.most seat.old Take (Refused refusal) seat.new) (λ hand. CallsWith L.most seat.old Take (Taken hand.job) seat.new) }
+/// Takes a Job, if there is one.
+pub(crate) fn take<C: Caller>(caller: &mut C) -> Option<InHand>
+    ensures { MatchOption result ((refusal : WhyRefused) × C.steps caller.old Take (Refused refusal) caller.new) (λ hand. C.steps caller.old Take (Taken hand.job) caller.new) }
 {
-    match shared.send(rt, seat, Taking) {
+    match caller.call(Taking) {
         Ok(job) => Some(InHand { job }),
         Err(refusal) => {
             drop(refusal);
@@ -55,17 +47,11 @@ impl InHand {
     }
 
     /// Delivers what was built for the Job. The Job comes back where the book doesn't take it.
-    pub fn deliver<L: Opening, R: Wait>(
-        self,
-        rt: &R,
-        shared: &Shared<L>,
-        seat: &mut Seat<L>,
-        built: Built,
-    ) -> Result<(), InHand>
-        ensures { (reply : Reply) × CallsWith L.most seat.old (Deliver self.job built) reply seat.new × MatchResult result (λ _. ¬ (ComesBack reply)) (λ hand. ComesBack reply × (hand.job ≡ self.job)) }
+    pub fn deliver<C: Caller>(self, caller: &mut C, built: Built) -> Result<(), InHand>
+        ensures { (reply : Reply) × C.steps caller.old (Deliver self.job built) reply caller.new × MatchResult result (λ _. ¬ (ComesBack reply)) (λ hand. ComesBack reply × (hand.job ≡ self.job)) }
     {
         let InHand { job } = self;
-        match shared.send(rt, seat, HandingIn::Deliver(job, built)) {
+        match caller.call(HandingIn::Deliver(job, built)) {
             Handed::Done(_) => Ok(()),
             Handed::Refused(_refusal) => Ok(()),
             Handed::Back(_refusal, job, built) => {
@@ -76,11 +62,11 @@ impl InHand {
     }
 
     /// Gives the Job back. Where the book doesn't take it, it is retired.
-    pub fn give_back<L: Opening, R: Wait>(self, rt: &R, shared: &Shared<L>, seat: &mut Seat<L>)
-        ensures { CallsEvent L.most seat.old (GiveBack self.job) seat.new }
+    pub fn give_back<C: Caller>(self, caller: &mut C)
+        ensures { CallsEvent C.steps caller.old (GiveBack self.job) caller.new }
     {
         let InHand { job } = self;
-        match shared.send(rt, seat, HandingIn::GiveBack(job)) {
+        match caller.call(HandingIn::GiveBack(job)) {
             Handed::Done(_) => {}
             Handed::Refused(_refusal) => {}
             Handed::Back(_refusal, job, built) => {

@@ -2,10 +2,11 @@
 //!
 //! Crates above rely on: `Locked::step` makes one step of the book, whose entry has the index of the receipt. `Shared::call` makes one such
 //! step, and the seat keeps the receipt. `settle` returns Ok exactly where the receipts of the seats are the entries that the journal
-//! gained (`IsSettled`). `worker` makes only the events of its turns.
+//! gained (`IsSettled`). `worker` makes only the events of its turns, and in each turn hands in the Job that it took (`TakesTurn`).
 #![tactic(auto)]
 
 mod built;
+mod caller;
 mod comparing;
 mod gate;
 mod in_hand;
@@ -17,6 +18,7 @@ mod settling;
 mod shared;
 mod working;
 
+pub use caller::{AtSeat, Caller};
 pub use comparing::{are_counted, merged, seats_apart, seats_in_journal, seats_rise};
 pub use gate::{Gate, OpenGate};
 pub use locked::{Locked, may_wake, turn_away};
@@ -25,4 +27,4 @@ pub use receipt::Receipt;
 pub use seat::{Seat, jobs_after, reserve};
 pub use settling::Unsettled;
 pub use shared::Shared;
-pub use working::worker;
+pub use working::{turn, worker};

@@ -10,14 +10,14 @@ pub returns-in-Ok : goal.returns-in-Ok
 returns-in-Ok g c =
     let sent = c.deliver.ensures in
     let taken = rw c.in-Ok.is at sent.2 in
-    (c.args.built, c.requires, (sent.0, c.deliver.new.seat, sent.1, after_taken g.L.Opening.most c.deliver.new.seat c.args.hand.job sent.0 taken))
+    (c.args.built, c.requires, (sent.0, c.deliver.new.caller, sent.1, after_taken g.C.Caller.steps c.deliver.new.caller c.args.hand.job sent.0 taken))
 
 pub returns-in-Err : goal.returns-in-Err
 returns-in-Err g c =
     let sent = c.deliver.ensures in
     let returned = rw c.in-Err.is at sent.2 in
-    let given = subst (λ (job : JobRecord). CallsEvent g.L.Opening.most c.deliver.new.seat (GiveBack job) c.give_back.new.seat) returned.1 c.give_back.ensures in (
+    let given = subst (λ (job : JobRecord). CallsEvent g.C.Caller.steps c.deliver.new.caller (GiveBack job) c.give_back.new.caller) returned.1 c.give_back.ensures in (
       c.args.built,
       c.requires,
-      (sent.0, c.deliver.new.seat, sent.1, after_back g.L.Opening.most c.deliver.new.seat c.args.hand.job sent.0 c.give_back.new.seat returned.0 given),
+      (sent.0, c.deliver.new.caller, sent.1, after_back g.C.Caller.steps c.deliver.new.caller c.args.hand.job sent.0 c.give_back.new.caller returned.0 given),
     )

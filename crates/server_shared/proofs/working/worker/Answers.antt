@@ -1,17 +1,13 @@
 -- One turn more.
-use Rattle.std.proofs.Common.{suc, inl, inr}
-use Rattle.server_shared.proofs.WorkLaws.{often_gains}
+use Rattle.std.proofs.Common.{suc}
+use Rattle.server_shared.proofs.WorkLaws.{turns_gain}
 use Rattle.server_shared.proofs.working.worker.Goals as goal
 
-pub loop-preserved-in-Some-take : goal.loop-preserved-in-Some-take
-loop-preserved-in-Some-take g c =
-    let taken = rw c.in-Some-take.is at c.take.ensures in
-    (suc c.loop.invariant.0, (c.loop.seat, c.loop.invariant.1, inr (c.in-Some-take.hand.job, c.take.new.seat, taken, c.hand_in.ensures)))
-
 pub loop-preserved : goal.loop-preserved
-loop-preserved g c =
-    let refused = rw c.in-None-take.is at c.take.ensures in
-    (suc c.loop.invariant.0, (c.loop.seat, c.loop.invariant.1, inl refused))
+loop-preserved g c = (suc c.loop.invariant.0, (c.loop.seat, c.loop.invariant.1, (c.turn_at_seat.result, c.turn_at_seat.ensures)))
 
 pub returns-in_default-clause-gains : goal.returns-in_default-clause-gains
-returns-in_default-clause-gains g c = often_gains g.L.Opening.most c.loop.invariant.0 c.args.seat.now c.loop.seat c.loop.invariant.1
+returns-in_default-clause-gains g c = turns_gain g.L.Opening.most c.loop.invariant.0 c.args.seat.now c.loop.seat c.loop.invariant.1
+
+pub loop-preserved-then-not-turn_at_seat : goal.loop-preserved-then-not-turn_at_seat
+loop-preserved-then-not-turn_at_seat g c = (suc c.loop.invariant.0, (c.loop.seat, c.loop.invariant.1, (c.turn_at_seat.result, c.turn_at_seat.ensures)))

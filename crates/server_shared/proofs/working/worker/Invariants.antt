@@ -1,7 +1,8 @@
--- So many times a Take was refused, or a Job was taken and handed in.
+-- So many turns were taken.
 use Rattle.std.proofs.Common.{ℕ}
-use Rattle.server_shared.specs.Working.{WorksOften}
+use Rattle.server_shared.specs.Call.{CallsWith}
+use Rattle.server_shared.specs.Working.{TakesTurns}
 use Rattle.server_shared.proofs.working.worker.Given as goal
 
 abbrev pub invariant-loop : goal.invariant-loop
-invariant-loop g l = (turns : ℕ) × WorksOften g.L.Opening.most turns l.fn.seat l.seat
+invariant-loop g l = (turns : ℕ) × TakesTurns (CallsWith g.L.Opening.most) turns l.fn.seat l.seat

@@ -1,0 +1,90 @@
+//! Tests the settling of a shared book.
+ghost use Rattle.std.specs.Prelude.{◌≡◌};
+
+use crate::assertion::holds;
+use base_files::{Limits, Refusal};
+use history_book::{Book, Looking};
+use server_shared::{Opening, Seat, Shared, Unsettled};
+use std::alloc::Global;
+use std::marker::Brand;
+use std::process::Abort;
+use std::sync::Wait;
+use std::sync::ledger::Blank;
+
+/// Makes a look at each of two seats.
+fn look_twice<L: Opening, R: Wait>(
+    rt: &R,
+    shared: &Shared<L>,
+    one: &mut Seat<L>,
+    other: &mut Seat<L>,
+) -> bool {
+    shared.send(rt, one, Looking).is_ok() && shared.send(rt, other, Looking).is_ok()
+}
+
+/// Makes a look at each of two seats, and settles without the second, or with both. Returns whether it was settled, and how many entries
+/// the journal has.
+fn settled<L: Opening, R: Wait>(
+    rt: &R,
+    alloc: Global,
+    blank: Blank,
+    is_left_out: bool,
+) -> Result<(bool, u64), Refusal>
+    requires name { blank.name ≡ L.name }
+    requires parts { blank.parts ≡ L.parts }
+    requires seats { blank.parts ≡ 2 }
+    requires from { L.from ≡ 0 }
+    requires most { L.most ≡ 1000000 }
+{
+    let book = Book::new(alloc, Limits::FULL)?;
+    let mut shared = Shared::<L>::new(alloc, blank, book, 2);
+    let mut seats = Vec::new(alloc);
+    let mut are_made = false;
+    if let Some(mut one) = shared.seat() {
+        if let Some(mut other) = shared.seat() {
+            are_made = look_twice(rt, &shared, &mut one, &mut other) && seats.push(one).is_ok();
+            are_made = are_made && (is_left_out || seats.push(other).is_ok());
+        }
+    }
+    let (is_settled, book) = match shared.settle(seats) {
+        Ok(book) => (true, book),
+        Err(Unsettled { book }) => (false, book),
+    };
+    let entries = book.close();
+    if are_made {
+        Ok((is_settled, entries))
+    } else {
+        Err(Refusal::Memory)
+    }
+}
+
+/// Settles a book of its own.
+fn settled_alone<R: Wait>(
+    rt: &R,
+    alloc: Global,
+    is_left_out: bool,
+) -> Result<(bool, u64), Refusal> {
+    settled::<Brand, R>(rt, alloc, Blank::new(2), is_left_out)
+}
+
+/// Asserts that it was settled or not, and the length of the journal.
+fn is_told(rt: &impl Abort, told: Result<(bool, u64), Refusal>, is_settled: bool, entries: u64) {
+    match told {
+        Ok(told) => {
+            holds(rt, told.0 == is_settled);
+            holds(rt, told.1 == entries);
+        }
+        Err(_) => holds(rt, false),
+    }
+}
+
+#[test]
+fn one_seat_left_out(rt: HostRuntime) {
+    let told = settled_alone(&rt, rt.alloc(), true);
+    is_told(&rt, told, false, 2);
+}
+
+#[test]
+fn both_seats(rt: HostRuntime) {
+    let told = settled_alone(&rt, rt.alloc(), false);
+    is_told(&rt, told, true, 2);
+}
