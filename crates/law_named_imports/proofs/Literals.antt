@@ -13,7 +13,7 @@ use Rattle.go_scope.specs.declared.model.Role.{Role}
 use Rattle.go_scope.specs.declared.model.Role.TheVariants.{Use, Declaring, LeftName, Implied, NotLexical}
 use Rattle.go_scope.specs.declared.model.Purpose.TheVariants as purpose
 use Rattle.go_scope.specs.Bindings.{Layout, IsImport, block_of}
-use Rattle.go_scope.specs.Moves.{moved_block, moved_role}
+use Rattle.go_scope.specs.Moves.{moved_block, moved_place, moved_role}
 use Rattle.go_scope.specs.Site.{or_blank}
 use Rattle.law_rename.specs.Around.{from_on}
 use Rattle.law_rename.specs.Gained.{Gain, import_site, moved_by}
@@ -88,17 +88,17 @@ module _ (i : Gain) (at : ℕ) (p q : Package) (a : IsNamedPackage i at p q) (k 
       ap (slice_get q.files) (is ∙ sym a.file.rank) ∙ ap (λ fs. slice_get fs (length a.file.first)) a.file.after_files
       ∙ seam a.file.first a.file.rest a.file.after
 
-  other_file : (file : ℕ) → (file ≡ i.rank → ⊥) → slice_get q.files file ≡ slice_get p.files file
+  pub other_file : (file : ℕ) → (file ≡ i.rank → ⊥) → slice_get q.files file ≡ slice_get p.files file
   other_file file other =
       ap (λ fs. slice_get fs file) a.file.after_files
       ∙ files_else a.file.first a.file.rest a.file.before a.file.after file (λ is. other (is ∙ a.file.rank))
       ∙ sym (ap (λ fs. slice_get fs file) a.file.before_files)
 
-  other_number : (file n : ℕ) → (file ≡ i.rank → ⊥) → moved_by i file n ≡ n
+  pub other_number : (file n : ℕ) → (file ≡ i.rank → ⊥) → moved_by i file n ≡ n
   other_number file n other =
       ap (λ b. cond b (from_on i.number n) n) (false_from_ne_true (nat_eq file i.rank) (λ is. other (eqb-true file i.rank is)))
 
-  here_number : (file n : ℕ) → file ≡ i.rank → moved_by i file n ≡ from_on i.number n
+  pub here_number : (file n : ℕ) → file ≡ i.rank → moved_by i file n ≡ from_on i.number n
   here_number file n is = ap (λ f. moved_by i f n) is ∙ ap (λ g. g n) (moved_here i)
 
   kept : (file n : ℕ) (path : List ℕ) → LiteralAt p.files file n path → LiteralAt q.files file (moved_by i file n) path
@@ -154,7 +154,7 @@ module _ (i : Gain) (at : ℕ) (p q : Package) (a : IsNamedPackage i at p q) (k 
 
   -- the import that got its name
 
-  import_is : p.layout.place at ≡ (import_site i i.name).place
+  pub import_is : p.layout.place at ≡ (import_site i i.name).place
   import_is = ap (λ (l : Layout). l.place at) a.was.layout ∙ ap (λ o. (or_blank o).place) (stood_at i at a.old a.new a.gained)
 
   own_literal : literal_of q.layout (e at) ≡ suc at
@@ -226,6 +226,35 @@ module _ (i : Gain) (at : ℕ) (p q : Package) (a : IsNamedPackage i at p q) (k 
       ap (λ n. (q.layout.place n).index) (literal_number d other) ∙ index_here l
       ∙ sym (tokens_agree i at (p.layout.place l).file index (λ file n. alone i at p q a l has.other file n))
       ∙ ap (λ f. moved_by i f index) has.in_file
+
+  -- the place of the string literal of an import, or else of a declaration
+
+  place_by : (x y : Position) → x.file ≡ y.file → x.index ≡ y.index → x ≡ y
+  place_by x y file index = λ j. record { file = file j; index = index j }
+
+  own_place : q.layout.place (literal_of q.layout (e at)) ≡ moved_place (moved_by i) (p.layout.place (literal_of p.layout at))
+  own_place =
+      let l = p.layout.place (literal_of p.layout at) in
+      let file : l.file ≡ i.rank = ap (λ n. (p.layout.place n).file) k.own ∙ own_file in
+      place_by (q.layout.place (literal_of q.layout (e at))) (moved_place (moved_by i) l)
+      (ap (λ n. (q.layout.place n).file) own_literal ∙ ap (λ (m : Layout). (m.place (suc at)).file) a.is.layout
+      ∙ ap (λ o. (or_blank o).place.file) (path_at i at a.old a.new a.gained) ∙ sym file)
+      (own_index ∙ sym (ap (λ f. moved_by i f l.index) file ∙ ap (moved_by i i.rank) was_index))
+
+  other_place : (d : ℕ) → (d ≡ at → ⊥) → q.layout.place (literal_of q.layout (e d)) ≡ moved_place (moved_by i) (p.layout.place (literal_of p.layout d))
+  other_place d other =
+      let has = other_literal d other in
+      let l = p.layout.place (literal_of p.layout d) in
+      place_by (q.layout.place (literal_of q.layout (e d))) (moved_place (moved_by i) l)
+      (ap (λ n. (q.layout.place n).file) (literal_number d other) ∙ file_here (literal_of p.layout d))
+      (other_index d other ∙ ap (λ f. moved_by i f l.index) (sym has.in_file))
+
+  pub literal_place : (d : ℕ) → q.layout.place (literal_of q.layout (e d)) ≡ moved_place (moved_by i) (p.layout.place (literal_of p.layout d))
+  literal_place d = elim (cases_eq d at) [
+    | inl is ↦
+        subst (λ n. q.layout.place (literal_of q.layout (e n)) ≡ moved_place (moved_by i) (p.layout.place (literal_of p.layout n))) (sym is) own_place
+    | inr other ↦ other_place d other
+  ]
 
   -- paths
 
