@@ -206,6 +206,8 @@ def main():
     rt.run = with_checks(rt, asked)
     if hasattr(rt, "must_fail") and hasattr(rt, "add_edits"):
         rt.add_edits, rt.must_fail = must_fail.edits_together(rt)
+    elif hasattr(rt, "must_fail_all"):
+        rt.must_fail_all = must_fail.edits_of_crate_together(rt)
     crate = rt.rtlib.Crate
     crate.stamp, crate.below, crate.count = once(crate.stamp), once(crate.below), once(crate.count)
     # (its first call sets a signal's handler, which only the main thread may)

@@ -194,3 +194,16 @@ def edits_together(rt):
         return own_try(crate, edit, flags, kept)
 
     return add_edits, must_fail
+
+
+def edits_of_crate_together(rt):
+    """A way to try all edits of a crate, for that of a kit whose gate tries them in one call: first together, then those that are left in rt's way."""
+    own_try = rt.must_fail_all
+
+    def must_fail_all(crate, edits, flags):
+        told = tried_together(rt, crate, edits)
+        left = [it for it in edits if it not in told]
+        others = dict(zip(left, own_try(crate, left, flags)))
+        return [(True, told[it]) if it in told else others[it] for it in edits]
+
+    return must_fail_all
