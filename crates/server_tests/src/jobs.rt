@@ -34,7 +34,7 @@ struct Books {
     plans: Book,
 }
 
-fn books(rt: &impl Abort, alloc: Global) -> Books {
+fn new_books(rt: &impl Abort, alloc: Global) -> Books {
     Books {
         book: Book::new(alloc, Limits::FULL).expect(rt, "memory"),
         plans: Book::new(alloc, Limits::FULL).expect(rt, "memory"),
@@ -141,7 +141,7 @@ fn deliver(rt: &impl Abort, alloc: Global, books: &mut Books, job: Job) -> Answe
 #[test]
 fn in_anothers_place(rt: HostRuntime) {
     let alloc = rt.alloc();
-    let mut books = books(&rt, alloc);
+    let mut books = new_books(&rt, alloc);
     books.put(&rt, alloc, 0, "a/a.go", A);
     books.put(&rt, alloc, 1, "b/b.go", B);
     let first = books.take(&rt, 0);
@@ -165,7 +165,7 @@ fn in_anothers_place(rt: HostRuntime) {
 #[test]
 fn late_and_twice(rt: HostRuntime) {
     let alloc = rt.alloc();
-    let mut books = books(&rt, alloc);
+    let mut books = new_books(&rt, alloc);
     books.put(&rt, alloc, 0, "a/a.go", A);
     books.put(&rt, alloc, 1, "a/a.go", RENAMED);
     let held = books.take(&rt, 0);
@@ -189,7 +189,7 @@ fn late_and_twice(rt: HostRuntime) {
 #[test]
 fn after_a_change(rt: HostRuntime) {
     let alloc = rt.alloc();
-    let mut books = books(&rt, alloc);
+    let mut books = new_books(&rt, alloc);
     books.put(&rt, alloc, 0, "a/a.go", A);
     let held = books.take(&rt, 0);
     books.put(&rt, alloc, 1, "b/b.go", B);
@@ -206,7 +206,7 @@ fn after_a_change(rt: HostRuntime) {
 #[test]
 fn to_another_book(rt: HostRuntime) {
     let alloc = rt.alloc();
-    let mut books = books(&rt, alloc);
+    let mut books = new_books(&rt, alloc);
     books.put(&rt, alloc, 0, "a/a.go", A);
     let strange = books.plans.step(Taking).ok().expect(&rt, "a Job");
     holds(
