@@ -80,19 +80,19 @@ module _ (files : List FileParts) (sources : AreSourceFiles files) where
 
 module _ (number : ℕ) (first rest : List FileParts) (before after : FileParts) (g : ImportGainsName number before after)
     (sources : AreSourceFiles (first ++ before ∷ rest)) where
-  abbrev olds : List FileParts
+  abbrev pub olds : List FileParts
   olds = first ++ before ∷ rest
 
-  abbrev news : List FileParts
+  abbrev pub news : List FileParts
   news = first ++ after ∷ rest
 
-  abbrev gain : Gain
+  abbrev pub gain : Gain
   gain = i number first rest before after g sources
 
-  abbrev at : ℕ
+  abbrev pub at : ℕ
   at = (gained number first rest before after g sources).0
 
-  abbrev has : HasGained gain (unnamed_site gain) at (scoped olds).sites (scoped news).sites
+  abbrev pub has : HasGained gain (unnamed_site gain) at (scoped olds).sites (scoped news).sites
   has = (gained number first rest before after g sources).1
 
   -- files by their ranks
@@ -157,10 +157,10 @@ module _ (number : ℕ) (first rest : List FileParts) (before after : FileParts)
 
   -- the paths of imports without a name
 
-  abbrev WasPath : ℕ → List ℕ → Type 0
+  abbrev pub WasPath : ℕ → List ℕ → Type 0
   WasPath d path = IsPathOf (map source_of olds) (laid_in (scoped olds)) d path
 
-  abbrev IsPath : ℕ → List ℕ → Type 0
+  abbrev pub IsPath : ℕ → List ℕ → Type 0
   IsPath d path = IsPathOf (map source_of news) (laid_in (scoped news)) d path
 
   module _ (d : ℕ) (other : d ≡ at → ⊥) (unnamed : is_unnamed_import (role_in (scoped olds).sites d) ≡ true) where
@@ -174,13 +174,13 @@ module _ (number : ℕ) (first rest : List FileParts) (before after : FileParts)
     abbrev sources_too : AreSourceFiles news
     sources_too = new_sources number first rest before after g sources
 
-    path_there : (path : List ℕ) → WasPath d path → IsPath (from_on at d) path
+    pub path_there : (path : List ℕ) → WasPath d path → IsPath (from_on at d) path
     path_there path h =
         from_literal news sources_too (from_on at d) path unnamed_there
         (subst (λ z. LiteralAt (map source_of news) z path) (sym new_place)
         (kept (or_blank (slice_get (scoped olds).sites d)).place path (to_literal olds sources d path unnamed h)))
 
-    path_back : (path : List ℕ) → IsPath (from_on at d) path → WasPath d path
+    pub path_back : (path : List ℕ) → IsPath (from_on at d) path → WasPath d path
     path_back path h =
         from_literal olds sources d path unnamed
         (kept_back (or_blank (slice_get (scoped olds).sites d)).place path

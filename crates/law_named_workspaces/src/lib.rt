@@ -2,7 +2,8 @@
 //!
 //! Crates above rely on: the package is the old one with other numbers, and keeps its names (`gained_names_renumber`). So the laws of
 //! `law_renumbered_types` and `law_renumbered_findings` hold of it. No fault comes (`gained_names_add_no_fault`), and in a workspace
-//! without faults all verdicts stay (`gained_names_keep_verdicts`, `gained_names_list_no_fault`). No crate does so yet.
+//! without faults all verdicts stay (`gained_names_keep_verdicts`, `gained_names_list_no_fault`). `law_own_names` makes such a
+//! workspace.
 #![tactic(auto)]
 
 pub mod named_workspaces;
