@@ -4,7 +4,7 @@ use Rattle.std.proofs.Common.{refl, sym, ap, ◌∙◌, subst, arith, append_ass
 use Rattle.std.specs.Prelude.{IfSome, MatchOption, ◌==◌}
 use Rattle.std.specs.Cmp.Lexicographic.{pointwise, bytes_decides}
 use Rattle.std.specs.List.{All, AllByRecursion, Contains, slice_range}
-use Rattle.std.proofs.lemmas.List.{drop_all, take-append-drop, append-nil}
+use Rattle.std.proofs.lemmas.List.{drop_all, get_or_default, take-append-drop, append-nil, length-append}
 use Rattle.std.proofs.lemmas.List.Elements.{All-contains}
 use Rattle.go_scanner.specs.declared.piece.Piece.{Piece}
 use Rattle.go_scanner.specs.Cuts.{IsCut}
@@ -16,9 +16,10 @@ use Rattle.go_ast.specs.Tree.{FileTree}
 use Rattle.base_edits.specs.Edits.{AreInOrder, edited_from, edited_text}
 use Rattle.base_edits.specs.PassedEdits.{ArePast, PassedEdits}
 use Rattle.base_edits.specs.declared.edit.Edit.{Edit}
-use Rattle.base_edits.proofs.Steps.{drop_next, past_later, past_start}
+use Rattle.base_edits.proofs.Steps.{drop_next, past_all, past_later, past_start, past_stops}
 use Rattle.go_respelled.specs.Renamings.{AreNameEdits, moved_piece, recut}
-use Rattle.go_respelled.specs.Replaced.{AreFollowing, GoesOn, Make, Respell, ReplacesName}
+use Rattle.go_respelled.specs.Replaced.{AreFollowing, AreMoved, GoesOn, IsMovedBy, Make, MovesBefore, Respell, ReplacesName, passed}
+use Rattle.go_respelled.specs.declared.moved.Cursor.{Cursor}
 use Rattle.go_respelled.specs.Trees.{KeepKinds, renamed_file}
 use Rattle.go_respelled.proofs.ByTokens.{edits_of_tokens}
 use Rattle.go_respelled.proofs.Many.{recut_cut}
@@ -75,53 +76,86 @@ make_all old edits new index at left all so_far is =
 
 -- the tokens moved so far
 
-pub record MovedSoFar (edits : List Edit) (tokens : List Piece) (index : ℕ) (past : PassedEdits) (moved : List Piece) : Type 0 where
-  pub last : ℕ
-  pub size : ℕ
-  pub follow : FollowFrom last (drop index tokens) size
-  pub reached : ArePast edits last past
-  pub made : moved ++ map (moved_piece edits) (drop index tokens) ≡ map (moved_piece edits) tokens
-
 pub none_moved : (edits : List Edit) (tokens moved : List Piece) → AreInOrder 0 edits → AreFollowing tokens → moved ≡ [] →
-    MovedSoFar edits tokens 0 (record { edits = 0; old = 0; new = 0 }) moved
-none_moved edits tokens moved order follow none = record {
+    AreMoved edits tokens (record { edits = 0; old = 0; new = 0 }) moved
+none_moved edits tokens moved order follow none = subst (AreMoved edits tokens (record { edits = 0; old = 0; new = 0 })) (sym none) (record {
   last = 0;
   size = follow.0;
   follow = follow.1;
   reached = past_start edits order;
-  made = ap (λ l. l ++ map (moved_piece edits) tokens) none;
-}
+  made = refl;
+})
 
 -- the next token
 pub record IsNextToken (edits : List Edit) (past : PassedEdits) (t : Piece) : Type 0 where
   pub reached : ArePast edits t.span.start past
   pub order : t.span.start ≤ t.span.end
+  pub behind : past.old ≤ t.span.start
 
-pub next_token : (edits : List Edit) (tokens : List Piece) (index : ℕ) (past : PassedEdits) (moved : List Piece) (t : Piece) → index < length tokens →
-    t ≡ get_or tokens index t → MovedSoFar edits tokens index past moved → IsNextToken edits past t
-next_token edits tokens index past moved t lt is so_far =
-    let follow = subst (λ ts. FollowFrom so_far.last ts so_far.size) (drop_next tokens index t lt is) so_far.follow in
-    record { reached = past_later edits so_far.last t.span.start past so_far.reached follow.0; order = follow.1 }
+pub next_token : (edits : List Edit) (tokens : List Piece) (c : Cursor) (moved : List Piece) (t : Piece) → length moved < length tokens →
+    t ≡ get_or tokens (length moved) t → AreMoved edits tokens c moved → IsNextToken edits (passed c) t
+next_token edits tokens c moved t lt is so_far =
+    let follow = subst (λ ts. FollowFrom so_far.last ts so_far.size) (drop_next tokens (length moved) t lt is) so_far.follow in
+    let reached = past_later edits so_far.last t.span.start (passed c) so_far.reached follow.0 in
+    record { reached = reached; order = follow.1; behind = reached.behind }
 
-pub moved_more : (edits : List Edit) (tokens : List Piece) (index : ℕ) (past later : PassedEdits) (moved more : List Piece) (t new : Piece) →
-    index < length tokens → t ≡ get_or tokens index t → new ≡ moved_piece edits t → ArePast edits t.span.end later → more ≡ moved ++ new ∷ [] →
-    MovedSoFar edits tokens index past moved → MovedSoFar edits tokens (index + 1) later more
-moved_more edits tokens index past later moved more t new lt is put at grown so_far =
-    let next = drop_next tokens index t lt is in
-    let rest : List Piece = map (moved_piece edits) (drop (index + 1) tokens) in
+pub moved_more : (edits : List Edit) (tokens : List Piece) (c later : Cursor) (moved more : List Piece) (t new : Piece) →
+    length moved < length tokens → t ≡ get_or tokens (length moved) t → new ≡ moved_piece edits t → ArePast edits t.span.end (passed later) →
+    more ≡ moved ++ new ∷ [] → AreMoved edits tokens c moved → AreMoved edits tokens later more
+moved_more edits tokens c later moved more t new lt is put at grown so_far =
+    let next = drop_next tokens (length moved) t lt is in
+    let size : length more ≡ length moved + 1 = ap length grown ∙ length-append moved (new ∷ []) in
+    let rest : List Piece = map (moved_piece edits) (drop (length moved + 1) tokens) in
     record {
       last = t.span.end;
       size = so_far.size;
-      follow = (subst (λ ts. FollowFrom so_far.last ts so_far.size) next so_far.follow).2;
+      follow = subst (λ n. FollowFrom t.span.end (drop n tokens) so_far.size) (sym size)
+          (subst (λ ts. FollowFrom so_far.last ts so_far.size) next so_far.follow).2;
       reached = at;
-      made = ap (λ l. l ++ rest) grown ∙ append_assoc moved (new ∷ []) rest ∙ ap (λ p. moved ++ p ∷ rest) put
+      made = ap (λ n. more ++ map (moved_piece edits) (drop n tokens)) size
+          ∙ ap (λ l. l ++ rest) grown ∙ append_assoc moved (new ∷ []) rest ∙ ap (λ p. moved ++ p ∷ rest) put
           ∙ ap (λ ts. moved ++ map (moved_piece edits) ts) (sym next) ∙ so_far.made;
     }
 
-pub moved_all : (edits : List Edit) (tokens : List Piece) (index : ℕ) (past : PassedEdits) (moved : List Piece) → length tokens ≤ index →
-    MovedSoFar edits tokens index past moved → moved ≡ map (moved_piece edits) tokens
-moved_all edits tokens index past moved all so_far =
-    sym (append-nil moved) ∙ ap (λ ts. moved ++ map (moved_piece edits) ts) (sym (drop_all index tokens all)) ∙ so_far.made
+-- a token that ends before the next edit does
+pub run_more : (edits : List Edit) (tokens : List Piece) (c : Cursor) (limit : ℕ) (moved more : List Piece) (i j : ℕ) (d new : Piece) → i ≡ length moved →
+    j ≡ length moved → i < length tokens → (get_or tokens i d).span.end < limit → IsMovedBy c (get_or tokens j d) new →
+    ((last : ℕ) → ArePast edits last (passed c) → MovesBefore edits last limit c) → more ≡ moved ++ new ∷ [] →
+    AreMoved edits tokens c moved → AreMoved edits tokens c more
+run_more edits tokens c limit moved more i j d new first second lt within put moves grown so_far =
+    let t = get_or tokens (length moved) d in
+    let here : length moved < length tokens = subst (λ n. n < length tokens) first lt in
+    let is : t ≡ get_or tokens (length moved) t = get_or_default tokens (length moved) d t here in
+    let ends : t.span.end < limit = subst (λ n. (get_or tokens n d).span.end < limit) first within in
+    let own : IsMovedBy c t new = subst (λ n. IsMovedBy c (get_or tokens n d) new) second put in
+    let follow = subst (λ ts. FollowFrom so_far.last ts so_far.size) (drop_next tokens (length moved) t here is) so_far.follow in
+    let later = follow.0 in
+    let order = follow.1 in
+    let reached = past_later edits so_far.last t.span.end (passed c) so_far.reached (omega arith) in
+    let before = moves so_far.last so_far.reached in
+    let start = before t.span.start later (omega arith) in
+    let end = before t.span.end (omega arith) ends in
+    moved_more edits tokens c c moved more t new here is
+    (own ∙ (λ i. record { class = t.class; span = record { start = sym start i; end = sym end i } })) reached grown so_far
+
+pub pushed : (first old new : List Piece) (p : Piece) → length first ≤ length old → new ≡ old ++ p ∷ [] → length first ≤ length new
+pushed first old new p le grown = omega (arith, ap length grown ∙ length-append old (p ∷ []))
+
+pub moved_all : (edits : List Edit) (tokens : List Piece) (c : Cursor) (moved : List Piece) → length tokens ≤ length moved →
+    AreMoved edits tokens c moved → moved ≡ map (moved_piece edits) tokens
+moved_all edits tokens c moved all so_far =
+    sym (append-nil moved) ∙ ap (λ ts. moved ++ map (moved_piece edits) ts) (sym (drop_all (length moved) tokens all)) ∙ so_far.made
+
+-- where the next edit ends
+
+pub before_none : (edits : List Edit) (c : Cursor) (limit : ℕ) → length edits ≤ c.edits → (last : ℕ) → ArePast edits last (passed c) →
+    MovesBefore edits last limit c
+before_none edits c limit all last past offset le lt = past_all edits offset (passed c) (past_later edits last offset (passed c) past le) all
+
+pub before_next : (edits : List Edit) (c : Cursor) (e : Edit) → c.edits < length edits → e ≡ get_or edits c.edits e → (last : ℕ) →
+    ArePast edits last (passed c) → MovesBefore edits last e.span.end c
+before_next edits c e lt is last past offset le within =
+    past_stops edits offset (passed c) e (past_later edits last offset (passed c) past le) lt is within
 
 -- texts whose names are replaced
 

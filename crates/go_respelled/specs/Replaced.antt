@@ -1,5 +1,5 @@
 -- Edits of a cut text that replace names by names, as the code finds and checks them.
-use Rattle.std.specs.Prelude.{ℕ, ◌≡◌, ◌+◌, ◌-◌, ◌≤◌, List, ◌++◌, length, Some, slice_get}
+use Rattle.std.specs.Prelude.{ℕ, ◌≡◌, ◌+◌, ◌-◌, ◌<◌, ◌≤◌, List, ◌++◌, drop, length, map, Some, slice_get}
 use Rattle.std.specs.List.{All, slice_range}
 use Rattle.go_scanner.specs.declared.piece.Class.TheVariants.{Name}
 use Rattle.go_scanner.specs.declared.piece.Piece.{Piece}
@@ -11,7 +11,7 @@ use Rattle.base_edits.specs.Edits.{AreInOrder, edited_text}
 use Rattle.base_edits.specs.Moved.{moved_offset}
 use Rattle.base_edits.specs.PassedEdits.{ArePast, PassedEdits}
 use Rattle.base_edits.specs.declared.edit.Edit.{Edit}
-use Rattle.go_respelled.specs.Renamings.{replaced_piece}
+use Rattle.go_respelled.specs.Renamings.{moved_piece, replaced_piece}
 use Rattle.go_respelled.specs.declared.moved.Cursor.{Cursor}
 
 -- The edit replaces a name token by a name. Both are `_`, or neither is.
@@ -41,6 +41,22 @@ passed c = record { edits = c.edits; old = c.old; new = c.new }
 pub record IsCursorAt (edits : List Edit) (offset : ℕ) (c : Cursor) : Type 0 where
   pub past : ArePast edits offset (passed c)
   pub moves : moved_offset edits offset ≡ c.new + (offset - c.old)
+
+-- The cursor moves each offset from `last` on, and before `limit`, as the edits do.
+abbrev pub MovesBefore : List Edit → ℕ → ℕ → Cursor → Type 0
+MovesBefore edits last limit c = (offset : ℕ) → last ≤ offset → offset < limit → moved_offset edits offset ≡ c.new + (offset - c.old)
+
+-- The token is the old one, with both ends where the cursor moves them.
+abbrev pub IsMovedBy : Cursor → Piece → Piece → Type 0
+IsMovedBy c t new = new ≡ record { class = t.class; span = record { start = c.new + (t.span.start - c.old); end = c.new + (t.span.end - c.old) } }
+
+-- The tokens `moved` are the first old ones, moved by the edits. The cursor is past the edits that end at or before the last of them.
+pub record AreMoved (edits : List Edit) (tokens : List Piece) (c : Cursor) (moved : List Piece) : Type 0 where
+  pub last : ℕ
+  pub size : ℕ
+  pub follow : FollowFrom last (drop (length moved) tokens) size
+  pub reached : ArePast edits last (passed c)
+  pub made : moved ++ map (moved_piece edits) (drop (length moved) tokens) ≡ map (moved_piece edits) tokens
 
 -- The tokens lie in order.
 abbrev pub AreFollowing : List Piece → Type 0

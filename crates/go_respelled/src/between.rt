@@ -100,24 +100,12 @@ fn name_from(new: &[u8], offset: usize) -> &[u8] {
     }
 }
 
-/// The edit that replaces the first name at which the texts differ, behind both offsets. The result also has the offsets behind it.
-fn next_edit(
-    alloc: Global,
-    old: &Pieces,
-    new: &[u8],
-    at: TextsAt,
-) -> Result<Option<(Edit, TextsAt)>, AllocError> {
-    let Some(span) = differing(old, new, at) else {
-        return Ok(None);
-    };
-    let start = at.new.saturating_add(span.start.saturating_sub(at.old));
-    let name = name_from(new, start);
-    let text = FileText::new(alloc, Vec::from_slice(alloc, name)?)?;
-    let behind = TextsAt {
-        old: span.end,
-        new: start.saturating_add(name.len()),
-    };
-    Ok(Some((Edit { span, text }, behind)))
+/// A text with the bytes of a name. It is that of the edit before where this has the same bytes, so that a name put often stands once.
+fn name_text(alloc: Global, name: &[u8], before: Option<&Edit>) -> Result<FileText, AllocError> {
+    match before {
+        Some(edit) if edit.text.bytes() == name => edit.text.clone(),
+        _ => FileText::new(alloc, Vec::from_slice(alloc, name)?),
+    }
 }
 
 /// Edits of names that make the new text of the old one, if such edits do. Otherwise they make it in part.
@@ -129,13 +117,17 @@ pub(crate) fn edits_between(
     let mut edits = Vec::new(alloc);
     let mut at = TextsAt { old: 0, new: 0 };
     for _ in 0..old.tokens().len() {
-        match next_edit(alloc, old, new, at)? {
-            Some((edit, behind)) => {
-                edits.push(edit)?;
-                at = behind;
-            }
-            None => return Ok(edits),
-        }
+        let Some(span) = differing(old, new, at) else {
+            return Ok(edits);
+        };
+        let start = at.new.saturating_add(span.start.saturating_sub(at.old));
+        let name = name_from(new, start);
+        let text = name_text(alloc, name, edits.last())?;
+        edits.push(Edit { span, text })?;
+        at = TextsAt {
+            old: span.end,
+            new: start.saturating_add(name.len()),
+        };
     }
     Ok(edits)
 }

@@ -1,9 +1,9 @@
-//! Moves tokens by edits, in one walk over both.
-ghost use Rattle.std.specs.Prelude.{◌≡◌, ◌+◌, ◌-◌, ◌<◌, ◌≤◌, length, map, IfOk};
+//! Moves tokens by edits, in one walk over both. The tokens between two edits are moved in one run.
+ghost use Rattle.std.specs.Prelude.{◌≡◌, ◌+◌, ◌-◌, ◌<◌, ◌≤◌, ℕ, length, map, IfOk, OnOk};
 ghost use Rattle.base_edits.specs.Edits.{AreInOrder};
 ghost use Rattle.base_edits.specs.PassedEdits.{ArePast};
 ghost use Rattle.go_respelled.specs.Renamings.{moved_piece};
-ghost use Rattle.go_respelled.specs.Replaced.{AreFollowing, IsCursorAt, passed};
+ghost use Rattle.go_respelled.specs.Replaced.{AreFollowing, AreMoved, IsCursorAt, IsMovedBy, MovesBefore, passed};
 
 use base_edits::Edit;
 use base_files::Span;
@@ -79,6 +79,49 @@ fn move_token(edits: &[Edit], cursor: Cursor, token: &Piece) -> Result<(Cursor, 
     Ok((cursor, Piece { class, span }))
 }
 
+/// A token at the place to which a cursor moves both its ends.
+fn moved_by(cursor: Cursor, token: &Piece) -> Result<Piece, AllocError>
+    requires behind { cursor.old ≤ token.now.span.start }
+    requires order { token.now.span.start ≤ token.now.span.end }
+    ensures { IfOk result (IsMovedBy cursor token.now) }
+{
+    let start = moved(cursor, token.span.start)?;
+    let end = moved(cursor, token.span.end)?;
+    Ok(Piece {
+        class: token.class,
+        span: Span { start, end },
+    })
+}
+
+/// Where the next edit ends. A cursor moves all offsets before that.
+fn next_end(edits: &[Edit], cursor: Cursor) -> usize
+    ensures { (last : ℕ) → ArePast edits.now last (passed cursor) → MovesBefore edits.now last result cursor }
+{
+    match edits.get(cursor.edits) {
+        Some(edit) => edit.span.end,
+        None => usize::MAX,
+    }
+}
+
+/// Moves on with the tokens that end before the next edit does. The cursor stays.
+fn move_run(
+    moved: &mut Vec<Piece>,
+    tokens: &[Piece],
+    edits: &[Edit],
+    cursor: Cursor,
+) -> Result<(), AllocError>
+    requires { AreMoved edits.now tokens.now cursor moved.old.items }
+    ensures moved { OnOk result (AreMoved edits.now tokens.now cursor moved.new.items) }
+    ensures more { OnOk result (length moved.old.items ≤ length moved.new.items) }
+{
+    let limit = next_end(edits, cursor);
+    while moved.len() < tokens.len() && tokens[moved.len()].span.end < limit {
+        let token = moved_by(cursor, &tokens[moved.len()])?;
+        moved.push(token)?;
+    }
+    Ok(())
+}
+
 /// The tokens at the places to which the edits move them. The list has no spare room.
 pub(crate) fn moved_tokens(
     alloc: Global,
@@ -95,10 +138,11 @@ pub(crate) fn moved_tokens(
         old: 0,
         new: 0,
     };
-    for token in tokens {
-        let step = move_token(edits, cursor, token)?;
+    while moved.len() < tokens.len() {
+        let step = move_token(edits, cursor, &tokens[moved.len()])?;
         moved.push(step.1)?;
         cursor = step.0;
+        move_run(&mut moved, tokens, edits, cursor)?;
     }
     Ok(moved)
 }

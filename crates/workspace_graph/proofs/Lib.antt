@@ -37,5 +37,6 @@ pub mod RowRuns
 pub mod InPlace
 pub mod GrownSteps
 pub mod GrownStops
+pub mod SameImports
 pub mod RenewedImports
 pub mod SetFiles

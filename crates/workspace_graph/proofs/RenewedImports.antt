@@ -1,13 +1,15 @@
 -- The paths that files import after one file was set or removed.
-use Rattle.std.proofs.Common.{None, Some, ℕ, ◌≡◌, ◌∷◌, [], List, inl, inr, ⊎_elim, sym, subst, Option}
+use Rattle.std.proofs.Common.{None, Some, ℕ, ◌≡◌, ◌∷◌, [], List, inl, inr, ⊎_elim, sym, subst, ◌∙◌, Option}
 use Rattle.std.specs.Prelude.{IfSome, Vec}
 use Rattle.std.specs.List.{Contains}
+use Rattle.std.proofs.lemmas.Option.{same_Some}
 use Rattle.base_lemmas.proofs.Elements.{nothing_in, first_in, first_or_later}
 use Rattle.go_ast.specs.SourceFile.{FileParts, source_of}
 use Rattle.workspace_graph.specs.Drafts.{Survive, GoneImports, WasTaken, WereImports}
 use Rattle.workspace_graph.specs.InFolder.{tree_path}
 use Rattle.workspace_graph.specs.ImportPaths.{ListsPaths, AnyImports, AnyIsOfPath, bytes_of_paths}
 use Rattle.workspace_graph.specs.Packages.{ImportsPath}
+use Rattle.workspace_graph.specs.SameImports.{HasTreeAlike, ImportSamePaths}
 use Rattle.workspace_graph.specs.Updated.{SetsIn, Removes}
 use Rattle.workspace_graph.specs.declared.file_imports.FileImport.{FileImport}
 use Rattle.workspace_graph.proofs.ChangedFiles.{is_among}
@@ -53,6 +55,29 @@ module _ {Z : Type 0} (keys : List (Vec ℕ Z)) (old new : List FileParts) (gone
     now = λ q some. inl ((held.each q).1 (some.0, (out.from some.0 some.1.0, some.1.1)));
     came = λ q stands. absurd (nothing_in stands.0 (subst (λ (l : List FileImport). Contains l stands.0) none stands.1.0));
   }
+
+-- a tree was put in the place of one that imports the same paths
+pub alike_put : {Z : Type 0} (keys : List (Vec ℕ Z)) (old new : List FileParts) (gone : Option FileParts) (t : FileParts) →
+    ListsPaths (AnyImports old) keys → SetsIn tree_path t old new → WasTaken t.path old gone → HasTreeAlike old t → ListsPaths (AnyImports new) keys
+alike_put keys old new gone t held put is like =
+    let before = like.0 in
+    let same_paths : ImportSamePaths (source_of before) (source_of t) = like.3 in
+    record {
+      each = λ q. (
+        λ has.
+            let some = (held.each q).0 has in
+            is_path some.0.path t.path
+            (λ same.
+            let one : some.0 ≡ before = same_Some some.0 before (sym (is some.0 some.1.0 same) ∙ is before like.1 like.2) in
+            (t, (put.own, (same_paths q).0 (subst (λ (f : FileParts). ImportsPath (source_of f) q) one some.1.1))))
+            (λ apart. (some.0, (put.kept some.0 some.1.0 apart, some.1.1))),
+        λ some. ⊎_elim
+            (λ (own : some.0 ≡ t).
+            (held.each q).1 (before, (like.1, (same_paths q).1 (subst (λ (f : FileParts). ImportsPath (source_of f) q) own some.1.1))))
+            (λ (was : Contains old some.0 × (some.0.path ≡ t.path → ⊥)). (held.each q).1 (some.0, (was.0, some.1.1)))
+            (put.each some.0 some.1.0),
+      );
+    }
 
 -- all that was imported stays, and no more came
 pub stay_imported : {Z : Type 0} (keys : List (Vec ℕ Z)) (gone : Option FileParts) (come : List FileImport) (trees : List FileParts) →

@@ -16,7 +16,7 @@ use Rattle.base_files.specs.Packages.{is_go, is_of_package}
 use Rattle.base_files.specs.Workspace.{Workspace, path_cmp}
 use Rattle.go_ast.specs.SourceFile.{FileParts, source_of}
 use Rattle.workspace_graph.specs.Drafts.{AreDraftsAt, HasText, HasFolderFiles, KnowsImports, IsDraft, IsDraftAt, IsEmptyAt, WasTaken}
-use Rattle.workspace_graph.specs.Drafts.{IsSamePackage, SetsFaulty, SetsTree, SetsFile, SetsFiles, RemovesFile, draft_path, draft_paths, packages_of}
+use Rattle.workspace_graph.specs.Drafts.{IsSamePackage, PutsTree, SetsFaulty, SetsTree, SetsFile, SetsFiles, RemovesFile, draft_path, draft_paths, packages_of}
 use Rattle.workspace_graph.specs.FaultyFiles.{FaultyParts}
 use Rattle.workspace_graph.specs.Graphs.{paths_of}
 use Rattle.workspace_graph.specs.InFolder.{AreInFolder, fault_path, fault_paths, tree_path, tree_paths}
@@ -24,7 +24,7 @@ use Rattle.workspace_graph.specs.ChangedFiles.{CoverChanges, ArePackages, HaveFo
 use Rattle.workspace_graph.specs.SameGoFiles.{DiffersOnlyAt, HasFiles}
 use Rattle.workspace_graph.specs.Packages.{IsParsed}
 use Rattle.workspace_graph.specs.Parsed.{IsFaulty}
-use Rattle.workspace_graph.specs.Updated.{IsPlace, Removes}
+use Rattle.workspace_graph.specs.Updated.{IsPlace, Removes, SetsIn}
 use Rattle.workspace_graph.specs.declared.package.ParsedPackage.{ParsedPackage}
 use Rattle.workspace_graph.specs.declared.drafts.Draft.{Draft}
 use Rattle.base_edits.proofs.Held.{mapped_from}
@@ -34,6 +34,23 @@ use Rattle.workspace_graph.proofs.ChangedFiles.{is_among, resets_none, resets_mo
 use Rattle.workspace_graph.proofs.Numbers.{path_of_package, path_there}
 use Rattle.workspace_graph.proofs.PackagePaths.{none_sorted, one_number}
 use Rattle.workspace_graph.proofs.UpdatedPackages.{place_apart}
+
+-- ---- a tree, where no faulty file has its path any more
+pub sets_tree : (t : FileParts) (old middle new : Draft) (place : ℕ) (path : List ℕ) → PutsTree t middle new → path ≡ t.path →
+    Removes fault_path path old.package.faulty.items middle.package.faulty.items place → middle.package.path.items ≡ old.package.path.items →
+    middle.package.trees.items ≡ old.package.trees.items → SetsTree t old new
+sets_tree t old middle new place path puts at out same trees =
+    let taken : Removes fault_path t.path old.package.faulty.items middle.package.faulty.items place =
+    subst (λ (p : List ℕ). Removes fault_path p old.package.faulty.items middle.package.faulty.items place) at out in
+    let gone : Removes fault_path t.path old.package.faulty.items new.package.faulty.items place =
+    subst (λ (fs : List FaultyParts). Removes fault_path t.path old.package.faulty.items fs place) (sym puts.faulty) taken in
+    record {
+      path = puts.path ∙ same;
+      draft = record { trees = puts.trees.sorted; faulty = gone.sorted; imports = puts.imports };
+      trees = subst (λ (ts : List FileParts). SetsIn tree_path t ts new.package.trees.items) trees puts.trees;
+      place = place;
+      faulty = gone;
+    }
 
 -- ---- the removed tree
 pub gone_one : (path : List ℕ) (trees : List FileParts) (n : ℕ) (gone : FileParts) → IsStrictlySortedBy path_cmp (tree_paths trees) →

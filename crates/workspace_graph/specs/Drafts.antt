@@ -73,6 +73,13 @@ pub record IsSamePackage (p q : ParsedPackage) : Type 0 where
 abbrev pub HasFolderFiles : Workspace → Draft → Type 0
 HasFolderFiles w d = AreInFolder w d.package.path.items d.package.trees.items d.package.faulty.items
 
+-- The tree `t` replaced the tree at its path, or was added. Nothing else of the package changed, and import paths are right where known.
+pub record PutsTree (t : FileParts) (old new : Draft) : Type 0 where
+  pub path : new.package.path.items ≡ old.package.path.items
+  pub trees : SetsIn tree_path t old.package.trees.items new.package.trees.items
+  pub faulty : new.package.faulty.items ≡ old.package.faulty.items
+  pub imports : KnowsImports new
+
 -- The tree `t` replaced the file at its path, or was added.
 pub record SetsTree (t : FileParts) (old new : Draft) : Type 0 where
   pub path : new.package.path.items ≡ old.package.path.items

@@ -8,6 +8,7 @@ pub mod Examples
 pub mod FileImports
 pub mod ImportPaths
 pub mod Packages
+pub mod SameImports
 pub mod FaultyFiles
 pub mod Parsed
 pub mod Graphs

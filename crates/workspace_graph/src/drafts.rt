@@ -6,11 +6,13 @@ ghost use Rattle.std.specs.List.Sorted.{IsStrictlySortedBy};
 ghost use Rattle.base_files.specs.Packages.{is_of_package};
 ghost use Rattle.base_files.specs.Workspace.{Workspace, path_cmp};
 ghost use Rattle.workspace_graph.specs.Drafts.{AreDraftsAt, HasText, IsDraft, IsDraftAt, IsEmptyAt, draft_paths, packages_of};
-ghost use Rattle.workspace_graph.specs.Drafts.{KnowsImports, MayKnowBefore, SetsFaulty, SetsTree, SetsFile, SetsFiles, SetsText, RemovesFile};
+ghost use Rattle.workspace_graph.specs.Drafts.{KnowsImports, MayKnowBefore, PutsTree, SetsFaulty, SetsTree, SetsFile, SetsFiles, SetsText, RemovesFile};
 ghost use Rattle.workspace_graph.specs.Borrows.{names};
 ghost use Rattle.workspace_graph.specs.Graphs.{paths_of};
 ghost use Rattle.workspace_graph.specs.ChangedFiles.{CoverChanges, ArePackages};
 ghost use Rattle.workspace_graph.specs.SameGoFiles.{DiffersOnlyAt};
+ghost use Rattle.workspace_graph.specs.SameImports.{HasTreeAlike};
+ghost use Rattle.workspace_graph.specs.InFolder.{tree_paths};
 
 use crate::faulty_file::FaultyFile;
 use crate::file_imports::{FileImport, read_imports};
@@ -19,6 +21,7 @@ use crate::in_folder::{fault_at, put_fault, put_tree, take_fault, take_tree, tre
 use crate::package::ParsedPackage;
 use crate::parsed::{ParsedFile, parse};
 use crate::renewed_imports::{ImportsChange, stay};
+use crate::same_imports::import_alike;
 use crate::shared_package::{SharedPackage, number_of};
 use base_files::{FileText, Files, Path};
 use go_ast::FileTree;
@@ -78,15 +81,61 @@ fn renew_imports(
     Ok(())
 }
 
+/// Whether there is a tree at the path of this one that imports the same paths. False may be wrong.
+fn has_tree_alike(alloc: Global, trees: &[FileTree], tree: &FileTree) -> Result<bool, AllocError>
+    requires { IsStrictlySortedBy path_cmp (tree_paths trees.now) }
+    ensures { IfOk result (λ has. IsTrue has → HasTreeAlike trees.now tree.now) }
+{
+    match tree_at(trees, tree.path()) {
+        Some(before) => import_alike(alloc, before, tree),
+        None => Ok(false),
+    }
+}
+
+/// Sets the tree at its path, where it imports the same paths as the tree before. The import paths stay.
+fn put_alike(draft: &mut Draft, tree: FileTree) -> Result<(), AllocError>
+    requires sorted { IsStrictlySortedBy path_cmp (tree_paths draft.old.package.trees.items) }
+    requires imports { KnowsImports draft.old }
+    requires alike { HasTreeAlike draft.old.package.trees.items tree }
+    ensures { OnOk result (PutsTree tree draft.old draft.new) }
+{
+    let gone = put_tree(&mut draft.package.trees, tree)?;
+    drop(gone);
+    draft.changed = true;
+    Ok(())
+}
+
+/// Sets the tree at its path, and forgets the import paths where they may not stay.
+fn put_other(alloc: Global, draft: &mut Draft, tree: FileTree) -> Result<(), AllocError>
+    requires sorted { IsStrictlySortedBy path_cmp (tree_paths draft.old.package.trees.items) }
+    requires imports { KnowsImports draft.old }
+    ensures { OnOk result (PutsTree tree draft.old draft.new) }
+{
+    let come = read_imports(alloc, &tree)?;
+    let gone = put_tree(&mut draft.package.trees, tree)?;
+    renew_imports(alloc, draft, gone.as_ref(), &come)
+}
+
+/// Sets the tree at its path. The import paths stay where it surely imports the same paths as the tree before.
+fn place_tree(alloc: Global, draft: &mut Draft, tree: FileTree) -> Result<(), AllocError>
+    requires sorted { IsStrictlySortedBy path_cmp (tree_paths draft.old.package.trees.items) }
+    requires imports { KnowsImports draft.old }
+    ensures { OnOk result (PutsTree tree draft.old draft.new) }
+{
+    if has_tree_alike(alloc, &draft.package.trees, &tree)? {
+        put_alike(draft, tree)
+    } else {
+        put_other(alloc, draft, tree)
+    }
+}
+
 /// Sets the file at the tree's path to this tree.
 fn set_tree(alloc: Global, draft: &mut Draft, tree: FileTree) -> Result<(), AllocError>
     requires { IsDraft draft.old }
     ensures { OnOk result (SetsTree tree draft.old draft.new) }
 {
     let _ = take_fault(&mut draft.package.faulty, tree.path());
-    let come = read_imports(alloc, &tree)?;
-    let gone = put_tree(&mut draft.package.trees, tree)?;
-    renew_imports(alloc, draft, gone.as_ref(), &come)
+    place_tree(alloc, draft, tree)
 }
 
 /// Sets the file at the path of `file` to this file, which has no tree.

@@ -40,7 +40,7 @@ fn add_group(literals: &mut Vec<usize>, group: &Group<ImportSpec>) -> Result<(),
 }
 
 /// The string literals of all import specs of a file, by token index.
-fn import_literals(alloc: Global, file: &File) -> Result<Vec<usize>, AllocError>
+pub(crate) fn import_literals(alloc: Global, file: &File) -> Result<Vec<usize>, AllocError>
     ensures { IfOk result (λ literals. literals.items ≡ import_literals (file_view file.now)) }
 {
     let mut literals = Vec::new(alloc);

@@ -27,6 +27,7 @@ mod packages_below;
 mod parsed;
 mod renewed_imports;
 mod rows;
+mod same_imports;
 mod search;
 mod shared_links;
 mod shared_package;

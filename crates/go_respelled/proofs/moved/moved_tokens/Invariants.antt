@@ -1,7 +1,10 @@
--- The tokens moved so far, and the edits passed.
-use Rattle.go_respelled.specs.Replaced.{passed}
-use Rattle.go_respelled.proofs.Walked.{MovedSoFar}
+-- The tokens moved so far.
+use Rattle.std.proofs.Common.{◌-◌, length}
+use Rattle.go_respelled.specs.Replaced.{AreMoved}
 use Rattle.go_respelled.proofs.moved.moved_tokens.Given as goal
 
-abbrev pub invariant-loop-token : goal.invariant-loop-token
-invariant-loop-token l = MovedSoFar l.edits l.tokens l.token-index (passed l.cursor) l.moved.items
+abbrev pub invariant-loop-cursor : goal.invariant-loop-cursor
+invariant-loop-cursor l = AreMoved l.edits l.tokens l.cursor l.moved.items
+
+abbrev pub decreases-loop-cursor : goal.decreases-loop-cursor
+decreases-loop-cursor l = length l.tokens - length l.moved.items
