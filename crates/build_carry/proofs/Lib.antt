@@ -7,3 +7,5 @@ pub mod LearnedVerdicts
 pub mod ParsedFiles
 pub mod SameInputs
 pub mod ChangedFiles
+pub mod ComparedPackages
+pub mod TakenVerdicts

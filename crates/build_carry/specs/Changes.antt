@@ -1,5 +1,5 @@
 -- The packages whose files a change changes, and the packages in whose closures these are.
-use Rattle.std.specs.Prelude.{◌≡◌, ℕ, ◌↔◌, Bool, List, length, Option, Some, slice_get}
+use Rattle.std.specs.Prelude.{◌≡◌, ℕ, ◌<◌, ◌↔◌, Bool, List, length, Option, Some, slice_get}
 use Rattle.std.specs.List.{Contains}
 use Rattle.base_files.specs.Packages.{package_paths, package_files}
 use Rattle.base_files.specs.Workspace.{Workspace}
@@ -17,6 +17,18 @@ HasSameFiles v w p = (e : List ℕ × List ℕ) → Contains (package_files v p)
 pub record AreChanged (v w : Workspace) (folders : List (List ℕ)) : Type 0 where
   pub changed : (q : List ℕ) → Contains folders q → HasSameFiles v w q → ⊥
   pub same : (q : List ℕ) → (Contains folders q → ⊥) → HasSameFiles v w q
+
+-- The files of the packages at `folders` differ between v and w. Each of the first `count` packages of v that is not listed has the same
+-- files in w.
+pub record ListsDiffering (v w : Workspace) (count : ℕ) (folders : List (List ℕ)) : Type 0 where
+  pub changed : (q : List ℕ) → Contains folders q → HasSameFiles v w q → ⊥
+  pub same : (i : ℕ) (q : List ℕ) → i < count → slice_get (package_paths v) i ≡ Some q → (Contains folders q → ⊥) → HasSameFiles v w q
+
+-- The files of the packages at `folders` differ between v and w. Each package of v that is not listed has the same files in w. Each of the
+-- first `count` packages of w that is not listed is one of v.
+pub record ListsComing (v w : Workspace) (count : ℕ) (folders : List (List ℕ)) : Type 0 where
+  pub differing : ListsDiffering v w (length (package_paths v)) folders
+  pub coming : (i : ℕ) (q : List ℕ) → i < count → slice_get (package_paths w) i ≡ Some q → (Contains folders q → ⊥) → Contains (package_paths v) q
 
 -- Each package in the closure of p in v has the same files in v and w.
 abbrev pub KeepsClosure : Workspace → Workspace → List ℕ → Type 0

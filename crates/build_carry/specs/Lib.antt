@@ -4,3 +4,4 @@ pub mod Finished
 pub mod Changes
 pub mod Inputs
 pub mod Named
+pub mod Learned

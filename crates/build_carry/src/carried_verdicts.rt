@@ -1,10 +1,11 @@
 //! Carries verdicts on packages over a change, one by one, without the earlier ones that a state keeps beside them.
-ghost use Rattle.std.specs.Prelude.{◌<◌, IfOk, length};
+ghost use Rattle.std.specs.Prelude.{◌≡◌, ◌<◌, IfOk, None, length};
 ghost use Rattle.base_files.specs.Packages.{package_paths};
 ghost use Rattle.workspace_graph.specs.Graphs.{OfPackage};
 ghost use Rattle.workspace_check.specs.Found.{KnowsVerdicts};
 ghost use Rattle.workspace_check.specs.KnownFindings.{IsVerdictIfKnown};
 ghost use Rattle.build_carry.specs.Changes.{MarkChanges};
+ghost use Rattle.build_carry.specs.Learned.{HasKeptVerdict};
 
 use crate::carried::keeps_closure;
 use crate::changes::Marks;
@@ -13,8 +14,8 @@ use std::alloc::{AllocError, Global};
 use workspace_check::{Known, KnownVerdict};
 use workspace_graph::Graph;
 
-/// The verdict on the package `number` of `after`: `None` where none was known before, or its closure has other texts after the change.
-fn kept_verdict(
+/// The verdict on the package `number` of `after`: `None` only where none was known before, or its closure has other texts after the change.
+pub(crate) fn kept_verdict(
     before: &Graph,
     known: &Known,
     after: &Graph,
@@ -25,7 +26,8 @@ fn kept_verdict(
     requires known { KnowsVerdicts before.now known.now }
     requires before_marks { MarkChanges before.now after.now marks.now.before.items }
     requires after_marks { MarkChanges after.now before.now marks.now.after.items }
-    ensures { IfOk result (λ found. OfPackage after.now number (λ p. IsVerdictIfKnown after.now p found)) }
+    ensures right { IfOk result (λ found. OfPackage after.now number (λ p. IsVerdictIfKnown after.now p found)) }
+    ensures kept { IfOk result (λ found. OfPackage after.now number (λ p. found ≡ None → HasKeptVerdict before.now known.now after.now p → ⊥)) }
 {
     let path = &after.package(number).path;
     let Some(old) = number_by_hint(before, path, number, after.len()) else {

@@ -64,6 +64,23 @@ fn changed_among<'a>(
     Ok(changed)
 }
 
+/// Marks the packages in whose closures files differ between two workspaces, by the folders of the packages that differ.
+pub(crate) fn marks_by(
+    alloc: Global,
+    before: &Graph,
+    after: &Graph,
+    changed: &[&[u8]],
+) -> Result<Marks, AllocError>
+    requires { AreChanged before.now after.now (names changed.now) }
+    ensures before { IfOk result (λ marks. MarkChanges before.now after.now marks.before.items) }
+    ensures after { IfOk result (λ marks. MarkChanges after.now before.now marks.after.items) }
+{
+    Ok(Marks {
+        before: closure_marks(alloc, before, changed)?,
+        after: closure_marks(alloc, after, changed)?,
+    })
+}
+
 /// Marks the packages in whose closures files differ before and after a change. It compares only the files at `paths`.
 fn marks_among(
     alloc: Global,
@@ -76,10 +93,7 @@ fn marks_among(
     ensures after { IfOk result (λ marks. MarkChanges after.now before.now marks.after.items) }
 {
     let changed = changed_among(alloc, before, after, paths)?;
-    Ok(Marks {
-        before: closure_marks(alloc, before, &changed)?,
-        after: closure_marks(alloc, after, &changed)?,
-    })
+    marks_by(alloc, before, after, &changed)
 }
 
 /// Marks the packages in whose closures a change changes files, in its base and after it. It compares only the files that the edit set

@@ -1,8 +1,9 @@
 //! Carries finished units and verdicts over a change, and compares the inputs of a build with a workspace.
 //!
 //! Crates above rely on: `marks_of` marks exactly the packages whose closure has other texts after a change. `carried_units` keeps exactly
-//! the units of the others, and verdicts that `kept` and `learned` keep are right. `are_inputs_of_both` is true exactly where two inputs
-//! are those of a package. `Finished` is the table of units by package number.
+//! the units of the others, and verdicts that `kept` and `learned` keep are right. `learned_from` keeps exactly the verdicts of another
+//! workspace on packages whose closures stay. `are_inputs_of_both` is true exactly where two inputs are those of a package. `Finished` is the
+//! table of units by package number.
 #![tactic(auto)]
 
 mod carried;
@@ -10,6 +11,7 @@ mod carried_known;
 mod carried_verdicts;
 mod change_marks;
 mod changes;
+mod differing;
 mod file_text;
 mod finished;
 mod folders;
@@ -25,6 +27,6 @@ pub use changes::{Marks, closure_marks};
 pub use file_text::has_text;
 pub use finished::Finished;
 pub use folders::folder_marks;
-pub use learning::learned;
+pub use learning::{learned, learned_from};
 pub use number_hint::number_by_hint;
 pub use same_inputs::are_inputs_of_both;

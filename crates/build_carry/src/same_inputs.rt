@@ -3,7 +3,8 @@ ghost use Rattle.std.specs.Prelude.{◌≡◌, ◌<◌, ◌↔◌, ℕ, Contains
 ghost use Rattle.std.specs.List.{All};
 ghost use Rattle.std.specs.List.Sorted.{IsStrictlyIncreasing};
 ghost use Rattle.base_files.specs.Packages.{package_paths};
-ghost use Rattle.workspace_graph.specs.Graphs.{ListsPackages, OfPackage};
+ghost use Rattle.base_files.specs.Workspace.{Workspace};
+ghost use Rattle.workspace_graph.specs.Graphs.{IsPackage, ListsPackages, OfPackage};
 ghost use Rattle.workspace_graph.specs.Packages.{IsInClosure};
 ghost use Rattle.workspace_check.specs.Earlier.{tree_file};
 ghost use Rattle.build_unit.specs.Inputs.{AreInputs};
@@ -13,7 +14,7 @@ ghost use Rattle.build_carry.specs.Inputs.{AreNumberedPackages, faulty_file};
 use base_files::{FileText, Path};
 use build_unit::PackageInputs;
 use go_ast::FileTree;
-use workspace_graph::{FaultyFile, Graph};
+use workspace_graph::{FaultyFile, Graph, ParsedPackage};
 
 /// Whether two files have the same path and the same text.
 fn is_same_file(path: &Path, text: &FileText, other_path: &Path, other_text: &FileText) -> bool
@@ -61,6 +62,17 @@ fn are_same_faulty(faulty: &[FaultyFile], others: &[FaultyFile]) -> bool
     true
 }
 
+/// Whether two packages at one path have the same files.
+pub(crate) fn have_same_files(own: &ParsedPackage, there: &ParsedPackage) -> bool
+    ensures { (v w : Workspace) → (m n : ℕ) → IsPackage v m own.now → IsPackage w n there.now → there.now.path.items ≡ own.now.path.items →
+        IsTrue result ↔ HasSameFiles v w own.now.path.items }
+{
+    if !are_same_trees(&own.trees, &there.trees) {
+        return false;
+    }
+    are_same_faulty(&own.faulty, &there.faulty)
+}
+
 /// Whether the package `number` of a graph and the package `place` of inputs have the same path and the same files.
 fn is_same_package(graph: &Graph, number: usize, other: &PackageInputs, place: usize) -> bool
     requires number { number < length (package_paths graph.now) }
@@ -72,10 +84,7 @@ fn is_same_package(graph: &Graph, number: usize, other: &PackageInputs, place: u
     if own.path.as_slice() != there.path.as_slice() {
         return false;
     }
-    if !are_same_trees(&own.trees, &there.trees) {
-        return false;
-    }
-    are_same_faulty(&own.faulty, &there.faulty)
+    have_same_files(own, there)
 }
 
 /// Whether the package `number` of a graph has the path and the files of the package `place` in both inputs. Where both share texts, a text

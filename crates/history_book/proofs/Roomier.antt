@@ -1,5 +1,5 @@
 -- Lists of states at rest that got room, and what a move asks of them.
-use Rattle.std.proofs.Common.{◌≡◌, ℕ, ◌+◌, ◌<◌, ◌≤◌, Global, Vec, Option, Some, List, [], ◌∷◌, ◌++◌, length, arith, refl, sym, ap, subst, ◌∙◌}
+use Rattle.std.proofs.Common.{◌≡◌, ℕ, ◌+◌, ◌<◌, ◌≤◌, Global, Vec, Option, Some, List, [], ◌∷◌, ◌++◌, length, arith, sym, ap, subst, ◌∙◌}
 use Rattle.std.specs.Prelude.{option_to_list}
 use Rattle.std.proofs.lemmas.List.{length_push}
 use Rattle.base_files.specs.Workspace.{Workspace}
@@ -60,17 +60,6 @@ some_rest w ways rests way last are = above (length last.0) (length ways) (lengt
   where
     above : (a b c : ℕ) → b ≡ a + 1 → b ≡ c → 0 < c
     above a b c e1 e2 = omega arith
-
--- a list with a last inverse is not empty
-pub last_there : (ways : List FileChanges) (way : FileChanges) → IsLast ways way → ways ≡ [] → ⊥
-last_there ways way last none = absurd (above (length last.0) (length ways) (ap length last.1 ∙ length_push last.0 way) (ap length none))
-  where
-    above : (a b : ℕ) → b ≡ a + 1 → b ≡ 0 → ⊥
-    above a b e1 e2 = omega arith
-
--- no inverse, no state
-pub none_rest : (w : Workspace) (ways : List FileChanges) (rests : List Resting) → ways ≡ [] → resting_states w ways rests ≡ []
-none_rest w ways rests none = ap (λ (x : List FileChanges). resting_states w x rests) none
 
 -- the state that was taken from the end
 pub taken_last : (xs ys : List Resting) (o : Option Resting) (x : Resting) → xs ≡ ys ++ option_to_list o → o ≡ Some x → xs ≡ ys ++ x ∷ []

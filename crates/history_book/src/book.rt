@@ -175,8 +175,8 @@ impl Book {
         }
     }
 
-    /// Keeps the findings of the packages of `files`, if these are the current files. It is no event: it affects how long later questions
-    /// take, and the machine stays as it is.
+    /// Keeps the findings of the packages of `files` whose closures have the same texts in the current files. It is no event: it affects how
+    /// long later questions take, and the machine stays as it is.
     pub fn learn(&mut self, files: &Graph, known: Known)
         requires { KnowsVerdicts files.now known }
         ensures { self.new ≡ self.old }

@@ -267,14 +267,12 @@ impl Content {
         Handed::Done(number)
     }
 
-    /// Keeps the findings of the packages of `files`, if these are the current files. For want of memory it drops them.
+    /// Keeps the findings of the packages of `files` whose closures have the same texts in the current files.
     pub fn learn(&mut self, files: &Graph, known: Known)
         requires { KnowsVerdicts files.now known }
         ensures { self.new ≡ self.old }
     {
-        if let Ok(known) = SharedKnown::new(self.alloc, known) {
-            self.history.current.learn(files, known);
-        }
+        self.history.current.learn(self.alloc, files, &known);
     }
 
     /// Keeps the findings of the packages of the current files. No file is compared.

@@ -6,10 +6,10 @@ ghost use Rattle.history_machine.specs.Resting.{IsRestOf};
 use crate::resting::{Resting, own_verdicts};
 use crate::view::KnownSnapshot;
 use base_files::Limits;
-use build_carry::Finished;
+use build_carry::{Finished, learned_from};
 use std::alloc::{AllocError, Global};
 use std::marker::Model;
-use workspace_check::SharedKnown;
+use workspace_check::{Known, SharedKnown};
 use workspace_graph::Graph;
 use workspace_snapshot::Snapshot;
 
@@ -89,12 +89,13 @@ impl State {
         })
     }
 
-    /// Keeps the findings of the packages of `files`, if the state has these files. Otherwise it drops them.
-    pub fn learn(&mut self, files: &Graph, known: SharedKnown)
-        requires { KnowsVerdicts files.now known }
+    /// Keeps the verdicts that were found in the workspace `files`, on the packages whose closures have the same texts in the state. What the
+    /// state knows stays. For want of memory it learns nothing.
+    pub fn learn(&mut self, alloc: Global, files: &Graph, found: &Known)
+        requires { KnowsVerdicts files.now found.now }
         ensures { self.new ≡ self.old }
     {
-        if self.files.files().same(files.files()) {
+        if let Ok(known) = learned_from(alloc, &self.files, &self.known, files, found) {
             self.known = known;
         }
     }

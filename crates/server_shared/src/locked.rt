@@ -133,7 +133,7 @@ impl<L: Opening> Locked<L> {
         self.step(share, question)
     }
 
-    /// Has the book keep the findings of the packages of `files`, if these are the current files. It is no event.
+    /// Has the book keep the findings of the packages of `files` whose closures have the same texts in the current files. It is no event.
     pub fn learn(&mut self, files: &Graph, known: Known)
         requires { KnowsVerdicts files.now known }
         ensures book { self.new.book ≡ self.old.book }

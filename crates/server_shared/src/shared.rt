@@ -127,8 +127,8 @@ impl<L: Opening> Shared<L> {
         answer
     }
 
-    /// Has the book keep the findings of the packages of `files`, if these are the current files. It is no event, and no seat gains a
-    /// receipt.
+    /// Has the book keep the findings of the packages of `files` whose closures have the same texts in the current files. It is no event, and
+    /// no seat gains a receipt.
     pub fn learn<R: Wait>(&self, rt: &R, files: &Graph, known: Known)
         requires { KnowsVerdicts files.now known }
     {

@@ -8,7 +8,7 @@ loop-number-init c = nothing_told c.in_ok-carried.carried c.in_ok-carried.ensure
 pub loop-number-preserved : goal.loop-number-preserved
 loop-number-preserved c =
     told_next c.args.after.now c.loop-number.number c.loop-number.carried c.push.new.self c.in_ok-verdict.verdict c.in_ok-push.ensures
-    c.loop-number.invariant c.in_ok-verdict.ensures
+    c.loop-number.invariant c.in_ok-verdict.ensures.right
 
 pub returns : goal.returns
 returns c = c.loop-number.invariant.verdicts
