@@ -54,12 +54,17 @@ owner_home w path (Pointer (Pointer t)) s e h = absurd (none-some s e)
 owner_home w path (Pointer (Slice t)) s e h = absurd (none-some s e)
 owner_home w path (Slice t) s e h = absurd (none-some s e)
 
+-- The package at the path `q` is reached, and its members of the name `m` are seen in the package at the path `p`.
+abbrev pub ShowsName : Workspace → (m : List ℕ) → (p q : List ℕ) → Type 0
+ShowsName w m p q = ReachesPath w p q × ((is_exported m || same_path p q) ≡ true)
+
 module _ (w : Workspace) (sound : ListsFaults w []) (known : Verdicts) (right : AreVerdicts w known) (r : Revision) (m : List ℕ)
-    (Among : List ℕ → Type 0) (closed : (p q : List ℕ) → Among p → ReachesPath w p q → Among q) where
+    (Among : List ℕ → Type 0) (closed : (p q : List ℕ) → Among p → ShowsName w m p q → Among q) where
   abbrev Known : Package → Type 0
   Known = IsCheckedPackage w known
 
-  -- In the packages at these paths, what has the name after the change had it before. With a package its paths hold those that it reaches.
+  -- In the packages at these paths, what has the name after the change had it before. With a package its paths hold those that it reaches,
+  -- if it sees the name there.
   pub record NoneGets : Type 0 where
     pub fields : (y : Package) → Known y → Among y.path → (d rank : ℕ) → IsFieldAfter r y d m rank → (f : PlacedField) × IsFieldOf y d m rank f
     pub methods : (y : Package) → Known y → Among y.path → (d rank : ℕ) → IsMethodAfter r y d m rank → (f : PlacedFunction) × IsMethodOf y d m rank f
@@ -134,7 +139,7 @@ module _ (w : Workspace) (sound : ListsFaults w []) (known : Verdicts) (right : 
           reach = struct_reached w sound known right x is d st h.underlying
 
           inside : Among y.path
-          inside = subst Among (sym path) (closed x.path st.package among reach)
+          inside = subst Among (sym path) (closed x.path st.package among (reach, h.has.seen))
 
           f : (f : PlacedField) × IsFieldOf y st.rank m h.rank f
           f = none.fields y also inside st.rank h.rank h.has.has.holds.has
@@ -158,15 +163,15 @@ module _ (w : Workspace) (sound : ListsFaults w []) (known : Verdicts) (right : 
             let home : f.symbol.package ≡ i.inside.path = ap (λ (y : Symbol). y.package) k.1.2 in
             let package_is : f.symbol.package ≡ st.package = home ∙ i.of_path in
             let reach : ReachesPath w x.path st.package = struct_reached_by w sound known right x is definitions are m st f e in
-            let inside : Among i.inside.path = subst Among (sym i.of_path) (closed x.path st.package among reach) in
+            let seen_there : is_seen x.path st (is_exported m) ≡ true = subst (λ b. is_seen x.path st b ≡ true) k.1.3
+            (subst (λ (q : List ℕ). is_seen x.path (record { «package» = q; rank = st.rank }) f.exported ≡ true) package_is visible) in
+            let inside : Among i.inside.path = subst Among (sym i.of_path) (closed x.path st.package among (reach, seen_there)) in
             record {
               of_struct = st;
               is_struct = refl;
               of_package = package_is;
               has = record {
-                seen =
-                    subst (λ b. is_seen x.path st b ≡ true) k.1.3
-                    (subst (λ (q : List ℕ). is_seen x.path (record { «package» = q; rank = st.rank }) f.exported ≡ true) package_is visible);
+                seen = seen_there;
                 has = record {
                   inside = i.inside;
                   is_package = i.is_package;
@@ -189,15 +194,15 @@ module _ (w : Workspace) (sound : ListsFaults w []) (known : Verdicts) (right : 
             let home : f.symbol.package ≡ i.inside.path = ap (λ (y : Symbol). y.package) k.4 in
             let package_is : f.symbol.package ≡ s.package = home ∙ i.of_path in
             let reach : ReachesPath w x.path s.package = owner_reached w sound known right x is definitions are m s f e in
-            let inside : Among i.inside.path = subst Among (sym i.of_path) (closed x.path s.package among reach) in
+            let seen_there : is_seen x.path s (is_exported m) ≡ true = subst (λ b. is_seen x.path s b ≡ true) k.5
+            (subst (λ (q : List ℕ). is_seen x.path (record { «package» = q; rank = s.rank }) f.exported ≡ true) package_is visible) in
+            let inside : Among i.inside.path = subst Among (sym i.of_path) (closed x.path s.package among (reach, seen_there)) in
             record {
               of_type = s;
               is_owner = refl;
               of_package = package_is;
               has = record {
-                seen =
-                    subst (λ b. is_seen x.path s b ≡ true) k.5
-                    (subst (λ (q : List ℕ). is_seen x.path (record { «package» = q; rank = s.rank }) f.exported ≡ true) package_is visible);
+                seen = seen_there;
                 has = record {
                   inside = i.inside;
                   is_package = i.is_package;
@@ -244,7 +249,8 @@ module _ (w : Workspace) (sound : ListsFaults w []) (known : Verdicts) (right : 
           let path : y.path ≡ st.package = h.has.has.of_path ∙ ap (λ (z : Symbol). z.package) (sym same) in
           let ranks : h.of_struct.rank ≡ st.rank = ap (λ (z : Symbol). z.rank) (sym same) in
           let now : IsFieldAfter r y st.rank m f.rank = subst (λ n. IsFieldAfter r y n m f.rank) ranks h.has.has.holds.has in
-          let inside : Among y.path = subst Among (sym path) (closed x.path st.package among reach) in
+          let visible : is_seen x.path st (is_exported m) ≡ true = subst (λ (z : Symbol). is_seen x.path z (is_exported m) ≡ true) (sym same) h.has.seen in
+          let inside : Among y.path = subst Among (sym path) (closed x.path st.package among (reach, visible)) in
           let g = none.fields y also inside st.rank f.rank now in
           let t = type_of_field y st.rank f.rank g.0 g.1 in
           let at : symbol_in y st.rank ≡ st = ap (λ q. record { «package» = q; rank = st.rank }) path in
@@ -254,7 +260,6 @@ module _ (w : Workspace) (sound : ListsFaults w []) (known : Verdicts) (right : 
           counts y also st.rank f.rank g.0 g.1
           (λ counting. field_found w sound known right y also st.rank (definitions st) is_definition m f.rank g.0 counting
           (λ k there exported home.
-          let visible : is_seen x.path st (is_exported m) ≡ true = subst (λ (z : Symbol). is_seen x.path z (is_exported m) ≡ true) (sym same) h.has.seen in
           let by_package : is_seen x.path k.symbol (is_exported m) ≡ true =
           subst (λ (q : List ℕ). is_seen x.path (record { «package» = q; rank = k.symbol.rank }) (is_exported m) ≡ true) (sym (home ∙ path)) visible in
           let seen_one : is_seen x.path k.symbol k.exported ≡ true = subst (λ b. is_seen x.path k.symbol b ≡ true) (sym exported) by_package in

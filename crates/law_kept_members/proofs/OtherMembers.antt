@@ -18,9 +18,9 @@ use Rattle.refactor_after.specs.MembersAfter.{CountsAfter}
 use Rattle.refactor_conflict.specs.BoundAfter.{IsBoundByMember}
 use Rattle.law_renamed_packages.specs.Renames.{IsPlainRename}
 use Rattle.law_kept_members.specs.NamesAfterwards.{IsMember, IsCalledAfter, gets_name, keeps_name, NamesMember, spelled_there}
-use Rattle.law_kept_members.specs.Reaching.{ReachesPath, home_of}
+use Rattle.law_kept_members.specs.Reaching.{home_of}
 use Rattle.law_kept_members.proofs.Called.{fields, identifiers, methods, used_is_member, declared_is_member}
-use Rattle.law_kept_members.proofs.KeptMembers.{NoneGets, IsKept, use_stays, name_stays}
+use Rattle.law_kept_members.proofs.KeptMembers.{NoneGets, IsKept, ShowsName, use_stays, name_stays}
 
 module _ (w : Workspace) (known : Verdicts) (d : Declaration) (name : List ℕ) (s : FileChanges) (h : IsPlainRename w known d name s) where
   abbrev r : Revision
@@ -34,7 +34,7 @@ module _ (w : Workspace) (known : Verdicts) (d : Declaration) (name : List ℕ) 
 
   -- a name, and packages where no renamed member gets it
 
-  module _ (m : List ℕ) (Among : List ℕ → Type 0) (closed : (p q : List ℕ) → Among p → ReachesPath w p q → Among q)
+  module _ (m : List ℕ) (Among : List ℕ → Type 0) (closed : (p q : List ℕ) → Among p → ShowsName w m p q → Among q)
       (apart : (e : Declaration) → IsMember e → e ≡ d → Among (home_of e) → m ≡ name → ⊥) where
     -- what is called so afterwards was called so
     was_called : (e : Declaration) → IsMember e → Among (home_of e) → (old : List ℕ) → IsCalledAfter d name e old m → old ≡ m
@@ -107,7 +107,7 @@ module _ (w : Workspace) (known : Verdicts) (d : Declaration) (name : List ℕ) 
         by_case (gets_name same new) = absurd (apart same)
         by_case (keeps_name away same) = same
 
-    module _ (Among : List ℕ → Type 0) (closed : (p q : List ℕ) → Among p → ReachesPath w p q → Among q) (among : Among x.path)
+    module _ (Among : List ℕ → Type 0) (closed : (p q : List ℕ) → Among p → ShowsName w m p q → Among q) (among : Among x.path)
         (apart : (e : Declaration) → IsMember e → e ≡ d → Among (home_of e) → m ≡ name → ⊥) (old : Declaration) (away : old ≡ d → ⊥) where
       pub use_kept : (was : BindsByMember x u old) → IsBoundByMember (IsCheckedPackage w known) r place x u old was old
       use_kept was =

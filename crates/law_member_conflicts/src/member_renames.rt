@@ -1,7 +1,7 @@
 //! Laws of renames of fields and methods.
 ghost use Rattle.law_member_conflicts.specs.AtStake.{OtherMembersStay, StakesDecide, FirstMemberConflict};
 ghost use Rattle.law_member_conflicts.specs.KeptScopes.{ScopesAreKept, MemberRenamesKeepScopes, MemberConflictsAreOfMembers};
-ghost use Rattle.law_member_conflicts.specs.OutsidePackages.{OtherPackagesKeepMembers};
+ghost use Rattle.law_member_conflicts.specs.OutsidePackages.{OtherPackagesKeepMembers, UnexportedNamesStayAtHome};
 
 /// In every package scopes bind what they bound, and each package exports what it exported.
 pub fn member_renames_keep_scopes()
@@ -20,4 +20,9 @@ pub fn first_member_conflict()
 /// In a package that does not reach the package of the renamed field or method each member stays bound.
 pub fn other_packages_keep_members()
     ensures { OtherPackagesKeepMembers }
+{}
+
+/// With a new name that is not exported, each member stays bound in each other package than the renamed one's, unless this is used there.
+pub fn unexported_names_stay_at_home()
+    ensures { UnexportedNamesStayAtHome }
 {}

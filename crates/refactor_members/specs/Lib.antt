@@ -2,3 +2,4 @@
 pub mod Renames
 pub mod Naming
 pub mod Judging
+pub mod Reaching

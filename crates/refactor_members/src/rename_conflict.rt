@@ -9,7 +9,7 @@ ghost use Rattle.law_rename_agrees.specs.ConflictsByTables.{TellsFirstOf};
 use crate::definition::definition_of;
 use crate::first::first_turned;
 use crate::member_rename::MemberRename;
-use crate::reaching::reaching;
+use crate::reaching::{NamesOfRename, reaching};
 use refactor_conflict::Conflict;
 use refs_binding::{Declaration, FaultlessWorkspace};
 use refs_uses::name_of_member;
@@ -18,7 +18,8 @@ use std::alloc::{AllocError, Global};
 /// The first identifier that a plain rename of a field or method loses or captures, or `None` where it loses and captures none.
 ///
 /// The answer is right for all edits of the rename. None are made, and no scopes are laid: the old definitions, the uses of members and the
-/// two names decide. Where the present name is found, only files are looked at that have it or the new name.
+/// two names decide. Where the present name is found, only files are looked at that have it or the new name; where neither is exported, only
+/// files of the member's package.
 pub fn member_conflict(
     alloc: Global,
     workspace: &FaultlessWorkspace<'_>,
@@ -33,9 +34,11 @@ pub fn member_conflict(
     law_member_conflicts::member_renames::member_renames_keep_scopes();
     law_member_conflicts::member_renames::first_member_conflict();
     law_member_conflicts::member_renames::other_packages_keep_members();
+    law_member_conflicts::member_renames::unexported_names_stay_at_home();
     let definition = definition_of(alloc, workspace, declaration)?;
-    let reaching = reaching(alloc, workspace, declaration)?;
     let called = name_of_member(workspace, declaration);
+    let names = NamesOfRename { called, name };
+    let reaching = reaching(alloc, workspace, declaration, names)?;
     let m = MemberRename {
         workspace,
         reaching: &reaching,
