@@ -59,7 +59,7 @@ follows_word f (suc before) =
     (λ h. let same : h.before ≡ before = (let e : suc before ≡ suc h.before = h.next in omega (arith, e)) in
     subst (λ b. EndsImport f b (offset_of f (suc before))) same h.is_import) (ends_import f before (offset_of f (suc before)))
 
-text_before : (f : SourceFile) (token : ℕ) (name : List ℕ) → (text : List ℕ) × IsNameBefore f token name text
+pub text_before : (f : SourceFile) (token : ℕ) (name : List ℕ) → (text : List ℕ) × IsNameBefore f token name text
 text_before f token name = elim (follows_word f token) [ inl h ↦ (_, joined h) | inr n ↦ (_, apart n) ]
 
 literal_at : (o : Option Literal) (path : List ℕ) (token : ℕ) → Decided (IsLiteralAt o path token)

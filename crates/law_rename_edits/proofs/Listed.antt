@@ -147,10 +147,10 @@ module _ (q : Place) where
   inserted (x ∷ xs) h = placed x xs h (place_cmp q x) refl (inserted xs h.1)
 
 -- The same places, sorted.
-Sorts : List Place → Type 0
+abbrev pub Sorts : List Place → Type 0
 Sorts xs = (ys : List Place) × (IsStrictlySortedBy place_cmp ys × ((p : Place) → Contains ys p ↔ Contains xs p))
 
-sorted : (xs : List Place) → Sorts xs
+pub sorted : (xs : List Place) → Sorts xs
 unfolding IsStrictlySortedBy Sorts Inserts
 sorted [] = ([], (tt, λ p. ((λ h. h), (λ h. h))))
 sorted (x ∷ xs) =
