@@ -16,7 +16,7 @@ use Rattle.refs_binding.specs.DeclaredNames.{HasDeclaredName}
 use Rattle.refs_binding.specs.Uses.{IsCheckedPackage, IsUseOf}
 use Rattle.refs_binding.proofs.Units.{one_package}
 use Rattle.refactor_rename.specs.declared.renamed.Literal.{Literal}
-use Rattle.refactor_rename.specs.Literals.{IsLiteralFound, IsPathLiteralIn, IsPathLiteralOf}
+use Rattle.refactor_rename.specs.Literals.{IsLiteralFound, IsPathLiteralIn, IsPathLiteralOf, IsUnnamedImport}
 use Rattle.refactor_rename.specs.Naming.{IsFixed, IsReservedFor}
 use Rattle.refactor_rename.specs.NewName.{IsNewName}
 use Rattle.refactor_rename.specs.RenameEdits.{AreRenameEdits}
@@ -32,7 +32,7 @@ use Rattle.refactor_decide.specs.declared.decision.ScopeDecision.{ScopeDecision}
 use Rattle.refactor_decide.proofs.Written.{all_count, written_begins}
 
 -- no literal where none is found
-no_literal : (K : Literal → Type 0) → ((l : Literal) → K l → ⊥) → (o : Option Literal) → IsLiteralFound K o → o ≡ None
+pub no_literal : (K : Literal → Type 0) → ((l : Literal) → K l → ⊥) → (o : Option Literal) → IsLiteralFound K o → o ≡ None
 no_literal K not None h = refl
 no_literal K not (Some l) h = absurd (not l h)
 
@@ -41,11 +41,11 @@ module _ (w : Workspace) (known : Verdicts) (p : Package) (is : IsCheckedPackage
   abbrev can : CanRename p n name
   can = h.can
 
-  module _ (sound : ListsFaults w []) (right : AreVerdicts w known) where
+  module _ (sound : ListsFaults w []) (right : AreVerdicts w known) (named : IsUnnamedImport p n → ⊥) where
     used : (place : Place) × IsUseOf w known (Declared p.path n) place
     used =
         let there = written_begins w sound known right p is n can.within
-        (identifies w known p.path p is.is_checked n can.own, λ import literal. can.has_name (import, literal)) (inr can.declares.may) in (
+        (identifies w known p.path p is.is_checked n can.own, λ import literal. named (import, literal)) (inr can.declares.may) in (
           there.0,
           record {
             used_in = p;
@@ -61,7 +61,7 @@ module _ (w : Workspace) (known : Verdicts) (p : Package) (is : IsCheckedPackage
     has_name l literal =
         let here : IsPathLiteralIn p n l =
         subst (λ (x : Package). IsPathLiteralIn x n l) (one_package w known literal.inside p literal.is_package is literal.of_path) literal.holds in
-        can.has_name here.1
+        named here.1
 
     pub plain : (s : FileChanges) → IsNewName name → (IsFixed (IsCheckedPackage w known) (Declared p.path n) → ⊥) →
         (IsReservedFor (IsCheckedPackage w known) (Declared p.path n) name → ⊥) → (HasDeclaredName (IsCheckedPackage w known) (Declared p.path n) name → ⊥) →

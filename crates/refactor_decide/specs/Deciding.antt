@@ -1,10 +1,11 @@
 -- What is decided of the rename of a declaration of scopes by the workspace before it.
-use Rattle.std.specs.Prelude.{ℕ, ◌≡◌, List, Option, Some, None, IsTrue}
+use Rattle.std.specs.Prelude.{ℕ, ◌≡◌, List, Option, IsTrue}
 use Rattle.base_files.specs.Workspace.{Workspace}
 use Rattle.types_declared.specs.Package.{Package}
 use Rattle.workspace_check.specs.Verdicts.{Verdicts}
 use Rattle.refs_binding.specs.Uses.{IsCheckedPackage}
 use Rattle.refactor_conflict.specs.declared.conflict.Conflict.{Conflict}
+use Rattle.refactor_rename.specs.Literals.{IsUnnamedImport}
 use Rattle.law_known_verdicts.specs.KnownVerdicts.{IsHiddenIn}
 use Rattle.law_scope_conflicts.specs.ScopeConflicts.{FirstConflictBehind, FirstOwnConflict, earlier_conflict}
 use Rattle.refactor_decide.specs.Own.{CanRename}
@@ -18,14 +19,10 @@ pub record IsFirstOfBoth (w : Workspace) (known : Verdicts) (p : Package) (n : �
   pub first_behind : FirstConflictBehind (IsCheckedPackage w known) p n name behind
   pub is_told : told ≡ earlier_conflict own behind
 
--- The declaration of the package has another name, and no import without a name gains one. The decision has the first conflict, and says
--- where other packages see the declaration under neither name.
+-- The declaration of the package has another name. The decision has the first conflict. Where it says that the declaration is hidden, other
+-- packages see it under neither name, and it is no import that gains a name.
 pub record Decides (w : Workspace) (known : Verdicts) (p : Package) (n : ℕ) (name : List ℕ) (d : ScopeDecision) : Type 0 where
   pub can : CanRename p n name
   pub first : IsFirstOfBoth w known p n name d.conflict
   pub hidden : IsTrue d.is_hidden → IsHiddenIn p n name
-
--- A decision, or none where the package has no such declaration with another name, or it is an import without a name.
-abbrev pub DecidesIn : Workspace → Verdicts → Package → (n : ℕ) → (name : List ℕ) → Option ScopeDecision → Type 0
-DecidesIn w known p n name None = CanRename p n name → ⊥
-DecidesIn w known p n name (Some d) = Decides w known p n name d
+  pub has_name : IsTrue d.is_hidden → IsUnnamedImport p n → ⊥

@@ -6,18 +6,16 @@ use Rattle.types_declared.specs.Package.{Package}
 use Rattle.refs_binding.specs.Binding.{IsPredeclaredNumber}
 use Rattle.refs_binding.specs.Identifiers.{BeginsAt}
 use Rattle.refactor_conflict.specs.declared.conflict.Conflict.{Conflict}
-use Rattle.refactor_rename.specs.Literals.{IsUnnamedImport}
 use Rattle.refactor_scopes.specs.declared.outcomes.ScopeConflict.{ScopeConflict}
 use Rattle.refactor_scopes.specs.Conflicts.{TellsConflict}
 use Rattle.refactor_decide.specs.Capturers.{NamesEach}
 
--- `n` declares in the package `p`, is not predeclared, has another name, and is no import without a name.
+-- `n` declares in the package `p`, is not predeclared, and has another name.
 pub record CanRename (p : Package) (n : ℕ) (name : List ℕ) : Type 0 where
   pub within : n < p.size
   pub own : IsPredeclaredNumber n → ⊥
   pub declares : Declares p.layout p.names n
   pub other_name : p.names n ≡ name → ⊥
-  pub has_name : IsUnnamedImport p n → ⊥
 
 -- The conflict by number, by the place where its identifier begins; none where it begins nowhere.
 abbrev pub IsConflictPlace : Package → ScopeConflict → Option Conflict → Type 0

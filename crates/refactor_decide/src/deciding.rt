@@ -1,23 +1,26 @@
-//! Decides a plain rename of a declaration of scopes.
-ghost use Rattle.std.specs.Prelude.{◌≡◌, IfOk};
+//! Decides the rename of a declaration of scopes.
+ghost use Rattle.std.specs.Prelude.{◌≡◌, ◌<◌, length, IsTrue, IfOk};
 ghost use Rattle.std.specs.Ordering.{is_lt};
 ghost use Rattle.go_scope.specs.Bindings.{AllCount};
 ghost use Rattle.types_declared.specs.PackageView.{package_of};
 ghost use Rattle.refs_binding.specs.Indexed.{IsPackageNumber, IsPackageNumbered, IsIndexed};
 ghost use Rattle.refs_binding.specs.Places.{place_cmp};
 ghost use Rattle.refs_binding.specs.Workspaces.{known_in};
+ghost use Rattle.refactor_rename.specs.Literals.{IsUnnamedImport};
+ghost use Rattle.law_known_verdicts.specs.KnownVerdicts.{IsHiddenIn};
 ghost use Rattle.law_scope_conflicts.specs.ScopeConflicts.{earlier_conflict};
-ghost use Rattle.refactor_decide.specs.Deciding.{DecidesIn, IsFirstOfBoth};
+ghost use Rattle.refactor_decide.specs.Deciding.{Decides, IsFirstOfBoth};
 ghost use Rattle.refactor_decide.specs.Own.{CanRename};
 
 use crate::behind::conflict_behind;
 use crate::decision::ScopeDecision;
-use crate::own::{can_rename, own_conflict};
+use crate::own::{is_unnamed, own_conflict};
 use crate::turned::is_hidden;
 use base_files::Place;
 use refactor_conflict::Conflict;
 use refs_binding::indexed::{Indexed, Numbered};
 use std::alloc::{AllocError, Global};
+use types_declared::Package;
 
 /// Whether the place `a` comes before the place `b`: by the bytes of their paths, then by their offsets.
 fn comes_before(a: &Place, b: &Place) -> bool
@@ -66,27 +69,33 @@ fn first_of_both(
     Ok(earlier(own, behind))
 }
 
-/// Decides a plain rename of a declaration of a package by the workspace before it: its first conflict, or none. Returns `None` where there
-/// is no such declaration, where it is an import without a name, and where it has the name. The package is given, and not read again.
+/// Whether other packages see a declaration neither under its name nor under the new one, and it is no import that gains a name.
+fn stays_hidden(unit: Package<'_>, n: usize, name: &[u8]) -> bool
+    requires { n < length unit.table.now.sites }
+    ensures hidden { IsTrue result → IsHiddenIn (package_of unit.entry) n name.now }
+    ensures has_name { IsTrue result → IsUnnamedImport (package_of unit.entry) n → ⊥ }
+{
+    is_hidden(unit, n, name) && !is_unnamed(unit, n)
+}
+
+/// Decides the rename of a declaration of a package by the workspace before it: its first conflict, or none. By the rename an import without
+/// a name gains one. The package is given, and not read again.
 pub fn scope_decision(
     alloc: Global,
     at: Numbered<'_>,
     of: &Indexed<'_>,
     n: usize,
     name: &[u8],
-) -> Result<Option<ScopeDecision>, AllocError>
+) -> Result<ScopeDecision, AllocError>
     requires numbered { IsPackageNumber at }
     requires unit { IsPackageNumbered at (package_of of.now.unit) }
     requires indexed { IsIndexed of.now }
-    ensures { IfOk result (DecidesIn at.entry.workspace.now.graph (known_in at.entry.workspace.now.findings) (package_of of.now.unit) n name.now) }
+    requires can { CanRename (package_of of.now.unit) n name.now }
+    ensures { IfOk result (Decides at.entry.workspace.now.graph (known_in at.entry.workspace.now.findings) (package_of of.now.unit) n name.now) }
 {
     at.workspace.has_no_faults();
-    if can_rename(of.unit, n, name) {
-        Ok(Some(ScopeDecision {
-            conflict: first_of_both(alloc, at, of, n, name)?,
-            is_hidden: is_hidden(of.unit, n, name),
-        }))
-    } else {
-        Ok(None)
-    }
+    Ok(ScopeDecision {
+        conflict: first_of_both(alloc, at, of, n, name)?,
+        is_hidden: stays_hidden(of.unit, n, name),
+    })
 }

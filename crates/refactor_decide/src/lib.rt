@@ -1,9 +1,8 @@
-//! Decides a plain rename of a declaration of the scopes of a package by the workspace before it: the first identifier that the rename
-//! captures or loses, or that there is none. No edited text is read.
+//! Decides a rename of a declaration of the scopes of a package by the workspace before it: the first identifier that the rename captures or
+//! loses, or that there is none. No edited text is read.
 //!
-//! Crates above rely on: `scope_decision` tells the first conflict of each plain rename of the declaration, or that it has none
-//! (`DecidesIn`), of a package that is read once. It tells too whether other packages see the declaration under either name. `None` is
-//! returned for no plain rename.
+//! Crates above rely on: `scope_decision` tells the first conflict of each rename of the declaration, or that it has none (`Decides`), of a
+//! package that is read once. It tells too whether other packages see the declaration under either name.
 //! `first_placed` tells the first conflict in the scopes of a package, by its place, and `earlier` the earlier one of two.
 #![tactic(auto)]
 

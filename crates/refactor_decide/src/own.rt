@@ -8,7 +8,6 @@ ghost use Rattle.refactor_decide.specs.Capturers.{CountsIfAny};
 ghost use Rattle.refactor_decide.specs.Own.{CanRename, IsConflictPlace, TellsOwn};
 
 use crate::capturers::capturer_if;
-use go_scope::identifiers::PREDECLARED;
 use refactor_conflict::Conflict;
 use refactor_scopes::{ScopeConflict, ScopeRename};
 use refs_places::beginning;
@@ -16,22 +15,11 @@ use std::alloc::{AllocError, Global};
 use types_declared::{Package, is_import, literal_of};
 
 /// Whether a declaration is an import without a name.
-fn is_unnamed(unit: Package<'_>, n: usize) -> bool
+pub(crate) fn is_unnamed(unit: Package<'_>, n: usize) -> bool
     requires { n < length unit.table.now.sites }
     ensures { IsTrue result ↔ IsUnnamedImport (package_of unit.entry) n }
 {
     is_import(unit.table, n) && literal_of(unit.table, n) == n
-}
-
-/// Whether a number is that of a declaration of a package that is not predeclared, has another name, and is no import without a name.
-pub(crate) fn can_rename(unit: Package<'_>, n: usize, name: &[u8]) -> bool
-    ensures { IsTrue result ↔ CanRename (package_of unit.entry) n name.now }
-{
-    PREDECLARED <= n
-        && n < unit.table.len()
-        && unit.table.declares(n)
-        && unit.table.name(n) != name
-        && !is_unnamed(unit, n)
 }
 
 /// The conflict at an identifier of a package, by the place where this begins.

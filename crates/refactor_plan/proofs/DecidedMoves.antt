@@ -3,7 +3,6 @@ use Rattle.std.proofs.Common.{ℕ, ◌≡◌, inl, inr, List, [], Option, Some, 
 use Rattle.std.specs.Prelude.{Err}
 use Rattle.base_files.specs.Packages.{package_paths}
 use Rattle.base_files.specs.Workspace.{Workspace}
-use Rattle.base_files.specs.declared.place.Place.{Place}
 use Rattle.base_files.specs.declared.refusal.Refusal.TheVariants.{TooLarge}
 use Rattle.base_edits.specs.EditSet.{FileChanges, edited}
 use Rattle.base_edits.specs.Fits.{Fits}
@@ -37,9 +36,9 @@ use Rattle.refactor_known.specs.Swaps.{map_of, swapped}
 use Rattle.refactor_plan.specs.DecidedMoves.{IsPlannedMove, KnowsMoved}
 use Rattle.refactor_plan.specs.MovePlan.{IsMovable, NamesMovedPackage}
 use Rattle.refactor_plan.specs.MoveSteps.{RefusesLength}
-use Rattle.refactor_plan.specs.Proposals.{PlansChange, RefusesConflict}
+use Rattle.refactor_plan.specs.Proposals.{IsConflictRefusal, PlansChange}
 use Rattle.refactor_plan.proofs.MovePlanned.{conflict_of_length, spared_by_free}
-use Rattle.refactor_plan.proofs.Proposed.{told_conflict, conflict_planned}
+use Rattle.refactor_plan.proofs.Proposed.{conflict_named, conflict_planned}
 
 -- the moves that are planned
 
@@ -82,47 +81,47 @@ module _ (w : Workspace) (sound : ListsFaults w []) (known : Verdicts) (right : 
     allowed = inr refl;
   }
 
-module _ (law : FirstConflictsDecideMoves) (snapshot : Snapshot) (known : Verdicts) (from to : List ℕ) (place : Place) (s : FileChanges)
+module _ (law : FirstConflictsDecideMoves) (snapshot : Snapshot) (known : Verdicts) (from to : List ℕ) (s : FileChanges)
     (move : IsMove snapshot.files known from to s) (allowed : IsPlannedTarget snapshot.files from to) where
   conflict_told : (c : Conflict) → TellsFirstOf snapshot.files known (revision_of snapshot.files s) (Some c) →
-      RefusesConflict snapshot.files known place s (Err (refusal_for c.by c.used))
+      IsConflictRefusal snapshot.files known s (refusal_for c.by c.used)
   conflict_told c tells =
       let refused = law snapshot.files known from to s move allowed (Some c) tells in
-      told_conflict snapshot.files known place s refused.0 c.by c.used (inl refused.1)
+      conflict_named snapshot.files known s refused.0 c tells.0 tells.1
 
   -- a conflict is refused
   move_refused : (kind : ChangeKind) (c : Conflict) → TellsFirstOf snapshot.files known (revision_of snapshot.files s) (Some c) →
-      PlansChange snapshot known place kind s (Err (refusal_for c.by c.used))
-  move_refused kind c tells = conflict_planned snapshot known place kind s (refusal_for c.by c.used) (conflict_told c tells)
+      PlansChange snapshot known kind s (Err (refusal_for c.by c.used))
+  move_refused kind c tells = conflict_planned snapshot known kind s c.by c.used (conflict_told c tells)
 
   name_refused : (c : Conflict) → TellsFirstOf snapshot.files known (revision_of snapshot.files s) (Some c) →
-      RefusesLength snapshot.files known place s (Err (refusal_for c.by c.used))
-  name_refused c tells = conflict_of_length snapshot.files known place s (refusal_for c.by c.used) (conflict_told c tells)
+      RefusesLength snapshot.files known s (Err (refusal_for c.by c.used))
+  name_refused c tells = conflict_of_length snapshot.files known s c.by c.used (conflict_told c tells)
 
   -- without a conflict
   move_kept : TellsFirstOf snapshot.files known (revision_of snapshot.files s) None → Preserves snapshot.files (revision_of snapshot.files s)
   move_kept tells = law snapshot.files known from to s move allowed None tells
 
-  name_kept : TellsFirstOf snapshot.files known (revision_of snapshot.files s) None → RefusesLength snapshot.files known place s (Err TooLarge)
+  name_kept : TellsFirstOf snapshot.files known (revision_of snapshot.files s) None → RefusesLength snapshot.files known s (Err TooLarge)
   name_kept tells = move_kept tells
 
 -- by what the workspace before it tells
-module _ (snapshot : Snapshot) (known : Verdicts) (from to : List ℕ) (place : Place) (s : FileChanges) where
+module _ (snapshot : Snapshot) (known : Verdicts) (from to : List ℕ) (s : FileChanges) where
   pub conflict_refused : (kind : ChangeKind) → IsPlannedMove snapshot.files known from to to s → (c : Conflict) →
-      TellsMoveConflict snapshot.files known from to (Some c) → PlansChange snapshot known place kind s (Err (refusal_for c.by c.used))
-  conflict_refused kind m c tells = move_refused decide snapshot known from to place s m.move m.allowed kind c (tells to s m.move m.follows)
+      TellsMoveConflict snapshot.files known from to (Some c) → PlansChange snapshot known kind s (Err (refusal_for c.by c.used))
+  conflict_refused kind m c tells = move_refused decide snapshot known from to s m.move m.allowed kind c (tells to s m.move m.follows)
 
   pub preserved : IsPlannedMove snapshot.files known from to to s → TellsFirstOf snapshot.files known (revision_of snapshot.files s) None →
       Preserves snapshot.files (revision_of snapshot.files s)
-  preserved m tells = move_kept decide snapshot known from to place s m.move m.allowed tells
+  preserved m tells = move_kept decide snapshot known from to s m.move m.allowed tells
 
   pub name_conflict_refused : IsPlannedMove snapshot.files known from from to s → (c : Conflict) → TellsMoveConflict snapshot.files known from to (Some c) →
-      RefusesLength snapshot.files known place s (Err (refusal_for c.by c.used))
-  name_conflict_refused m c tells = name_refused decide snapshot known from from place s m.move m.allowed c (tells from s m.move m.follows)
+      RefusesLength snapshot.files known s (Err (refusal_for c.by c.used))
+  name_conflict_refused m c tells = name_refused decide snapshot known from from s m.move m.allowed c (tells from s m.move m.follows)
 
   pub too_long : IsPlannedMove snapshot.files known from from to s → TellsMoveConflict snapshot.files known from to None →
-      RefusesLength snapshot.files known place s (Err TooLarge)
-  too_long m tells = name_kept decide snapshot known from from place s m.move m.allowed (tells from s m.move m.follows)
+      RefusesLength snapshot.files known s (Err TooLarge)
+  too_long m tells = name_kept decide snapshot known from from s m.move m.allowed (tells from s m.move m.follows)
 
 -- what is known of packages
 

@@ -1,5 +1,6 @@
 -- The lemmas of this crate.
 pub mod Proposed
+pub mod Premises
 pub mod DecidedRenames
 pub mod Homes
 pub mod DecidedMoves

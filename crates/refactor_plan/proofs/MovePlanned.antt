@@ -1,6 +1,6 @@
 -- The answers of the steps of planning a move, as cases of `PlansMove`.
 use Rattle.std.proofs.Common.{◌≡◌, ℕ, inl, inr, List, [], refl, sym, subst, ◌∙◌}
-use Rattle.std.specs.Prelude.{Result, Ok, Err, Contains}
+use Rattle.std.specs.Prelude.{Option, Some, None, Result, Ok, Err, Contains}
 use Rattle.base_files.specs.Packages.{package_paths}
 use Rattle.base_files.specs.Path.{IsPath}
 use Rattle.base_files.specs.PathRead.{ReadsPath}
@@ -12,7 +12,9 @@ use Rattle.workspace_check.specs.Verdicts.{Verdicts, AreVerdicts}
 use Rattle.workspace_check.specs.FaultLists.{ListsFaults}
 use Rattle.refs_binding.specs.Workspaces.{RefusesFaults}
 use Rattle.base_edits.specs.RevisionsOfEdits.{revision_of}
-use Rattle.refactor_conflict.specs.Refusals.{ReportsConflict}
+use Rattle.refactor_conflict.specs.ConflictRefusal.{refusal_for}
+use Rattle.refactor_conflict.specs.declared.conflict.Capturer.{Capturer}
+use Rattle.refactor_conflict.specs.declared.conflict.Capturer.TheVariants.{Universe, At}
 use Rattle.base_edits.specs.EditSet.{FileChanges}
 use Rattle.base_edits.specs.Fits.{Fits}
 use Rattle.workspace_snapshot.specs.declared.snapshot.Snapshot.{Snapshot}
@@ -21,18 +23,18 @@ use Rattle.base_files.specs.Workspace.{Workspace}
 use Rattle.refactor_move.specs.Paths.{IsUnder}
 use Rattle.refactor_move.specs.MoveEdits.{AreMoveEdits, HasNoNewPath, IsFree, HasOnlyMoved, PlansMoveEdits}
 use Rattle.workspace_snapshot.specs.declared.change.ChangeKind.TheVariants.{Move}
-use Rattle.refactor_plan.specs.MovePlan.{NamesMovedPackage, HasOtherTarget, HasOutsideTarget, IsMovable, MovesPackage, OnlyRenamesPackage, ReportsMoveConflict, PlansMove}
-use Rattle.refactor_plan.specs.Proposals.{RefusesConflict, PlansChange}
-use Rattle.refactor_plan.specs.MoveSteps.{package_place, ArePackagePaths, RefusesTarget, RefusesLength, PlansMoveTo}
+use Rattle.refactor_plan.specs.MovePlan.{HasOtherTarget, HasOutsideTarget, IsMovable, MovesPackage, NamesMoveConflict, NamesMovedPackage}
+use Rattle.refactor_plan.specs.MovePlan.{OnlyRenamesPackage, PlansMove}
+use Rattle.refactor_plan.specs.Proposals.{IsConflictRefusal, NamesFirstConflict, PlansChange}
+use Rattle.refactor_plan.specs.MoveSteps.{ArePackagePaths, RefusesTarget, RefusesLength, PlansMoveTo}
 
 -- The refusal of a conflict of the name alone.
 
-pub conflict_of_length : (w : Workspace) (known : Verdicts) (place : Place) (s : FileChanges) (r : Refusal) → RefusesConflict w known place s (Err r) →
-    RefusesLength w known place s (Err r)
-conflict_of_length w known place s (Captured a b) h = h
-conflict_of_length w known place s (Lost a) h = h
-conflict_of_length w known place s Memory h = h
-conflict_of_length w known place s _ h = absurd h
+pub conflict_of_length : (w : Workspace) (known : Verdicts) (s : FileChanges) (by : Option Capturer) (used : Place) →
+    IsConflictRefusal w known s (refusal_for by used) → RefusesLength w known s (Err (refusal_for by used))
+conflict_of_length w known s None used h = h
+conflict_of_length w known s (Some Universe) used h = h
+conflict_of_length w known s (Some (At at)) used h = h
 
 -- the edits, and what they make
 
@@ -55,18 +57,18 @@ module _ (snapshot : Snapshot) (from to : List ℕ) (sound : ListsFaults snapsho
   naming : OnlyRenamesPackage snapshot.files from to s
   naming = record { known = known; right = right; edits = are }
 
-  reported : (r : Refusal) → ReportsConflict snapshot.files known (revision_of snapshot.files s) (package_place from) r → ReportsMoveConflict snapshot.files from s r
-  reported r h = record { known = known; right = right; tells = h }
+  name_named : (r : Refusal) → NamesFirstConflict snapshot.files known (revision_of snapshot.files s) r → NamesMoveConflict snapshot.files s r
+  name_named r h = record { known = known; right = right; tells = h }
 
-  length_refused : (r : Refusal) → RefusesLength snapshot.files known (package_place from) s (Err r) → PlansMoveTo snapshot from to (Err r)
+  length_refused : (r : Refusal) → RefusesLength snapshot.files known s (Err r) → PlansMoveTo snapshot from to (Err r)
   length_refused TooLarge h = (sound, inl (record { no_path = no_path; changes = s; naming = naming; preserves = h }))
   length_refused (Captured a b) h =
-      (sound, inr (record { no_path = no_path; changes = s; naming = naming; not_preserved = h.0; told = reported (Captured a b) h.1 }))
-  length_refused (Lost a) h = (sound, inr (record { no_path = no_path; changes = s; naming = naming; not_preserved = h.0; told = reported (Lost a) h.1 }))
+      (sound, inr (record { no_path = no_path; changes = s; naming = naming; not_preserved = h.0; told = name_named (Captured a b) h.1 }))
+  length_refused (Lost a) h = (sound, inr (record { no_path = no_path; changes = s; naming = naming; not_preserved = h.0; told = name_named (Lost a) h.1 }))
   length_refused Memory h = h
   length_refused _ h = absurd h
 
-  pub name_planned : (r : Result Change Refusal) → RefusesLength snapshot.files known (package_place from) s r → PlansMoveTo snapshot from to r
+  pub name_planned : (r : Result Change Refusal) → RefusesLength snapshot.files known s r → PlansMoveTo snapshot from to r
   name_planned (Err r) h = length_refused r h
   name_planned (Ok change) h = absurd h
 
@@ -75,18 +77,17 @@ module _ (snapshot : Snapshot) (from to : List ℕ) (sound : ListsFaults snapsho
   moving : MovesPackage snapshot.files from to s
   moving = record { known = known; right = right; edits = are }
 
-  moved_reported : (r : Refusal) → ReportsConflict snapshot.files known (revision_of snapshot.files s) (package_place from) r →
-      ReportsMoveConflict snapshot.files from s r
-  moved_reported r h = record { known = known; right = right; tells = h }
+  move_named : (r : Refusal) → NamesFirstConflict snapshot.files known (revision_of snapshot.files s) r → NamesMoveConflict snapshot.files s r
+  move_named r h = record { known = known; right = right; tells = h }
 
-  edits_refused : (r : Refusal) → PlansChange snapshot known (package_place from) Move s (Err r) → PlansMoveTo snapshot from to (Err r)
+  edits_refused : (r : Refusal) → PlansChange snapshot known Move s (Err r) → PlansMoveTo snapshot from to (Err r)
   edits_refused TooLarge h = (sound, inr (record { changes = s; moving = moving; preserves = h.0; too_large = h.1 }))
-  edits_refused (Captured a b) h = (sound, inl (record { changes = s; moving = moving; not_preserved = h.0; told = moved_reported (Captured a b) h.1 }))
-  edits_refused (Lost a) h = (sound, inl (record { changes = s; moving = moving; not_preserved = h.0; told = moved_reported (Lost a) h.1 }))
+  edits_refused (Captured a b) h = (sound, inl (record { changes = s; moving = moving; not_preserved = h.0; told = move_named (Captured a b) h.1 }))
+  edits_refused (Lost a) h = (sound, inl (record { changes = s; moving = moving; not_preserved = h.0; told = move_named (Lost a) h.1 }))
   edits_refused Memory h = h
   edits_refused _ h = absurd h
 
-  pub edits_planned : (r : Result Change Refusal) → PlansChange snapshot known (package_place from) Move s r → PlansMoveTo snapshot from to r
+  pub edits_planned : (r : Result Change Refusal) → PlansChange snapshot known Move s r → PlansMoveTo snapshot from to r
   edits_planned (Err r) h = edits_refused r h
   edits_planned (Ok change) h =
       subst (λ (c : Change). PlansMoveTo snapshot from to (Ok c)) (sym h.2)

@@ -97,7 +97,7 @@ module _ (snapshot : Snapshot) (path : List ℕ) (offset : ℕ) (name : List ℕ
       renaming s are = record { may = may_be ok.0 ok.1; other = ok.2; edits = are }
 
       edits_refused : (s : FileChanges) → RenamesIdentifier snapshot.files path offset name s → (r : Refusal) →
-          PlansChange snapshot known (record { path = path; offset = offset }) Rename s (Err r) → PlansAtByte snapshot path offset name (Err r)
+          PlansChange snapshot known Rename s (Err r) → PlansAtByte snapshot path offset name (Err r)
       edits_refused s is refusal.Memory h = h
       edits_refused s is refusal.BadCommand h = absurd h
       edits_refused s is refusal.BadPath h = absurd h
@@ -127,13 +127,13 @@ module _ (snapshot : Snapshot) (path : List ℕ) (offset : ℕ) (name : List ℕ
       edits_refused s is refusal.BodyShort h = absurd h
 
       edits_planned : (s : FileChanges) → AreRenameEdits snapshot.files known d name s → Fits s snapshot.files → (r : Result Change Refusal) →
-          PlansChange snapshot known (record { path = path; offset = offset }) Rename s r → PlansAtByte snapshot path offset name r
+          PlansChange snapshot known Rename s r → PlansAtByte snapshot path offset name r
       edits_planned s are fit (Err r) h = edits_refused s (renaming s are) r h
       edits_planned s are fit (Ok change) h =
           subst (λ (c : Change). PlansAtByte snapshot path offset name (Ok c)) (sym h.2)
           (sound, record { renaming = renaming s are; preserves = h.0; fits = h.1; fit_files = fit; is_change = refl })
 
-      pub declaration_planned : (r : Result Change Refusal) → PlansDeclaration snapshot known (record { path = path; offset = offset }) d name r →
+      pub declaration_planned : (r : Result Change Refusal) → PlansDeclaration snapshot known d name r →
           PlansAtByte snapshot path offset name r
       declaration_planned r (inl none) = subst (PlansAtByte snapshot path offset name) (sym none) tt
       declaration_planned r (inr h) = edits_planned h.0 h.1.0 h.1.1.0 r h.1.1.1

@@ -2,7 +2,6 @@
 use Rattle.std.specs.Prelude.{ℕ, ◌≡◌, List, Option, Result}
 use Rattle.base_files.specs.Packages.{package_paths}
 use Rattle.base_files.specs.Workspace.{Workspace}
-use Rattle.base_files.specs.declared.place.Place.{Place}
 use Rattle.base_files.specs.declared.refusal.Refusal.{Refusal}
 use Rattle.base_edits.specs.EditSet.{FileChanges}
 use Rattle.base_edits.specs.Fits.{Fits}
@@ -32,5 +31,5 @@ pub record KnowsMoved (w after : Workspace) (known : Verdicts) (from to : List �
   pub moved : AreMovedKnown from name (swapped from to) (package_paths w) (package_paths after) old rest
 
 -- Why the edits that give the package `from` only the name that it has at the path `to` are refused, whichever these are.
-abbrev pub RefusesLengthOfName : Workspace → Verdicts → Place → (from to : List ℕ) → Result Change Refusal → Type 0
-RefusesLengthOfName w known place from to result = (s : FileChanges) → AreMoveEdits w known from from to s → Fits s w → RefusesLength w known place s result
+abbrev pub RefusesLengthOfName : Workspace → Verdicts → (from to : List ℕ) → Result Change Refusal → Type 0
+RefusesLengthOfName w known from to result = (s : FileChanges) → AreMoveEdits w known from from to s → Fits s w → RefusesLength w known s result

@@ -11,7 +11,6 @@ use Rattle.workspace_check.specs.FaultLists.{ListsFaults}
 use Rattle.refs_binding.specs.Uses.{HasFirstFault}
 use Rattle.base_edits.specs.RevisionsOfEdits.{revision_of}
 use Rattle.refactor_preserve.specs.Preserved.{Preserves}
-use Rattle.refactor_conflict.specs.Refusals.{ReportsConflict}
 use Rattle.base_edits.specs.EditSet.{FileChanges, edited}
 use Rattle.base_edits.specs.Fits.{Fits}
 use Rattle.workspace_snapshot.specs.Fits.{FitsLimits}
@@ -20,6 +19,7 @@ use Rattle.workspace_snapshot.specs.declared.change.Change.{Change}
 use Rattle.workspace_snapshot.specs.declared.change.ChangeKind.TheVariants.{Move}
 use Rattle.refactor_move.specs.Paths.{IsUnder}
 use Rattle.refactor_move.specs.MoveEdits.{AreMoveEdits, HasNoNewPath, IsFree}
+use Rattle.refactor_plan.specs.Proposals.{NamesFirstConflict}
 
 -- Both paths have the form of a package's path, and `from` is the path of a package.
 pub record NamesMovedPackage (w : Workspace) (from to : List ℕ) : Type 0 where
@@ -65,19 +65,18 @@ pub record OnlyRenamesPackage (w : Workspace) (from to : List ℕ) (s : FileChan
   pub right : AreVerdicts w known
   pub edits : AreMoveEdits w known from from to s
 
--- The refusal names the first identifier that these edits lose or capture. Where there is no such identifier it names the package, at
--- offset 0.
-pub record ReportsMoveConflict (w : Workspace) (from : List ℕ) (s : FileChanges) (refusal : Refusal) : Type 0 where
+-- The refusal names the first identifier that these edits lose or capture.
+pub record NamesMoveConflict (w : Workspace) (s : FileChanges) (refusal : Refusal) : Type 0 where
   pub known : Verdicts
   pub right : AreVerdicts w known
-  pub tells : ReportsConflict w known (revision_of w s) (record { path = from; offset = 0 }) refusal
+  pub tells : NamesFirstConflict w known (revision_of w s) refusal
 
 -- The edits that move the package do not preserve bindings, and the refusal names their first conflict.
 pub record HasMoveConflict (w : Workspace) (from to : List ℕ) (refusal : Refusal) : Type 0 where
   pub changes : FileChanges
   pub moving : MovesPackage w from to changes
   pub not_preserved : ¬ (Preserves w (revision_of w changes))
-  pub told : ReportsMoveConflict w from changes refusal
+  pub told : NamesMoveConflict w changes refusal
 
 -- The move would give a file too long a path. The edits that only change the package's name do not preserve bindings, and the refusal names
 -- their first conflict.
@@ -86,7 +85,7 @@ pub record HasNameConflict (w : Workspace) (from to : List ℕ) (refusal : Refus
   pub changes : FileChanges
   pub naming : OnlyRenamesPackage w from to changes
   pub not_preserved : ¬ (Preserves w (revision_of w changes))
-  pub told : ReportsMoveConflict w from changes refusal
+  pub told : NamesMoveConflict w changes refusal
 
 -- The move would give a file too long a path, but the edits that only change the package's name preserve bindings.
 pub record IsTooLong (w : Workspace) (from to : List ℕ) : Type 0 where

@@ -3,7 +3,6 @@ use Rattle.std.specs.Prelude.{ℕ, ◌≡◌, ◌⊎◌, List, [], ⊤, Contains
 use Rattle.base_files.specs.Packages.{package_paths}
 use Rattle.base_files.specs.Path.{IsPath}
 use Rattle.base_files.specs.Workspace.{Workspace}
-use Rattle.base_files.specs.declared.place.Place.{Place}
 use Rattle.base_files.specs.declared.refusal.Refusal.{Refusal}
 use Rattle.base_files.specs.declared.refusal.Refusal.TheVariants.{Memory, NoPackage, Same, InsideItself, TargetTaken, TooLarge, Faulty, Captured, Lost}
 use Rattle.workspace_check.specs.Verdicts.{Verdicts}
@@ -33,18 +32,14 @@ RefusesTarget w from to (Err InsideItself) = Contains (package_paths w) from × 
 RefusesTarget w from to (Err TargetTaken) = Contains (package_paths w) from × ¬ (to ≡ from) × ¬ (IsUnder from to) × HasFileUnder w to
 RefusesTarget w from to (Err refusal) = ⊥
 
--- The place that a refusal of a move names where the workspace has no identifier: the package, at offset 0.
-abbrev pub package_place : List ℕ → Place
-package_place from = record { path = from; offset = 0 }
-
 -- Why these edits of the name alone are refused where the move would give a file too long a path: their first conflict, or `TooLarge`.
-abbrev pub RefusesLength : Workspace → Verdicts → Place → FileChanges → Result Change Refusal → Type 0
-RefusesLength w known place s (Ok change) = ⊥
-RefusesLength w known place s (Err TooLarge) = Preserves w (revision_of w s)
-RefusesLength w known place s (Err (Captured used by)) = IsConflictRefusal w known place s (Captured used by)
-RefusesLength w known place s (Err (Lost used)) = IsConflictRefusal w known place s (Lost used)
-RefusesLength w known place s (Err Memory) = ⊤
-RefusesLength w known place s (Err refusal) = ⊥
+abbrev pub RefusesLength : Workspace → Verdicts → FileChanges → Result Change Refusal → Type 0
+RefusesLength w known s (Ok change) = ⊥
+RefusesLength w known s (Err TooLarge) = Preserves w (revision_of w s)
+RefusesLength w known s (Err (Captured used by)) = IsConflictRefusal w known s (Captured used by)
+RefusesLength w known s (Err (Lost used)) = IsConflictRefusal w known s (Lost used)
+RefusesLength w known s (Err Memory) = ⊤
+RefusesLength w known s (Err refusal) = ⊥
 
 -- What planning a move answers where the paths allow it: the cases of `PlansMove` without those of the paths.
 abbrev pub PlansMoveTo : Snapshot → (from to : List ℕ) → Result Change Refusal → Type 0

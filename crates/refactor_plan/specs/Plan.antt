@@ -13,7 +13,6 @@ use Rattle.refs_binding.specs.Uses.{IsCheckedPackage, HasFileAt, HasDeclaration,
 use Rattle.refs_binding.specs.DeclaredNames.{HasDeclaredName}
 use Rattle.base_edits.specs.RevisionsOfEdits.{revision_of}
 use Rattle.refactor_preserve.specs.Preserved.{Preserves}
-use Rattle.refactor_conflict.specs.Refusals.{ReportsConflict}
 use Rattle.base_edits.specs.EditSet.{FileChanges, edited}
 use Rattle.base_edits.specs.Fits.{Fits}
 use Rattle.workspace_snapshot.specs.Fits.{FitsLimits}
@@ -23,6 +22,7 @@ use Rattle.workspace_snapshot.specs.declared.change.ChangeKind.TheVariants.{Rena
 use Rattle.refactor_rename.specs.NewName.{IsNewName}
 use Rattle.refactor_rename.specs.Naming.{IsFixed, IsReservedFor}
 use Rattle.refactor_rename.specs.RenameEdits.{AreRenameEdits}
+use Rattle.refactor_plan.specs.Proposals.{NamesFirstConflict}
 
 -- The path and the name have their forms, the file exists, and the workspace has no fault.
 pub record IsValidRename (w : Workspace) (path name : List ℕ) : Type 0 where
@@ -68,15 +68,14 @@ pub record RenamesIdentifier (w : Workspace) (path : List ℕ) (offset : ℕ) (n
   pub other : ¬ (HasDeclaredName (IsCheckedPackage w may.renamable.asked.known) may.renamable.asked.declaration name)
   pub edits : AreRenameEdits w may.renamable.asked.known may.renamable.asked.declaration name s
 
--- The edits of the rename do not preserve bindings. The refusal names the first identifier that they lose or capture, or the byte where
--- there is no such identifier.
+-- The edits of the rename do not preserve bindings. The refusal names the first identifier that they lose or capture.
 pub record HasConflict (w : Workspace) (path : List ℕ) (offset : ℕ) (name : List ℕ) (refusal : Refusal) : Type 0 where
   pub changes : FileChanges
   pub renaming : RenamesIdentifier w path offset name changes
   pub not_preserved : ¬ (Preserves w (revision_of w changes))
   pub known : Verdicts
   pub right : AreVerdicts w known
-  pub told : ReportsConflict w known (revision_of w changes) (record { path = path; offset = offset }) refusal
+  pub told : NamesFirstConflict w known (revision_of w changes) refusal
 
 -- The edits of the rename preserve bindings, but the files after them exceed a limit of the snapshot.
 pub record IsRenameTooLarge (snapshot : Snapshot) (path : List ℕ) (offset : ℕ) (name : List ℕ) : Type 0 where

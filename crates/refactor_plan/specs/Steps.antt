@@ -1,6 +1,5 @@
 -- What the steps of planning a rename answer.
 use Rattle.std.specs.Prelude.{ℕ, ◌≡◌, ◌⊎◌, List, [], ⊤, Result, Ok, Err}
-use Rattle.base_files.specs.declared.place.Place.{Place}
 use Rattle.base_files.specs.declared.refusal.Refusal.{Refusal}
 use Rattle.base_files.specs.declared.refusal.Refusal.TheVariants.{Memory, TooLarge, Faulty, NoIdentifier, NotRenamable, BadName, Same, Captured, Lost}
 use Rattle.workspace_check.specs.Verdicts.{Verdicts}
@@ -17,10 +16,10 @@ use Rattle.refactor_plan.specs.Proposals.{PlansChange}
 use Rattle.refactor_plan.specs.Plan.{ResolvesToFixed, ResolvesToReserved, ResolvesToNamesake, HasConflict, IsRenameTooLarge, IsRenamed}
 
 -- What planning answers for the edits that give the declaration `d` the name `name`, or `Memory` where there was no memory for them.
-abbrev pub PlansDeclaration : Snapshot → Verdicts → Place → Declaration → List ℕ → Result Change Refusal → Type 0
-PlansDeclaration snapshot known asked d name result =
+abbrev pub PlansDeclaration : Snapshot → Verdicts → Declaration → List ℕ → Result Change Refusal → Type 0
+PlansDeclaration snapshot known d name result =
     (result ≡ Err Memory) ⊎ ((s : FileChanges) × (AreRenameEdits snapshot.files known d name s ×
-    (Fits s snapshot.files × PlansChange snapshot known asked Rename s result)))
+    (Fits s snapshot.files × PlansChange snapshot known Rename s result)))
 
 -- What planning a rename answers where the arguments have their forms and the file exists.
 abbrev pub PlansAtByte : Snapshot → List ℕ → ℕ → List ℕ → Result Change Refusal → Type 0

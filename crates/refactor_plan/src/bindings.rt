@@ -42,7 +42,7 @@ fn member_decision(
     read: &PackageBindings<'_>,
     declaration: &Declaration,
     name: &[u8],
-) -> Result<Option<ScopeDecision>, AllocError>
+) -> Result<ScopeDecision, AllocError>
     requires read { IsRead read.now }
     requires legal { IsLegalFor (workspace_read read.now) (verdicts_read read.now) declaration.now name.now }
     requires home { IsOfRead read.now declaration.now }
@@ -51,10 +51,10 @@ fn member_decision(
 {
     let workspace = read.at.workspace;
     workspace.has_no_faults();
-    Ok(Some(ScopeDecision {
+    Ok(ScopeDecision {
         conflict: member_conflict(alloc, workspace, declaration, name)?,
         is_hidden: false,
-    }))
+    })
 }
 
 /// Decides the rename of the declaration of a number in the scopes of the package that was read.
@@ -64,7 +64,7 @@ fn scoped_decision(
     declaration: &Declaration,
     n: usize,
     name: &[u8],
-) -> Result<Option<ScopeDecision>, AllocError>
+) -> Result<ScopeDecision, AllocError>
     requires read { IsRead read.now }
     requires legal { IsLegalFor (workspace_read read.now) (verdicts_read read.now) declaration.now name.now }
     requires scoped { HasScopeNumber read.now declaration.now n }
@@ -75,13 +75,13 @@ fn scoped_decision(
 }
 
 /// Decides the rename of a declaration of the package that was read, by what is bound before it: its first conflict, or none. No edits are
-/// made. Returns `None` where an import without a name would gain one.
+/// made.
 pub(crate) fn conflict_of(
     alloc: Global,
     read: &PackageBindings<'_>,
     declaration: &Declaration,
     name: &[u8],
-) -> Result<Option<ScopeDecision>, AllocError>
+) -> Result<ScopeDecision, AllocError>
     requires read { IsRead read.now }
     requires legal { IsLegalFor (workspace_read read.now) (verdicts_read read.now) declaration.now name.now }
     requires home { IsOfRead read.now declaration.now }
@@ -91,6 +91,6 @@ pub(crate) fn conflict_of(
         Declaration::Declared(_, n) => scoped_decision(alloc, read, declaration, *n, name),
         Declaration::Field(_) => member_decision(alloc, read, declaration, name),
         Declaration::Method(_) => member_decision(alloc, read, declaration, name),
-        Declaration::Predeclared(_) => Ok(None),
+        Declaration::Predeclared(_) => unreachable!(),
     }
 }

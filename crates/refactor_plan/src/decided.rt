@@ -1,4 +1,4 @@
-//! Plans a rename that the workspace before it decides: the change, or the refusal that names the first conflict. The edited workspace is
+//! Plans a rename, which the workspace before it decides: the change, or the refusal that names the first conflict. The edited workspace is
 //! not judged, and a refused rename is given no edits.
 ghost use Rattle.std.specs.Prelude.{None, IfOk};
 ghost use Rattle.base_edits.specs.Fits.{Fits};
@@ -7,7 +7,7 @@ ghost use Rattle.refactor_preserve.specs.Planned.{change_in};
 ghost use Rattle.refactor_rename.specs.RenameEdits.{AreRenameEdits};
 ghost use Rattle.refactor_plan.specs.Bindings.{IsOfRead, IsReadFor, path_read};
 ghost use Rattle.refactor_plan.specs.Decided.{DecidesRename};
-ghost use Rattle.refactor_plan.specs.Proposals.{IsProposed, proposal_place, proposed_snapshot, proposed_verdicts};
+ghost use Rattle.refactor_plan.specs.Proposals.{IsProposed, proposed_snapshot, proposed_verdicts};
 ghost use Rattle.refactor_plan.specs.Steps.{PlansDeclaration};
 
 use crate::bindings::PackageBindings;
@@ -24,7 +24,7 @@ use std::alloc::{AllocError, Global};
 use workspace_snapshot::ChangeKind;
 
 /// The edits that give a declaration of the package that was read its new name.
-pub(crate) fn edits_of(
+fn edits_of(
     alloc: Global,
     proposal: &Proposal<'_>,
     read: &PackageBindings<'_>,
@@ -39,8 +39,8 @@ pub(crate) fn edits_of(
     rename_edits(alloc, read.at, &read.of, declaration, name)
 }
 
-/// Plans the change of a rename that loses and captures nothing. `is_hidden` says whether other packages see the declaration under neither
-/// name.
+/// Plans the change of a rename that loses and captures nothing. `is_hidden` says that other packages see the declaration under neither
+/// name, and that no import gains a name.
 fn plan_kept(
     alloc: Global,
     proposal: &Proposal<'_>,
@@ -53,7 +53,7 @@ fn plan_kept(
     requires read { IsReadFor proposal.now read.now }
     requires home { IsOfRead read.now declaration.now }
     requires decided { DecidesRename proposal.now.workspace.now.graph (proposed_verdicts proposal.now) (path_read read.now) declaration.now name.now is_hidden None }
-    ensures planned { PlansDeclaration (proposed_snapshot proposal.now) (proposed_verdicts proposal.now) (proposal_place proposal.now) declaration.now name.now (change_in result) }
+    ensures planned { PlansDeclaration (proposed_snapshot proposal.now) (proposed_verdicts proposal.now) declaration.now name.now (change_in result) }
     ensures known { IfOk result (λ p. KnowsVerdicts p.change.files p.known) }
 {
     let known = kept_known(
@@ -81,7 +81,7 @@ pub(crate) fn plan_decided(
     requires read { IsReadFor proposal.now read.now }
     requires home { IsOfRead read.now declaration.now }
     requires decided { DecidesRename proposal.now.workspace.now.graph (proposed_verdicts proposal.now) (path_read read.now) declaration.now name.now decision.is_hidden decision.conflict }
-    ensures planned { PlansDeclaration (proposed_snapshot proposal.now) (proposed_verdicts proposal.now) (proposal_place proposal.now) declaration.now name.now (change_in result) }
+    ensures planned { PlansDeclaration (proposed_snapshot proposal.now) (proposed_verdicts proposal.now) declaration.now name.now (change_in result) }
     ensures known { IfOk result (λ p. KnowsVerdicts p.change.files p.known) }
 {
     let ScopeDecision {

@@ -7,7 +7,7 @@ ghost use Rattle.workspace_snapshot.specs.declared.change.ChangeKind.TheVariants
 ghost use Rattle.refactor_preserve.specs.Planned.{change_in};
 ghost use Rattle.law_rename_agrees.specs.ConflictsByTables.{TellsFirstOf};
 ghost use Rattle.refactor_plan.specs.DecidedMoves.{KnowsMoved, IsPlannedMove};
-ghost use Rattle.refactor_plan.specs.Proposals.{IsProposed, PlansChange, proposal_place, proposed_snapshot, proposed_verdicts};
+ghost use Rattle.refactor_plan.specs.Proposals.{IsProposed, PlansChange, proposed_snapshot, proposed_verdicts};
 
 use crate::proposal::{Proposal, made};
 use base_edits::EditSet;
@@ -92,7 +92,7 @@ fn plan_kept(
     requires proposed { IsProposed proposal.now }
     requires planned { IsPlannedMove proposal.now.workspace.now.graph (proposed_verdicts proposal.now) proposal.now.path.now to.now to.now edits }
     requires kept { TellsFirstOf proposal.now.workspace.now.graph (proposed_verdicts proposal.now) (revision_of proposal.now.workspace.now.graph edits) None }
-    ensures planned { PlansChange (proposed_snapshot proposal.now) (proposed_verdicts proposal.now) (proposal_place proposal.now) Move edits (change_in result) }
+    ensures planned { PlansChange (proposed_snapshot proposal.now) (proposed_verdicts proposal.now) Move edits (change_in result) }
     ensures known { IfOk result (λ p. KnowsVerdicts p.change.files p.known) }
 {
     let change = made(alloc, proposal, ChangeKind::Move, edits)?;
@@ -109,7 +109,7 @@ pub(crate) fn plan_decided(
 ) -> Result<Planned, Refusal>
     requires proposed { IsProposed proposal.now }
     requires planned { IsPlannedMove proposal.now.workspace.now.graph (proposed_verdicts proposal.now) proposal.now.path.now to.now to.now edits }
-    ensures planned { PlansChange (proposed_snapshot proposal.now) (proposed_verdicts proposal.now) (proposal_place proposal.now) Move edits (change_in result) }
+    ensures planned { PlansChange (proposed_snapshot proposal.now) (proposed_verdicts proposal.now) Move edits (change_in result) }
     ensures known { IfOk result (λ p. KnowsVerdicts p.change.files p.known) }
 {
     let conflict = move_conflict(alloc, proposal.workspace, proposal.path, to)?;

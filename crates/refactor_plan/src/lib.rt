@@ -1,8 +1,7 @@
 //! Plans a rename or a move: the change, or the refusal. Laws of plans and histories: bindings are preserved, undo and redo restore them,
 //! and the export data of a package is its own.
 //!
-//! The workspace before it decides each move, and each rename but one by which an import without a name gains one. Only such a rename is
-//! judged on the edited workspace.
+//! The workspace before it decides each move and each rename. No edited workspace is judged.
 //!
 //! Crates above rely on: `plan_rename` and `plan_move` return the change of the definitions (`PlansRename`, `PlansMove`), or refuse exactly
 //! where these say so. An admitted change preserves each binding.

@@ -7,7 +7,7 @@ ghost use Rattle.refactor_preserve.specs.Planned.{change_in};
 ghost use Rattle.refactor_move.specs.MoveEdits.{AreMoveEdits, HasNoNewPath};
 ghost use Rattle.refactor_plan.specs.DecidedMoves.{RefusesLengthOfName};
 ghost use Rattle.refactor_plan.specs.MovePlan.{IsMovable, NamesMovedPackage, PlansMove};
-ghost use Rattle.refactor_plan.specs.Proposals.{IsProposed, proposal_place, proposed_snapshot, proposed_verdicts};
+ghost use Rattle.refactor_plan.specs.Proposals.{IsProposed, proposed_snapshot, proposed_verdicts};
 ghost use Rattle.refactor_plan.specs.MoveSteps.{ArePackagePaths, PlansMoveTo};
 
 use crate::decided_moves::plan_decided;
@@ -28,7 +28,7 @@ use workspace_snapshot::Snapshot;
 /// `TooLarge`. No change is made.
 fn refuse_length(alloc: Global, proposal: &Proposal<'_>, to: &Path) -> Result<Planned, Refusal>
     requires asked { NamesMovedPackage proposal.now.workspace.now.graph proposal.now.path.now to.now }
-    ensures planned { RefusesLengthOfName proposal.now.workspace.now.graph (proposed_verdicts proposal.now) (proposal_place proposal.now) proposal.now.path.now to.now (change_in result) }
+    ensures planned { RefusesLengthOfName proposal.now.workspace.now.graph (proposed_verdicts proposal.now) proposal.now.path.now to.now (change_in result) }
     ensures known { IfOk result (λ p. KnowsVerdicts p.change.files p.known) }
 {
     proposal.workspace.has_no_faults();
@@ -42,7 +42,6 @@ fn refuse_length(alloc: Global, proposal: &Proposal<'_>, to: &Path) -> Result<Pl
 /// Why a move that would give a file too long a path is refused. A conflict of the package's new name comes before `TooLarge`.
 fn refuse_long(alloc: Global, proposal: &Proposal<'_>, to: &Path) -> Result<Planned, Refusal>
     requires proposed { IsProposed proposal.now }
-    requires at_start { proposal.now.offset ≡ 0 }
     requires asked { NamesMovedPackage proposal.now.workspace.now.graph proposal.now.path.now to.now }
     requires no_path { HasNoNewPath proposal.now.workspace.now.graph proposal.now.path.now to.now }
     ensures planned { PlansMoveTo (proposed_snapshot proposal.now) proposal.now.path.now to.now (change_in result) }
@@ -64,7 +63,6 @@ fn plan_moved(
     edits: EditSet,
 ) -> Result<Planned, Refusal>
     requires proposed { IsProposed proposal.now }
-    requires at_start { proposal.now.offset ≡ 0 }
     requires movable { IsMovable proposal.now.workspace.now.graph proposal.now.path.now to.now }
     requires edits { AreMoveEdits proposal.now.workspace.now.graph (proposed_verdicts proposal.now) proposal.now.path.now to.now to.now edits }
     requires fits { Fits edits proposal.now.workspace.now.graph }
@@ -78,7 +76,6 @@ fn plan_moved(
 /// Plans the move of the package of a proposal. The paths allow it.
 fn plan_found(alloc: Global, proposal: &Proposal<'_>, to: &Path) -> Result<Planned, Refusal>
     requires proposed { IsProposed proposal.now }
-    requires at_start { proposal.now.offset ≡ 0 }
     requires movable { IsMovable proposal.now.workspace.now.graph proposal.now.path.now to.now }
     ensures planned { PlansMoveTo (proposed_snapshot proposal.now) proposal.now.path.now to.now (change_in result) }
     ensures known { IfOk result (λ p. KnowsVerdicts p.change.files p.known) }

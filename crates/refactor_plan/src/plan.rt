@@ -14,12 +14,12 @@ ghost use Rattle.refactor_rename.specs.NewName.{IsNewName};
 ghost use Rattle.refactor_plan.specs.Bindings.{IsOfRead, IsReadFor};
 ghost use Rattle.refactor_plan.specs.Decided.{IsLegalFor};
 ghost use Rattle.refactor_plan.specs.Plan.{PlansRename};
-ghost use Rattle.refactor_plan.specs.Proposals.{IsProposed, proposal_place, proposed_snapshot, proposed_verdicts};
+ghost use Rattle.refactor_plan.specs.Proposals.{IsProposed, proposed_snapshot, proposed_verdicts};
 ghost use Rattle.refactor_plan.specs.Steps.{PlansDeclaration, PlansAtByte};
 
 use crate::bindings::{PackageBindings, bindings_of, conflict_of};
-use crate::decided::{edits_of, plan_decided};
-use crate::proposal::{Proposal, plan_edits};
+use crate::decided::plan_decided;
+use crate::proposal::Proposal;
 use base_files::{Path, Refusal};
 use refactor_preserve::Planned;
 use refactor_rename::{is_new_name, refuse_name};
@@ -31,7 +31,7 @@ use std::alloc::Global;
 use types_declared::{Index, Package};
 use types_expr::symbol::SharedPath;
 use workspace_check::{Found, Known};
-use workspace_snapshot::{ChangeKind, Snapshot};
+use workspace_snapshot::Snapshot;
 
 /// The arguments of a rename: the path of a file, a byte offset in it, and the new name.
 #[derive(Clone, Copy)]
@@ -39,24 +39,6 @@ struct RenameRequest<'a> {
     path: &'a Path,
     offset: usize,
     name: &'a [u8],
-}
-
-/// Plans the rename of a declaration of the package that was read, by judging the edited workspace.
-fn plan_judged(
-    alloc: Global,
-    proposal: &Proposal<'_>,
-    read: &PackageBindings<'_>,
-    declaration: &Declaration,
-    name: &[u8],
-) -> Result<Planned, Refusal>
-    requires proposed { IsProposed proposal.now }
-    requires read { IsReadFor proposal.now read.now }
-    requires home { IsOfRead read.now declaration.now }
-    ensures planned { PlansDeclaration (proposed_snapshot proposal.now) (proposed_verdicts proposal.now) (proposal_place proposal.now) declaration.now name.now (change_in result) }
-    ensures known { IfOk result (λ p. KnowsVerdicts p.change.files p.known) }
-{
-    let edits = edits_of(alloc, proposal, read, declaration, name)?;
-    plan_edits(alloc, proposal, ChangeKind::Rename, edits)
 }
 
 /// Plans the change that gives a declaration of the package that was read the new name, which is legal for it.
@@ -71,13 +53,11 @@ fn plan_declaration(
     requires read { IsReadFor proposal.now read.now }
     requires home { IsOfRead read.now declaration.now }
     requires legal { IsLegalFor proposal.now.workspace.now.graph (proposed_verdicts proposal.now) declaration.now name.now }
-    ensures planned { PlansDeclaration (proposed_snapshot proposal.now) (proposed_verdicts proposal.now) (proposal_place proposal.now) declaration.now name.now (change_in result) }
+    ensures planned { PlansDeclaration (proposed_snapshot proposal.now) (proposed_verdicts proposal.now) declaration.now name.now (change_in result) }
     ensures known { IfOk result (λ p. KnowsVerdicts p.change.files p.known) }
 {
-    match conflict_of(alloc, read, declaration, name)? {
-        None => plan_judged(alloc, proposal, read, declaration, name),
-        Some(decision) => plan_decided(alloc, proposal, read, declaration, name, decision),
-    }
+    let decision = conflict_of(alloc, read, declaration, name)?;
+    plan_decided(alloc, proposal, read, declaration, name, decision)
 }
 
 /// Refuses a name for a declaration of the package that was read.

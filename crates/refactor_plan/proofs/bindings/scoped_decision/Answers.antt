@@ -3,8 +3,14 @@ use Rattle.types_expr.proofs.Equations.{ok_map}
 use Rattle.types_declared.specs.PackageView.{package_of}
 use Rattle.refs_binding.proofs.Units.{list_of_sound}
 use Rattle.refactor_plan.specs.Bindings.{verdicts_read, workspace_read}
-use Rattle.refactor_plan.proofs.DecidedRenames.{scoped_decided}
+use Rattle.refactor_plan.proofs.DecidedRenames.{can_rename, scoped_decided}
 use Rattle.refactor_plan.proofs.bindings.scoped_decision.Goals as goal
+
+pub scope_decision-requires-clause-can : goal.scope_decision-requires-clause-can
+scope_decision-requires-clause-can c =
+    let read = c.args.read.now in
+    can_rename (workspace_read read) (verdicts_read read) (package_of read.of.unit) c.requires.read.unit.is_package c.args.n c.args.declaration.now
+    c.requires.scoped c.args.name.now c.requires.legal
 
 pub returns : goal.returns
 returns c =

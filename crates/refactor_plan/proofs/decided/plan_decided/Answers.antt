@@ -7,7 +7,7 @@ use Rattle.refactor_conflict.specs.declared.conflict.Conflict.{Conflict}
 use Rattle.law_rename_edits.proofs.Whole.{edits_exist}
 use Rattle.refactor_plan.specs.Bindings.{path_read}
 use Rattle.refactor_plan.specs.Decided.{DecidesRename}
-use Rattle.refactor_plan.specs.Proposals.{proposal_place, proposed_snapshot, proposed_verdicts}
+use Rattle.refactor_plan.specs.Proposals.{proposed_snapshot, proposed_verdicts}
 use Rattle.refactor_plan.specs.Steps.{PlansDeclaration}
 use Rattle.refactor_plan.proofs.DecidedRenames.{conflict_refused}
 use Rattle.refactor_plan.proofs.decided.plan_decided.Goals as goal
@@ -29,13 +29,13 @@ returns-in-Some-clause-planned c =
     let hidden = c.args.decision.is_hidden in
     let x = edits_exist w p.workspace.now.findings c.has_no_faults.ensures d name in
     let decides = subst (λ (o : Option Conflict). DecidesRename w known path d name hidden o) c.in-Some.is c.requires.decided in
-    subst (λ (r : Refusal). PlansDeclaration (proposed_snapshot p) known (proposal_place p) d name (Err r)) (sym c.told.ensures) (inr (
+    subst (λ (r : Refusal). PlansDeclaration (proposed_snapshot p) known d name (Err r)) (sym c.told.ensures) (inr (
       x.changes,
       (
         x.edits,
         (
           x.fit,
-          conflict_refused (proposed_snapshot p) known path (proposal_place p) Rename x.changes hidden c.in-Some.conflict (decides x.changes x.edits x.fit),
+          conflict_refused (proposed_snapshot p) known path Rename x.changes hidden c.in-Some.conflict (decides x.changes x.edits x.fit),
         ),
       ),
     ))

@@ -7,7 +7,7 @@ use Rattle.workspace_snapshot.specs.declared.change.ChangeKind.TheVariants.{Rena
 use Rattle.refactor_preserve.specs.Planned.{change_in}
 use Rattle.refactor_plan.specs.Bindings.{path_read}
 use Rattle.refactor_plan.specs.Decided.{KeepsKnown}
-use Rattle.refactor_plan.specs.Proposals.{proposal_place, proposed_snapshot, proposed_verdicts}
+use Rattle.refactor_plan.specs.Proposals.{proposed_snapshot, proposed_verdicts}
 use Rattle.refactor_plan.proofs.DecidedRenames.{kept, preserved}
 use Rattle.refactor_plan.proofs.Proposed.{kept_planned}
 use Rattle.refactor_plan.proofs.decided.plan_kept.Goals as goal
@@ -37,7 +37,7 @@ returns-clause-planned c =
         is.edits,
         (
           is.fits,
-          kept_planned (proposed_snapshot p) known (proposal_place p) Rename s c.in_ok-change.change c.in_ok-change.ensures
+          kept_planned (proposed_snapshot p) known Rename s c.in_ok-change.change c.in_ok-change.ensures
               (preserved p.workspace.now.graph known (path_read c.args.read.now) s c.args.is_hidden (c.requires.decided s is.edits is.fits))
               (change_in c.within_limits.result) c.within_limits.ensures.planned,
         ),

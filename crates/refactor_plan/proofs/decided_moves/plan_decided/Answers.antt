@@ -5,7 +5,7 @@ use Rattle.base_files.specs.declared.refusal.Refusal.{Refusal}
 use Rattle.workspace_snapshot.specs.declared.change.ChangeKind.TheVariants.{Move}
 use Rattle.refactor_conflict.specs.declared.conflict.Conflict.{Conflict}
 use Rattle.refactor_follow.specs.MoveConflicts.{TellsMoveConflict}
-use Rattle.refactor_plan.specs.Proposals.{PlansChange, proposal_place, proposed_snapshot, proposed_verdicts}
+use Rattle.refactor_plan.specs.Proposals.{PlansChange, proposed_snapshot, proposed_verdicts}
 use Rattle.refactor_plan.proofs.DecidedMoves.{conflict_refused}
 use Rattle.refactor_plan.proofs.decided_moves.plan_decided.Goals as goal
 
@@ -24,8 +24,8 @@ returns-in-Some-clause-planned c =
     let known = proposed_verdicts p in
     let to = c.args.to.now in
     let tells = subst (λ (o : Option Conflict). TellsMoveConflict p.workspace.now.graph known p.path.now to o) c.in-Some.is c.in_ok-conflict.ensures in
-    subst (λ (r : Refusal). PlansChange (proposed_snapshot p) known (proposal_place p) Move c.args.edits (Err r)) (sym c.told.ensures)
-    (conflict_refused (proposed_snapshot p) known p.path.now to (proposal_place p) c.args.edits Move c.requires.planned c.in-Some.conflict tells)
+    subst (λ (r : Refusal). PlansChange (proposed_snapshot p) known Move c.args.edits (Err r)) (sym c.told.ensures)
+    (conflict_refused (proposed_snapshot p) known p.path.now to c.args.edits Move c.requires.planned c.in-Some.conflict tells)
 
 pub returns-in-None-clause-planned : goal.returns-in-None-clause-planned
 returns-in-None-clause-planned c = c.plan_kept.ensures.planned

@@ -6,7 +6,7 @@ use Rattle.workspace_snapshot.specs.declared.change.Change.{Change}
 use Rattle.workspace_snapshot.specs.declared.change.ChangeKind.TheVariants.{Move}
 use Rattle.refactor_preserve.specs.Planned.{change_in}
 use Rattle.refactor_plan.specs.DecidedMoves.{KnowsMoved}
-use Rattle.refactor_plan.specs.Proposals.{proposal_place, proposed_snapshot, proposed_verdicts}
+use Rattle.refactor_plan.specs.Proposals.{proposed_snapshot, proposed_verdicts}
 use Rattle.refactor_plan.proofs.DecidedMoves.{kept, preserved}
 use Rattle.refactor_plan.proofs.Proposed.{kept_planned}
 use Rattle.refactor_plan.proofs.decided_moves.plan_kept.Goals as goal
@@ -29,8 +29,8 @@ returns-clause-planned c =
     let p = c.args.proposal.now in
     let known = proposed_verdicts p in
     let s = c.args.edits in
-    kept_planned (proposed_snapshot p) known (proposal_place p) Move s c.in_ok-change.change c.in_ok-change.ensures
-    (preserved (proposed_snapshot p) known p.path.now c.args.to.now (proposal_place p) s c.requires.planned c.requires.kept) (change_in c.within_limits.result)
+    kept_planned (proposed_snapshot p) known Move s c.in_ok-change.change c.in_ok-change.ensures
+    (preserved (proposed_snapshot p) known p.path.now c.args.to.now s c.requires.planned c.requires.kept) (change_in c.within_limits.result)
     c.within_limits.ensures.planned
 
 pub returns-clause-known : goal.returns-clause-known

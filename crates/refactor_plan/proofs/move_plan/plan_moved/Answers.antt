@@ -1,9 +1,7 @@
 -- The answers to the goals of `move_plan::plan_moved`.
-use Rattle.std.proofs.Common.{ℕ, subst}
 use Rattle.refs_binding.proofs.Units.{list_of_sound}
-use Rattle.workspace_snapshot.specs.declared.change.ChangeKind.TheVariants.{Move}
 use Rattle.refactor_preserve.specs.Planned.{change_in}
-use Rattle.refactor_plan.specs.Proposals.{proposed_snapshot, proposed_verdicts, PlansChange}
+use Rattle.refactor_plan.specs.Proposals.{proposed_snapshot, proposed_verdicts}
 use Rattle.refactor_plan.proofs.DecidedMoves.{moves_there}
 use Rattle.refactor_plan.proofs.MovePlanned.{edits_planned}
 use Rattle.refactor_plan.proofs.move_plan.plan_moved.Goals as goal
@@ -23,9 +21,7 @@ returns-clause-planned c =
     let known = proposed_verdicts p in
     let sound = c.has_no_faults.ensures in
     edits_planned (proposed_snapshot p) p.path.now c.args.to.now (list_of_sound w p.workspace.now.findings sound) known sound.findings.right c.args.edits
-    c.requires.edits c.requires.fits (change_in c.plan_decided.result)
-    (subst (λ (n : ℕ). PlansChange (proposed_snapshot p) known (record { path = p.path.now; offset = n }) Move c.args.edits (change_in c.plan_decided.result))
-    c.requires.at_start c.plan_decided.ensures.planned)
+    c.requires.edits c.requires.fits (change_in c.plan_decided.result) c.plan_decided.ensures.planned
 
 pub returns-clause-known : goal.returns-clause-known
 returns-clause-known c = c.plan_decided.ensures.known

@@ -6,7 +6,7 @@ use Rattle.refs_binding.proofs.Units.{list_of_sound}
 use Rattle.refactor_conflict.specs.declared.conflict.Conflict.{Conflict}
 use Rattle.refactor_follow.specs.MoveConflicts.{TellsMoveConflict}
 use Rattle.refactor_plan.specs.MoveSteps.{RefusesLength}
-use Rattle.refactor_plan.specs.Proposals.{proposal_place, proposed_snapshot, proposed_verdicts}
+use Rattle.refactor_plan.specs.Proposals.{proposed_snapshot, proposed_verdicts}
 use Rattle.refactor_plan.proofs.DecidedMoves.{name_conflict_refused, names_there, too_long}
 use Rattle.refactor_plan.proofs.move_plan.refuse_length.Goals as goal
 
@@ -20,7 +20,7 @@ returns-in-None-clause-planned c =
     let sound = c.has_no_faults.ensures in
     let tells = subst (λ (o : Option Conflict). TellsMoveConflict w known from to o) c.in-None.is c.in_ok-conflict.ensures in
     λ s edits fit.
-    too_long (proposed_snapshot p) known from to (proposal_place p) s
+    too_long (proposed_snapshot p) known from to s
     (names_there w (list_of_sound w p.workspace.now.findings sound) known sound.findings.right from to s fit c.requires.asked edits) tells
 
 pub returns-in-Some-clause-planned : goal.returns-in-Some-clause-planned
@@ -33,6 +33,6 @@ returns-in-Some-clause-planned c =
     let sound = c.has_no_faults.ensures in
     let tells = subst (λ (o : Option Conflict). TellsMoveConflict w known from to o) c.in-Some.is c.in_ok-conflict.ensures in
     λ s edits fit.
-    subst (λ (r : Refusal). RefusesLength w known (proposal_place p) s (Err r)) (sym c.told.ensures)
-    (name_conflict_refused (proposed_snapshot p) known from to (proposal_place p) s
+    subst (λ (r : Refusal). RefusesLength w known s (Err r)) (sym c.told.ensures)
+    (name_conflict_refused (proposed_snapshot p) known from to s
     (names_there w (list_of_sound w p.workspace.now.findings sound) known sound.findings.right from to s fit c.requires.asked edits) c.in-Some.conflict tells)

@@ -1,8 +1,6 @@
 -- The answers to the goals of `move_plan::refuse_long`.
-use Rattle.std.proofs.Common.{ℕ, subst}
 use Rattle.refs_binding.proofs.Units.{list_of_sound}
 use Rattle.refactor_preserve.specs.Planned.{change_in}
-use Rattle.refactor_plan.specs.MoveSteps.{RefusesLength}
 use Rattle.refactor_plan.specs.Proposals.{proposed_snapshot, proposed_verdicts}
 use Rattle.refactor_plan.proofs.MovePlanned.{name_refused, name_planned}
 use Rattle.refactor_plan.proofs.move_plan.refuse_long.Goals as goal
@@ -22,8 +20,7 @@ returns-in-Ok-clause-planned c =
     let sound = c.has_no_faults.ensures in
     name_planned (proposed_snapshot p) p.path.now c.args.to.now (list_of_sound w p.workspace.now.findings sound) (proposed_verdicts p) sound.findings.right
     c.requires.no_path c.in-Ok._edits c.in-Ok.ensures.0 (change_in c.refuse_length.result)
-    (subst (λ (n : ℕ). RefusesLength w (proposed_verdicts p) (record { path = p.path.now; offset = n }) c.in-Ok._edits (change_in c.refuse_length.result))
-    c.requires.at_start (c.refuse_length.ensures.planned c.in-Ok._edits c.in-Ok.ensures.0 c.in-Ok.ensures.1))
+    (c.refuse_length.ensures.planned c.in-Ok._edits c.in-Ok.ensures.0 c.in-Ok.ensures.1)
 
 pub returns-in-Ok-clause-known : goal.returns-in-Ok-clause-known
 returns-in-Ok-clause-known c = c.refuse_length.ensures.known

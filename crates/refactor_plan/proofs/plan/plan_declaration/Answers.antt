@@ -1,10 +1,9 @@
 -- The answers to the goals of `plan::plan_declaration`.
-use Rattle.std.proofs.Common.{Option, sym, subst}
+use Rattle.std.proofs.Common.{sym, subst}
 use Rattle.refs_binding.specs.WorkspaceFindings.{WorkspaceFindings}
 use Rattle.refs_binding.specs.Workspaces.{known_in}
-use Rattle.refactor_decide.specs.declared.decision.ScopeDecision.{ScopeDecision}
-use Rattle.refactor_plan.specs.Bindings.{path_read, verdicts_read, workspace_read}
-use Rattle.refactor_plan.specs.Decided.{DecidesRename, DecidesRenames, IsLegalFor}
+use Rattle.refactor_plan.specs.Bindings.{path_read}
+use Rattle.refactor_plan.specs.Decided.{DecidesRename, IsLegalFor}
 use Rattle.refactor_plan.proofs.plan.plan_declaration.Goals as goal
 
 pub conflict_of-requires-clause-legal : goal.conflict_of-requires-clause-legal
@@ -14,9 +13,6 @@ conflict_of-requires-clause-legal c =
 pub plan_decided-requires-clause-decided : goal.plan_decided-requires-clause-decided
 plan_decided-requires-clause-decided c =
     let read = c.args.read.now in
-    let d = c.args.declaration.now in
-    let name = c.args.name.now in
-    let x = c.in-Some.decision in
-    let told = subst (λ (o : Option ScopeDecision). DecidesRenames (workspace_read read) (verdicts_read read) (path_read read) d name o) c.in-Some.is
-    c.in_ok-conflict_of.ensures in
-    subst (λ (v : WorkspaceFindings). DecidesRename v.graph (known_in v.findings) (path_read read) d name x.is_hidden x.conflict) c.requires.read.same told
+    let x = c.in_ok-decision.decision in
+    subst (λ (v : WorkspaceFindings). DecidesRename v.graph (known_in v.findings) (path_read read) c.args.declaration.now c.args.name.now x.is_hidden x.conflict)
+    c.requires.read.same c.in_ok-decision.ensures

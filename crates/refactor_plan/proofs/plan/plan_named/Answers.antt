@@ -3,7 +3,7 @@ use Rattle.refs_binding.proofs.Units.{list_of_sound}
 use Rattle.refactor_preserve.specs.Planned.{change_in}
 use Rattle.refactor_plan.specs.Proposals.{proposed_snapshot, proposed_verdicts}
 use Rattle.refactor_plan.proofs.Planned.{name_refused, declaration_planned}
-use Rattle.refactor_plan.proofs.UsedMembers.{member_used}
+use Rattle.refactor_plan.proofs.UsedMembers.{declared_counts, member_used}
 use Rattle.refactor_plan.proofs.plan.plan_named.Goals as goal
 
 pub returns-in-Err-clause-planned : goal.returns-in-Err-clause-planned
@@ -35,5 +35,7 @@ plan_declaration-requires-clause-legal c =
       allowed = c.in-Ok.ensures.1;
       other = c.in-Ok.ensures.2;
       used = member_used w (list_of_sound w p.workspace.now.findings sound) (proposed_verdicts p) sound.findings.right p.path.now p.offset
+          c.args.declaration.now c.requires.has;
+      counts = declared_counts w (list_of_sound w p.workspace.now.findings sound) (proposed_verdicts p) sound.findings.right p.path.now p.offset
           c.args.declaration.now c.requires.has;
     }
