@@ -265,19 +265,24 @@ def servers_at_once():
         same((sorted(told)[0][0], sorted(told)[0][2], os.listdir(folder)), (0, b"", ["s"]))
 
 
+NO_OTHER = b"no other user"
+
+
 def as_another(path):
-    """What another user is told who connects."""
+    """What another user is told who connects, or `NO_OTHER` where this process may not become another user."""
     reader, writer = os.pipe()
     child = os.fork()
     if child == 0:
-        os.setgroups([])
-        os.setresgid(65534, 65534, 65534)
-        os.setresuid(65534, 65534, 65534)
+        told = NO_OTHER
         try:
+            os.setgroups([])
+            os.setresgid(65534, 65534, 65534)
+            os.setresuid(65534, 65534, 65534)
+            told = b"connected"
             socket.socket(socket.AF_UNIX, socket.SOCK_STREAM).connect(path)
-            os.write(writer, b"connected")
         except OSError as fault:
-            os.write(writer, type(fault).__name__.encode())
+            told = told if told == NO_OTHER else type(fault).__name__.encode()
+        os.write(writer, told)
         os._exit(0)
     os.close(writer)
     with open(reader, "rb") as told:
@@ -288,18 +293,19 @@ def as_another(path):
 
 def owner_alone():
     """Only its owner may connect to the socket, whatever the mask, and nothing stands beside it."""
+    others = set()
     for umask in (0, 0o022, 0o077, 0o177):
         with Server(1, 1, 1, umask) as served:
             os.chmod(served.folder.name, 0o755)
             client = served.connect()
             same(stat.S_IMODE(os.stat(served.path).st_mode), 0o600)
             same(os.stat(served.path).st_uid, os.getuid())
-            if os.getuid() == 0:
-                same(as_another(served.path), b"PermissionError")
+            others.add(as_another(served.path))
             client.close()
             settles(served)
             same(os.listdir(served.folder.name), ["s"])
-    return "no other user tried" if os.getuid() else "another user was refused"
+    same(others <= {b"PermissionError", NO_OTHER}, True)
+    return "no other user tried" if NO_OTHER in others else "another user was refused"
 
 
 CHECKS = (bad_words, helps, one_session, wanting_memory, none_accepted, untold_end, taken_paths, second_server, servers_at_once, owner_alone)
