@@ -1,0 +1,153 @@
+"""Checks that what is kept saves work: no contract says how long anything takes.
+
+Each row divides the instructions of one step by those of another step of the same program, as valgrind counts them. So neither the machine
+nor other programs change it. A row is red where its ratio is over the bound beside it, and the exit status is then 1.
+
+The bounds are 1.5 times the ratios of 2026-11-29; that of `again`, which was below 0.001, is 0.01. Each row has a change of a few words
+of the code: what is kept is then not used, though every answer stays right. The row is there to find such a change. No program with one
+of these changes was built, so no row was seen to be red.
+
+    again     server_commands/src/acting.rt: `find_faults` teaches the desk nothing
+    leaf      build_carry/src/carried_known.rt, `kept_verdicts`: `if known.is_empty()` becomes `if true`
+    hub       workspace_check/src/reuse.rt, `keeps_export_data`: `&& false` behind `are_alike(..)`
+    kinds     go_parser/src/file_tree.rt, `parse_file_sharing`: `if false &&` in place of the `if` before `shared`
+    names     workspace_graph/src/parsed.rt, `read_like`: the tree is that of `parse_file_sharing` always
+    order     workspace_graph/src/order.rt, `order`: `Ok(None)` in place of `Ok(Some(blocks.order))`
+
+    usage: python3 bench/ratios.py PROGRAM [ROW..]
+"""
+import sys
+
+from families import Counted
+
+PACKAGES = 40
+
+
+def put(path, text):
+    return f"put {path} {len(text)}", text
+
+
+def function(number, below):
+    used = f" + {below}.Sum0(values)" if below else ""
+    return f"""
+func Sum{number}(values []int) int {{
+	total := 0
+	for i := 0; i < len(values) && i < {number + 2}; i++ {{
+		if values[i]%2 == 0 || values[i] >= {number} {{
+			total += values[i] * {number + 1}
+		}} else {{
+			total = total - values[i]
+		}}
+	}}
+	return total{used}
+}}
+"""
+
+
+def package(name, below=None):
+    """The text of a package of one file: ten functions, which use the package `below`."""
+    imported = f'\nimport "gen/{below}"\n' if below else ""
+    return (f"package {name}\n{imported}" + "".join(function(number, below) for number in range(10))).encode()
+
+
+def star():
+    """A package that all others import, and these."""
+    names = [f"p{number:02}" for number in range(PACKAGES)]
+    return {"gen/hub/f.go": package("hub")} | {f"gen/{name}/f.go": package(name, "hub") for name in names}
+
+
+def chain(length):
+    """Packages of one small file, each of which imports the one before it."""
+    def text(number):
+        below = f'\nimport "gen/p{number - 1:04}"\n' if number else ""
+        used = f" + p{number - 1:04}.Size()" if number else ""
+        return f"package p{number:04}\n{below}\nfunc Size() int {{\n\treturn 1{used}\n}}\n".encode()
+
+    return {f"gen/p{number:04}/f.go": text(number) for number in range(length)}
+
+
+class Rows:
+    def __init__(self, program):
+        self.program = program
+
+    def session(self, files):
+        """A session that has put the files, and has asked for nothing yet."""
+        begun = Counted(self.program)
+        begun.taken([put(path, text) for path, text in files.items()])
+        return begun
+
+    def judged(self):
+        """A session that has asked for the faults of the star, and what that took."""
+        begun = self.session(star())
+        return begun, begun.taken([("faults", b"")])
+
+    def behind(self, path):
+        """The faults behind a put inside a function of the file, by the first faults."""
+        asked, first = self.judged()
+        asked.taken([put(path, star()[path].replace(b"total := 0", b"total := 1 + 1", 1))])
+        again = asked.taken([("faults", b"")])
+        asked.end()
+        return again / first
+
+    def again(self):
+        asked, first = self.judged()
+        again = asked.taken([("faults", b"")])
+        asked.end()
+        return again / first
+
+    def leaf(self):
+        return self.behind("gen/p07/f.go")
+
+    def hub(self):
+        return self.behind("gen/hub/f.go")
+
+    def beside_more(self, old, new):
+        """A put by which some bytes of a file become others, by one by which a token more comes."""
+        path = "gen/p07/f.go"
+        text = star()[path]
+        asked = self.session(star())
+        other = asked.taken([put(path, text.replace(old, new))])
+        asked.taken([put(path, text)])
+        more = asked.taken([put(path, text.replace(b"total := 0", b"total := -0"))])
+        asked.end()
+        return other / more
+
+    def kinds(self):
+        return self.beside_more(b"total := 0", b"total := 7")
+
+    def names(self):
+        return self.beside_more(b"total", b"count")
+
+    def order(self):
+        taken = []
+        for length in (60, 240):
+            asked = self.session(chain(length))
+            taken.append(asked.taken([("faults", b"")]))
+            asked.end()
+        return taken[1] / taken[0]
+
+
+BOUNDS = {
+    "again": ("faults again, by the first faults", 0.01),
+    "leaf": ("faults behind a put in a package that none imports, by the first faults", 0.05),
+    "hub": ("faults behind a put in a package that all import, by the first faults", 0.05),
+    "kinds": ("a put of other literals, by a put of one token more in each function", 0.54),
+    "names": ("a put of other names, by a put of one token more in each function", 0.21),
+    "order": ("first faults of a chain of 240 packages, by those of 60", 8),
+}
+
+
+def main(program, words):
+    rows, red = Rows(program), 0
+    for name in words or BOUNDS:
+        what, most = BOUNDS[name]
+        ratio = getattr(rows, name)()
+        red += ratio > most
+        print(f"{name:6} {ratio:8.4f} at most {most:<5} {what}{'  RED' if ratio > most else ''}", flush=True)
+    return 1 if red else 0
+
+
+if __name__ == "__main__":
+    if len(sys.argv) < 2 or any(word not in BOUNDS for word in sys.argv[2:]):
+        sys.exit(__doc__)
+    sys.exit(main(sys.argv[1], sys.argv[2:]))
