@@ -154,10 +154,9 @@ some_ends s path ends h = let size = h.are.size in omega arith
 pub first_at : (s : FileChanges) (path : List ℕ) (ends : List End) → HasEnds s path ends → (end : End) → slice_get ends 0 ≡ Some end → end.old ≡ 0
 first_at s path ends h = h.are.first
 
-pub moved_in : (s : FileChanges) (path : List ℕ) (ends : List End) (offset n : ℕ) → HasEnds s path ends → ((edits : List Edit) → AreEnds edits ends →
-    n ≡ moved_offset edits offset) →
-    n ≡ moved_offset (edits_by (change_of s path)) offset
-moved_in s path ends offset n h moves = moves h.change.edits h.are ∙ ap (λ o. moved_offset (edits_by o) offset) (sym h.is)
+pub moved_in : (s : FileChanges) (path : List ℕ) (ends : List End) (offset : ℕ) (P : ℕ → Type 0) → HasEnds s path ends →
+    ((edits : List Edit) → AreEnds edits ends → P (moved_offset edits offset)) → P (moved_offset (edits_by (change_of s path)) offset)
+moved_in s path ends offset P h moves = subst (λ o. P (moved_offset (edits_by o) offset)) (sym h.is) (moves h.change.edits h.are)
 
 -- the change of a path, by a search
 pub change_number : (s t : FileChanges) (changed : List FileChange) (path : List ℕ) (n : ℕ) → changed ≡ s.changed → s ≡ t →

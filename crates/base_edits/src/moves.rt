@@ -1,5 +1,5 @@
 //! Where an edit set moves places, and the new names of identifiers.
-ghost use Rattle.std.specs.Prelude.{◌≡◌, ◌+◌, ◌-◌, ◌<◌, ◌≤◌, ◌↔◌, List, length, None, Some, find, slice_get, unwrap_or, IfOk, IsTrue, MatchOption};
+ghost use Rattle.std.specs.Prelude.{◌≡◌, ◌+◌, ◌-◌, ◌<◌, ◌≤◌, ◌↔◌, ◌^◌, List, length, None, Some, find, slice_get, unwrap_or, IfOk, IsTrue, MatchOption, OkIff};
 ghost use Rattle.base_edits.specs.EditSet.{change_of};
 ghost use Rattle.base_edits.specs.Edits.{AreInOrder};
 ghost use Rattle.base_edits.specs.Fits.{path_after};
@@ -58,9 +58,9 @@ fn new_path<'a>(change: &'a FileChange, path: &'a Path) -> &'a Path
     }
 }
 
-/// The sum of two lengths of texts, or `AllocError` where it overflows: no memory holds so many bytes.
+/// The sum of two lengths of texts, or `AllocError` exactly where it is over 64 bits: no memory holds so many bytes.
 fn sum(one: usize, other: usize) -> Result<usize, AllocError>
-    ensures { IfOk result (λ n. n ≡ one + other) }
+    ensures { OkIff result (one + other < 2 ^ 64) (one + other) }
 {
     one.checked_add(other).ok_or(AllocError)
 }
@@ -127,7 +127,7 @@ fn last_end(ends: &[End], offset: usize) -> usize
 /// The new offset of an old one, by the last end at or before it.
 fn moved_by(end: End, offset: usize) -> Result<usize, AllocError>
     requires { end.old ≤ offset }
-    ensures { IfOk result (λ n. n ≡ end.new + (offset - end.old)) }
+    ensures { OkIff result (end.new + (offset - end.old) < 2 ^ 64) (end.new + (offset - end.old)) }
 {
     sum(end.new, offset - end.old)
 }
@@ -136,7 +136,7 @@ fn moved_by(end: End, offset: usize) -> Result<usize, AllocError>
 fn moved_past(ends: &[End], offset: usize) -> Result<usize, AllocError>
     requires some { 0 < length ends.now }
     requires first { (end : End) → slice_get ends.now 0 ≡ Some end → end.old ≡ 0 }
-    ensures { IfOk result (λ n. (edits : List Edited) → AreEnds edits ends.now → n ≡ moved_offset edits offset) }
+    ensures { (edits : List Edited) → AreEnds edits ends.now → OkIff result (moved_offset edits offset < 2 ^ 64) (moved_offset edits offset) }
 {
     let number = last_end(ends, offset);
     moved_by(ends[number], offset)
@@ -219,10 +219,10 @@ impl<'a> Moves<'a> {
         self.file(path).new
     }
 
-    /// The byte offset after the edit set of an offset of a file before it.
+    /// The byte offset after the edit set of an offset of a file before it. It fails exactly where that is over 64 bits.
     pub fn offset(&self, file: FileMoves<'_>, offset: usize) -> Result<usize, AllocError>
         requires { AreMovesOf self.now file }
-        ensures { IfOk result (λ n. n ≡ moved_offset (edits_by (change_of self.now file.entry.old.now)) offset) }
+        ensures { OkIff result (moved_offset (edits_by (change_of self.now file.entry.old.now)) offset < 2 ^ 64) (moved_offset (edits_by (change_of self.now file.entry.old.now)) offset) }
     {
         match file.ends {
             None => Ok(offset),

@@ -1,10 +1,5 @@
 -- The answers to the goals of `moves::Moves::offset`.
-use Rattle.std.proofs.Common.{◌≡◌, List}
-use Rattle.std.proofs.lemmas.Result.{IfOk-weaker}
-use Rattle.base_edits.specs.EditSet.{change_of}
-use Rattle.base_edits.specs.Moved.{moved_offset, edits_by}
-use Rattle.base_edits.specs.declared.edit.Edit.{Edit}
-use Rattle.base_edits.specs.Ends.{AreEnds}
+use Rattle.std.specs.Prelude.{◌<◌, ◌^◌, OkIff}
 use Rattle.base_edits.specs.FilesMoved.{HasEnds}
 use Rattle.base_edits.proofs.Ending.{some_ends, first_at, moved_in}
 use Rattle.base_edits.proofs.moves.Moves.offset.Goals as goal
@@ -25,6 +20,4 @@ returns-in-Some c =
     let path = c.args.file.old.now in
     let ends = c.in-Some.ends.now in
     let has : HasEnds s path ends = rw c.in-Some.is at c.requires.ends in
-    IfOk-weaker c.moved_past.result (λ n. (edits : List Edit) → AreEnds edits ends → n ≡ moved_offset edits c.args.offset)
-    (λ n. n ≡ moved_offset (edits_by (change_of s path)) c.args.offset)
-    (λ n moves. moved_in s path ends c.args.offset n has moves) c.moved_past.ensures
+    moved_in s path ends c.args.offset (λ n. OkIff c.moved_past.result (n < 2 ^ 64) n) has c.moved_past.ensures
