@@ -15,12 +15,13 @@ use Rattle.go_ast.specs.Verdict.{Faulty, IsFileVerdict}
 use Rattle.go_respelled.specs.Renamings.{AreNameEdits, moved_piece, recut}
 use Rattle.go_respelled.specs.Trees.{KeepKinds, moved_fault}
 use Rattle.go_respelled.proofs.KeptBytes.{within}
+use Rattle.go_respelled.proofs.Many.{piece_edits}
 use Rattle.go_respelled.proofs.MovedTokens.{tokens_moved}
 use Rattle.go_respelled.proofs.Trees.{kinds_stay}
 
 module _ (c : CutText) (edits : List Edit) (cut : IsCut c.text c.pieces) (are : AreNameEdits c.pieces edits) where
   begins_moved : (ts : List Piece) → begins_at (edited_text edits c.text) (map (moved_piece edits) ts) ≡ moved_offset edits (begins_at c.text ts)
-  begins_moved [] = moves_end edits c.text are.in_order (within c edits cut are)
+  begins_moved [] = moves_end edits c.text are.in_order (within c edits cut (piece_edits c.pieces edits are))
   begins_moved (t ∷ ts) = refl
 
   place_moved : (left : ℕ) → place_of (recut edits c) left ≡ moved_offset edits (place_of c left)

@@ -4,6 +4,8 @@ pub mod Joining
 pub mod Names
 pub mod Leading
 pub mod Single
+pub mod Quotes
+pub mod OnePiece
 pub mod Offsets
 pub mod Places
 pub mod Many

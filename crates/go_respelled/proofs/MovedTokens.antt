@@ -1,9 +1,8 @@
--- The tokens of a text in which names are replaced.
+-- The tokens of a text in which names and strings are replaced.
 use Rattle.std.proofs.Common.{ℕ, ◌≡◌, List, [], ◌∷◌, ◌||◌, ◌&&◌, Bool, false, cond, refl, ap, ◌∙◌}
 use Rattle.std.specs.Prelude.{map}
-use Rattle.std.specs.List.{AllByRecursion, Contains, list_any}
+use Rattle.std.specs.List.{AllByRecursion, list_any}
 use Rattle.std.proofs.Common.{eqb}
-use Rattle.base_lemmas.proofs.Elements.{first_in, later_in}
 use Rattle.base_lemmas.proofs.EachElement.{all_from_each}
 use Rattle.go_scanner.specs.declared.piece.Class.{Class}
 use Rattle.go_scanner.specs.declared.piece.Class.TheVariants as class
@@ -14,15 +13,16 @@ use Rattle.go_scanner.specs.Tokens.{ends_line, ends_line_by, ends_statement, has
 use Rattle.go_scanner.proofs.IntegerLemmas.{by_test}
 use Rattle.base_edits.specs.Edits.{edited_text}
 use Rattle.base_edits.specs.declared.edit.Edit.{Edit}
+use Rattle.go_respelled.specs.PieceEdits.{ArePieceEdits}
 use Rattle.go_respelled.specs.Renamings.{AreNameEdits, moved_piece, recut}
-use Rattle.go_respelled.proofs.KeptBytes.{other_bytes}
-
--- A fact on each element of a list is one on all.
+use Rattle.go_respelled.proofs.KeptBytes.{may_stand, other_bytes}
+use Rattle.go_respelled.proofs.Many.{piece_edits}
+use Rattle.go_respelled.proofs.OnePiece.{no_comment}
 
 -- where lines end
 
-line_by : (c : Class) (a b : Bool) → ((c ≡ class.Name → ⊥) → a ≡ b) → ends_line_by c a ≡ ends_line_by c b
-line_by class.GeneralComment a b same = same (λ e. cc)
+line_by : (c : Class) (a b : Bool) → (c ≡ class.GeneralComment → a ≡ b) → ends_line_by c a ≡ ends_line_by c b
+line_by class.GeneralComment a b same = same refl
 line_by _ a b same = refl
 
 module _ (edits : List Edit) (text new : List ℕ) where
@@ -53,11 +53,15 @@ module _ (edits : List Edit) (text new : List ℕ) where
       (λ ends. rw (token, ends) refl)
       (λ goes. rw (token, goes) refl))
 
-pub tokens_moved : (c : CutText) (edits : List Edit) → IsCut c.text c.pieces → AreNameEdits c.pieces edits →
+pub tokens_stay : (c : CutText) (edits : List Edit) → IsCut c.text c.pieces → ArePieceEdits c.pieces edits →
     tokens_in (recut edits c) ≡ map (moved_piece edits) (tokens_in c)
-tokens_moved c edits cut are =
+tokens_stay c edits cut are =
     let new : List ℕ = edited_text edits c.text in
     tokens_same edits c.text new c.pieces (all_from_each (λ p. ends_line new (moved_piece edits p) ≡ ends_line c.text p) c.pieces
     (λ p has. line_by p.class (has_line_end new (moved_piece edits p)) (has_line_end c.text p)
-    (λ other. ap (λ l. list_any (λ b. eqb b 10) l)
-    (other_bytes c edits cut are p has (λ e at is. other (ap (λ (q : Piece). q.class) is))))))
+    (λ comment. ap (λ l. list_any (λ b. eqb b 10) l)
+    (other_bytes c edits cut are p has (λ e at is. no_comment p.class e.text (may_stand c edits cut are e p has at is) comment)))))
+
+pub tokens_moved : (c : CutText) (edits : List Edit) → IsCut c.text c.pieces → AreNameEdits c.pieces edits →
+    tokens_in (recut edits c) ≡ map (moved_piece edits) (tokens_in c)
+tokens_moved c edits cut are = tokens_stay c edits cut (piece_edits c.pieces edits are)

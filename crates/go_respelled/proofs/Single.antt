@@ -5,7 +5,7 @@ use Rattle.std.specs.Str.{IsUtf8}
 use Rattle.std.proofs.lemmas.List.{take_at, drop_at}
 use Rattle.std.proofs.lemmas.Str.{IsUtf8-append}
 use Rattle.go_scanner.specs.declared.piece.Class.{Class}
-use Rattle.go_scanner.specs.declared.piece.Class.TheVariants.{Name}
+use Rattle.go_scanner.specs.declared.piece.Class.TheVariants.{ByteOrderMark, Name}
 use Rattle.go_scanner.specs.declared.piece.Piece.{Piece}
 use Rattle.go_scanner.specs.Contexts.{EndsName, MayFollow}
 use Rattle.go_scanner.specs.Cuts.{IsCut, CutsUpTo}
@@ -28,29 +28,23 @@ follow_alike class bytes between old new rest is_old is_new may =
     (follow_kept class bytes between (a.more ++ rest) (b.more ++ rest) a.byte b.byte (names old new rest is_old.0 is_new.0 a b)
     (λ here is. names_end old new rest is_old.0 a b) was)
 
--- how the name stood
+-- how a piece stood
 
-pub record WasName (front old rest : List ℕ) (before : List Piece) : Type 0 where
+pub record WasPiece (front old rest : List ℕ) (before : List Piece) (c : Class) : Type 0 where
   pub leads : CutsUpTo (front ++ (old ++ rest)) before (length front)
-  pub stands : Stands (old ++ rest) Name (length old)
-  pub piece : IsPiece Name old
-  pub ends : EndsName rest
+  pub stands : Stands (old ++ rest) c (length old)
+  pub piece : IsPiece c old
 
-pub was_name : (front old rest : List ℕ) (before after : List Piece) → IsCut (front ++ (old ++ rest)) (before ++ piece_at Name (length front) old ∷ after) →
-    WasName front old rest before
-was_name front old rest before after whole =
+pub was_piece : (front old rest : List ℕ) (before after : List Piece) (c : Class) → (c ≡ ByteOrderMark → ⊥) →
+    IsCut (front ++ (old ++ rest)) (before ++ piece_at c (length front) old ∷ after) → WasPiece front old rest before c
+was_piece front old rest before after c other whole =
     let text : List ℕ = front ++ (old ++ rest) in
-    let found = stands_behind text before after (piece_at Name (length front) old) (λ e. cc) whole in
+    let found = stands_behind text before after (piece_at c (length front) old) other whole in
     let size : length front + length old - length front ≡ length old = omega arith in
     let here : drop (length front) text ≡ old ++ rest = drop_at front (old ++ rest) (length front) refl in
-    let stands : Stands (old ++ rest) Name (length old) = subst (λ (k : ℕ). Stands (old ++ rest) Name k) size
-    (subst (λ l. Stands l Name (length front + length old - length front)) here found.stands) in
-    record {
-      leads = found.leads;
-      stands = stands;
-      piece = subst (IsPiece Name) (take_at old rest (length old) refl) stands.piece;
-      ends = subst EndsName (drop_at old rest (length old) refl) (may_follow Name (old ++ rest) (length old) stands);
-    }
+    let stands : Stands (old ++ rest) c (length old) = subst (λ (k : ℕ). Stands (old ++ rest) c k) size
+    (subst (λ l. Stands l c (length front + length old - length front)) here found.stands) in
+    record { leads = found.leads; stands = stands; piece = subst (IsPiece c) (take_at old rest (length old) refl) stands.piece }
 
 leads_still : (front old new rest : List ℕ) (before : List Piece) → IsPiece Name old → IsPiece Name new →
     CutsUpTo (front ++ (old ++ rest)) before (length front) → CutsUpTo (front ++ (new ++ rest)) before (length front)
@@ -72,13 +66,14 @@ pub replaced_name : (front old new rest : List ℕ) (before after : List Piece) 
     (let behind = map (shifted (length front + length old) (length front + length new)) after in
     IsCut (front ++ (new ++ rest)) (before ++ piece_at Name (length front) new ∷ behind))
 replaced_name front old new rest before after is_new whole =
-    let was = was_name front old rest before after whole in
+    let was = was_piece front old rest before after Name (λ e. cc) whole in
+    let ends : EndsName rest = subst EndsName (drop_at old rest (length old) refl) (may_follow Name (old ++ rest) (length old) was.stands) in
     let encoded = word_encoded new is_new.0 in
     let utf8 : IsUtf8 front = before_utf8 front old rest was.piece whole.encoded.0 in
     let rest_utf8 : IsUtf8 rest = behind_utf8 old rest (word_utf8 old was.piece.0) (behind_utf8 front (old ++ rest) utf8 whole.encoded.0) in
     recut front old new rest before after (piece_at Name (length front) old) Name (record {
       size = λ n stands. (one_piece (old ++ rest) Name Name n (length old) stands was.stands).0;
-      stands = stands_before Name new rest is_new was.ends;
+      stands = stands_before Name new rest is_new ends;
       encoded = (
         IsUtf8-append front (new ++ rest) utf8 (IsUtf8-append new rest encoded.0 rest_utf8),
         no_zero front old new rest whole.encoded encoded,

@@ -13,7 +13,7 @@ use Rattle.base_edits.specs.declared.edit.Edit.{Edit}
 use Rattle.go_ast.specs.SourceFile.{SourceFile, spelling_at, spelling_of}
 use Rattle.go_respelled.specs.Renamings.{AreNameEdits, moved_piece, replaced_piece}
 use Rattle.go_respelled.specs.Trees.{renamed_file}
-use Rattle.go_respelled.proofs.KeptBytes.{other_bytes, put_bytes}
+use Rattle.go_respelled.proofs.KeptBytes.{spelled_kept, spelled_put}
 use Rattle.go_respelled.proofs.MovedTokens.{tokens_moved}
 use Rattle.go_respelled.proofs.Trees.{each_token}
 
@@ -45,7 +45,7 @@ module _ (f : SourceFile) (edits : List Edit) (cut : IsCut f.cut.text f.cut.piec
 
   all_stay : AllByRecursion StaysIfOther (tokens_in f.cut)
   all_stay = each_token StaysIfOther (λ at other. empty new _ ∙ sym (empty f.cut.text at)) f.cut.text f.cut.pieces
-      (all_from_each StaysIfOther f.cut.pieces (λ p has other. other_bytes f.cut edits cut are p has other))
+      (all_from_each StaysIfOther f.cut.pieces (λ p has other. spelled_kept f.cut edits p cut are has other))
 
   by_token : (n : ℕ) (o : Option Piece) → old_token n ≡ o → ((e : Edit) → Contains edits e → old_token n ≡ Some (replaced_piece e) → ⊥) →
       spelling_at new (option_map (moved_piece edits) o) ≡ spelling_at f.cut.text o
@@ -56,7 +56,7 @@ pub token_put : (f : SourceFile) (edits : List Edit) (e : Edit) (n : ℕ) → Is
     Contains edits e → slice_get (tokens_in f.cut) n ≡ Some (replaced_piece e) → spelling_of (renamed_file edits f) n ≡ e.text
 token_put f edits e n cut are has at =
     spelled_as f edits cut are n ∙ ap (λ o. spelling_at (edited_text edits f.cut.text) (option_map (moved_piece edits) o)) at
-    ∙ put_bytes f.cut edits cut are e has
+    ∙ spelled_put f.cut edits e cut are has
 
 pub token_kept : (f : SourceFile) (edits : List Edit) (n : ℕ) → IsCut f.cut.text f.cut.pieces → AreNameEdits f.cut.pieces edits →
     ((e : Edit) → Contains edits e → slice_get (tokens_in f.cut) n ≡ Some (replaced_piece e) → ⊥) → spelling_of (renamed_file edits f) n ≡ spelling_of f n

@@ -1,30 +1,36 @@
 -- One step of the walks that check and move.
-use Rattle.std.proofs.Common.{ℕ, ◌≡◌, ◌+◌, ◌-◌, ◌<◌, ◌≤◌, true, false, List, [], ◌∷◌, ◌++◌, length, take, drop, get_or, map, Option, Some, None, Bor}
-use Rattle.std.proofs.Common.{refl, sym, ap, ◌∙◌, subst, arith, append_assoc}
-use Rattle.std.specs.Prelude.{IfSome, MatchOption, ◌==◌}
+use Rattle.std.proofs.Common.{ℕ, zero, suc, Bool, ◌≡◌, ◌+◌, ◌-◌, ◌<◌, ◌≤◌, true, false, List, [], ◌∷◌, ◌++◌, length, take, drop, get_or, map, Option, Some, None, Bor}
+use Rattle.std.proofs.Common.{refl, sym, ap, ◌∙◌, subst, arith, append_assoc, inl, inr}
+use Rattle.std.specs.Prelude.{IfSome, MatchOption, ◌==◌, nat_eq}
+use Rattle.std.proofs.lemmas.Bool.{false≢true}
+use borrow.Author.Tests.{eqb-true}
 use Rattle.std.specs.Cmp.Lexicographic.{pointwise, bytes_decides}
-use Rattle.std.specs.List.{All, AllByRecursion, Contains, slice_range}
-use Rattle.std.proofs.lemmas.List.{drop_all, get_or_default, take-append-drop, append-nil, length-append}
-use Rattle.std.proofs.lemmas.List.Elements.{All-contains}
+use Rattle.std.specs.List.{slice_range}
+use Rattle.std.proofs.lemmas.List.{drop_all, get_or_default, take_all, take-append-drop, append-nil, length-append}
+use Rattle.go_scanner.specs.declared.operators.Operator.TheVariants.{Semicolon}
+use Rattle.go_scanner.specs.declared.piece.Class.{Class}
+use Rattle.go_scanner.specs.declared.piece.Class.TheVariants.{InterpretedString, Operator}
 use Rattle.go_scanner.specs.declared.piece.Piece.{Piece}
-use Rattle.go_scanner.specs.Cuts.{IsCut}
-use Rattle.go_scanner.specs.CutText.{CutText, HasTokens, tokens_in}
-use Rattle.go_scanner.specs.Spans.{FollowFrom}
+use Rattle.go_scanner.specs.Cuts.{IsCut, bytes_of}
+use Rattle.go_scanner.specs.CutText.{CutText, HasTokens, token_at, tokens_in}
+use Rattle.go_scanner.specs.Pieces.{IsPiece}
+use Rattle.go_scanner.specs.Spans.{FollowFrom, IsTokenText}
+use Rattle.go_scanner.specs.Tokens.{semicolon}
 use Rattle.go_scanner.proofs.OneCutLemmas.{one_cut}
 use Rattle.go_ast.specs.SourceFile.{SourceFile, IsSourceFile}
-use Rattle.go_ast.specs.Tree.{FileTree}
 use Rattle.base_edits.specs.Edits.{AreInOrder, edited_from, edited_text}
 use Rattle.base_edits.specs.PassedEdits.{ArePast, PassedEdits}
 use Rattle.base_edits.specs.declared.edit.Edit.{Edit}
 use Rattle.base_edits.proofs.Steps.{drop_next, past_all, past_later, past_start, past_stops}
-use Rattle.go_respelled.specs.Renamings.{AreNameEdits, moved_piece, recut}
-use Rattle.go_respelled.specs.Replaced.{AreFollowing, AreMoved, GoesOn, IsMovedBy, Make, MovesBefore, Respell, ReplacesName, passed}
+use Rattle.go_respelled.specs.PieceEdits.{ArePieceEdits, IsEncodedString}
+use Rattle.go_respelled.specs.Renamings.{moved_piece, recut}
+use Rattle.go_respelled.specs.Replaced.{AreFollowing, AreMoved, GoesOn, IsMovedBy, Make, MovesBefore, Respell, passed}
 use Rattle.go_respelled.specs.declared.moved.Cursor.{Cursor}
-use Rattle.go_respelled.specs.Trees.{KeepKinds, renamed_file}
-use Rattle.go_respelled.proofs.ByTokens.{edits_of_tokens}
-use Rattle.go_respelled.proofs.Many.{recut_cut}
-use Rattle.go_respelled.proofs.MovedTokens.{tokens_moved}
-use Rattle.go_respelled.proofs.Trees.{file_stays}
+use Rattle.go_respelled.specs.Trees.{KeepKinds}
+use Rattle.go_respelled.proofs.ByTokens.{edits_of_pieces}
+use Rattle.go_respelled.proofs.Many.{new_cut}
+use Rattle.go_respelled.proofs.MovedTokens.{tokens_stay}
+use Rattle.go_respelled.proofs.Trees.{tree_stays}
 
 -- what follows in a text
 
@@ -157,37 +163,65 @@ pub before_next : (edits : List Edit) (c : Cursor) (e : Edit) → c.edits < leng
 before_next edits c e lt is last past offset le within =
     past_stops edits offset (passed c) e (past_later edits last offset (passed c) past le) lt is within
 
--- texts whose names are replaced
+-- texts whose names and strings are replaced
 
-pub name_edits : (old : CutText) (edits : List Edit) (new : List ℕ) → Respell old edits new → AreNameEdits old.pieces edits
-name_edits old edits new r = edits_of_tokens old edits r.make.order (λ e has.
-    let is = All-contains (ReplacesName old) edits e r.names has in (is.is_name, (is.token, is.old)))
+pub edits_respell : (old : CutText) (edits : List Edit) (new : List ℕ) → Respell old edits new → ArePieceEdits old.pieces edits
+edits_respell old edits new r = edits_of_pieces old edits r.make.order r.tokens
 
 pub keep_kinds : (old : CutText) (edits : List Edit) (new : List ℕ) → Respell old edits new → KeepKinds old.text edits
-keep_kinds old edits new r i e lt = (r.names i e lt).same_kind
+keep_kinds old edits new r i e lt = (r.tokens i e lt).same_kind
 
 pub has_tokens : (old : CutText) (edits : List Edit) (new : List ℕ) (tokens : List Piece) → IsCut old.text old.pieces → Respell old edits new →
     tokens ≡ map (moved_piece edits) (tokens_in old) → HasTokens new tokens
 has_tokens old edits new tokens cut r is =
-    let are = name_edits old edits new r in
+    let are = edits_respell old edits new r in
     let made : edited_text edits old.text ≡ new = sym r.make.made in
     subst (λ text. HasTokens text tokens) made (record {
       pieces = (recut edits old).pieces;
-      is = record { cut = recut_cut old edits cut are; tokens_are = is ∙ sym (tokens_moved old edits cut are) };
+      is = record { cut = new_cut old edits cut are; tokens_are = is ∙ sym (tokens_stay old edits cut are) };
     })
 
 -- the new text has no other cut
 pub only_recut : (old : CutText) (edits : List Edit) (new : List ℕ) (c : CutText) → IsCut old.text old.pieces → Respell old edits new → c.text ≡ new →
     IsCut c.text c.pieces → c ≡ recut edits old
 only_recut old edits new c cut r text is =
-    let are = name_edits old edits new r in
+    let are = edits_respell old edits new r in
     let same : c.text ≡ edited_text edits old.text = text ∙ r.make.made in
-    let pieces = one_cut (edited_text edits old.text) c.pieces (recut edits old).pieces (subst (λ l. IsCut l c.pieces) same is) (recut_cut old edits cut are) in
+    let pieces = one_cut (edited_text edits old.text) c.pieces (recut edits old).pieces (subst (λ l. IsCut l c.pieces) same is) (new_cut old edits cut are) in
     λ i. record { text = same i; pieces = pieces i }
 
 pub respelled_file : (path : List ℕ) (f : SourceFile) (edits : List Edit) (new : List ℕ) (c : CutText) → IsSourceFile f → Respell f.cut edits new →
     c ≡ recut edits f.cut → IsSourceFile (record { path = path; cut = c; tree = f.tree })
 respelled_file path f edits new c is r same =
-    let stays = file_stays f edits is (name_edits f.cut edits new r) (keep_kinds f.cut edits new r) in
+    let stays = tree_stays f edits is (edits_respell f.cut edits new r) (keep_kinds f.cut edits new r) in
     subst (λ (x : CutText). IsSourceFile (record { path = path; cut = x; tree = f.tree })) (sym same)
     (record { is_cut = stays.is_cut; is_tree = stays.is_tree; whole = stays.whole })
+
+-- strings
+
+apart_classes : InterpretedString ≡ Operator Semicolon → ⊥
+apart_classes e = cc
+
+-- a text of one string token is that string
+pub one_string : (c : CutText) (t : Piece) (bytes : List ℕ) → bytes ≡ bytes_of c.text t → IsTokenText t.class bytes → t.class ≡ InterpretedString →
+    t.span.start ≡ 0 → t.span.end ≡ length c.text → IsCut c.text c.pieces → IsEncodedString c.text
+one_string c t bytes is (inl text) class start end cut =
+    let size : t.span.end - t.span.start ≡ length c.text = omega (arith, start, end) in
+    let whole : bytes ≡ c.text = is ∙ (λ i. take (size i) (drop (start i) c.text)) ∙ take_all (length c.text) c.text (omega arith) in
+    record { piece = subst (IsPiece InterpretedString) whole (subst (λ (k : Class). IsPiece k bytes) class text); encoded = cut.encoded }
+one_string c t bytes is (inr none) class start end cut = let wrong = sym class ∙ none.0 in absurd (apart_classes wrong)
+
+has_one : (n : ℕ) (b : Bool) → b ≡ nat_eq n 0 → b ≡ false → 0 < n
+has_one zero b is none = absurd (false≢true (sym none ∙ is))
+has_one (suc n) b is none = omega arith
+
+pub first_string : (c : CutText) (tokens : List Piece) (d : Piece) (bytes whole : List ℕ) (b : Bool) → b ≡ nat_eq (length tokens) 0 → b ≡ false →
+    tokens ≡ tokens_in c → bytes ≡ bytes_of c.text (token_at c 0) → IsTokenText (token_at c 0).class bytes →
+    (get_or tokens 0 d).class ≡ InterpretedString → (get_or tokens 0 d).span.start ≡ 0 → whole ≡ c.text →
+    nat_eq (get_or tokens 0 d).span.end (length whole) ≡ true → IsCut c.text c.pieces → IsEncodedString c.text
+first_string c tokens d bytes whole b is some same spelled text class start all end cut =
+    let here : 0 < length (tokens_in c) = subst (λ ts. 0 < length ts) same (has_one (length tokens) b is some) in
+    let first : get_or tokens 0 d ≡ token_at c 0 = ap (λ ts. get_or ts 0 d) same ∙ get_or_default (tokens_in c) 0 d (semicolon 0) here in
+    let size : (get_or tokens 0 d).span.end ≡ length c.text = eqb-true (get_or tokens 0 d).span.end (length whole) end ∙ ap length all in
+    one_string c (token_at c 0) bytes spelled text (ap (λ (t : Piece). t.class) (sym first) ∙ class)
+    (ap (λ (t : Piece). t.span.start) (sym first) ∙ start) (ap (λ (t : Piece). t.span.end) (sym first) ∙ size) cut

@@ -1,24 +1,25 @@
--- Edits of a cut text that replace names by names, as the code finds and checks them.
+-- Edits of a cut text that replace names by names and strings by strings, as the code finds and checks them.
 use Rattle.std.specs.Prelude.{ℕ, ◌≡◌, ◌+◌, ◌-◌, ◌<◌, ◌≤◌, List, ◌++◌, drop, length, map, Some, slice_get}
 use Rattle.std.specs.List.{All, slice_range}
-use Rattle.go_scanner.specs.declared.piece.Class.TheVariants.{Name}
+use Rattle.go_scanner.specs.declared.piece.Class.{Class}
 use Rattle.go_scanner.specs.declared.piece.Piece.{Piece}
 use Rattle.go_scanner.specs.CutText.{CutText, tokens_in}
-use Rattle.go_scanner.specs.Pieces.{IsPiece}
 use Rattle.go_scanner.specs.Spans.{FollowFrom}
 use Rattle.go_ast.specs.Kinds.{kind_of_name}
 use Rattle.base_edits.specs.Edits.{AreInOrder, edited_text}
 use Rattle.base_edits.specs.Moved.{moved_offset}
 use Rattle.base_edits.specs.PassedEdits.{ArePast, PassedEdits}
 use Rattle.base_edits.specs.declared.edit.Edit.{Edit}
-use Rattle.go_respelled.specs.Renamings.{moved_piece, replaced_piece}
+use Rattle.go_respelled.specs.PieceEdits.{MayStandFor, edited_piece}
+use Rattle.go_respelled.specs.Renamings.{moved_piece}
 use Rattle.go_respelled.specs.declared.moved.Cursor.{Cursor}
 
--- The edit replaces a name token by a name. Both are `_`, or neither is.
-pub record ReplacesName (c : CutText) (e : Edit) : Type 0 where
-  pub is_name : IsPiece Name e.text
+-- The edit replaces a token by bytes that may take its place. Both are `_`, or neither is.
+pub record ReplacesToken (c : CutText) (e : Edit) : Type 0 where
+  pub class : Class
+  pub may : MayStandFor class e.text
   pub token : ℕ
-  pub old : slice_get (tokens_in c) token ≡ Some (replaced_piece e)
+  pub old : slice_get (tokens_in c) token ≡ Some (edited_piece class e)
   pub same_kind : kind_of_name e.text ≡ kind_of_name (slice_range c.text e.span.start e.span.end)
 
 -- The edits are in order, and make the new text of the old one.
@@ -62,7 +63,7 @@ pub record AreMoved (edits : List Edit) (tokens : List Piece) (c : Cursor) (move
 abbrev pub AreFollowing : List Piece → Type 0
 AreFollowing tokens = (size : ℕ) × FollowFrom 0 tokens size
 
--- The edits replace names of the old text by names, and make the new text so.
+-- The edits replace names and strings of the old text by such, and make the new text so.
 pub record Respell (old : CutText) (edits : List Edit) (new : List ℕ) : Type 0 where
   pub make : Make old.text edits new
-  pub names : All (ReplacesName old) edits
+  pub tokens : All (ReplacesToken old) edits

@@ -1,5 +1,5 @@
-//! Finds edits that may make one text of another by replacing names.
-ghost use Rattle.std.specs.Prelude.{◌≡◌, ◌≤◌, drop, length};
+//! Finds edits that may make one text of another by replacing names and strings.
+ghost use Rattle.std.specs.Prelude.{◌≡◌, ◌≤◌, drop, length, IfSome};
 
 use base_edits::Edit;
 use base_files::{FileText, Span};
@@ -42,23 +42,24 @@ fn begun(tokens: &[Piece], offset: usize) -> usize
     low
 }
 
-/// The span of the token of this number if it is a name that reaches up to an offset.
-fn name_up_to(tokens: &[Piece], number: usize, offset: usize) -> Option<Span> {
+/// The span of the token of this number, if it is a name that reaches up to an offset, or a string about the offset.
+fn token_up_to(tokens: &[Piece], number: usize, offset: usize) -> Option<Span> {
     let token = tokens.get(number)?;
     match token.class {
         Class::Name if offset <= token.span.end => Some(token.span),
+        Class::InterpretedString if offset < token.span.end => Some(token.span),
         _ => None,
     }
 }
 
-/// The span of the name that contains an offset, or ends there.
-fn name_at(tokens: &[Piece], offset: usize) -> Option<Span> {
+/// The span of the name or string that contains an offset, or of the name that ends there.
+fn token_near(tokens: &[Piece], offset: usize) -> Option<Span> {
     let count = begun(tokens, offset);
-    let last = name_up_to(tokens, count.wrapping_sub(1), offset);
+    let last = token_up_to(tokens, count.wrapping_sub(1), offset);
     if last.is_some() {
         return last;
     }
-    name_up_to(tokens, count.wrapping_sub(2), offset)
+    token_up_to(tokens, count.wrapping_sub(2), offset)
 }
 
 /// How far the old text and the new one are compared.
@@ -79,11 +80,11 @@ fn from(bytes: &[u8], offset: usize) -> &[u8]
     }
 }
 
-/// The first name of the old text, behind both offsets, at which the texts differ.
+/// The first name or string of the old text, behind both offsets, at which the texts differ.
 fn differing(old: &Pieces, new: &[u8], at: TextsAt) -> Option<Span> {
     let size = common_len(from(old.file().bytes(), at.old), from(new, at.new));
     let offset = at.old.checked_add(size)?;
-    let span = name_at(old.tokens(), offset)?;
+    let span = token_near(old.tokens(), offset)?;
     if at.old <= span.start {
         Some(span)
     } else {
@@ -91,24 +92,50 @@ fn differing(old: &Pieces, new: &[u8], at: TextsAt) -> Option<Span> {
     }
 }
 
-/// The name of the new text at an offset. It has no bytes where none begins there.
-fn name_from(new: &[u8], offset: usize) -> &[u8] {
+/// The length of the string at the start of some bytes that begin with its quote: up to the next quote without a backslash before it.
+fn string_len(bytes: &[u8]) -> Option<usize>
+    ensures { IfSome result (λ n. n ≤ length bytes.now) }
+{
+    let mut n = 1;
+    while n < bytes.len() {
+        match bytes[n] {
+            b'"' => return Some(n + 1),
+            b'\n' => return None,
+            b'\\' => n += 2,
+            _ => n += 1,
+        }
+    }
+    None
+}
+
+/// The length of the name or string at the start of some bytes.
+fn token_len(bytes: &[u8]) -> Option<usize>
+    ensures { IfSome result (λ n. n ≤ length bytes.now) }
+{
+    match bytes.first() {
+        Some(b'"') => string_len(bytes),
+        _ => name_len(bytes),
+    }
+}
+
+/// The name or string of the new text at an offset. It has no bytes where none begins there.
+fn token_from(new: &[u8], offset: usize) -> &[u8] {
     let rest = from(new, offset);
-    match name_len(rest) {
+    match token_len(rest) {
         Some(size) => &rest[..size],
         None => &[],
     }
 }
 
-/// A text with the bytes of a name. It is that of the edit before where this has the same bytes, so that a name put often stands once.
-fn name_text(alloc: Global, name: &[u8], before: Option<&Edit>) -> Result<FileText, AllocError> {
+/// A text with the bytes of a token. It is that of the edit before where this has the same bytes, so that a token put often stands once.
+fn token_text(alloc: Global, token: &[u8], before: Option<&Edit>) -> Result<FileText, AllocError> {
     match before {
-        Some(edit) if edit.text.bytes() == name => edit.text.clone(),
-        _ => FileText::new(alloc, Vec::from_slice(alloc, name)?),
+        Some(edit) if edit.text.bytes() == token => edit.text.clone(),
+        _ => FileText::new(alloc, Vec::from_slice(alloc, token)?),
     }
 }
 
-/// Edits of names that make the new text of the old one, if such edits do. Otherwise they make it in part.
+/// Edits of names and strings that make the new text of the old one, if such edits do. Otherwise they make it in part.
 pub(crate) fn edits_between(
     alloc: Global,
     old: &Pieces,
@@ -121,12 +148,12 @@ pub(crate) fn edits_between(
             return Ok(edits);
         };
         let start = at.new.saturating_add(span.start.saturating_sub(at.old));
-        let name = name_from(new, start);
-        let text = name_text(alloc, name, edits.last())?;
+        let token = token_from(new, start);
+        let text = token_text(alloc, token, edits.last())?;
         edits.push(Edit { span, text })?;
         at = TextsAt {
             old: span.end,
-            new: start.saturating_add(name.len()),
+            new: start.saturating_add(token.len()),
         };
     }
     Ok(edits)

@@ -1,13 +1,15 @@
-//! Texts in which names are replaced by names: their pieces, tokens and trees are the old ones, with their ends moved.
+//! Texts in which names are replaced by names, and strings by strings: their pieces, tokens and trees are the old ones, with their ends
+//! moved.
 //!
-//! Crates above rely on: the laws of `recut`. `respelled` makes the parsed file of such a text from the one before, without a scan.
+//! Crates above rely on: the laws of `recut`, which speak of names. `respelled` makes the parsed file of a text in which names and
+//! interpreted strings are replaced from the one before. It scans the new strings, and nothing else of the text.
 #![tactic(auto)]
 
 mod between;
 mod edited;
 mod moved;
-mod name_edits;
 pub mod recut;
 mod respelling;
+mod token_edits;
 
 pub use respelling::respelled;

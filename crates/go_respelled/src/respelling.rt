@@ -1,4 +1,4 @@
-//! Parsed files in which names are replaced by names.
+//! Parsed files in which names are replaced by names, and strings by strings.
 ghost use Rattle.std.specs.Prelude.{◌≡◌, IfOk, IfSome, IsTrue};
 ghost use Rattle.go_respelled.specs.Renamings.{recut};
 ghost use Rattle.go_respelled.specs.Replaced.{Respell};
@@ -6,18 +6,21 @@ ghost use Rattle.go_respelled.specs.Replaced.{Respell};
 use crate::between::edits_between;
 use crate::edited::make;
 use crate::moved::moved_tokens;
-use crate::name_edits::replace_names;
+use crate::token_edits::replace_tokens;
 use base_edits::Edit;
 use base_files::{FileText, Path};
 use go_ast::FileTree;
 use go_scanner::Pieces;
 use std::alloc::{AllocError, Global};
 
-/// Whether the edits replace names of the old text by names, and make the new text so.
-fn respell(old: &Pieces, edits: &[Edit], new: &[u8]) -> bool
-    ensures { IsTrue result → Respell old.now edits.now new.now }
+/// Whether the edits replace names and strings of the old text by such, and make the new text so.
+fn respell(alloc: Global, old: &Pieces, edits: &[Edit], new: &[u8]) -> Result<bool, AllocError>
+    ensures { IfOk result (λ is. IsTrue is → Respell old.now edits.now new.now) }
 {
-    make(old.file().bytes(), edits, new) && replace_names(old, edits)
+    if !make(old.file().bytes(), edits, new) {
+        return Ok(false);
+    }
+    replace_tokens(alloc, old, edits)
 }
 
 /// The new text with its tokens, which are those of the old text, moved.
@@ -35,8 +38,8 @@ fn respelled_pieces(
     Ok(Pieces::of_tokens(new.clone()?, tokens))
 }
 
-/// The parsed file of a text that differs from that of `like` in names alone. It shares the tree of `like`, and its tokens are moved and
-/// not scanned. `None` where the texts differ otherwise.
+/// The parsed file of a text that differs from that of `like` in names and interpreted strings alone. It shares the tree of `like`, and
+/// its tokens are moved and not scanned. `None` where the texts differ otherwise.
 pub fn respelled(
     alloc: Global,
     path: &Path,
@@ -48,7 +51,7 @@ pub fn respelled(
     let old = like.pieces();
     let new = text.bytes();
     let edits = edits_between(alloc, old, new)?;
-    if !respell(old, &edits, new) {
+    if !respell(alloc, old, &edits, new)? {
         return Ok(None);
     }
     let _ = like.file();

@@ -27,7 +27,7 @@ use Rattle.go_scanner.proofs.ContextLemmas.{stands_before}
 use Rattle.go_scanner.proofs.CutLemmas.{CutsUpTo-push}
 use Rattle.go_respelled.specs.Literals.{piece_at, shifted}
 use Rattle.go_respelled.proofs.Joining.{no_zero, put_in}
-use Rattle.law_rename.proofs.Replacing.{Opens, no_mark, opens, quote_small}
+use Rattle.go_respelled.proofs.Quotes.{Opens, no_mark, opens, quote_small}
 use Rattle.go_respelled.proofs.Seams.{EndAlikeAt, EndsAlike, MayReplace, all_end_alike, cut_kept, front_utf8, is_open}
 use Rattle.go_respelled.proofs.Leading.{stands_behind}
 use Rattle.go_respelled.proofs.Names.{behind_utf8, first_byte, no_name_mark, word_encoded}

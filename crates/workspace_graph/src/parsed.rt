@@ -36,8 +36,8 @@ fn faulty(path: &Path, text: &FileText, fault: TextFault) -> Result<ParsedFile, 
     Ok(ParsedFile::Faulty(file))
 }
 
-/// Parses a file. Where its text differs from that of `like` in names alone, its tokens are those of `like`, moved. Where the tokens are of
-/// the same kinds, both share their tree.
+/// Parses a file. Where its text differs from that of `like` in names and strings alone, its tokens are those of `like`, moved. Where the
+/// tokens are of the same kinds, both share their tree.
 fn read_like(
     alloc: Global,
     path: &Path,

@@ -1,6 +1,6 @@
 -- The token behind those moved so far is moved too.
-use Rattle.std.proofs.Common.{length, arith}
-use Rattle.go_respelled.proofs.Walked.{next_token, pushed, run_more}
+use Rattle.std.proofs.Common.{arith}
+use Rattle.go_respelled.proofs.Walked.{pushed, run_more}
 use Rattle.go_respelled.proofs.moved.move_run.Goals as goal
 
 pub loop-moved-preserved : goal.loop-moved-preserved

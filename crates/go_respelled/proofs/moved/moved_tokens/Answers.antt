@@ -1,7 +1,5 @@
 -- The answers to the goals of `moved::moved_tokens`.
-use Rattle.std.proofs.Common.{length, arith, ◌≤◌}
-use Rattle.go_respelled.specs.Replaced.{AreMoved, passed}
-use Rattle.go_respelled.proofs.Walked.{moved_all, moved_more, next_token, none_moved}
+use Rattle.go_respelled.proofs.Walked.{none_moved}
 use Rattle.go_respelled.proofs.moved.moved_tokens.Goals as goal
 
 pub loop-cursor-init : goal.loop-cursor-init

@@ -14,7 +14,7 @@ sharing_tree-requires c =
     let edits = c.in_ok-edits.edits.items in
     let new = c.bytes-new.result.now in
     let respell : Respell old edits new = subst (λ (o : CutText). Respell o edits new) c.pieces-old.ensures
-    (subst (λ (es : List Edit). Respell c.pieces-old.result.now es new) c.deref.ensures.value (c.respell.ensures c.if-not-respell.false)) in
+    (subst (λ (es : List Edit). Respell c.pieces-old.result.now es new) c.deref.ensures.value (c.in_ok-respell.ensures c.if-not-branch.false)) in
     let same : c.in_ok-pieces.pieces ≡ recut edits old =
     c.in_ok-pieces.ensures ∙ (λ i. recut (c.deref-2.ensures.value i) (c.pieces-old.ensures i)) in
     respelled_file c.in_ok-path.path (source_of c.args.like.now) edits new c.in_ok-pieces.pieces c.file.ensures.is_file respell same

@@ -1,0 +1,119 @@
+//! Whether edits replace names by names, and strings by strings.
+ghost use Rattle.std.specs.Prelude.{◌≡◌, ◌<◌, IfOk, IsTrue, length};
+ghost use Rattle.std.specs.List.{All};
+ghost use Rattle.go_scanner.specs.declared.piece.Class.TheVariants.{Name};
+ghost use Rattle.go_scanner.specs.CutText.{tokens_in};
+ghost use Rattle.go_scanner.specs.Pieces.{IsPiece};
+ghost use Rattle.go_ast.specs.Kinds.{kind_of_name};
+ghost use Rattle.go_respelled.specs.PieceEdits.{IsEncodedString, MayStandFor};
+ghost use Rattle.go_respelled.specs.Replaced.{ReplacesToken};
+
+use base_edits::Edit;
+use base_files::FileText;
+use go_scanner::{Class, Pieces, ScanRefusal, name_len, scan};
+use std::alloc::{AllocError, Global};
+
+/// Whether the bytes are a name, and no keyword.
+fn is_name(bytes: &[u8]) -> bool
+    ensures { IsTrue result → IsPiece Name bytes.now }
+{
+    match name_len(bytes) {
+        Some(size) => size == bytes.len(),
+        None => false,
+    }
+}
+
+/// Whether a text is one interpreted string, with nothing about it.
+fn is_one_string(pieces: &Pieces) -> bool
+    ensures { IsTrue result → IsEncodedString pieces.now.text }
+{
+    let tokens = pieces.tokens();
+    if tokens.is_empty() {
+        return false;
+    }
+    let token = tokens[0];
+    let _ = pieces.text(0);
+    match token.class {
+        Class::InterpretedString => {
+            token.span.start == 0 && token.span.end == pieces.file().bytes().len()
+        }
+        _ => false,
+    }
+}
+
+/// Whether a text is one interpreted string by itself.
+fn is_encoded_string(alloc: Global, text: &FileText) -> Result<bool, AllocError>
+    ensures { IfOk result (λ is. IsTrue is → IsEncodedString text.now) }
+{
+    match scan(alloc, text) {
+        Ok(pieces) => Ok(is_one_string(&pieces)),
+        Err(ScanRefusal::Fault(_)) => Ok(false),
+        Err(ScanRefusal::Memory) => Err(AllocError),
+    }
+}
+
+/// Whether a text may take the place of a token of this class. Only names and interpreted strings are replaced.
+fn may_stand_for(alloc: Global, class: Class, text: &FileText) -> Result<bool, AllocError>
+    ensures { IfOk result (λ may. IsTrue may → MayStandFor class text.now) }
+{
+    match class {
+        Class::Name => Ok(is_name(text.bytes())),
+        Class::InterpretedString => is_encoded_string(alloc, text),
+        _ => Ok(false),
+    }
+}
+
+/// Whether two texts of tokens are both `_`, or neither is.
+fn have_same_kind(one: &[u8], other: &[u8]) -> bool
+    ensures { IsTrue result → kind_of_name one.now ≡ kind_of_name other.now }
+{
+    (one == b"_".as_slice()) == (other == b"_".as_slice())
+}
+
+/// Whether an edit replaces the token of this number by bytes that may take its place. Both must be `_`, or neither.
+fn replaces_token(
+    alloc: Global,
+    old: &Pieces,
+    number: usize,
+    edit: &Edit,
+) -> Result<bool, AllocError>
+    requires { number < length (tokens_in old.now) }
+    ensures { IfOk result (λ replaces. IsTrue replaces → ReplacesToken old.now edit.now) }
+{
+    let token = old.tokens()[number];
+    if token.span.start != edit.span.start || token.span.end != edit.span.end {
+        return Ok(false);
+    }
+    if !have_same_kind(edit.text.bytes(), old.text(number)) {
+        return Ok(false);
+    }
+    may_stand_for(alloc, token.class, &edit.text)
+}
+
+/// Whether an edit replaces a token by bytes that may take its place. The token is found by binary search.
+fn replaces(alloc: Global, old: &Pieces, edit: &Edit) -> Result<bool, AllocError>
+    ensures { IfOk result (λ replaces. IsTrue replaces → ReplacesToken old.now edit.now) }
+{
+    let start = edit.span.start;
+    let tokens = old.tokens();
+    match tokens.binary_search_by(|token| token.span.start.cmp(&start)) {
+        Ok(number) => replaces_token(alloc, old, number, edit),
+        Err(_) => Ok(false),
+    }
+}
+
+/// Whether each edit replaces a token by bytes that may take its place.
+pub(crate) fn replace_tokens(
+    alloc: Global,
+    old: &Pieces,
+    edits: &[Edit],
+) -> Result<bool, AllocError>
+    ensures { IfOk result (λ all. IsTrue all → All (ReplacesToken old.now) edits.now) }
+{
+    for edit in edits {
+        if !replaces(alloc, old, edit)? {
+            return Ok(false);
+        }
+    }
+    Ok(true)
+}
