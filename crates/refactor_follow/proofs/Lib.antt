@@ -3,3 +3,6 @@ pub mod Paths
 pub mod Joining
 pub mod Steps
 pub mod Whole
+pub mod MarkedRows
+pub mod PlainTokens
+pub mod Readings

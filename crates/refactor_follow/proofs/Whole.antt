@@ -16,11 +16,11 @@ use Rattle.workspace_check.proofs.Closed.{to_package}
 use Rattle.refs_binding.specs.Uses.{IsCheckedPackage}
 use Rattle.refs_binding.proofs.Units.{numbered}
 use Rattle.refactor_conflict.specs.declared.conflict.Conflict.{Conflict}
+use Rattle.refactor_conflict.specs.Conflicts.{IsFirstConflict}
 use Rattle.refactor_move.specs.Following.{Follows, IsFollowingName}
 use Rattle.refactor_move.specs.Paths.{last_of}
 use Rattle.refactor_move.specs.declared.moved.Moved.{Moved}
 use Rattle.law_renamed_scopes.proofs.GoodImports.{imports_are_good}
-use Rattle.law_rename_agrees.specs.ConflictsByTables.{TellsFirstOf}
 use Rattle.law_scope_conflicts.specs.ScopeConflicts.{HasNoOwnConflict, IsOwnConflict}
 use Rattle.law_moved_packages.specs.Moves.{IsMove}
 use Rattle.law_moved_scopes.specs.MoveConflicts.{IsFreeOfMove, IsMoveConflict, TellsFirstImportConflict}
@@ -77,7 +77,7 @@ module _ (w : Workspace) (known : Verdicts) (from called : List ℕ) where
   abbrev Follow : Type 0
   Follow = Follows (IsCheckedPackage w known) from called
 
-  name_none : (o : Option (List ℕ)) → IsFollowingName (IsCheckedPackage w known) from called o → (Follow → ⊥) → o ≡ None
+  pub name_none : (o : Option (List ℕ)) → IsFollowingName (IsCheckedPackage w known) from called o → (Follow → ⊥) → o ≡ None
   name_none None h not = refl
   name_none (Some n) h not = absurd (not h.0)
 
@@ -139,7 +139,7 @@ module _ (w : Workspace) (known : Verdicts) (from called : List ℕ) where
         (free p is d (import_within w known from to s h p is d follows.imports.is_import) (to_gets p is d follows)))
         told k
 
-    told_of_move : (told : Option Conflict) → IsFirstOfName w known from name told → TellsFirstOf w known (revision_of w s) told
+    told_of_move : (told : Option Conflict) → IsFirstOfName w known from name told → IsFirstConflict w known (revision_of w s) told
     told_of_move told k = first w known from to s h told (first_of_move told k)
 
   pub follows : (name : List ℕ) → Follow → name ≡ last_of called → (told : Option Conflict) → IsFirstOfName w known from name told →

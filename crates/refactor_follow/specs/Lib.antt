@@ -2,3 +2,5 @@
 pub mod ImportNames
 pub mod FirstConflicts
 pub mod MoveConflicts
+pub mod PlainPackages
+pub mod MoveReadings

@@ -7,7 +7,7 @@ use Rattle.types_declared.specs.Package.{Package}
 use Rattle.workspace_check.specs.Verdicts.{Verdicts}
 use Rattle.refs_binding.specs.Uses.{IsCheckedPackage}
 use Rattle.refactor_conflict.specs.declared.conflict.Conflict.{Conflict}
-use Rattle.law_rename_agrees.specs.ConflictsByTables.{TellsFirstOf}
+use Rattle.refactor_conflict.specs.Conflicts.{IsFirstConflict}
 use Rattle.law_scope_conflicts.specs.ScopeConflicts.{IsFirstBy}
 use Rattle.law_moved_packages.specs.Moves.{IsMove}
 use Rattle.refactor_follow.specs.FirstConflicts.{IsConflictBelow, IsFreeBelow}
@@ -21,4 +21,4 @@ IsFirstOfName w known path name told =
 -- The first conflict of each move of the package `from`, wherever it goes, in which its name follows the path `called`.
 abbrev pub TellsMoveConflict : Workspace → Verdicts → (from called : List ℕ) → Option Conflict → Type 0
 TellsMoveConflict w known from called told = (to : List ℕ) (s : FileChanges) → (h : IsMove w known from to s) → h.called ≡ called →
-    TellsFirstOf w known (revision_of w s) told
+    IsFirstConflict w known (revision_of w s) told

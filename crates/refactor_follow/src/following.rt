@@ -1,15 +1,15 @@
-//! The first conflict of a move.
-ghost use Rattle.std.specs.Prelude.{◌<◌, length, IfOk};
+//! What a move needs of the workspace before it.
+ghost use Rattle.std.specs.Prelude.{◌≡◌, ◌<◌, [], None, length, IfOk};
 ghost use Rattle.base_files.specs.Packages.{package_paths};
 ghost use Rattle.workspace_graph.specs.Graphs.{ListsPackages, OfPackage};
 ghost use Rattle.workspace_graph.specs.Packages.{PackageImports};
 ghost use Rattle.refs_binding.specs.Workspaces.{known_in};
 ghost use Rattle.refactor_follow.specs.MoveConflicts.{IsFirstOfName, TellsMoveConflict};
+ghost use Rattle.refactor_follow.specs.MoveReadings.{KnowsMoveUses, MarksEverywhere};
 
 use crate::imports::FollowedName;
-use crate::packages::first_among;
+use crate::packages::{MoveReading, read_among};
 use base_files::Path;
-use refactor_conflict::Conflict;
 use refactor_move::name_after;
 use refs_binding::FaultlessWorkspace;
 use std::alloc::{AllocError, Global};
@@ -22,40 +22,54 @@ fn importers<'a>(workspace: &'a FaultlessWorkspace<'_>, number: usize) -> &'a [u
     workspace.graph.importers(number)
 }
 
-/// The first conflict of the renames of the imports, without a name, of the package whose name changes.
-fn first_of_name(
-    alloc: Global,
-    workspace: &FaultlessWorkspace<'_>,
-    new: FollowedName<'_>,
-) -> Result<Option<Conflict>, AllocError>
-    ensures { IfOk result (IsFirstOfName workspace.now.graph (known_in workspace.now.findings) new.entry.path.now new.entry.name.now) }
+/// A reading without conflicts and marks.
+fn nothing_read(alloc: Global) -> MoveReading
+    ensures conflict { result.conflict ≡ None }
+    ensures uses { result.uses.items ≡ [] }
 {
-    workspace.has_no_faults();
-    match workspace.number_of(new.path) {
-        None => Ok(None),
-        Some(number) => first_among(alloc, workspace, importers(workspace, number), new),
+    MoveReading {
+        conflict: None,
+        uses: Vec::new(alloc),
     }
 }
 
-/// The first conflict of the move of the package `from`, or none. Its new name is the one that it has at the path `called`, if its name
-/// follows its path. To which path it moves does not matter.
-pub fn move_conflict(
+/// Reads the packages that import the one whose name changes.
+fn read_name(
+    alloc: Global,
+    workspace: &FaultlessWorkspace<'_>,
+    new: FollowedName<'_>,
+) -> Result<MoveReading, AllocError>
+    ensures conflict { IfOk result (λ r. IsFirstOfName workspace.now.graph (known_in workspace.now.findings) new.entry.path.now new.entry.name.now r.conflict) }
+    ensures uses { IfOk result (λ r. MarksEverywhere workspace.now.graph (known_in workspace.now.findings) new.entry.path.now r.uses.items) }
+{
+    workspace.has_no_faults();
+    match workspace.number_of(new.path) {
+        None => Ok(nothing_read(alloc)),
+        Some(number) => read_among(alloc, workspace, importers(workspace, number), new),
+    }
+}
+
+/// Reads what the move of the package `from` needs of the packages that import it: its first conflict, or none, and the names that get the
+/// new name of the package. This is the one that it has at the path `called`, if its name follows its path. To which path it moves does not
+/// matter.
+pub fn read_move(
     alloc: Global,
     workspace: &FaultlessWorkspace<'_>,
     from: &Path,
     called: &Path,
-) -> Result<Option<Conflict>, AllocError>
-    ensures { IfOk result (TellsMoveConflict workspace.now.graph (known_in workspace.now.findings) from.now called.now) }
+) -> Result<MoveReading, AllocError>
+    ensures conflict { IfOk result (λ r. TellsMoveConflict workspace.now.graph (known_in workspace.now.findings) from.now called.now r.conflict) }
+    ensures uses { IfOk result (λ r. KnowsMoveUses workspace.now.graph (known_in workspace.now.findings) from.now called.now r.uses.items) }
 {
     let named = name_after(alloc, workspace, from, called)?;
     match named {
-        None => Ok(None),
+        None => Ok(nothing_read(alloc)),
         Some(name) => {
             let new = FollowedName {
                 path: from.as_str().as_bytes(),
                 name: name.bytes(),
             };
-            first_of_name(alloc, workspace, new)
+            read_name(alloc, workspace, new)
         }
     }
 }

@@ -1,6 +1,7 @@
 -- The edits of a file, token by token. Q: the edits of each token.
-use Rattle.std.proofs.Common.{◌≡◌, ℕ, ◌<◌, ◌≤◌, ◌+◌, inl, inr, List, [], ◌++◌, length, drop, get_or, Global, refl, sym, ap, subst, ◌∙◌, arith}
-use Rattle.std.specs.Prelude.{Option, Some, None, Vec, Contains, MatchOption, slice_get}
+use Rattle.std.proofs.Common.{◌≡◌, ℕ, ◌<◌, ◌≤◌, ◌+◌, inl, inr, List, [], ◌∷◌, ◌++◌, length, drop, get_or, Global, refl, sym, ap, subst, ◌∙◌, arith}
+use Rattle.std.specs.Prelude.{Bool, Option, Some, None, Vec, Contains, MatchOption, slice_get}
+use Rattle.std.specs.Global.{Vec as Row}
 use Rattle.std.proofs.lemmas.List.{append-nil}
 use Rattle.std.proofs.lemmas.Option.{same_Some, slice_get_within, get_or_from_slice_get}
 use Rattle.base_files.specs.declared.place.Span.{Span}
@@ -25,6 +26,7 @@ use Rattle.refactor_move.specs.declared.moved.Moved.{Moved}
 use Rattle.refactor_move.specs.Paths.{quoted, HasMovedPackage}
 use Rattle.refactor_move.specs.FileEdits.{ReplacesPath, ReplacesPackageName, IsMoveEditAt, AreFileMoveEdits}
 use Rattle.refactor_move.specs.Steps.{IsNewLiteral, edits_with}
+use Rattle.refactor_move.specs.Uses.{AreMarkedEdits, IsMarkedEditAt, IsRenamedToken, MarksUses, ReplacesMarkedName, mark_at}
 use Rattle.refactor_move.proofs.PathParts.{one_moved_package}
 
 -- one edit of each kind
@@ -95,6 +97,21 @@ path_adds f m i t (Some text) at import h a b e =
     let is : ReplacesPath f m i (edit_to t text) = path_edit f m i t text (Some text) at import refl h in
     all_one a b (edit_to t text) (ReplacesPath f m i) e is (λ d k. one_path f m i (edit_to t text) d is k)
 
+-- a name that is replaced
+
+one_name : (path : List ℕ) (rank : ℕ) (f : SourceFile) (m : Moved) (rows : List (Row Bool)) (i : ℕ) (t : Piece) (name : List ℕ) →
+    slice_get (tokens_in f.cut) i ≡ Some t → m.name ≡ Some name → (d : Edit) → ReplacesMarkedName path rank f m rows i d → edit_to t name ≡ d
+one_name path rank f m rows i t name at follows d k =
+    same_edit t k.token name k.name (same_Some t k.token (sym at ∙ k.at)) (same_Some name k.name (sym follows ∙ k.follows)) ∙ sym k.is_edit
+
+pub name_adds : (path : List ℕ) (rank : ℕ) (f : SourceFile) (m : Moved) (rows : List (Row Bool)) (i : ℕ) (t : Piece) (name : List ℕ) →
+    slice_get (tokens_in f.cut) i ≡ Some t → t.class ≡ Name → IsRenamedToken path rank f m rows i → m.name ≡ Some name → (a b : List Edit) →
+    b ≡ a ++ edit_to t name ∷ [] → AddsAll a b (ReplacesMarkedName path rank f m rows i)
+name_adds path rank f m rows i t name at is_name names follows a b e =
+    let is : ReplacesMarkedName path rank f m rows i (edit_to t name) =
+    record { token = t; at = at; is_name = is_name; names = names; name = name; follows = follows; is_edit = refl } in
+    all_one a b (edit_to t name) (ReplacesMarkedName path rank f m rows i) e is (one_name path rank f m rows i t name at follows)
+
 -- a token is of one class
 
 no_string : (c : Class) → c ≡ Name → IsStringClass c → ⊥
@@ -107,9 +124,10 @@ no_path_at_name f m i token e at name h =
     let here : token_at f.cut i ≡ token = get_or_from_slice_get (tokens_in f.cut) i token _ at in
     no_string token.class name (subst (λ (t : Piece). IsStringClass t.class) here h.stands_for.is_string)
 
-pub names_are_edits : (p : Package) (rank : ℕ) (f : SourceFile) (m : Moved) (i : ℕ) (a b : List Edit) → ((e : Edit) → ReplacesPath f m i e → ⊥) →
-    AddsAll a b (ReplacesPackageName p rank f m i) → AddsAll a b (IsMoveEditAt p rank f m i)
-names_are_edits p rank f m i a b never h = all_as a b (ReplacesPackageName p rank f m i) (IsMoveEditAt p rank f m i) (λ e n. inr n)
+pub names_are_edits : (path : List ℕ) (rank : ℕ) (f : SourceFile) (m : Moved) (rows : List (Row Bool)) (i : ℕ) (a b : List Edit) →
+    ((e : Edit) → ReplacesPath f m i e → ⊥) → AddsAll a b (ReplacesMarkedName path rank f m rows i) → AddsAll a b (IsMarkedEditAt path rank f m rows i)
+names_are_edits path rank f m rows i a b never h =
+    all_as a b (ReplacesMarkedName path rank f m rows i) (IsMarkedEditAt path rank f m rows i) (λ e n. inr n)
     (λ e x. elim x [ inl path ↦ absurd (never e path) | inr n ↦ n ]) h
 
 -- the tokens so far
@@ -133,19 +151,60 @@ going_next Q f ts i d old new lt h ends added =
 
 -- all tokens
 
-within_tokens : (p : Package) (rank : ℕ) (f : SourceFile) (m : Moved) (i : ℕ) (e : Edit) → IsMoveEditAt p rank f m i e → i < length (tokens_in f.cut)
-within_tokens p rank f m i e (inl h) = slice_get_within (tokens_in f.cut) i h.token h.at
-within_tokens p rank f m i e (inr h) = slice_get_within (tokens_in f.cut) i h.token h.at
+within_tokens : (path : List ℕ) (rank : ℕ) (f : SourceFile) (m : Moved) (rows : List (Row Bool)) (i : ℕ) (e : Edit) → IsMarkedEditAt path rank f m rows i e →
+    i < length (tokens_in f.cut)
+within_tokens path rank f m rows i e (inl h) = slice_get_within (tokens_in f.cut) i h.token h.at
+within_tokens path rank f m rows i e (inr h) = slice_get_within (tokens_in f.cut) i h.token h.at
 
-pub all_edits : (p : Package) (rank : ℕ) (f : SourceFile) (m : Moved) (ts : List Piece) (edits : List Edit) (n : ℕ) → ts ≡ tokens_in f.cut → n ≡ length ts →
-    Going (IsMoveEditAt p rank f m) f ts n edits → AreFileMoveEdits p rank f m edits
-all_edits p rank f m ts edits n e all h = record {
+pub all_edits : (path : List ℕ) (rank : ℕ) (f : SourceFile) (m : Moved) (rows : List (Row Bool)) (ts : List Piece) (edits : List Edit) (n : ℕ) →
+    ts ≡ tokens_in f.cut → n ≡ length ts → Going (IsMarkedEditAt path rank f m rows) f ts n edits → AreMarkedEdits path rank f m rows edits
+all_edits path rank f m rows ts edits n e all h = record {
   end_by = end_more edits h.at (length f.cut.text) (at_end h.at (length f.cut.text) (drop n ts) h.follow) h.end_by;
   each = λ d. (
     (λ has. elim (h.adds.only d has) [
       | inl none ↦ let lt : none.0 < 0 = none.1 in let z : ⊥ = omega arith in absurd z
       | inr x ↦ (x.0, x.2)
     ]),
-    (λ x. h.adds.holds d (x.0, (let lt = within_tokens p rank f m x.0 d x.1 in omega (arith, all, ap length e)), x.1)),
+    (λ x. h.adds.holds d (x.0, (let lt = within_tokens path rank f m rows x.0 d x.1 in omega (arith, all, ap length e)), x.1)),
   );
 }
+
+-- the edits by right marks are those of the move
+
+module _ (p : Package) (path : List ℕ) (same : p.path ≡ path) (rank : ℕ) (f : SourceFile) (file : slice_get p.files rank ≡ Some f) (m : Moved)
+    (rows : List (Row Bool)) (marks : MarksUses p m rows) where
+  by_mark : (i : ℕ) (e : Edit) → IsMarkedEditAt path rank f m rows i e → IsMoveEditAt p rank f m i e
+  by_mark i e (inl h) = inl h
+  by_mark i e (inr h) = inr (record {
+    token = h.token;
+    at = h.at;
+    is_name = h.is_name;
+    names = elim h.names [ inl clause ↦ inl (same ∙ clause.0, clause.1) | inr marked ↦ inr (marks.only rank i marked) ];
+    name = h.name;
+    follows = h.follows;
+    is_edit = h.is_edit;
+  })
+
+  to_mark : (i : ℕ) (e : Edit) → IsMoveEditAt p rank f m i e → IsMarkedEditAt path rank f m rows i e
+  to_mark i e (inl h) = inl h
+  to_mark i e (inr h) = inr (record {
+    token = h.token;
+    at = h.at;
+    is_name = h.is_name;
+    names = elim h.names [
+      | inl clause ↦ inl (sym same ∙ clause.0, clause.1)
+      | inr bound ↦ inr (marks.all h.name h.follows rank i (record { source = f; of_rank = file; piece = h.token; at = h.at; is_name = h.is_name }) bound)
+    ];
+    name = h.name;
+    follows = h.follows;
+    is_edit = h.is_edit;
+  })
+
+  pub marked_edits : (edits : List Edit) → AreMarkedEdits path rank f m rows edits → AreFileMoveEdits p rank f m edits
+  marked_edits edits h = record {
+    end_by = h.end_by;
+    each = λ e. (
+      (λ has. let x = (h.each e).0 has in (x.0, by_mark x.0 e x.1)),
+      (λ x. (h.each e).1 (x.0, to_mark x.0 e x.1)),
+    );
+  }

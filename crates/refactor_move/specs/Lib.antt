@@ -4,5 +4,6 @@ pub mod FileEdits
 pub mod Changes
 pub mod MoveEdits
 pub mod Steps
+pub mod Uses
 pub mod Paths
 pub mod PathSteps

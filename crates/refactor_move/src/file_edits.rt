@@ -4,11 +4,11 @@ ghost use Rattle.go_scanner.specs.declared.piece.Class.TheVariants.{Name};
 ghost use Rattle.go_scanner.specs.CutText.{tokens_in};
 ghost use Rattle.go_ast.specs.SourceFile.{source_of};
 ghost use Rattle.workspace_graph.specs.FileImports.{import_literals};
-ghost use Rattle.types_declared.specs.PackageView.{package_of, IsIndexOf};
 ghost use Rattle.refs_binding.specs.Bindings.{AddsAll};
 ghost use Rattle.refactor_rename.specs.FileEdits.{EndBy};
-ghost use Rattle.refactor_move.specs.FileEdits.{ReplacesPath, ReplacesPackageName, IsMoveEditAt, AreFileMoveEdits};
+ghost use Rattle.refactor_move.specs.FileEdits.{ReplacesPath};
 ghost use Rattle.refactor_move.specs.Steps.{edits_with};
+ghost use Rattle.refactor_move.specs.Uses.{AreMarkedEdits, IsMarkedEditAt, ReplacesMarkedName};
 
 use crate::literals::new_literal;
 use crate::marks::import_marks;
@@ -19,7 +19,7 @@ use base_files::{FileText, Span};
 use go_ast::FileTree;
 use go_scanner::{Class, Piece};
 use std::alloc::{AllocError, Global};
-use types_declared::{Index, Package};
+use types_expr::symbol::SharedPath;
 
 /// Appends the edit that replaces a span by a text, if there is one.
 fn push_some(edits: &mut Vec<Edit>, span: Span, text: Option<FileText>) -> Result<(), AllocError>
@@ -54,14 +54,15 @@ fn add_path(
     push_some(edits, token.span, text)
 }
 
-/// A file of a package, with the index of the package's identifiers and the move.
+/// A file of the package of a path, with the marks of the names that refer to the package that moves, and the move. `rank`: that of the
+/// file in its package.
 #[derive(Clone, Copy)]
-struct MovedFile<'a> {
-    unit: Package<'a>,
-    index: &'a Index<'a>,
-    file: &'a FileTree,
-    rank: usize,
-    moved: &'a Moved,
+pub(crate) struct MovedFile<'a> {
+    pub(crate) path: &'a SharedPath,
+    pub(crate) file: &'a FileTree,
+    pub(crate) rank: usize,
+    pub(crate) moved: &'a Moved,
+    pub(crate) rows: &'a [Vec<bool>],
 }
 
 /// Appends the replacement of a name by the new name of the package that moves, if it refers to this package.
@@ -71,16 +72,15 @@ fn add_name(
     number: usize,
     token: Piece,
 ) -> Result<(), AllocError>
-    requires index { IsIndexOf (package_of of.now.unit) of.now.index.now }
     requires at { slice_get (tokens_in (source_of of.now.file.now).cut) number ≡ Some token }
     requires is_name { token.class ≡ Name }
     requires span { token.span.start ≤ token.span.end }
     requires order { EndBy edits.old.items token.span.start }
     ensures order { OnOk result (EndBy edits.new.items token.span.end) }
-    ensures adds { OnOk result (AddsAll edits.old.items edits.new.items (ReplacesPackageName (package_of of.now.unit) of.now.rank (source_of of.now.file.now) of.now.moved.now number)) }
+    ensures adds { OnOk result (AddsAll edits.old.items edits.new.items (ReplacesMarkedName of.now.path.now of.now.rank (source_of of.now.file.now) of.now.moved.now of.now.rows.now number)) }
 {
     if let Some(name) = &of.moved.name {
-        if is_package_name(of.unit, of.index, of.file, of.rank, of.moved, number) {
+        if is_package_name(of, number) {
             edits.push(Edit {
                 span: token.span,
                 text: name.clone()?,
@@ -99,13 +99,12 @@ fn add_edit(
     token: Piece,
     is_import: bool,
 ) -> Result<(), AllocError>
-    requires index { IsIndexOf (package_of of.now.unit) of.now.index.now }
     requires at { slice_get (tokens_in (source_of of.now.file.now).cut) number ≡ Some token }
     requires is_import { IsTrue is_import ↔ Contains (import_literals (source_of of.now.file.now).tree) number }
     requires span { token.span.start ≤ token.span.end }
     requires order { EndBy edits.old.items token.span.start }
     ensures order { OnOk result (EndBy edits.new.items token.span.end) }
-    ensures adds { OnOk result (AddsAll edits.old.items edits.new.items (IsMoveEditAt (package_of of.now.unit) of.now.rank (source_of of.now.file.now) of.now.moved.now number)) }
+    ensures adds { OnOk result (AddsAll edits.old.items edits.new.items (IsMarkedEditAt of.now.path.now of.now.rank (source_of of.now.file.now) of.now.moved.now of.now.rows.now number)) }
 {
     if token.class == Class::Name {
         add_name(edits, of, number, token)
@@ -117,36 +116,15 @@ fn add_edit(
 }
 
 /// The edits of a move in a file, in the order of its tokens.
-pub(crate) fn edits_of(
-    alloc: Global,
-    unit: Package<'_>,
-    index: &Index<'_>,
-    file: &FileTree,
-    rank: usize,
-    moved: &Moved,
-) -> Result<Vec<Edit>, AllocError>
-    requires { IsIndexOf (package_of unit) index.now }
-    ensures { IfOk result (λ edits. AreFileMoveEdits (package_of unit.entry) rank (source_of file.now) moved.now edits.items) }
+pub(crate) fn edits_of(alloc: Global, of: &MovedFile<'_>) -> Result<Vec<Edit>, AllocError>
+    ensures { IfOk result (λ edits. AreMarkedEdits of.now.path.now of.now.rank (source_of of.now.file.now) of.now.moved.now of.now.rows.now edits.items) }
 {
+    let file = of.file;
     let marks = import_marks(alloc, file)?;
     let tokens = file.pieces().tokens();
-    let of = MovedFile {
-        unit,
-        index,
-        file,
-        rank,
-        moved,
-    };
     let mut edits = Vec::new(alloc);
     for number in 0..tokens.len() {
-        add_edit(
-            alloc,
-            &mut edits,
-            &of,
-            number,
-            tokens[number],
-            marks[number],
-        )?;
+        add_edit(alloc, &mut edits, of, number, tokens[number], marks[number])?;
     }
     Ok(edits)
 }

@@ -1,24 +1,39 @@
 //! The edits of a move in all Go files, by path.
-ghost use Rattle.std.specs.Prelude.{◌<◌, ◌+◌, Some, length, map, IfOk, OnOk};
+ghost use Rattle.std.specs.Prelude.{◌≡◌, ◌<◌, ◌+◌, Some, length, map, IfOk, OnOk};
 ghost use Rattle.std.specs.BTreeMap.{Updates};
 ghost use Rattle.base_files.specs.Packages.{package_paths};
 ghost use Rattle.base_files.specs.Workspace.{path_cmp};
 ghost use Rattle.go_ast.specs.SourceFile.{source_of};
-ghost use Rattle.types_declared.specs.PackageView.{package_of, IsIndexOf};
+ghost use Rattle.types_declared.specs.Package.{Package};
 ghost use Rattle.refs_binding.specs.Workspaces.{known_in};
-ghost use Rattle.refactor_move.specs.FileEdits.{AreFileMoveEdits};
 ghost use Rattle.refactor_move.specs.Steps.{AddsEdits, AreEditsIn, HasFileIn, IsFileAt, AreEditsAt, KnowsEdits};
+ghost use Rattle.refactor_move.specs.Uses.{AreMarkedEdits, IsPackageOfMove, KnowsUses, rows_at};
 
-use crate::file_edits::edits_of;
+use crate::file_edits::{MovedFile, edits_of};
 use crate::moved::Moved;
 use base_edits::Edits;
 use base_files::Path;
 use go_ast::FileTree;
-use refs_binding::indexed::Numbered;
-use refs_binding::{FaultlessWorkspace, PackageReader};
+use refs_binding::{FaultlessWorkspace, path_of, trees};
 use std::alloc::{AllocError, Global};
 use std::collections::BTreeMap;
-use types_declared::{Index, Package};
+use types_expr::symbol::SharedPath;
+
+/// The path and the files of a package, with the marks of the names that refer to the package that moves, and the move.
+#[derive(Clone, Copy)]
+pub(crate) struct MovedPackage<'a> {
+    pub(crate) path: &'a SharedPath,
+    pub(crate) files: &'a [FileTree],
+    pub(crate) moved: &'a Moved,
+    pub(crate) rows: &'a [Vec<bool>],
+}
+
+/// A move, with the marks of the names that refer to the package that moves, by package.
+#[derive(Clone, Copy)]
+pub(crate) struct MarkedMove<'a> {
+    pub(crate) moved: &'a Moved,
+    pub(crate) uses: &'a [Vec<Vec<bool>>],
+}
 
 /// Adds the edits of a file.
 fn insert(
@@ -33,37 +48,38 @@ fn insert(
     Ok(())
 }
 
-/// The edits of a file of a package.
+/// The edits of the file of a rank in a package.
 fn edits_in(
     alloc: Global,
-    unit: Package<'_>,
-    index: &Index<'_>,
+    of: &MovedPackage<'_>,
     file: &FileTree,
     rank: usize,
-    moved: &Moved,
 ) -> Result<Edits, AllocError>
-    requires { IsIndexOf (package_of unit) index.now }
-    ensures { IfOk result (AreFileMoveEdits (package_of unit.entry) rank (source_of file.now) moved.now) }
+    ensures { IfOk result (AreMarkedEdits of.now.path.now rank (source_of file.now) of.now.moved.now of.now.rows.now) }
 {
-    Ok(Edits::new(edits_of(alloc, unit, index, file, rank, moved)?))
+    let of = MovedFile {
+        path: of.path,
+        file,
+        rank,
+        moved: of.moved,
+        rows: of.rows,
+    };
+    Ok(Edits::new(edits_of(alloc, &of)?))
 }
 
-/// Adds the edits of a file of a package.
+/// Adds the edits of the file of a rank in a package.
 fn add_file(
     alloc: Global,
     edits: &mut BTreeMap<Path, Edits>,
-    unit: Package<'_>,
-    index: &Index<'_>,
+    of: &MovedPackage<'_>,
     rank: usize,
-    moved: &Moved,
 ) -> Result<(), AllocError>
-    requires index { IsIndexOf (package_of unit) index.now }
-    requires in_range { rank < length unit.files.now }
-    ensures { OnOk result (AddsEdits edits.old edits.new (AreEditsAt (package_of unit.entry) moved.now rank) (IsFileAt (package_of unit.entry) rank)) }
+    requires { rank < length of.now.files.now }
+    ensures { OnOk result ((p : Package) → IsPackageOfMove p of.now → AddsEdits edits.old edits.new (AreEditsAt p of.now.moved.now rank) (IsFileAt p rank)) }
 {
-    let files = unit.files;
+    let files = of.files;
     let file = &files[rank];
-    let found = edits_in(alloc, unit, index, file, rank, moved)?;
+    let found = edits_in(alloc, of, file, rank)?;
     insert(edits, file, found)
 }
 
@@ -71,16 +87,24 @@ fn add_file(
 fn add_files(
     alloc: Global,
     edits: &mut BTreeMap<Path, Edits>,
-    unit: Package<'_>,
-    moved: &Moved,
+    of: &MovedPackage<'_>,
 ) -> Result<(), AllocError>
-    ensures { OnOk result (AddsEdits edits.old edits.new (AreEditsIn (package_of unit.entry) moved.now) (HasFileIn (package_of unit.entry))) }
+    ensures { OnOk result ((p : Package) → IsPackageOfMove p of.now → AddsEdits edits.old edits.new (AreEditsIn p of.now.moved.now) (HasFileIn p)) }
 {
-    let index = Index::of(alloc, unit)?;
-    for rank in 0..unit.files.len() {
-        add_file(alloc, edits, unit, &index, rank, moved)?;
+    for rank in 0..of.files.len() {
+        add_file(alloc, edits, of, rank)?;
     }
     Ok(())
+}
+
+/// The marks of the package of a number. Where there are none for it, no token is marked.
+fn rows_of(uses: &[Vec<Vec<bool>>], number: usize) -> &[Vec<bool>]
+    ensures { result.now ≡ rows_at uses.now number }
+{
+    match uses.get(number) {
+        None => &[],
+        Some(rows) => rows.as_slice(),
+    }
 }
 
 /// Adds the edits of the files of the package of a number.
@@ -89,28 +113,35 @@ fn add_package(
     edits: &mut BTreeMap<Path, Edits>,
     workspace: &FaultlessWorkspace<'_>,
     number: usize,
-    moved: &Moved,
+    of: &MarkedMove<'_>,
 ) -> Result<(), AllocError>
-    requires { number < length (package_paths workspace.now.graph) }
-    ensures { OnOk result (KnowsEdits workspace.now.graph (known_in workspace.now.findings) moved.now number edits.old → KnowsEdits workspace.now.graph (known_in workspace.now.findings) moved.now (number + 1) edits.new) }
+    requires in_range { number < length (package_paths workspace.now.graph) }
+    requires uses { KnowsUses workspace.now.graph (known_in workspace.now.findings) of.now.moved.now of.now.uses.now }
+    ensures { OnOk result (KnowsEdits workspace.now.graph (known_in workspace.now.findings) of.now.moved.now number edits.old →
+        KnowsEdits workspace.now.graph (known_in workspace.now.findings) of.now.moved.now (number + 1) edits.new) }
 {
-    let at = Numbered { workspace, number };
-    let reader = PackageReader::of(alloc, at)?;
-    let table = reader.table(alloc)?;
-    add_files(alloc, edits, reader.unit(&table), moved)
+    workspace.has_no_faults();
+    let package = MovedPackage {
+        path: path_of(workspace, number),
+        files: trees(workspace, number),
+        moved: of.moved,
+        rows: rows_of(of.uses, number),
+    };
+    add_files(alloc, edits, &package)
 }
 
 /// The edits of all Go files of a workspace without faults.
 pub(crate) fn all_edits(
     alloc: Global,
     workspace: &FaultlessWorkspace<'_>,
-    moved: &Moved,
+    of: &MarkedMove<'_>,
 ) -> Result<BTreeMap<Path, Edits>, AllocError>
-    ensures { IfOk result (KnowsEdits workspace.now.graph (known_in workspace.now.findings) moved.now (length (package_paths workspace.now.graph))) }
+    requires { KnowsUses workspace.now.graph (known_in workspace.now.findings) of.now.moved.now of.now.uses.now }
+    ensures { IfOk result (KnowsEdits workspace.now.graph (known_in workspace.now.findings) of.now.moved.now (length (package_paths workspace.now.graph))) }
 {
     let mut edits = BTreeMap::new(alloc);
     for number in 0..workspace.len() {
-        add_package(alloc, &mut edits, workspace, number, moved)?;
+        add_package(alloc, &mut edits, workspace, number, of)?;
     }
     Ok(edits)
 }

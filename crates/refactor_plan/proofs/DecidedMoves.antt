@@ -20,7 +20,7 @@ use Rattle.refactor_move.specs.MoveEdits.{AreMoveEdits}
 use Rattle.refactor_preserve.specs.Preserved.{Preserves}
 use Rattle.refactor_conflict.specs.declared.conflict.Conflict.{Conflict}
 use Rattle.refactor_conflict.specs.ConflictRefusal.{refusal_for}
-use Rattle.law_rename_agrees.specs.ConflictsByTables.{TellsFirstOf}
+use Rattle.refactor_conflict.specs.Conflicts.{IsFirstConflict}
 use Rattle.law_moved_packages.specs.Moves.{IsMove}
 use Rattle.law_moved_verdicts.specs.MovedFindings.{AllKnownMove}
 use Rattle.law_moved_verdicts.specs.MovedVerdicts.{FreeTargetsSwap, PackagesStayBound, SameTargetsSwap}
@@ -83,26 +83,26 @@ module _ (w : Workspace) (sound : ListsFaults w []) (known : Verdicts) (right : 
 
 module _ (law : FirstConflictsDecideMoves) (snapshot : Snapshot) (known : Verdicts) (from to : List ℕ) (s : FileChanges)
     (move : IsMove snapshot.files known from to s) (allowed : IsPlannedTarget snapshot.files from to) where
-  conflict_told : (c : Conflict) → TellsFirstOf snapshot.files known (revision_of snapshot.files s) (Some c) →
+  conflict_told : (c : Conflict) → IsFirstConflict snapshot.files known (revision_of snapshot.files s) (Some c) →
       IsConflictRefusal snapshot.files known s (refusal_for c.by c.used)
   conflict_told c tells =
       let refused = law snapshot.files known from to s move allowed (Some c) tells in
-      conflict_named snapshot.files known s refused.0 c tells.0 tells.1
+      conflict_named snapshot.files known s refused c tells.0 tells.1
 
   -- a conflict is refused
-  move_refused : (kind : ChangeKind) (c : Conflict) → TellsFirstOf snapshot.files known (revision_of snapshot.files s) (Some c) →
+  move_refused : (kind : ChangeKind) (c : Conflict) → IsFirstConflict snapshot.files known (revision_of snapshot.files s) (Some c) →
       PlansChange snapshot known kind s (Err (refusal_for c.by c.used))
   move_refused kind c tells = conflict_planned snapshot known kind s c.by c.used (conflict_told c tells)
 
-  name_refused : (c : Conflict) → TellsFirstOf snapshot.files known (revision_of snapshot.files s) (Some c) →
+  name_refused : (c : Conflict) → IsFirstConflict snapshot.files known (revision_of snapshot.files s) (Some c) →
       RefusesLength snapshot.files known s (Err (refusal_for c.by c.used))
   name_refused c tells = conflict_of_length snapshot.files known s c.by c.used (conflict_told c tells)
 
   -- without a conflict
-  move_kept : TellsFirstOf snapshot.files known (revision_of snapshot.files s) None → Preserves snapshot.files (revision_of snapshot.files s)
+  move_kept : IsFirstConflict snapshot.files known (revision_of snapshot.files s) None → Preserves snapshot.files (revision_of snapshot.files s)
   move_kept tells = law snapshot.files known from to s move allowed None tells
 
-  name_kept : TellsFirstOf snapshot.files known (revision_of snapshot.files s) None → RefusesLength snapshot.files known s (Err TooLarge)
+  name_kept : IsFirstConflict snapshot.files known (revision_of snapshot.files s) None → RefusesLength snapshot.files known s (Err TooLarge)
   name_kept tells = move_kept tells
 
 -- by what the workspace before it tells
@@ -111,7 +111,7 @@ module _ (snapshot : Snapshot) (known : Verdicts) (from to : List ℕ) (s : File
       TellsMoveConflict snapshot.files known from to (Some c) → PlansChange snapshot known kind s (Err (refusal_for c.by c.used))
   conflict_refused kind m c tells = move_refused decide snapshot known from to s m.move m.allowed kind c (tells to s m.move m.follows)
 
-  pub preserved : IsPlannedMove snapshot.files known from to to s → TellsFirstOf snapshot.files known (revision_of snapshot.files s) None →
+  pub preserved : IsPlannedMove snapshot.files known from to to s → IsFirstConflict snapshot.files known (revision_of snapshot.files s) None →
       Preserves snapshot.files (revision_of snapshot.files s)
   preserved m tells = move_kept decide snapshot known from to s m.move m.allowed tells
 
@@ -133,7 +133,7 @@ one_name K from to (Some n) None h k = absurd (k h.0)
 one_name K from to (Some n) (Some m) h k = ap Some (h.1 ∙ sym k.1)
 
 module _ (w : Workspace) (known : Verdicts) (from to : List ℕ) (s : FileChanges) (m : IsPlannedMove w known from to to s) (old rest : Known)
-    (knows : KnowsVerdicts w old) (tells : TellsFirstOf w known (revision_of w s) None) where
+    (knows : KnowsVerdicts w old) (tells : IsFirstConflict w known (revision_of w s) None) where
   abbrev Names : (start : List ℕ) (name : Option (List ℕ)) → Type 0
   Names start name = AreMovedKnown start name (swapped from to) (package_paths w) (package_paths (edited s w)) old rest
 
@@ -152,7 +152,7 @@ known_law : (PackagesStayBound → AllKnownMove) → PackagesStayBound → AllKn
 known_law law bound = law bound
 
 pub kept : (w : Workspace) (known : Verdicts) (from to : List ℕ) (s : FileChanges) → IsPlannedMove w known from to to s → (old rest : Known) →
-    KnowsVerdicts w old → TellsFirstOf w known (revision_of w s) None → KnowsMoved w (edited s w) known from to old rest → KnowsVerdicts (edited s w) rest
+    KnowsVerdicts w old → IsFirstConflict w known (revision_of w s) None → KnowsMoved w (edited s w) known from to old rest → KnowsVerdicts (edited s w) rest
 kept w known from to s m old rest knows tells k =
     known_by w known from to s m old rest knows tells (known_law all_known bound) free_swap same_target k
 

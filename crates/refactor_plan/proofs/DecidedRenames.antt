@@ -38,6 +38,7 @@ use Rattle.refactor_conflict.specs.declared.conflict.Conflict.{Conflict}
 use Rattle.refactor_conflict.specs.ConflictRefusal.{refusal_for}
 use Rattle.refactor_conflict.specs.Staying.{NoneIsLost}
 use Rattle.refactor_conflict.proofs.ConflictsDiffer.{not_staying}
+use Rattle.refactor_conflict.specs.Conflicts.{IsFirstConflict}
 use Rattle.law_renamed_packages.specs.Renames.{IsPlainRename}
 use Rattle.law_renamed_scopes.proofs.KeptBindings.{IsPlain, lexical, plain_stands}
 use Rattle.law_renamed_scopes.proofs.OwnNames.{bound_within, identifies}
@@ -45,7 +46,6 @@ use Rattle.law_renamed_scopes.proofs.SameBindings.{imports_used}
 use Rattle.law_renamed_scopes.proofs.Standing.{in_package}
 use Rattle.law_kept_members.specs.NamesAfterwards.{IsMember}
 use Rattle.law_member_conflicts.specs.MemberRenames.{IsMemberRename}
-use Rattle.law_rename_agrees.specs.ConflictsByTables.{TellsFirstOf}
 use Rattle.law_rename_agreement.specs.Agreement.{PlainRenamesAgree}
 use Rattle.law_rename_agreement.proofs.Laws.{plain_renames_agree}
 use Rattle.law_known_verdicts.specs.KnownVerdicts.{IsHidden, IsKeptRename, HiddenRenamesKeepVerdicts, OtherKnownVerdictsStay}
@@ -88,7 +88,7 @@ module _ (agree : PlainRenamesAgree) (all : HiddenRenamesKeepVerdicts) (others :
       others w known after.after d name s kept after.right_after keeps.0 path keeps.1.0 home old new knows keeps.1.1
   kept_by none after false hidden old new knows (inr right) = right (edited s w)
 
-  plain_by : (is_hidden : Bool) → (IsTrue is_hidden → IsHidden w known d name) → (told : Option Conflict) → TellsFirstOf w known (revision_of w s) told →
+  plain_by : (is_hidden : Bool) → (IsTrue is_hidden → IsHidden w known d name) → (told : Option Conflict) → IsFirstConflict w known (revision_of w s) told →
       IsDecided w known path is_hidden told s
   plain_by is_hidden hidden told first =
       let same = agree w known d name s rename in
@@ -96,13 +96,13 @@ module _ (agree : PlainRenamesAgree) (all : HiddenRenamesKeepVerdicts) (others :
 
 plain_decided : (w : Workspace) (known : Verdicts) (d : Declaration) (name : List ℕ) (s : FileChanges) → IsPlainRename w known d name s → (path : List ℕ) →
     declaring_path d ≡ Some path → (is_hidden : Bool) → (IsTrue is_hidden → IsHidden w known d name) → (told : Option Conflict) →
-    TellsFirstOf w known (revision_of w s) told → IsDecided w known path is_hidden told s
+    IsFirstConflict w known (revision_of w s) told → IsDecided w known path is_hidden told s
 plain_decided = plain_by plain_renames_agree all_hidden all_others
 
 -- what is told of the rename of a field or method decides its edits
 pub member_decided : (w : Workspace) → ListsFaults w [] → (known : Verdicts) → AreVerdicts w known → (path : List ℕ) (d : Declaration)
     (name : List ℕ) (s : FileChanges) → IsLegalFor w known d name → AreRenameEdits w known d name s → Fits s w → IsMember d →
-    declaring_path d ≡ Some path → (told : Option Conflict) → (IsMemberRename w known d name s → TellsFirstOf w known (revision_of w s) told) →
+    declaring_path d ≡ Some path → (told : Option Conflict) → (IsMemberRename w known d name s → IsFirstConflict w known (revision_of w s) told) →
     IsDecided w known path false told s
 member_decided w sound known right path d name s legal edits fit member home told tells =
     let rename : IsPlainRename w known d name s = record {
@@ -209,7 +209,7 @@ module _ (w : Workspace) (sound : ListsFaults w []) (known : Verdicts) (right : 
         let f = steps w known p n name s u in
         record {
           first =
-              subst (TellsFirstOf w known (revision_of w s)) (sym h.first.is_told)
+              subst (IsFirstConflict w known (revision_of w s)) (sym h.first.is_told)
               (tell w known p n name s u f.0 h.first.own h.first.behind h.first.first_own h.first.first_behind);
           agrees = agree w known p n name s u f.0 f.1;
           keeps = unnamed_keeps;

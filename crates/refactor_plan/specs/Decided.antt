@@ -23,9 +23,9 @@ use Rattle.refactor_conflict.specs.Staying.{NoneIsLost}
 use Rattle.refactor_rename.specs.Naming.{IsFixed, IsReservedFor}
 use Rattle.refactor_rename.specs.NewName.{IsNewName}
 use Rattle.refactor_rename.specs.RenameEdits.{AreRenameEdits}
+use Rattle.refactor_conflict.specs.Conflicts.{IsFirstConflict}
 use Rattle.refactor_decide.specs.declared.decision.ScopeDecision.{ScopeDecision}
 use Rattle.law_kept_members.specs.NamesAfterwards.{IsMember}
-use Rattle.law_rename_agrees.specs.ConflictsByTables.{TellsFirstOf}
 use Rattle.law_known_verdicts.specs.KnownVerdicts.{HoldVerdictsBut}
 
 -- The declaration `n` of the package's own scopes counts.
@@ -58,7 +58,7 @@ KeepsKnown w path false old new =
 -- The first conflict of the edits is told. They lose and capture none exactly where they preserve bindings. Then what is known of packages
 -- stays right: all of it where the declaration is hidden, else all but the verdict on the package at the path.
 pub record IsDecided (w : Workspace) (known : Verdicts) (path : List ℕ) (is_hidden : Bool) (told : Option Conflict) (s : FileChanges) : Type 0 where
-  pub first : TellsFirstOf w known (revision_of w s) told
+  pub first : IsFirstConflict w known (revision_of w s) told
   pub agrees : NoneIsLost w known (revision_of w s) ↔ Preserves w (revision_of w s)
   pub keeps : NoneIsLost w known (revision_of w s) → (old new : Known) → KnowsVerdicts w old → KeepsKnown w path is_hidden old new →
       KnowsVerdicts (edited s w) new

@@ -15,6 +15,9 @@ use Rattle.refactor_known.specs.MovedKnown.{AreMovedKnown}
 use Rattle.refactor_known.specs.Swaps.{swapped}
 use Rattle.law_moved_packages.specs.Moves.{IsMove}
 use Rattle.law_move_agreement.specs.Agreement.{IsPlannedTarget}
+use Rattle.refactor_follow.specs.MoveConflicts.{TellsMoveConflict}
+use Rattle.refactor_follow.specs.MoveReadings.{KnowsMoveUses}
+use Rattle.refactor_follow.specs.declared.packages.MoveReading.{MoveReading}
 use Rattle.refactor_plan.specs.MoveSteps.{RefusesLength}
 
 -- These edits are those of a planned move of the package `from` to the path `to`. Its name follows the path `called`.
@@ -33,3 +36,8 @@ pub record KnowsMoved (w after : Workspace) (known : Verdicts) (from to : List �
 -- Why the edits that give the package `from` only the name that it has at the path `to` are refused, whichever these are.
 abbrev pub RefusesLengthOfName : Workspace → Verdicts → (from to : List ℕ) → Result Change Refusal → Type 0
 RefusesLengthOfName w known from to result = (s : FileChanges) → AreMoveEdits w known from from to s → Fits s w → RefusesLength w known s result
+
+-- This was read for the move of the package `from`, whose name follows the path `called`: its first conflict, and the names that refer to it.
+pub record IsMoveRead (w : Workspace) (known : Verdicts) (from called : List ℕ) (read : MoveReading) : Type 0 where
+  pub conflict : TellsMoveConflict w known from called read.conflict
+  pub uses : KnowsMoveUses w known from called read.uses.items

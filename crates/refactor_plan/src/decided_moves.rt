@@ -4,16 +4,16 @@ ghost use Rattle.std.specs.Prelude.{◌≡◌, None, IfOk, option_copied};
 ghost use Rattle.base_edits.specs.RevisionsOfEdits.{revision_of};
 ghost use Rattle.workspace_check.specs.Found.{KnowsVerdicts};
 ghost use Rattle.workspace_snapshot.specs.declared.change.ChangeKind.TheVariants.{Move};
+ghost use Rattle.refactor_conflict.specs.Conflicts.{IsFirstConflict};
 ghost use Rattle.refactor_preserve.specs.Planned.{change_in};
-ghost use Rattle.law_rename_agrees.specs.ConflictsByTables.{TellsFirstOf};
+ghost use Rattle.refactor_follow.specs.MoveConflicts.{TellsMoveConflict};
 ghost use Rattle.refactor_plan.specs.DecidedMoves.{KnowsMoved, IsPlannedMove};
 ghost use Rattle.refactor_plan.specs.Proposals.{IsProposed, PlansChange, proposed_snapshot, proposed_verdicts};
 
 use crate::proposal::{Proposal, made};
 use base_edits::EditSet;
 use base_files::{FileText, Path, Refusal};
-use refactor_conflict::told;
-use refactor_follow::move_conflict;
+use refactor_conflict::{Conflict, told};
 use refactor_known::{BeforeMove, Swap, moved_known};
 use refactor_move::name_after;
 use refactor_preserve::{Planned, within_limits};
@@ -91,7 +91,7 @@ fn plan_kept(
 ) -> Result<Planned, Refusal>
     requires proposed { IsProposed proposal.now }
     requires planned { IsPlannedMove proposal.now.workspace.now.graph (proposed_verdicts proposal.now) proposal.now.path.now to.now to.now edits }
-    requires kept { TellsFirstOf proposal.now.workspace.now.graph (proposed_verdicts proposal.now) (revision_of proposal.now.workspace.now.graph edits) None }
+    requires kept { IsFirstConflict proposal.now.workspace.now.graph (proposed_verdicts proposal.now) (revision_of proposal.now.workspace.now.graph edits) None }
     ensures planned { PlansChange (proposed_snapshot proposal.now) (proposed_verdicts proposal.now) Move edits (change_in result) }
     ensures known { IfOk result (λ p. KnowsVerdicts p.change.files p.known) }
 {
@@ -106,13 +106,14 @@ pub(crate) fn plan_decided(
     proposal: &Proposal<'_>,
     to: &Path,
     edits: EditSet,
+    conflict: Option<Conflict>,
 ) -> Result<Planned, Refusal>
     requires proposed { IsProposed proposal.now }
     requires planned { IsPlannedMove proposal.now.workspace.now.graph (proposed_verdicts proposal.now) proposal.now.path.now to.now to.now edits }
+    requires told { TellsMoveConflict proposal.now.workspace.now.graph (proposed_verdicts proposal.now) proposal.now.path.now to.now conflict }
     ensures planned { PlansChange (proposed_snapshot proposal.now) (proposed_verdicts proposal.now) Move edits (change_in result) }
     ensures known { IfOk result (λ p. KnowsVerdicts p.change.files p.known) }
 {
-    let conflict = move_conflict(alloc, proposal.workspace, proposal.path, to)?;
     match conflict {
         None => plan_kept(alloc, proposal, to, edits),
         Some(conflict) => Err(told(conflict)),

@@ -5,7 +5,8 @@ ghost use Rattle.base_edits.specs.Fits.{Fits};
 ghost use Rattle.workspace_check.specs.Found.{IsFound, KnowsVerdicts};
 ghost use Rattle.refactor_preserve.specs.Planned.{change_in};
 ghost use Rattle.refactor_move.specs.MoveEdits.{AreMoveEdits, HasNoNewPath};
-ghost use Rattle.refactor_plan.specs.DecidedMoves.{RefusesLengthOfName};
+ghost use Rattle.refactor_follow.specs.MoveConflicts.{TellsMoveConflict};
+ghost use Rattle.refactor_plan.specs.DecidedMoves.{IsMoveRead, RefusesLengthOfName};
 ghost use Rattle.refactor_plan.specs.MovePlan.{IsMovable, NamesMovedPackage, PlansMove};
 ghost use Rattle.refactor_plan.specs.Proposals.{IsProposed, proposed_snapshot, proposed_verdicts};
 ghost use Rattle.refactor_plan.specs.MoveSteps.{ArePackagePaths, PlansMoveTo};
@@ -15,8 +16,8 @@ use crate::proposal::Proposal;
 use crate::targets::refuse_target;
 use base_edits::EditSet;
 use base_files::{Path, Refusal};
-use refactor_conflict::told;
-use refactor_follow::move_conflict;
+use refactor_conflict::{Conflict, told};
+use refactor_follow::{MoveReading, read_move};
 use refactor_move::move_edits;
 use refactor_preserve::Planned;
 use refs_binding::{FaultlessWorkspace, refuse_faults};
@@ -26,13 +27,17 @@ use workspace_snapshot::Snapshot;
 
 /// Why a move that would give a file too long a path is refused, by the edits of the package's name alone: their first conflict, or
 /// `TooLarge`. No change is made.
-fn refuse_length(alloc: Global, proposal: &Proposal<'_>, to: &Path) -> Result<Planned, Refusal>
+fn refuse_length(
+    proposal: &Proposal<'_>,
+    to: &Path,
+    conflict: Option<Conflict>,
+) -> Result<Planned, Refusal>
     requires asked { NamesMovedPackage proposal.now.workspace.now.graph proposal.now.path.now to.now }
+    requires told { TellsMoveConflict proposal.now.workspace.now.graph (proposed_verdicts proposal.now) proposal.now.path.now to.now conflict }
     ensures planned { RefusesLengthOfName proposal.now.workspace.now.graph (proposed_verdicts proposal.now) proposal.now.path.now to.now (change_in result) }
     ensures known { IfOk result (λ p. KnowsVerdicts p.change.files p.known) }
 {
     proposal.workspace.has_no_faults();
-    let conflict = move_conflict(alloc, proposal.workspace, proposal.path, to)?;
     match conflict {
         None => Err(Refusal::TooLarge),
         Some(conflict) => Err(told(conflict)),
@@ -40,51 +45,76 @@ fn refuse_length(alloc: Global, proposal: &Proposal<'_>, to: &Path) -> Result<Pl
 }
 
 /// Why a move that would give a file too long a path is refused. A conflict of the package's new name comes before `TooLarge`.
-fn refuse_long(alloc: Global, proposal: &Proposal<'_>, to: &Path) -> Result<Planned, Refusal>
+fn refuse_long(
+    alloc: Global,
+    proposal: &Proposal<'_>,
+    to: &Path,
+    read: MoveReading,
+) -> Result<Planned, Refusal>
     requires proposed { IsProposed proposal.now }
     requires asked { NamesMovedPackage proposal.now.workspace.now.graph proposal.now.path.now to.now }
     requires no_path { HasNoNewPath proposal.now.workspace.now.graph proposal.now.path.now to.now }
+    requires read { IsMoveRead proposal.now.workspace.now.graph (proposed_verdicts proposal.now) proposal.now.path.now to.now read }
     ensures planned { PlansMoveTo (proposed_snapshot proposal.now) proposal.now.path.now to.now (change_in result) }
     ensures known { IfOk result (λ p. KnowsVerdicts p.change.files p.known) }
 {
     proposal.workspace.has_no_faults();
     let from = proposal.path;
-    match move_edits(alloc, proposal.workspace, from, from, to) {
+    match move_edits(alloc, proposal.workspace, from, from, to, &read.uses) {
         Err(refusal) => Err(refusal),
-        Ok(_edits) => refuse_length(alloc, proposal, to),
+        Ok(_edits) => refuse_length(proposal, to, read.conflict),
     }
 }
 
-/// Plans the move by its edits.
+/// Plans the move by its edits, and by its first conflict, which the workspace before it tells.
 fn plan_moved(
     alloc: Global,
     proposal: &Proposal<'_>,
     to: &Path,
     edits: EditSet,
+    conflict: Option<Conflict>,
 ) -> Result<Planned, Refusal>
     requires proposed { IsProposed proposal.now }
     requires movable { IsMovable proposal.now.workspace.now.graph proposal.now.path.now to.now }
     requires edits { AreMoveEdits proposal.now.workspace.now.graph (proposed_verdicts proposal.now) proposal.now.path.now to.now to.now edits }
     requires fits { Fits edits proposal.now.workspace.now.graph }
+    requires told { TellsMoveConflict proposal.now.workspace.now.graph (proposed_verdicts proposal.now) proposal.now.path.now to.now conflict }
     ensures planned { PlansMoveTo (proposed_snapshot proposal.now) proposal.now.path.now to.now (change_in result) }
     ensures known { IfOk result (λ p. KnowsVerdicts p.change.files p.known) }
 {
     proposal.workspace.has_no_faults();
-    plan_decided(alloc, proposal, to, edits)
+    plan_decided(alloc, proposal, to, edits, conflict)
 }
 
-/// Plans the move of the package of a proposal. The paths allow it.
+/// Plans the move of the package of a proposal, of which this was read. The paths allow it.
+fn plan_read(
+    alloc: Global,
+    proposal: &Proposal<'_>,
+    to: &Path,
+    read: MoveReading,
+) -> Result<Planned, Refusal>
+    requires proposed { IsProposed proposal.now }
+    requires movable { IsMovable proposal.now.workspace.now.graph proposal.now.path.now to.now }
+    requires read { IsMoveRead proposal.now.workspace.now.graph (proposed_verdicts proposal.now) proposal.now.path.now to.now read }
+    ensures planned { PlansMoveTo (proposed_snapshot proposal.now) proposal.now.path.now to.now (change_in result) }
+    ensures known { IfOk result (λ p. KnowsVerdicts p.change.files p.known) }
+{
+    match move_edits(alloc, proposal.workspace, proposal.path, to, to, &read.uses) {
+        Err(Refusal::Memory) => Err(Refusal::Memory),
+        Err(_) => refuse_long(alloc, proposal, to, read),
+        Ok(edits) => plan_moved(alloc, proposal, to, edits, read.conflict),
+    }
+}
+
+/// Plans the move of the package of a proposal. The paths allow it. The packages that import it are read once.
 fn plan_found(alloc: Global, proposal: &Proposal<'_>, to: &Path) -> Result<Planned, Refusal>
     requires proposed { IsProposed proposal.now }
     requires movable { IsMovable proposal.now.workspace.now.graph proposal.now.path.now to.now }
     ensures planned { PlansMoveTo (proposed_snapshot proposal.now) proposal.now.path.now to.now (change_in result) }
     ensures known { IfOk result (λ p. KnowsVerdicts p.change.files p.known) }
 {
-    match move_edits(alloc, proposal.workspace, proposal.path, to, to) {
-        Err(Refusal::Memory) => Err(Refusal::Memory),
-        Err(_) => refuse_long(alloc, proposal, to),
-        Ok(edits) => plan_moved(alloc, proposal, to, edits),
-    }
+    let read = read_move(alloc, proposal.workspace, proposal.path, to)?;
+    plan_read(alloc, proposal, to, read)
 }
 
 /// Plans the move of a package in a workspace without faults, which is that of the snapshot. The paths allow it.

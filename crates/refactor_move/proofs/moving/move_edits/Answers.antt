@@ -20,6 +20,9 @@ returns-in-Err c =
     (subst (λ (v : Workspace). FindsChanges {Z = Global} m edits (entries v) (Err c.in-Err.refusal))
     (c.files.ensures ∙ ap (λ (v : WorkspaceFindings). v.graph) c.workspace.view_is) c.in-Err.ensures)
 
+pub all_edits-requires : goal.all_edits-requires
+all_edits-requires c = c.requires.uses c.in_ok-moved.moved c.in_ok-moved.ensures
+
 pub set_of-requires : goal.set_of-requires
 set_of-requires c =
     let m = c.in_ok-moved.moved in
@@ -39,4 +42,4 @@ returns c =
     (c.files.ensures ∙ ap (λ (v : WorkspaceFindings). v.graph) c.workspace.view_is) c.in-Ok.ensures in
     planned_set c.args.workspace.now.graph c.args.workspace.now.findings (faultless_by_view c.workspace.view_is c.workspace.invariant) m edits
     c.in_ok-edits.ensures cs are c.args.from.now c.args.to.now c.args.called.now
-    c.in_ok-moved.ensures c.requires c.set_of.result c.set_of.ensures
+    c.in_ok-moved.ensures c.requires.only_moved c.set_of.result c.set_of.ensures

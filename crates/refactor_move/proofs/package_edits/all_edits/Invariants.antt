@@ -4,4 +4,4 @@ use Rattle.refactor_move.specs.Steps.{KnowsEdits}
 use Rattle.refactor_move.proofs.package_edits.all_edits.Given as goal
 
 abbrev pub invariant-loop-number : goal.invariant-loop-number
-invariant-loop-number l = KnowsEdits l.workspace.graph (known_in l.workspace.findings) l.moved l.number l.edits
+invariant-loop-number l = KnowsEdits l.workspace.graph (known_in l.workspace.findings) l.of.moved.now l.number l.edits

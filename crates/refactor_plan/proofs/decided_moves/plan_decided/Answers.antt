@@ -15,7 +15,7 @@ plan_kept-requires-clause-kept c =
     let to = c.args.to.now in
     let m = c.requires.planned in
     let tells = subst (λ (o : Option Conflict). TellsMoveConflict p.workspace.now.graph (proposed_verdicts p) p.path.now to o) c.in-None.is
-    c.in_ok-conflict.ensures in
+    c.requires.told in
     tells to c.args.edits m.move m.follows
 
 pub returns-in-Some-clause-planned : goal.returns-in-Some-clause-planned
@@ -23,7 +23,7 @@ returns-in-Some-clause-planned c =
     let p = c.args.proposal.now in
     let known = proposed_verdicts p in
     let to = c.args.to.now in
-    let tells = subst (λ (o : Option Conflict). TellsMoveConflict p.workspace.now.graph known p.path.now to o) c.in-Some.is c.in_ok-conflict.ensures in
+    let tells = subst (λ (o : Option Conflict). TellsMoveConflict p.workspace.now.graph known p.path.now to o) c.in-Some.is c.requires.told in
     subst (λ (r : Refusal). PlansChange (proposed_snapshot p) known Move c.args.edits (Err r)) (sym c.told.ensures)
     (conflict_refused (proposed_snapshot p) known p.path.now to c.args.edits Move c.requires.planned c.in-Some.conflict tells)
 

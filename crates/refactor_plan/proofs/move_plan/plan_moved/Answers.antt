@@ -14,6 +14,9 @@ plan_decided-requires-clause-planned c =
     moves_there w (list_of_sound w p.workspace.now.findings sound) (proposed_verdicts p) sound.findings.right p.path.now c.args.to.now c.args.edits
     c.requires.fits c.requires.movable c.requires.edits
 
+pub plan_decided-requires-clause-told : goal.plan_decided-requires-clause-told
+plan_decided-requires-clause-told c = c.requires.told
+
 pub returns-clause-planned : goal.returns-clause-planned
 returns-clause-planned c =
     let p = c.args.proposal.now in

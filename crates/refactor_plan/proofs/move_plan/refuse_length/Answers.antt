@@ -18,7 +18,7 @@ returns-in-None-clause-planned c =
     let from = p.path.now in
     let to = c.args.to.now in
     let sound = c.has_no_faults.ensures in
-    let tells = subst (λ (o : Option Conflict). TellsMoveConflict w known from to o) c.in-None.is c.in_ok-conflict.ensures in
+    let tells = subst (λ (o : Option Conflict). TellsMoveConflict w known from to o) c.in-None.is c.requires.told in
     λ s edits fit.
     too_long (proposed_snapshot p) known from to s
     (names_there w (list_of_sound w p.workspace.now.findings sound) known sound.findings.right from to s fit c.requires.asked edits) tells
@@ -31,7 +31,7 @@ returns-in-Some-clause-planned c =
     let from = p.path.now in
     let to = c.args.to.now in
     let sound = c.has_no_faults.ensures in
-    let tells = subst (λ (o : Option Conflict). TellsMoveConflict w known from to o) c.in-Some.is c.in_ok-conflict.ensures in
+    let tells = subst (λ (o : Option Conflict). TellsMoveConflict w known from to o) c.in-Some.is c.requires.told in
     λ s edits fit.
     subst (λ (r : Refusal). RefusesLength w known s (Err r)) (sym c.told.ensures)
     (name_conflict_refused (proposed_snapshot p) known from to s

@@ -1,12 +1,25 @@
 -- The answers to the goals of `move_plan::refuse_long`.
+use Rattle.std.proofs.Common.{ℕ, List, sym, subst}
+use Rattle.std.specs.Prelude.{Bool}
+use Rattle.std.specs.Global.{Vec}
 use Rattle.refs_binding.proofs.Units.{list_of_sound}
+use Rattle.refactor_move.specs.Uses.{KnowsUses}
 use Rattle.refactor_preserve.specs.Planned.{change_in}
 use Rattle.refactor_plan.specs.Proposals.{proposed_snapshot, proposed_verdicts}
 use Rattle.refactor_plan.proofs.MovePlanned.{name_refused, name_planned}
 use Rattle.refactor_plan.proofs.move_plan.refuse_long.Goals as goal
 
-pub move_edits-requires : goal.move_edits-requires
-move_edits-requires c = λ path is under. under
+pub move_edits-requires-clause-only_moved : goal.move_edits-requires-clause-only_moved
+move_edits-requires-clause-only_moved c = λ path is under. under
+
+pub move_edits-requires-clause-uses : goal.move_edits-requires-clause-uses
+move_edits-requires-clause-uses c = λ m is.
+    let p = c.args.proposal.now in
+    subst (λ (us : List (Vec (Vec Bool))). KnowsUses p.workspace.now.graph (proposed_verdicts p) m us) (sym c.deref.ensures.value)
+    (c.requires.read.uses c.args.proposal.now.path.now m is)
+
+pub refuse_length-requires-clause-told : goal.refuse_length-requires-clause-told
+refuse_length-requires-clause-told c = c.requires.read.conflict
 
 pub returns-in-Err-clause-planned : goal.returns-in-Err-clause-planned
 returns-in-Err-clause-planned c =
