@@ -1,7 +1,8 @@
 -- The laws of this crate, from what is told of packages after a move.
+use Rattle.std.proofs.Common.{subst}
 use Rattle.std.specs.Prelude.{Some, None}
 use Rattle.base_edits.specs.RevisionsOfEdits.{revision_of}
-use Rattle.refactor_conflict.specs.Conflicts.{a_conflict, an_identifier}
+use Rattle.refactor_conflict.specs.Conflicts.{IsFirstConflict}
 use Rattle.refactor_conflict.proofs.ConflictsDiffer.{not_staying}
 use Rattle.law_moved_packages.specs.Moves.{moved_path}
 use Rattle.law_move_agreement.specs.Agreement.{MovesAreScoped, MovesAreChecked, PreservedMovesLoseNone, MovesAgree, MoveConflictsRefuse}
@@ -24,18 +25,15 @@ agree_by scoped checked w known from to s h allowed = (
 )
 
 refuse_by : PreservedMovesLoseNone → MoveConflictsRefuse
-refuse_by loses w known from to s h c conflict before = (
-  (λ keeps. not_staying w known (revision_of w s) c conflict (loses w known from to s h keeps c.used)),
-  a_conflict conflict before,
-)
+refuse_by loses w known from to s h c conflict keeps = not_staying w known (revision_of w s) c conflict (loses w known from to s h keeps c.used)
 
 told_by : MovesAgree → MoveConflictsAreTold
-told_by agree w known from to s h allowed lost c (a_conflict conflict before) = conflict
-told_by agree w known from to s h allowed lost c (an_identifier first none) = absurd (lost ((agree w known from to s h allowed).0 none))
+told_by agree w known from to s h allowed lost told first none =
+    lost ((agree w known from to s h allowed).0 (subst (IsFirstConflict w known (revision_of w s)) none first))
 
 decide_by : PreservedMovesLoseNone → MovesAgree → FirstConflictsDecideMoves
 decide_by loses agree w known from to s h allowed None tells = (agree w known from to s h allowed).0 tells
-decide_by loses agree w known from to s h allowed (Some c) tells = refuse_by loses w known from to s h c tells.0 tells.1
+decide_by loses agree w known from to s h allowed (Some c) tells = refuse_by loses w known from to s h c tells.0
 
 -- with the laws of the scopes after a move
 

@@ -1,17 +1,16 @@
 -- Moves of packages: those that lose and capture no identifier are those that preserve bindings.
-use Rattle.std.specs.Prelude.{ℕ, ◌≡◌, ◌≢◌, ◌↔◌, ◌⊎◌, List, Option, MatchOption}
+use Rattle.std.specs.Prelude.{ℕ, ◌≡◌, ◌≢◌, ◌↔◌, ◌⊎◌, List, Option, None, MatchOption}
 use Rattle.base_files.specs.Workspace.{Workspace}
 use Rattle.base_edits.specs.EditSet.{FileChanges}
 use Rattle.base_edits.specs.Revisions.{Revision}
 use Rattle.base_edits.specs.RevisionsOfEdits.{revision_of}
 use Rattle.workspace_check.specs.Verdicts.{Verdicts}
 use Rattle.refactor_preserve.specs.Preserved.{Preserves}
-use Rattle.refactor_conflict.specs.Conflicts.{IsConflict, IsReported}
-use Rattle.refactor_conflict.specs.Staying.{NoneIsLost, NoneIsLostBefore}
+use Rattle.refactor_conflict.specs.Conflicts.{IsConflict, IsFirstConflict}
+use Rattle.refactor_conflict.specs.Staying.{NoneIsLost}
 use Rattle.refactor_conflict.specs.declared.conflict.Conflict.{Conflict}
 use Rattle.refactor_move.specs.MoveEdits.{IsFree}
 use Rattle.refactor_move.specs.Paths.{IsUnder}
-use Rattle.law_rename_agrees.specs.ConflictsByTables.{TellsFirstOf}
 use Rattle.law_moved_packages.specs.Moves.{IsMove, moved_path}
 use Rattle.law_move_agreement.specs.Moving.{AreScopedMoves, AreCheckedMoves}
 
@@ -54,21 +53,19 @@ PreservedMovesLoseNone = (w : Workspace) (known : Verdicts) (from to : List ℕ)
 abbrev pub MovesAgree : Type 0
 MovesAgree = OfPlannedMoves (λ w known r. NoneIsLost w known r ↔ Preserves w r)
 
--- A move that has a conflict does not preserve bindings, and its first conflict is what is reported.
+-- A move that has a conflict does not preserve bindings.
 abbrev pub MoveConflictsRefuse : Type 0
 MoveConflictsRefuse = (w : Workspace) (known : Verdicts) (from to : List ℕ) (s : FileChanges) → IsMove w known from to s → (c : Conflict) →
-    IsConflict w known (revision_of w s) c → NoneIsLostBefore w known (revision_of w s) c.used →
-    (Preserves w (revision_of w s) → ⊥) × IsReported w known (revision_of w s) c
+    IsConflict w known (revision_of w s) c → Preserves w (revision_of w s) → ⊥
 
--- Where a move does not preserve bindings, what is reported is a conflict. It is never the first identifier for want of a conflict.
+-- A move that does not preserve bindings has a first conflict.
 abbrev pub MoveConflictsAreTold : Type 0
-MoveConflictsAreTold = OfPlannedMoves (λ w known r. (Preserves w r → ⊥) → (c : Conflict) → IsReported w known r c → IsConflict w known r c)
+MoveConflictsAreTold = OfPlannedMoves (λ w known r. (Preserves w r → ⊥) → (told : Option Conflict) → IsFirstConflict w known r told → told ≢ None)
 
--- What is told of the first conflict of a change decides it: without one it preserves bindings. With one it does not, and this one is
--- reported.
-abbrev pub IsDecidedBy : Workspace → Verdicts → Revision → Option Conflict → Type 0
-IsDecidedBy w known r told = MatchOption told (Preserves w r) (λ c. (Preserves w r → ⊥) × IsReported w known r c)
+-- The first conflict decides the change: without one it preserves bindings. With one it does not.
+abbrev pub IsDecidedBy : Workspace → Revision → Option Conflict → Type 0
+IsDecidedBy w r told = MatchOption told (Preserves w r) (λ c. Preserves w r → ⊥)
 
 -- So the first conflict of a move decides it. The edited workspace need not be judged.
 abbrev pub FirstConflictsDecideMoves : Type 0
-FirstConflictsDecideMoves = OfPlannedMoves (λ w known r. (told : Option Conflict) → TellsFirstOf w known r told → IsDecidedBy w known r told)
+FirstConflictsDecideMoves = OfPlannedMoves (λ w known r. (told : Option Conflict) → IsFirstConflict w known r told → IsDecidedBy w r told)

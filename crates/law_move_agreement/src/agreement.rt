@@ -7,7 +7,7 @@ pub fn preserved_moves_lose_none()
     ensures { PreservedMovesLoseNone }
 {}
 
-/// A move that has a conflict does not preserve bindings, and its first conflict is what is reported.
+/// A move that has a conflict does not preserve bindings.
 pub fn move_conflicts_refuse()
     ensures { MoveConflictsRefuse }
 {}
@@ -18,7 +18,7 @@ pub fn moves_agree()
     ensures { MovesAreChecked → MovesAgree }
 {}
 
-/// Where a move does not preserve bindings, what is reported is a conflict: some identifier is lost or captured.
+/// A move that does not preserve bindings has a first conflict: it loses or captures some identifier.
 pub fn move_conflicts_are_told()
     ensures { MovesAreChecked → MoveConflictsAreTold }
 {}

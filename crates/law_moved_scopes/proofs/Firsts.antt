@@ -18,7 +18,7 @@ use Rattle.refs_binding.specs.Identifiers.{BeginsAt}
 use Rattle.refs_binding.specs.Uses.{IsCheckedPackage}
 use Rattle.refactor_conflict.specs.Staying.{NoneIsLost}
 use Rattle.refactor_conflict.specs.declared.conflict.Conflict.{Conflict}
-use Rattle.law_rename_agrees.specs.ConflictsByTables.{TellsFirstOf}
+use Rattle.refactor_conflict.specs.Conflicts.{IsFirstConflict}
 use Rattle.law_renamed_scopes.proofs.OwnNames.{in_universe}
 use Rattle.law_renamed_scopes.proofs.SameBindings.{imports_used}
 use Rattle.law_renamed_scopes.proofs.Standing.{begins_there}
@@ -34,7 +34,7 @@ use Rattle.law_moved_scopes.proofs.AfterMove as after
 module _ (w : Workspace) (known : Verdicts) (from to : List ℕ) (s : FileChanges) (h : IsMove w known from to s) where
   -- the first of all
   pub first_told : KeepsMembers w known (revision_of w s) → (told : Option Conflict) →
-      TellsFirstImportConflict (IsCheckedPackage w known) h.edits.moved told → TellsFirstOf w known (revision_of w s) told
+      TellsFirstImportConflict (IsCheckedPackage w known) h.edits.moved told → IsFirstConflict w known (revision_of w s) told
   first_told members None free = λ place p is. place_stays w known from to s h members p is place (free place p is)
   first_told members (Some c) first =
       let x = first.0 in (

@@ -10,11 +10,10 @@ use Rattle.law_rename.specs.Renaming.{HasNoConflict, HasSameBindings}
 use Rattle.types_declared.specs.Package.{Package}
 use Rattle.workspace_check.specs.Verdicts.{Verdicts}
 use Rattle.refs_binding.specs.Uses.{IsCheckedPackage}
-use Rattle.refactor_conflict.specs.Conflicts.{IsConflictIn}
+use Rattle.refactor_conflict.specs.Conflicts.{IsConflictIn, IsFirstConflict}
 use Rattle.refactor_conflict.specs.Staying.{NoneIsLost, StaysIn}
 use Rattle.refactor_conflict.specs.declared.conflict.Conflict.{Conflict}
 use Rattle.refactor_move.specs.declared.moved.Moved.{Moved}
-use Rattle.law_rename_agrees.specs.ConflictsByTables.{TellsFirstOf}
 use Rattle.law_scope_conflicts.specs.ScopeConflicts.{HasNoOwnConflict, IsFirstBy, IsOwnConflict}
 use Rattle.law_moved_packages.specs.Moves.{IsMove}
 use Rattle.law_import_renames.specs.OneNewName.{RenamesImports}
@@ -80,7 +79,7 @@ TellsFirstImportConflict Known m told = IsFirstBy (IsMoveConflict Known m) (IsFr
 -- It is the first conflict of the move.
 abbrev pub FirstImportConflictsAreTold : Type 0
 FirstImportConflictsAreTold = (w : Workspace) (known : Verdicts) (from to : List ℕ) (s : FileChanges) → (h : IsMove w known from to s) →
-    (told : Option Conflict) → TellsFirstImportConflict (IsCheckedPackage w known) h.edits.moved told → TellsFirstOf w known (revision_of w s) told
+    (told : Option Conflict) → TellsFirstImportConflict (IsCheckedPackage w known) h.edits.moved told → IsFirstConflict w known (revision_of w s) told
 
 -- A move loses and captures no identifier exactly where each package is bound as it was.
 abbrev pub NoneLostIsSame : Type 0

@@ -12,7 +12,7 @@ pub fn moves_agree()
     ensures { MovesAgree }
 {}
 
-/// Where a planned move does not preserve bindings, what is reported is a conflict: some identifier is lost or captured.
+/// A planned move that does not preserve bindings has a first conflict: it loses or captures some identifier.
 pub fn move_conflicts_are_told()
     ensures { MoveConflictsAreTold }
 {}

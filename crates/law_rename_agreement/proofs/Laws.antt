@@ -1,6 +1,7 @@
 -- The laws of this crate, from the two halves of the agreement.
+use Rattle.std.proofs.Common.{subst}
 use Rattle.base_edits.specs.RevisionsOfEdits.{revision_of}
-use Rattle.refactor_conflict.specs.Conflicts.{a_conflict, an_identifier}
+use Rattle.refactor_conflict.specs.Conflicts.{IsFirstConflict}
 use Rattle.refactor_conflict.proofs.ConflictsDiffer.{not_staying}
 use Rattle.law_rename_agrees.specs.Agreement.{PlainPreservedLosesNone}
 use Rattle.law_rename_agrees.proofs.Moving.{preserved_follows}
@@ -16,11 +17,9 @@ pub plain_renames_agree : PlainRenamesAgree
 plain_renames_agree w known d name s plain = (preserves w known d name s plain, preserved_loses_none w known d name s plain)
 
 pub conflicts_refuse : ConflictsRefuse
-conflicts_refuse w known d name s plain c conflict before = (
-  (λ keeps. not_staying w known (revision_of w s) c conflict (preserved_loses_none w known d name s plain keeps c.used)),
-  a_conflict conflict before,
-)
+conflicts_refuse w known d name s plain c conflict keeps =
+    not_staying w known (revision_of w s) c conflict (preserved_loses_none w known d name s plain keeps c.used)
 
 pub conflicts_told : PlainConflictsAreTold
-conflicts_told w known d name s plain lost c (a_conflict conflict before) = conflict
-conflicts_told w known d name s plain lost c (an_identifier first none) = absurd (lost (preserves w known d name s plain none))
+conflicts_told w known d name s plain lost told first none =
+    lost (preserves w known d name s plain (subst (IsFirstConflict w known (revision_of w s)) none first))

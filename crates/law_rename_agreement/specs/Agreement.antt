@@ -1,13 +1,13 @@
 -- Plain renames: those that lose and capture no identifier are those that preserve bindings.
-use Rattle.std.specs.Prelude.{ℕ, ◌↔◌, List}
+use Rattle.std.specs.Prelude.{ℕ, ◌≢◌, ◌↔◌, List, Option, None}
 use Rattle.base_files.specs.Workspace.{Workspace}
 use Rattle.base_edits.specs.EditSet.{FileChanges}
 use Rattle.base_edits.specs.RevisionsOfEdits.{revision_of}
 use Rattle.workspace_check.specs.Verdicts.{Verdicts}
 use Rattle.refs_binding.specs.declared.declaration.Declaration.{Declaration}
 use Rattle.refactor_preserve.specs.Preserved.{Preserves}
-use Rattle.refactor_conflict.specs.Conflicts.{IsConflict, IsReported}
-use Rattle.refactor_conflict.specs.Staying.{NoneIsLost, NoneIsLostBefore}
+use Rattle.refactor_conflict.specs.Conflicts.{IsConflict, IsFirstConflict}
+use Rattle.refactor_conflict.specs.Staying.{NoneIsLost}
 use Rattle.refactor_conflict.specs.declared.conflict.Conflict.{Conflict}
 use Rattle.law_renamed_packages.specs.Renames.{IsPlainRename}
 
@@ -16,13 +16,12 @@ abbrev pub PlainRenamesAgree : Type 0
 PlainRenamesAgree = (w : Workspace) (known : Verdicts) (d : Declaration) (name : List ℕ) (s : FileChanges) → IsPlainRename w known d name s →
     NoneIsLost w known (revision_of w s) ↔ Preserves w (revision_of w s)
 
--- A plain rename that has a conflict does not preserve bindings, and its first conflict is what is reported.
+-- A plain rename that has a conflict does not preserve bindings.
 abbrev pub ConflictsRefuse : Type 0
 ConflictsRefuse = (w : Workspace) (known : Verdicts) (d : Declaration) (name : List ℕ) (s : FileChanges) → IsPlainRename w known d name s →
-    (c : Conflict) → IsConflict w known (revision_of w s) c → NoneIsLostBefore w known (revision_of w s) c.used →
-    (Preserves w (revision_of w s) → ⊥) × IsReported w known (revision_of w s) c
+    (c : Conflict) → IsConflict w known (revision_of w s) c → Preserves w (revision_of w s) → ⊥
 
--- Where a plain rename does not preserve bindings, what is reported is a conflict. It is never the first identifier for want of a conflict.
+-- A plain rename that does not preserve bindings has a first conflict.
 abbrev pub PlainConflictsAreTold : Type 0
 PlainConflictsAreTold = (w : Workspace) (known : Verdicts) (d : Declaration) (name : List ℕ) (s : FileChanges) → IsPlainRename w known d name s →
-    (Preserves w (revision_of w s) → ⊥) → (c : Conflict) → IsReported w known (revision_of w s) c → IsConflict w known (revision_of w s) c
+    (Preserves w (revision_of w s) → ⊥) → (told : Option Conflict) → IsFirstConflict w known (revision_of w s) told → told ≢ None

@@ -12,12 +12,12 @@ pub fn plain_renames_agree()
     ensures { PlainRenamesAgree }
 {}
 
-/// A plain rename that has a conflict does not preserve bindings, and its first conflict is what is reported.
+/// A plain rename that has a conflict does not preserve bindings.
 pub fn conflicts_refuse()
     ensures { ConflictsRefuse }
 {}
 
-/// Where a plain rename does not preserve bindings, what is reported is a conflict: some identifier is lost or captured.
-pub fn a_conflict_is_reported()
+/// A plain rename that does not preserve bindings has a first conflict: it loses or captures some identifier.
+pub fn first_conflicts_are_there()
     ensures { PlainConflictsAreTold }
 {}

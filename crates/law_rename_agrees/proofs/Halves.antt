@@ -1,10 +1,12 @@
 -- The agreement from its halves, and what follows from the first half alone.
-use Rattle.refactor_conflict.specs.Conflicts.{a_conflict, an_identifier}
+use Rattle.std.proofs.Common.{subst}
+use Rattle.base_edits.specs.RevisionsOfEdits.{revision_of}
+use Rattle.refactor_conflict.specs.Conflicts.{IsFirstConflict}
 use Rattle.law_rename_agrees.specs.Agreement.{AgreementTellsConflicts, HalvesAgree}
 
 pub conflict_told : AgreementTellsConflicts
-conflict_told keeps w known d name s rename lost c (a_conflict conflict before) = conflict
-conflict_told keeps w known d name s rename lost c (an_identifier first none) = absurd (lost (keeps w known d name s rename none))
+conflict_told keeps w known d name s rename lost told first none =
+    lost (keeps w known d name s rename (subst (IsFirstConflict w known (revision_of w s)) none first))
 
 pub halves_agree : HalvesAgree
 halves_agree keeps loses w known d name s rename = (keeps w known d name s rename, loses w known d name s rename)

@@ -30,7 +30,7 @@ use Rattle.refs_index.proofs.Becoming.{StandBoth, by_cases}
 use Rattle.refactor_after.specs.ScopedPackages.{IsScopedIn}
 use Rattle.refactor_after.proofs.OneUse.{one_scope_use}
 use Rattle.refactor_conflict.specs.BoundAfter.{HasBecome, IsBoundByScopes, IsExportAfter, IsBoundByPackage, IsBoundByMember}
-use Rattle.refactor_conflict.specs.Conflicts.{IsCapturer, LostOrCaptured, is_lost, is_captured, LosesMember, ChangesBinding, IsConflictIn, IsConflict}
+use Rattle.refactor_conflict.specs.Conflicts.{IsCapturer, LostOrCaptured, is_lost, is_captured, LosesMember, ChangesBinding, IsConflictIn, IsConflict, IsFirstConflict}
 use Rattle.refactor_conflict.specs.Conflicts.{by_scope, by_package, by_member, by_name}
 use Rattle.refactor_conflict.specs.ScopesAfter.{IsBindable}
 use Rattle.refactor_conflict.specs.Staying.{NoneIsLostBefore}
@@ -41,7 +41,7 @@ use Rattle.refactor_conflict.proofs.BoundAfter.{counted_use, counted_export, one
 use Rattle.refactor_conflict.proofs.ConflictsDiffer.{not_staying}
 use Rattle.refactor_conflict.proofs.OneMember.{one_member_after}
 use Rattle.refactor_conflict.proofs.OnePlace.{only_place}
-use Rattle.law_rename_agrees.specs.ConflictsByTables.{TellsFirstOf, HasOneAnswer}
+use Rattle.law_rename_agrees.specs.ConflictsByTables.{HasOneAnswer}
 use Rattle.law_rename_agrees.proofs.OneMemberUse.{selects_alike}
 use Rattle.law_scoped_packages.specs.Apart.{MoveApart}
 use Rattle.law_scoped_packages.proofs.MovedApart.{move_apart}
@@ -193,7 +193,7 @@ module _ (w : Workspace) (known : Verdicts) where
         ap (λ (b : Option Capturer). record { used = c.used; by = b }) (one_conflict c.used c.by d.by h.0 moved)
         ∙ ap (λ (z : Place). record { used = z; by = d.by }) (sym place)
 
-    pub one_told_first : (x y : Option Conflict) → TellsFirstOf w known r x → TellsFirstOf w known r y → x ≡ y
+    pub one_told_first : (x y : Option Conflict) → IsFirstConflict w known r x → IsFirstConflict w known r y → x ≡ y
     one_told_first None None h k = refl
     one_told_first None (Some d) h k = absurd (not_staying w known r d k.0 (h d.used))
     one_told_first (Some c) None h k = absurd (not_staying w known r c h.0 (k c.used))

@@ -1,12 +1,12 @@
 -- That what is told of identifiers one by one agrees with what is told of the edited workspace.
-use Rattle.std.specs.Prelude.{ℕ, ◌↔◌, List}
+use Rattle.std.specs.Prelude.{ℕ, ◌≢◌, ◌↔◌, List, Option, None}
 use Rattle.base_files.specs.Workspace.{Workspace}
 use Rattle.base_edits.specs.EditSet.{FileChanges, edited}
 use Rattle.workspace_check.specs.Verdicts.{Verdicts, AreVerdicts}
 use Rattle.refs_binding.specs.declared.declaration.Declaration.{Declaration}
 use Rattle.refactor_preserve.specs.Preserved.{Preserves}
 use Rattle.base_edits.specs.RevisionsOfEdits.{revision_of}
-use Rattle.refactor_conflict.specs.Conflicts.{IsConflict, IsReported}
+use Rattle.refactor_conflict.specs.Conflicts.{IsFirstConflict}
 use Rattle.refactor_conflict.specs.Staying.{NoneIsLost}
 use Rattle.refactor_conflict.specs.declared.conflict.Conflict.{Conflict}
 use Rattle.law_renamed_packages.specs.Renames.{IsRename, IsPlainRename}
@@ -39,10 +39,10 @@ abbrev pub CheckedNoneLostPreserves : Type 0
 CheckedNoneLostPreserves = (w : Workspace) (known after : Verdicts) (d : Declaration) (name : List ℕ) (s : FileChanges) →
     IsPlainRename w known d name s → AreVerdicts (edited s w) after → NoneIsLost w known (revision_of w s) → Preserves w (revision_of w s)
 
--- So where a rename does not preserve bindings, what is reported is a conflict. It is never the first identifier for want of a conflict.
+-- So a rename that does not preserve bindings has a first conflict.
 abbrev pub AConflictIsTold : Type 0
 AConflictIsTold = (w : Workspace) (known : Verdicts) (d : Declaration) (name : List ℕ) (s : FileChanges) → IsRename w known d name s →
-    (Preserves w (revision_of w s) → ⊥) → (c : Conflict) → IsReported w known (revision_of w s) c → IsConflict w known (revision_of w s) c
+    (Preserves w (revision_of w s) → ⊥) → (told : Option Conflict) → IsFirstConflict w known (revision_of w s) told → told ≢ None
 
 -- That follows from the first half alone.
 abbrev pub AgreementTellsConflicts : Type 0

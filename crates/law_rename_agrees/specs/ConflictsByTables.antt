@@ -1,6 +1,6 @@
 -- Conflicts of a rename by what is kept of a workspace: its tables, the paths of its imports, its member uses, and what its definitions
 -- have. No text is asked, and no token but those of identifiers.
-use Rattle.std.specs.Prelude.{ℕ, ◌≡◌, ◌↔◌, List, Option, Some, None, MatchOption}
+use Rattle.std.specs.Prelude.{ℕ, ◌≡◌, ◌↔◌, List, Option, Some, None}
 use Rattle.base_files.specs.Workspace.{Workspace}
 use Rattle.base_files.specs.declared.place.Place.{Place}
 use Rattle.base_edits.specs.EditSet.{FileChanges}
@@ -21,8 +21,7 @@ use Rattle.refs_binding.specs.DeclaringPlaces.{IsDeclaredAt}
 use Rattle.base_edits.specs.Revisions.{Revision}
 use Rattle.base_edits.specs.RevisionsOfEdits.{revision_of}
 use Rattle.refactor_conflict.specs.BoundAfter.{HasBecome, IsBoundByScopes}
-use Rattle.refactor_conflict.specs.Conflicts.{IsConflict, IsCapturer, LostOrCaptured}
-use Rattle.refactor_conflict.specs.Staying.{NoneIsLost, NoneIsLostBefore}
+use Rattle.refactor_conflict.specs.Conflicts.{IsConflict, IsCapturer, IsFirstConflict, LostOrCaptured}
 use Rattle.refactor_conflict.specs.declared.conflict.Conflict.{Conflict}
 use Rattle.refactor_conflict.specs.declared.conflict.Capturer.{Capturer}
 use Rattle.law_renamed_packages.specs.Renames.{IsRename, IsPlainRename}
@@ -58,19 +57,15 @@ abbrev pub ConflictsAreKept : Type 0
 ConflictsAreKept = (v w : Workspace) (a b : Verdicts) → HaveSameTables v a w b → (d : Declaration) (name : List ℕ) (s t : FileChanges) →
     IsRename v a d name s → IsRename w b d name t → (c : Conflict) → IsConflict v a (revision_of v s) c ↔ IsConflict w b (revision_of w t) c
 
--- the first conflict of a rename, or that there is none: what an answer from kept tables is to tell
-abbrev pub TellsFirstOf : Workspace → Verdicts → Revision → Option Conflict → Type 0
-TellsFirstOf w known r told = MatchOption told (NoneIsLost w known r) (λ c. IsConflict w known r c × NoneIsLostBefore w known r c.used)
-
--- of each workspace of which that is kept, and for each edit set of that rename
+-- The first conflict of the rename of each workspace of which that is kept, for each edit set of it.
 abbrev pub TellsConflictOf : Workspace → Verdicts → Declaration → List ℕ → Option Conflict → Type 0
 TellsConflictOf v a d name told = (w : Workspace) (b : Verdicts) → HaveSameTables v a w b → (s : FileChanges) → IsRename w b d name s →
-    TellsFirstOf w b (revision_of w s) told
+    IsFirstConflict w b (revision_of w s) told
 
 -- there is one such answer at most
 abbrev pub HasOneAnswer : Type 0
 HasOneAnswer = (w : Workspace) (known : Verdicts) (d : Declaration) (name : List ℕ) (s : FileChanges) → IsRename w known d name s →
-    (x y : Option Conflict) → TellsFirstOf w known (revision_of w s) x → TellsFirstOf w known (revision_of w s) y → x ≡ y
+    (x y : Option Conflict) → IsFirstConflict w known (revision_of w s) x → IsFirstConflict w known (revision_of w s) y → x ≡ y
 
 -- By the tables alone
 

@@ -3,7 +3,7 @@ ghost use Rattle.law_rename_agrees.specs.Agreement.{AgreementTellsConflicts, Che
 ghost use Rattle.law_rename_agrees.specs.ConflictsByTables.{HasOneAnswer, OwnConflictsAreTold};
 
 /// Where each of two halves implies the other, no identifier is lost or captured exactly where bindings are preserved. The first half alone
-/// gives that what is reported of a rename that does not preserve bindings is a conflict.
+/// gives that a rename which does not preserve bindings has a first conflict.
 pub fn halves_agree()
     ensures told { AgreementTellsConflicts }
     ensures agree { HalvesAgree }

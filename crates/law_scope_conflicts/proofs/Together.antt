@@ -27,14 +27,14 @@ use Rattle.refs_binding.specs.Places.{place_cmp}
 use Rattle.refs_binding.specs.Uses.{IsCheckedPackage}
 use Rattle.refs_binding.proofs.PlaceOrder.{place_cmp_total}
 use Rattle.refs_binding.proofs.Units.{one_package}
-use Rattle.refactor_conflict.specs.Conflicts.{ChangesBinding, IsConflict, by_package, by_scope}
+use Rattle.refactor_conflict.specs.Conflicts.{ChangesBinding, IsConflict, by_package, by_scope, IsFirstConflict}
 use Rattle.refactor_conflict.specs.Firsts.{IsNotBefore}
 use Rattle.refactor_conflict.specs.Staying.{StaysAt, StaysByScope}
 use Rattle.refactor_conflict.specs.declared.conflict.Capturer.{Capturer}
 use Rattle.refactor_conflict.specs.declared.conflict.Conflict.{Conflict}
 use Rattle.refactor_conflict.proofs.Firsts.{not_before}
 use Rattle.law_renamed_scopes.proofs.OwnNames.{own_renames}
-use Rattle.law_rename_agrees.specs.ConflictsByTables.{IsOwnNumber, OwnConflictsAreTold, TellsFirstOf, WouldTurn}
+use Rattle.law_rename_agrees.specs.ConflictsByTables.{IsOwnNumber, OwnConflictsAreTold, WouldTurn}
 use Rattle.law_rename_agrees.proofs.OwnConflicts.{numbered}
 use Rattle.law_scope_conflicts.specs.Behind.{TakenBehind, TurnsBehind, hidden, preceded, repeated}
 use Rattle.law_scope_conflicts.specs.ScopeConflicts.{HasNoOwnConflict, IsOwnConflict, IsOwnConflictBy, HasNoConflictBehind, IsSameCapturer, IsConflictBehind}
@@ -173,7 +173,7 @@ module _ (w : Workspace) (known : Verdicts) (r : Revision) (C D : Conflict → T
     (is_c : (c : Conflict) → C c → IsConflict w known r c) (is_d : (c : Conflict) → D c → IsConflict w known r c)
     (stays : (place : Place) → F place → G place → StaysAt w known r place) where
   choose : (a b : Conflict) → IsFirstBy C F (Some a) → IsFirstBy D G (Some b) → (t : Bool) → is_lt (place_cmp b.used a.used) ≡ t →
-      TellsFirstOf w known r (if t then Some b else Some a)
+      IsFirstConflict w known r (if t then Some b else Some a)
   choose a b h k true less =
       let ahead : place_cmp b.used a.used ≡ Less = less_from_test (place_cmp b.used a.used) less in
       (is_d b k.0, λ place before. stays place (h.1 place (place_cmp_total.trans place b.used a.used before ahead)) (k.1 place before))
@@ -181,7 +181,7 @@ module _ (w : Workspace) (known : Verdicts) (r : Revision) (C D : Conflict → T
       let later : IsNotBefore b.used a.used = (λ ahead. true≢false (sym (ap is_lt ahead) ∙ less)) in
       (is_c a h.0, λ place before. stays place (h.1 place before) (k.1 place (is_less place b.used (before_later place a.used b.used before later))))
 
-  pub first_of_both : (a b : Option Conflict) → IsFirstBy C F a → IsFirstBy D G b → TellsFirstOf w known r (earlier_conflict a b)
+  pub first_of_both : (a b : Option Conflict) → IsFirstBy C F a → IsFirstBy D G b → IsFirstConflict w known r (earlier_conflict a b)
   first_of_both None None h k = λ place. stays place (h place) (k place)
   first_of_both None (Some b) h k = (is_d b k.0, λ place before. stays place (h place) (k.1 place before))
   first_of_both (Some a) None h k = (is_c a h.0, λ place before. stays place (h.1 place before) (k place))
@@ -190,7 +190,7 @@ module _ (w : Workspace) (known : Verdicts) (r : Revision) (C D : Conflict → T
 pub first_by : OwnConflictsAreTold → (w : Workspace) (known : Verdicts) (p : Package) (n : ℕ) (name : List ℕ) (s : FileChanges) →
     IsRenameIn w known p n name s → KeepsPackages w known (revision_of w s) → KeepsMembers w known (revision_of w s) → (own far : Option Conflict) →
     FirstOwnConflict (IsCheckedPackage w known) p n name own → FirstConflictBehind (IsCheckedPackage w known) p n name far →
-    TellsFirstOf w known (revision_of w s) (earlier_conflict own far)
+    IsFirstConflict w known (revision_of w s) (earlier_conflict own far)
 first_by own_told w known p n name s h keeps members own far first_own first_behind =
     first_of_both w known (revision_of w s) (IsOwnConflict (IsCheckedPackage w known) p n name) (IsConflictBehind (IsCheckedPackage w known) p n name)
     (HasNoOwnConflict p n name) (HasNoConflictBehind (IsCheckedPackage w known) p n name)

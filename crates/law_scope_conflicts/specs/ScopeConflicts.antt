@@ -12,11 +12,11 @@ use Rattle.refs_binding.specs.declared.declaration.Declaration.TheVariants.{Decl
 use Rattle.refs_binding.specs.Identifiers.{BeginsAt}
 use Rattle.refs_binding.specs.Places.{place_cmp}
 use Rattle.refs_binding.specs.Uses.{IsCheckedPackage}
-use Rattle.refactor_conflict.specs.Conflicts.{IsCapturer, IsConflict}
+use Rattle.refactor_conflict.specs.Conflicts.{IsCapturer, IsConflict, IsFirstConflict}
 use Rattle.refactor_conflict.specs.Staying.{StaysAt}
 use Rattle.refactor_conflict.specs.declared.conflict.Capturer.{Capturer}
 use Rattle.refactor_conflict.specs.declared.conflict.Conflict.{Conflict}
-use Rattle.law_rename_agrees.specs.ConflictsByTables.{IsOwnNumber, TellsFirstOf}
+use Rattle.law_rename_agrees.specs.ConflictsByTables.{IsOwnNumber}
 use Rattle.law_scope_conflicts.specs.Behind.{TurnsQualified}
 use Rattle.law_scope_conflicts.specs.ScopeRenames.{OfRenamesIn}
 
@@ -105,7 +105,7 @@ earlier_conflict (Some a) (Some b) = if is_lt (place_cmp b.used a.used) then Som
 -- The earlier one of the first conflict of the scopes and the first behind the package's name is the first of the change.
 abbrev pub FirstConflictsAreTold : Type 0
 FirstConflictsAreTold = OfRenamesIn (λ w known p n name s. (own behind : Option Conflict) → FirstOwnConflict (IsCheckedPackage w known) p n name own →
-    FirstConflictBehind (IsCheckedPackage w known) p n name behind → TellsFirstOf w known (revision_of w s) (earlier_conflict own behind))
+    FirstConflictBehind (IsCheckedPackage w known) p n name behind → IsFirstConflict w known (revision_of w s) (earlier_conflict own behind))
 
 -- A declaration that is not package-level has no conflict behind the package's name.
 abbrev pub LocalRenamesTurnNoneBehind : Type 0

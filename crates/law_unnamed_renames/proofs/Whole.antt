@@ -25,7 +25,7 @@ use Rattle.refs_binding.specs.Identifiers.{BeginsAt}
 use Rattle.refs_binding.specs.Uses.{IsCheckedPackage}
 use Rattle.refs_binding.proofs.Units.{one_package}
 use Rattle.refactor_preserve.specs.Preserved.{Preserves}
-use Rattle.refactor_conflict.specs.Conflicts.{a_conflict}
+use Rattle.refactor_conflict.specs.Conflicts.{IsFirstConflict}
 use Rattle.refactor_conflict.specs.Staying.{NoneIsLost, StaysAt, StaysByScope}
 use Rattle.refactor_conflict.specs.declared.conflict.Conflict.{Conflict}
 use Rattle.refactor_conflict.proofs.ConflictsDiffer.{not_staying}
@@ -34,7 +34,6 @@ use Rattle.law_plain_renames.specs.KnownStay.{HiddenRenamesKeepAll}
 use Rattle.law_plain_renames.proofs.KnownStay.{keep_hidden}
 use Rattle.law_rename_agreement.proofs.Laws.{plain_renames_agree}
 use Rattle.law_rename_agreement.specs.Agreement.{PlainRenamesAgree}
-use Rattle.law_rename_agrees.specs.ConflictsByTables.{TellsFirstOf}
 use Rattle.law_renamed_scopes.proofs.SameBindings.{imports_used}
 use Rattle.law_scope_conflicts.specs.Behind.{TurnsBehind, hidden, preceded, repeated}
 use Rattle.law_scope_conflicts.specs.ScopeConflicts.{FirstConflictBehind, FirstOwnConflict, HasNoOwnConflict, IsConflictBehind, earlier_conflict}
@@ -73,7 +72,7 @@ module _ (w : Workspace) (known : Verdicts) (p : Package) (n : ℕ) (name : List
     by_name = (members w known p n name s h y is u place begins).1;
   }
 
-  told_first : (told : Option Conflict) → FirstOwnConflict (IsCheckedPackage w known) p n name told → TellsFirstOf w known r told
+  told_first : (told : Option Conflict) → FirstOwnConflict (IsCheckedPackage w known) p n name told → IsFirstConflict w known r told
   told_first None first = λ place. stays place (first place)
   told_first (Some c) first = (conflicts.own_is w known p n name s h f c first.0, λ place before. stays place (first.1 place before))
 
@@ -92,7 +91,7 @@ module _ (w : Workspace) (known : Verdicts) (p : Package) (n : ℕ) (name : List
       let z : PackageBlock ≡ File h.unnamed.0.0 = sym level ∙ h.unnamed.0.1 in cc
 
   told_both : (own behind : Option Conflict) → FirstOwnConflict (IsCheckedPackage w known) p n name own →
-      FirstConflictBehind (IsCheckedPackage w known) p n name behind → TellsFirstOf w known r (earlier_conflict own behind)
+      FirstConflictBehind (IsCheckedPackage w known) p n name behind → IsFirstConflict w known r (earlier_conflict own behind)
   told_both None None first none = told_first None first
   told_both (Some c) None first none = told_first (Some c) first
   told_both own (Some c) first some = absurd (not_behind c some.0)
@@ -225,10 +224,8 @@ pub unnamed_renames_agree : UnnamedRenamesAgree
 unnamed_renames_agree = agreed plain_renames_agree no_conflict own_conflicts
 
 refuse_by : UnnamedRenamesAgree → UnnamedConflictsRefuse
-refuse_by law w known p n name s h f steps c conflict before = (
-  (λ kept. not_staying w known (revision_of w s) c conflict ((law w known p n name s h f steps).1 kept c.used)),
-  a_conflict conflict before,
-)
+refuse_by law w known p n name s h f steps c conflict kept =
+    not_staying w known (revision_of w s) c conflict ((law w known p n name s h f steps).1 kept c.used)
 
 pub unnamed_conflicts_refuse : UnnamedConflictsRefuse
 unnamed_conflicts_refuse = refuse_by unnamed_renames_agree

@@ -15,12 +15,11 @@ use Rattle.refs_binding.specs.declared.declaration.Declaration.TheVariants.{Decl
 use Rattle.refs_binding.specs.Uses.{IsCheckedPackage}
 use Rattle.refactor_rename.specs.Literals.{IsUnnamedImport}
 use Rattle.refactor_preserve.specs.Preserved.{Preserves}
-use Rattle.refactor_conflict.specs.Conflicts.{IsConflict, IsReported}
-use Rattle.refactor_conflict.specs.Staying.{NoneIsLost, NoneIsLostBefore}
+use Rattle.refactor_conflict.specs.Conflicts.{IsConflict, IsFirstConflict}
+use Rattle.refactor_conflict.specs.Staying.{NoneIsLost}
 use Rattle.refactor_conflict.specs.declared.conflict.Conflict.{Conflict}
 use Rattle.law_put_tokens.specs.PutTokens.{put_edit}
 use Rattle.law_renamed_packages.specs.Renames.{IsRename}
-use Rattle.law_rename_agrees.specs.ConflictsByTables.{TellsFirstOf}
 use Rattle.law_scope_conflicts.specs.ScopeConflicts.{FirstConflictBehind, FirstOwnConflict, earlier_conflict}
 use Rattle.law_scope_conflicts.specs.ScopeRenames.{IsRenameIn}
 use Rattle.law_known_verdicts.specs.KnownVerdicts.{HoldVerdictsBut}
@@ -62,7 +61,7 @@ OfUnnamedRenames K = (w : Workspace) (known : Verdicts) (p : Package) (n : ℕ) 
 -- name there is none.
 abbrev pub UnnamedConflictsAreTold : Type 0
 UnnamedConflictsAreTold = OfUnnamedRenames (λ w known p n name s. (own behind : Option Conflict) → FirstOwnConflict (IsCheckedPackage w known) p n name own →
-    FirstConflictBehind (IsCheckedPackage w known) p n name behind → TellsFirstOf w known (revision_of w s) (earlier_conflict own behind))
+    FirstConflictBehind (IsCheckedPackage w known) p n name behind → IsFirstConflict w known (revision_of w s) (earlier_conflict own behind))
 
 -- Both steps together preserve bindings exactly where the second one does.
 abbrev pub StepsPreserve : (w : Workspace) → FileChanges → (naming renaming : FileChanges) → Type 0
@@ -74,11 +73,11 @@ abbrev pub UnnamedRenamesAgree : Type 0
 UnnamedRenamesAgree = (w : Workspace) (known : Verdicts) (p : Package) (n : ℕ) (name : List ℕ) (s : FileChanges) → IsUnnamedRename w known p n name s →
     (f : IsNamedFirst w known p n name s) → StepsPreserve w s f.naming f.renaming → NoneIsLost w known (revision_of w s) ↔ Preserves w (revision_of w s)
 
--- So a rename that has a conflict does not preserve bindings, and its first conflict is what is reported.
+-- So a rename that has a conflict does not preserve bindings.
 abbrev pub UnnamedConflictsRefuse : Type 0
 UnnamedConflictsRefuse = (w : Workspace) (known : Verdicts) (p : Package) (n : ℕ) (name : List ℕ) (s : FileChanges) → IsUnnamedRename w known p n name s →
     (f : IsNamedFirst w known p n name s) → StepsPreserve w s f.naming f.renaming → (c : Conflict) → IsConflict w known (revision_of w s) c →
-    NoneIsLostBefore w known (revision_of w s) c.used → (Preserves w (revision_of w s) → ⊥) × IsReported w known (revision_of w s) c
+    Preserves w (revision_of w s) → ⊥
 
 -- Where the rename loses and captures none, all known verdicts stay right but that on the package of the import, whose number is dropped.
 abbrev pub UnnamedRenamesKeepOthers : Type 0

@@ -11,7 +11,7 @@ pub fn unnamed_renames_agree()
     ensures { UnnamedRenamesAgree }
 {}
 
-/// A conflict refuses the rename, and the first one is what is reported.
+/// A rename that has a conflict does not preserve bindings.
 pub fn unnamed_conflicts_refuse()
     ensures { UnnamedConflictsRefuse }
 {}

@@ -33,10 +33,12 @@ use Rattle.refactor_conflict.specs.declared.conflict.Conflict.{Conflict}
 use Rattle.refactor_after.specs.MembersAfter.{CountsAfter, IsMemberAfter}
 use Rattle.refactor_conflict.specs.BoundAfter.{HasBecome, IsBoundByScopes, IsExportAfter, IsBoundByPackage, SelectsAfter}
 use Rattle.refactor_conflict.specs.Conflicts.{IsCapturer, LostOrCaptured, is_lost, is_captured, LosesMember, IsConflictIn, IsConflict, IsConflictOf, IsOtherMember, IsOtherAt}
-use Rattle.refactor_conflict.specs.Conflicts.{IsLostAt, IsLostAtFound, IsLostThere, UsedAfter, IsMemberConflict, IsMemberConflictIn, FirstLost, IsFirstConflict}
-use Rattle.refactor_conflict.specs.Staying.{NoneIsLost}
-use Rattle.refactor_conflict.specs.Conflicts.{an_identifier, by_scope, by_package, by_member, by_name}
+use Rattle.refactor_conflict.specs.Conflicts.{IsLostAt, IsLostAtFound, IsLostThere, UsedAfter, IsMemberConflict, IsMemberConflictIn}
+use Rattle.refactor_conflict.specs.Conflicts.{IsFirstConflict, Takes, HoldsBefore}
+use Rattle.refactor_conflict.specs.Staying.{StaysAt}
+use Rattle.refactor_conflict.specs.Conflicts.{by_scope, by_package, by_member, by_name}
 use Rattle.refactor_after.specs.OldPlaces.{field_at, method_at}
+use Rattle.refactor_conflict.proofs.KeepingFirst.{taken}
 use Rattle.refactor_conflict.proofs.MemberUses.{IsUsedAs, used_at}
 
 -- `K` holds of the declaration that was found.
@@ -251,7 +253,8 @@ method_in w known r p rank o is c h =
     let n = found_to_name (IsMethodAt p) p rank o is c.used h.0 in
     record { user = n.0; begins = n.1.0; turned = by_name (method_at p.path rank) (refl, n.1.1) h.1.0 h.1.1 }
 
--- the first identifier, where no conflict was found, and none is lost
-pub told_so : (w : Workspace) (known : Verdicts) (r : Revision) (o : Option Conflict) → NoneIsLost w known r → FirstLost w known o → IsFirstConflict w known r o
-told_so w known r None none h = h
-told_so w known r (Some c) none h = an_identifier h none
+-- What was found first, once every identifier is judged.
+pub told_first : (w : Workspace) (known : Verdicts) (r : Revision) (first : Option Conflict) → Takes (IsConflict w known r) None first →
+    HoldsBefore (StaysAt w known r) first → IsFirstConflict w known r first
+told_first w known r None takes stays = λ place. stays place tt
+told_first w known r (Some c) takes stays = (taken (IsConflict w known r) c takes, stays)

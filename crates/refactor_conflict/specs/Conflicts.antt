@@ -20,11 +20,9 @@ use Rattle.refs_binding.specs.Steps.{AtToken, AtFound}
 use Rattle.refs_binding.specs.Uses.{IsCheckedPackage}
 use Rattle.base_edits.specs.Revisions.{Revision}
 use Rattle.refs_binding.specs.DeclaringPlaces.{IsDeclaredAt}
-use Rattle.refs_places.specs.Identified.{IsIdentifierAt}
 use Rattle.refactor_after.specs.MembersAfter.{CountsAfter}
 use Rattle.refactor_after.specs.FilesAfter.{IsAfterPlace}
 use Rattle.refactor_conflict.specs.BoundAfter.{HasBecome, IsBoundByScopes, IsBoundByPackage, IsBoundByMember, SelectsAfter}
-use Rattle.refactor_conflict.specs.Firsts.{IsNotBefore}
 use Rattle.refactor_conflict.specs.Staying.{NoneIsLost, NoneIsLostBefore}
 use Rattle.refactor_conflict.specs.declared.conflict.Capturer.{Capturer}
 use Rattle.refactor_conflict.specs.declared.conflict.Capturer.TheVariants.{Universe, At}
@@ -104,29 +102,9 @@ pub record IsConflict (w : Workspace) (known : Verdicts) (r : Revision) (c : Con
   pub is_package : IsCheckedPackage w known used_in
   pub conflict : IsConflictIn w known r used_in c
 
--- The conflict names the first identifier of the workspace, as lost.
-pub record IsFirstIdentifierLost (w : Workspace) (known : Verdicts) (c : Conflict) : Type 0 where
-  pub lost : c.by ≡ None
-  pub is_identifier : IsIdentifierAt w known c.used
-  pub first : (place : Place) → IsIdentifierAt w known place → IsNotBefore place c.used
-
--- The conflict that a refusal reports: the first identifier that the change loses or captures. Where it loses and captures none, the first
--- identifier of the workspace is reported as lost.
-pub data IsReported (w : Workspace) (known : Verdicts) (r : Revision) (c : Conflict) : Type 0 where
-  a_conflict : IsConflict w known r c → NoneIsLostBefore w known r c.used → IsReported w known r c
-  an_identifier : IsFirstIdentifierLost w known c → NoneIsLost w known r → IsReported w known r c
-
--- The workspace has no identifier.
-abbrev pub HasNoIdentifiers : Workspace → Verdicts → Type 0
-HasNoIdentifiers w known = (place : Place) → IsIdentifierAt w known place → ⊥
-
--- The first identifier of the workspace, as lost, or `None` where the workspace has no identifier.
-abbrev pub FirstLost : Workspace → Verdicts → Option Conflict → Type 0
-FirstLost w known told = MatchOption told (HasNoIdentifiers w known) (IsFirstIdentifierLost w known)
-
--- The conflict that a refusal reports, or `None` where the workspace has no identifier.
+-- The first identifier, by path and offset, that the change loses or captures, or `None` where it loses and captures none.
 abbrev pub IsFirstConflict : Workspace → Verdicts → Revision → Option Conflict → Type 0
-IsFirstConflict w known r told = MatchOption told (HasNoIdentifiers w known) (IsReported w known r)
+IsFirstConflict w known r told = MatchOption told (NoneIsLost w known r) (λ c. IsConflict w known r c × NoneIsLostBefore w known r c.used)
 
 -- The place comes before the place of the first conflict found so far. Every place does where none is found.
 abbrev pub IsPlaceBefore : Option Conflict → Place → Type 0

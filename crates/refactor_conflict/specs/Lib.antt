@@ -4,6 +4,5 @@ pub mod BoundAfter
 pub mod Firsts
 pub mod Staying
 pub mod Conflicts
-pub mod Refusals
 pub mod ScopesAfter
 pub mod Judging

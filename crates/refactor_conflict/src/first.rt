@@ -6,13 +6,12 @@ ghost use Rattle.base_edits.specs.RevisionsOfEdits.{revision_of};
 ghost use Rattle.refs_binding.specs.Packages.{ArePackagesRead};
 ghost use Rattle.refs_binding.specs.Workspaces.{known_in};
 ghost use Rattle.refactor_after.specs.Scopes.{AreAllScopes};
-ghost use Rattle.refactor_conflict.specs.Conflicts.{AreAfter, IsConflict, FirstLost, IsFirstConflict, Takes, HoldsBefore};
+ghost use Rattle.refactor_conflict.specs.Conflicts.{AreAfter, IsConflict, IsFirstConflict, Takes, HoldsBefore};
 ghost use Rattle.refactor_after.specs.ReadPackages.{workspace_of, verdicts_of};
 ghost use Rattle.refactor_conflict.specs.Judging.{KnowsBefore, KnowsChange, workspace_in, known_verdicts, revision_in};
-ghost use Rattle.refactor_conflict.specs.Staying.{StaysAt, StaysInNumber};
+ghost use Rattle.refactor_conflict.specs.Staying.{StaysInNumber};
 
 use crate::conflict::Conflict;
-use crate::first_identifier::first_identifier;
 use crate::judge::Judge;
 use crate::judging::judge_unit;
 use base_edits::{EditSet, Moves};
@@ -60,8 +59,7 @@ fn judge_package(
 /// The first identifier that the change loses or captures, or `None`.
 fn first_judged(alloc: Global, judge: &Judge<'_, '_, '_>) -> Result<Option<Conflict>, AllocError>
     requires { KnowsChange judge.now }
-    ensures takes { IfOk result (λ first. Takes (IsConflict (workspace_in judge.now) (known_verdicts judge.now) (revision_in judge.now)) None first) }
-    ensures stays { IfOk result (HoldsBefore (StaysAt (workspace_in judge.now) (known_verdicts judge.now) (revision_in judge.now))) }
+    ensures { IfOk result (IsFirstConflict (workspace_in judge.now) (known_verdicts judge.now) (revision_in judge.now)) }
 {
     let mut first = None;
     for number in 0..judge.packages.workspace.len() {
@@ -111,8 +109,7 @@ fn first_found(
     requires before { KnowsBefore packages.now moves.now before.now }
     requires after { after.now ≡ edited moves.now (workspace_of packages.now) }
     requires scoped { AreAllScopes after.now scoped.now }
-    ensures takes { IfOk result (λ first. Takes (IsConflict (workspace_of packages.now) (verdicts_of packages.now) (revision_of (workspace_of packages.now) moves.now)) None first) }
-    ensures stays { IfOk result (HoldsBefore (StaysAt (workspace_of packages.now) (verdicts_of packages.now) (revision_of (workspace_of packages.now) moves.now))) }
+    ensures { IfOk result (IsFirstConflict (workspace_of packages.now) (verdicts_of packages.now) (revision_of (workspace_of packages.now) moves.now)) }
 {
     let bound = scope_bindings(alloc, after, scoped)?;
     let judge = Judge {
@@ -140,8 +137,7 @@ fn first_afterwards(
     requires read { ArePackagesRead packages.now }
     requires before { KnowsBefore packages.now moves.now before.now }
     requires after { after.now ≡ edited moves.now (workspace_of packages.now) }
-    ensures takes { IfOk result (λ first. Takes (IsConflict (workspace_of packages.now) (verdicts_of packages.now) (revision_of (workspace_of packages.now) moves.now)) None first) }
-    ensures stays { IfOk result (HoldsBefore (StaysAt (workspace_of packages.now) (verdicts_of packages.now) (revision_of (workspace_of packages.now) moves.now))) }
+    ensures { IfOk result (IsFirstConflict (workspace_of packages.now) (verdicts_of packages.now) (revision_of (workspace_of packages.now) moves.now)) }
 {
     let names = clause_names(alloc, after)?;
     let scoped = scoped_packages(alloc, after, &names)?;
@@ -157,44 +153,14 @@ fn judged_first(
 ) -> Result<Option<Conflict>, AllocError>
     requires read { ArePackagesRead packages.now }
     requires after { after.now ≡ edited edits.now (workspace_of packages.now) }
-    ensures takes { IfOk result (λ first. Takes (IsConflict (workspace_of packages.now) (verdicts_of packages.now) (revision_of (workspace_of packages.now) edits.now)) None first) }
-    ensures stays { IfOk result (HoldsBefore (StaysAt (workspace_of packages.now) (verdicts_of packages.now) (revision_of (workspace_of packages.now) edits.now))) }
+    ensures { IfOk result (IsFirstConflict (workspace_of packages.now) (verdicts_of packages.now) (revision_of (workspace_of packages.now) edits.now)) }
 {
     let moves = Moves::of(alloc, edits)?;
     let before = Before::of(alloc, packages, &moves)?;
     first_afterwards(alloc, packages, &before, &moves, after)
 }
 
-/// The first identifier of a workspace without faults, as a conflict that loses it.
-fn first_lost(alloc: Global, packages: &Packages<'_>) -> Result<Option<Conflict>, AllocError>
-    requires { ArePackagesRead packages.now }
-    ensures { IfOk result (FirstLost (workspace_of packages.now) (verdicts_of packages.now)) }
-{
-    match first_identifier(alloc, packages)? {
-        None => Ok(None),
-        Some(used) => Ok(Some(Conflict { used, by: None })),
-    }
-}
-
-/// The first identifier that the edits lose or capture, or else the first of the workspace, as lost.
-fn first_read(
-    alloc: Global,
-    packages: &Packages<'_>,
-    edits: &EditSet,
-    after: &Graph,
-) -> Result<Option<Conflict>, AllocError>
-    requires read { ArePackagesRead packages.now }
-    requires after { after.now ≡ edited edits.now (workspace_of packages.now) }
-    ensures { IfOk result (IsFirstConflict (workspace_of packages.now) (verdicts_of packages.now) (revision_of (workspace_of packages.now) edits.now)) }
-{
-    match judged_first(alloc, packages, edits, after)? {
-        Some(conflict) => Ok(Some(conflict)),
-        None => first_lost(alloc, packages),
-    }
-}
-
-/// The first identifier of a workspace without faults that the edits lose or capture. Where they lose and capture none, the first
-/// identifier is reported as lost. `None` where the workspace has no identifier.
+/// The first identifier of a workspace without faults that the edits lose or capture, by path and offset, or `None`.
 ///
 /// `after` is the workspace that the edits make of `workspace`.
 pub fn first_conflict(
@@ -208,5 +174,5 @@ pub fn first_conflict(
 {
     let seen = all_seen(alloc, workspace)?;
     let packages = Packages::of(alloc, workspace, &seen)?;
-    first_read(alloc, &packages, edits, after)
+    judged_first(alloc, &packages, edits, after)
 }

@@ -1,8 +1,9 @@
 //! Finds the conflicts of a change: identifiers that it would lose, since nothing would bind them, or capture, since another declaration
 //! would.
 //!
-//! Crates above rely on: `first_conflict` returns the first identifier, by path and offset, that the change loses or captures. Where there
-//! is none it returns the first identifier of the workspace, as lost (`IsFirstConflict`).
+//! Tests rely on: `first_conflict` returns the first identifier, by path and offset, that the change loses or captures, or `None`
+//! (`IsFirstConflict`). Crates above rely on the definitions of conflicts, and on the law that no conflict stays bound. No plan judges
+//! the edited workspace.
 #![tactic(auto)]
 
 mod beginning;
@@ -10,7 +11,6 @@ mod bound_after;
 mod conflict;
 mod correspondence;
 mod first;
-mod first_identifier;
 mod first_kept;
 mod judge;
 mod judging;

@@ -20,9 +20,9 @@ use Rattle.refactor_rename.specs.Literals.{IsLiteralFound, IsPathLiteralIn, IsPa
 use Rattle.refactor_rename.specs.Naming.{IsFixed, IsReservedFor}
 use Rattle.refactor_rename.specs.NewName.{IsNewName}
 use Rattle.refactor_rename.specs.RenameEdits.{AreRenameEdits}
+use Rattle.refactor_conflict.specs.Conflicts.{IsFirstConflict}
 use Rattle.law_renamed_packages.specs.Renames.{IsPlainRename}
 use Rattle.law_renamed_scopes.proofs.OwnNames.{identifies}
-use Rattle.law_rename_agrees.specs.ConflictsByTables.{TellsFirstOf}
 use Rattle.law_known_verdicts.specs.KnownVerdicts.{IsHidden, IsHiddenIn}
 use Rattle.law_scope_conflicts.specs.ScopeRenames.{IsRenameIn}
 use Rattle.law_scope_conflicts.specs.ScopeConflicts.{FirstConflictsAreTold}
@@ -87,10 +87,10 @@ module _ (w : Workspace) (known : Verdicts) (p : Package) (is : IsCheckedPackage
 
   -- The decision has the first conflict.
   pub first_told : FirstConflictsAreTold → (s : FileChanges) → IsPlainRename w known (Declared p.path n) name s →
-      TellsFirstOf w known (revision_of w s) d.conflict
+      IsFirstConflict w known (revision_of w s) d.conflict
   first_told told s rename =
       let first = h.first in
       let in_package : IsRenameIn w known p n name s = record { rename = rename; is_package = is } in
-      subst (TellsFirstOf w known (revision_of w s)) (sym first.is_told)
+      subst (IsFirstConflict w known (revision_of w s)) (sym first.is_told)
       (told w known p n name s in_package first.own first.behind
       first.first_own first.first_behind)

@@ -10,7 +10,7 @@ use Rattle.workspace_check.specs.Verdicts.{Verdicts}
 use Rattle.refs_binding.specs.declared.declaration.Declaration.{Declaration}
 use Rattle.refs_binding.specs.declared.declaration.Declaration.TheVariants.{Field, Method}
 use Rattle.refs_binding.specs.Uses.{IsCheckedPackage}
-use Rattle.refactor_conflict.specs.Conflicts.{Takes, HoldsBefore, IsConflict}
+use Rattle.refactor_conflict.specs.Conflicts.{Takes, HoldsBefore, IsConflict, IsFirstConflict}
 use Rattle.refactor_conflict.specs.Staying.{MembersStayIn, DeclaringNamesStayIn}
 use Rattle.refactor_conflict.specs.declared.conflict.Conflict.{Conflict}
 use Rattle.refactor_conflict.proofs.KeepingFirst.{taken}
@@ -18,7 +18,6 @@ use Rattle.law_member_conflicts.specs.AtStake.{OtherMembersStay}
 use Rattle.law_member_conflicts.specs.KeptScopes.{MemberConflictsAreOfMembers}
 use Rattle.law_member_conflicts.specs.MemberRenames.{IsMemberRename}
 use Rattle.law_kept_members.specs.NamesAfterwards.{IsCalledAfter, gets_name, keeps_name, spelled_there, MembersAreCalled, FieldNamesAfter, MethodNamesAfter}
-use Rattle.law_rename_agrees.specs.ConflictsByTables.{TellsFirstOf}
 use Rattle.refactor_members.specs.Renames.{RenamesMember}
 use Rattle.refactor_members.proofs.NamesStay.{case_field, case_method}
 
@@ -86,7 +85,7 @@ module _ (w : Workspace) (known : Verdicts) (d : Declaration) (name : List ℕ) 
   -- The first conflict, where what is bound otherwise stays.
   pub first_told : MemberConflictsAreOfMembers → (told : Option Conflict) → Takes (IsConflict w known r) None told →
       HoldsBefore (λ place. (p : Package) → IsCheckedPackage w known p → MembersStayIn w known r p place × DeclaringNamesStayIn w known r p place) told →
-      TellsFirstOf w known r told
+      IsFirstConflict w known r told
   first_told decide None takes stay = λ place. (decide w known d name s rename place).1 (stay place tt)
   first_told decide (Some c) takes stay =
       (taken (IsConflict w known r) c takes, λ place before. (decide w known d name s rename place).1 (stay place before))

@@ -1,7 +1,7 @@
 //! Finds the first conflict of a rename of a field or method by the old workspace and the new name alone.
 //!
 //! Crates above rely on: `member_conflict` tells the first identifier that the rename loses or captures, or that there is none
-//! (`TellsFirstOf`). It edits no file, and lays no scopes of edited packages.
+//! (`IsFirstConflict`). It edits no file, and lays no scopes of edited packages.
 #![tactic(auto)]
 
 mod beginning;

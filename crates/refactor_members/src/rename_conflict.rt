@@ -3,8 +3,8 @@ ghost use Rattle.std.specs.Prelude.{IfOk};
 ghost use Rattle.base_edits.specs.EditSet.{FileChanges};
 ghost use Rattle.base_edits.specs.RevisionsOfEdits.{revision_of};
 ghost use Rattle.refs_binding.specs.Workspaces.{known_in};
+ghost use Rattle.refactor_conflict.specs.Conflicts.{IsFirstConflict};
 ghost use Rattle.law_member_conflicts.specs.MemberRenames.{IsMemberRename};
-ghost use Rattle.law_rename_agrees.specs.ConflictsByTables.{TellsFirstOf};
 
 use crate::definition::definition_of;
 use crate::first::first_turned;
@@ -28,7 +28,7 @@ pub fn member_conflict(
 ) -> Result<Option<Conflict>, AllocError>
     ensures { let w = workspace.now.graph in
         let known = known_in workspace.now.findings in
-        IfOk result (λ told. (s : FileChanges) → IsMemberRename w known declaration.now name.now s → TellsFirstOf w known (revision_of w s) told) }
+        IfOk result (λ told. (s : FileChanges) → IsMemberRename w known declaration.now name.now s → IsFirstConflict w known (revision_of w s) told) }
 {
     law_kept_members::kept_members::members_are_called();
     law_member_conflicts::member_renames::member_renames_keep_scopes();

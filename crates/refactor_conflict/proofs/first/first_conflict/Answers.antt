@@ -8,11 +8,11 @@ use Rattle.refs_binding.specs.Workspaces.{known_in}
 use Rattle.refactor_conflict.specs.Conflicts.{IsFirstConflict}
 use Rattle.refactor_conflict.proofs.first.first_conflict.Goals as goal
 
-pub first_read-requires-clause-after : goal.first_read-requires-clause-after
-first_read-requires-clause-after c =
+pub judged_first-requires-clause-after : goal.judged_first-requires-clause-after
+judged_first-requires-clause-after c =
     c.requires ∙ ap (λ (v : WorkspaceFindings). edited c.args.edits.now v.graph) (sym c.in_ok-packages.ensures.workspace)
 
 pub returns : goal.returns
 returns c =
-    subst (λ (v : WorkspaceFindings). IfOk c.first_read.result (IsFirstConflict v.graph (known_in v.findings) (revision_of v.graph c.args.edits.now)))
-    c.in_ok-packages.ensures.workspace c.first_read.ensures
+    subst (λ (v : WorkspaceFindings). IfOk c.judged_first.result (IsFirstConflict v.graph (known_in v.findings) (revision_of v.graph c.args.edits.now)))
+    c.in_ok-packages.ensures.workspace c.judged_first.ensures

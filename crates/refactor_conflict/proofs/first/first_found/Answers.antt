@@ -1,18 +1,17 @@
 -- The answers to the goals of `first::first_found`.
 use Rattle.std.proofs.Common.{sym, subst}
-use Rattle.std.specs.Prelude.{None, IfOk}
+use Rattle.std.specs.Prelude.{IfOk}
 use Rattle.base_files.specs.Workspace.{Workspace}
 use Rattle.base_edits.specs.Moved.{moved}
 use Rattle.refs_binding.specs.Exports.{AreExports}
 use Rattle.refs_binding.specs.Uses.{IsCheckedPackage}
 use Rattle.refs_places.specs.DeclaredPlaces.{AreAllPlaces}
 use Rattle.refactor_after.specs.NewMembers.{AreAllNewMembers}
-use Rattle.refactor_conflict.specs.Conflicts.{IsConflict, Takes, HoldsBefore}
+use Rattle.refactor_conflict.specs.Conflicts.{IsFirstConflict}
 use Rattle.refactor_after.specs.ReadPackages.{workspace_of, verdicts_of}
 use Rattle.refactor_conflict.specs.Judging.{revision_by}
 use Rattle.refactor_after.specs.ScopeBindings.{AreScopeBindings}
 use Rattle.refactor_after.specs.OldPlaces.{AreOldPlaces}
-use Rattle.refactor_conflict.specs.Staying.{StaysAt}
 use Rattle.refactor_conflict.proofs.first.first_found.Goals as goal
 
 pub first_judged-requires : goal.first_judged-requires
@@ -33,16 +32,8 @@ first_judged-requires c =
           c.requires.before.members);
     }
 
-pub returns-clause-takes : goal.returns-clause-takes
-returns-clause-takes c =
+pub returns : goal.returns
+returns c =
     let w = workspace_of c.args.packages.now in
     let known = verdicts_of c.args.packages.now in
-    subst (λ (v : Workspace). IfOk c.first_judged.result (λ first. Takes (IsConflict w known (revision_by v c.args.moves.now)) None first)) c.requires.after
-    c.first_judged.ensures.takes
-
-pub returns-clause-stays : goal.returns-clause-stays
-returns-clause-stays c =
-    let w = workspace_of c.args.packages.now in
-    let known = verdicts_of c.args.packages.now in
-    subst (λ (v : Workspace). IfOk c.first_judged.result (HoldsBefore (StaysAt w known (revision_by v c.args.moves.now)))) c.requires.after
-    c.first_judged.ensures.stays
+    subst (λ (v : Workspace). IfOk c.first_judged.result (IsFirstConflict w known (revision_by v c.args.moves.now))) c.requires.after c.first_judged.ensures

@@ -4,6 +4,7 @@ use Rattle.std.specs.Prelude.{None}
 use Rattle.base_files.specs.Packages.{package_paths}
 use Rattle.refactor_conflict.specs.Conflicts.{IsConflict}
 use Rattle.refactor_conflict.specs.Judging.{workspace_in, known_verdicts, revision_in}
+use Rattle.refactor_conflict.proofs.Conflicts.{told_first}
 use Rattle.refactor_conflict.proofs.KeepingFirst.{takes_none, takes_then, still_holds}
 use Rattle.refactor_conflict.proofs.Stayed.{StaysInBelow, none_in_number, next_number, all_packages}
 use Rattle.refactor_conflict.proofs.first.first_judged.Goals as goal
@@ -28,11 +29,9 @@ loop-number-preserved c =
           c.in_ok-judge_package.ensures.stays,
     )
 
-pub returns-clause-takes : goal.returns-clause-takes
-returns-clause-takes c = c.loop-number.invariant.0
-
-pub returns-clause-stays : goal.returns-clause-stays
-returns-clause-stays c =
+pub returns : goal.returns
+returns c =
     let j = c.args.judge.now in
     let end : c.loop-number.number ≡ length (package_paths (workspace_in j)) = omega arith in
-    all_packages (workspace_in j) (known_verdicts j) (revision_in j) c.loop-number.number c.loop-number.first end c.loop-number.invariant.1
+    told_first (workspace_in j) (known_verdicts j) (revision_in j) c.loop-number.first c.loop-number.invariant.0
+    (all_packages (workspace_in j) (known_verdicts j) (revision_in j) c.loop-number.number c.loop-number.first end c.loop-number.invariant.1)
