@@ -5,7 +5,7 @@ use denote.Struct.Tuple.{type_at, TupleAt}
 use denote.Param.Send.{IsSend}
 use denote.Param.SendFields.{as_row_send, declared_send}
 use mathlib.Core.List.{[], ◌∷◌}
-use mir.Syntax.{Sym, Ty, ty_ptr, ty_struct, ty_unit, tcons, tnil}
+use mir.Syntax.{Sym}
 
 pub five_sent : (ν : Sym) (A B C D E : RattleType) → IsSend A → IsSend B → IsSend C → IsSend D → IsSend E →
     IsSend (TupleAt ν (A ∷ B ∷ C ∷ D ∷ E ∷ []))
@@ -19,8 +19,3 @@ five_sent ν A B C D E a b c d e = declared_send (type_at ν (A ∷ B ∷ C ∷ 
     ),
   ),
 )
-
--- the layout of the captures: an allocator after one reference and before three
-abbrev pub captured : Ty
-captured = ty_struct [] (tcons ty_ptr (tcons (ty_struct [] (tcons (ty_struct [] (tcons ty_unit tnil)) tnil))
-    (tcons ty_ptr (tcons ty_ptr (tcons ty_ptr tnil)))))

@@ -1,5 +1,7 @@
 -- The lemmas of this crate.
 mod Lifts
 pub mod Captures
+pub mod SeatsSent
 mod ServedLaws
 mod SessionLaws
+mod ReturnedLaws

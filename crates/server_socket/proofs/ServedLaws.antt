@@ -1,5 +1,5 @@
 -- The outcome of a server, from that of settling.
-use Rattle.std.proofs.Common.{◌≡◌, ◌↔◌, ◌+◌, ◌≤◌, ℕ, List, length, Result, Ok, Err, IfOk, IfErr, IsOk, IsErr, subst, sym, zero-add}
+use Rattle.std.proofs.Common.{◌≡◌, ◌↔◌, ◌+◌, ◌≤◌, ℕ, List, length, Result, Ok, Err, IfOk, IfErr, IsOk, IsErr, refl, subst, sym, zero-add}
 use Rattle.history_machine.specs.Machine.{Machine}
 use Rattle.server_shared.specs.declared.receipt.Receipt.{Receipt}
 use Rattle.server_shared.specs.declared.settling.Unsettled.{Unsettled as Leftover}
@@ -8,14 +8,22 @@ use Rattle.server_shared.specs.SettledBook.{book_in}
 use Rattle.server_shared.specs.Settled.{IsSettled, receipt_count}
 use Rattle.server_socket.specs.declared.fault.ServeFault.{ServeFault}
 use Rattle.server_socket.specs.declared.fault.ServeFault.TheVariants.{Memory, Socket, Unsettled}
+use Rattle.server_socket.specs.Returned.{AreReturned}
 use Rattle.server_socket.specs.Served.{IsHandedBack, Serves, Settles}
 
--- a settling with all seats
-pub served : (parts : ℕ) (seats : List (List Receipt)) (told : Result ℕ ServeFault) → length seats ≡ parts → Settles parts seats told → Serves parts told
-served parts seats (Ok entries) all h = (seats, all, h)
-served parts seats (Err Unsettled) all h = (seats, all, h)
-served parts seats (Err Memory) all h = tt
-served parts seats (Err Socket) all h = tt
+-- a settling with the seats of all threads
+pub served : (workers sessions : ℕ) (seats : List (List Receipt)) (told : Result ℕ ServeFault) → AreReturned 1000000 workers sessions seats →
+    Settles (workers + sessions) seats told → Serves workers sessions told
+served workers sessions seats (Ok entries) all h = (seats, all, h)
+served workers sessions seats (Err Unsettled) all h = (seats, all, h)
+served workers sessions seats (Err Memory) all h = tt
+served workers sessions seats (Err Socket) all h = tt
+
+-- another fault
+pub not_served : (workers sessions : ℕ) (fault : ServeFault) → (fault ≡ Unsettled → ⊥) → Serves workers sessions (Err fault)
+not_served workers sessions Unsettled other = absurd (other refl)
+not_served workers sessions Memory other = tt
+not_served workers sessions Socket other = tt
 
 not_both : (settled : Result Machine Leftover) → IsErr settled → IsOk settled → ⊥
 not_both (Ok book) bad good = cc

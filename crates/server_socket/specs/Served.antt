@@ -1,9 +1,10 @@
 -- What a server returns at its end.
-use Rattle.std.specs.Prelude.{◌≡◌, ◌≤◌, ℕ, List, length, Result, Ok, Err, ⊤}
+use Rattle.std.specs.Prelude.{◌≡◌, ◌+◌, ◌≤◌, ℕ, List, length, Result, Ok, Err, ⊤}
 use Rattle.history_machine.specs.Machine.{Machine}
 use Rattle.server_shared.specs.declared.receipt.Receipt.{Receipt}
 use Rattle.server_shared.specs.Steps.{IsReplayed}
 use Rattle.server_shared.specs.Settled.{IsSettled, receipt_count}
+use Rattle.server_socket.specs.Returned.{AreReturned}
 use Rattle.server_socket.specs.declared.fault.ServeFault.{ServeFault}
 use Rattle.server_socket.specs.declared.fault.ServeFault.TheVariants.{Memory, Socket, Unsettled}
 
@@ -21,10 +22,12 @@ Settles parts seats (Err Unsettled) = (book : Machine) × IsHandedBack parts sea
 Settles parts seats (Err Memory) = ⊥
 Settles parts seats (Err Socket) = ⊥
 
--- The book was settled with all its seats, of which there are so many, and this is its outcome. A fault of memory or of the socket says
--- nothing.
-abbrev pub Serves : ℕ → Result ℕ ServeFault → Type 0
-Serves parts (Ok entries) = (seats : List (List Receipt)) × (length seats ≡ parts) × Settles parts seats (Ok entries)
-Serves parts (Err Unsettled) = (seats : List (List Receipt)) × (length seats ≡ parts) × Settles parts seats (Err Unsettled)
-Serves parts (Err Memory) = ⊤
-Serves parts (Err Socket) = ⊤
+-- The book was settled with all its seats, those of so many workers and of so many threads of sessions, and this is its outcome. Its
+-- journal has 1,000,000 entries at most. A fault of memory or of the socket says nothing.
+abbrev pub Serves : (workers sessions : ℕ) → Result ℕ ServeFault → Type 0
+Serves workers sessions (Ok entries) =
+    (seats : List (List Receipt)) × AreReturned 1000000 workers sessions seats × Settles (workers + sessions) seats (Ok entries)
+Serves workers sessions (Err Unsettled) =
+    (seats : List (List Receipt)) × AreReturned 1000000 workers sessions seats × Settles (workers + sessions) seats (Err Unsettled)
+Serves workers sessions (Err Memory) = ⊤
+Serves workers sessions (Err Socket) = ⊤

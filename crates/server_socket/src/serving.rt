@@ -1,9 +1,12 @@
 //! Runs the server, from making its socket to settling its book.
-ghost use Rattle.std.specs.Prelude.{◌≡◌, ◌≢◌, ◌+◌, IfErr, IfOk, IsErr, IsOk, OnOk, length};
+ghost use Rattle.std.specs.Prelude.{◌≡◌, ◌≢◌, ◌+◌, IfErr, IfOk, IsErr, IsOk, IsTrue, length, vec_len};
 ghost use Rattle.server_shared.specs.SettledBook.{book_in};
+ghost use Rattle.server_socket.specs.Returned.{AreReturned};
 ghost use Rattle.server_socket.specs.Served.{Serves, Settles};
 
 use crate::fault::ServeFault;
+use crate::held_seats::{SessionSeat, WorkerSeat};
+use crate::returned::Seats;
 use crate::socket::listen;
 use crate::threads::{Running, run};
 use crate::turns::Turns;
@@ -26,19 +29,45 @@ fn threads_of(words: &ServeOptions<'_>) -> u64
     u64::from(words.workers) + u64::from(words.sessions)
 }
 
-/// Takes `count` seats of the shared book, or as many as are left.
-fn seats_of<L: Opening>(
+/// Takes seats of the shared book for workers, or as many as are left.
+fn worker_seats<L: Opening>(
     alloc: Global,
     shared: &mut Shared<L>,
-    count: u64,
-) -> Result<Vec<Seat<L>>, AllocError> {
+    count: u32,
+) -> Result<Vec<WorkerSeat<L>>, AllocError> {
     let mut seats = Vec::new(alloc);
     for _ in 0..count {
         if let Some(seat) = shared.seat() {
-            seats.push(seat)?;
+            seats.push(WorkerSeat::new(seat))?;
         }
     }
     Ok(seats)
+}
+
+/// Takes seats of the shared book for threads of sessions, or as many as are left.
+fn session_seats<L: Opening>(
+    alloc: Global,
+    shared: &mut Shared<L>,
+    count: u32,
+) -> Result<Vec<SessionSeat<L>>, AllocError> {
+    let mut seats = Vec::new(alloc);
+    for _ in 0..count {
+        if let Some(seat) = shared.seat() {
+            seats.push(SessionSeat::new(seat))?;
+        }
+    }
+    Ok(seats)
+}
+
+/// Takes the seats of all threads.
+fn seats_of<L: Opening>(
+    alloc: Global,
+    shared: &mut Shared<L>,
+    words: &ServeOptions<'_>,
+) -> Result<Seats<L>, AllocError> {
+    let workers = worker_seats(alloc, shared, words.workers)?;
+    let sessions = session_seats(alloc, shared, words.sessions)?;
+    Ok(Seats { workers, sessions })
 }
 
 /// Closes a book after settling, and returns the length of its journal if it was settled.
@@ -67,29 +96,65 @@ fn settle<L: Opening>(shared: Shared<L>, seats: Vec<Seat<L>>) -> Result<u64, Ser
     length_of(shared.settle(seats))
 }
 
-/// Runs the threads of a server to their end, if there is a seat for each.
+/// Whether these are the seats of all threads.
+fn are_all<L: Opening>(seats: &Seats<L>, words: &ServeOptions<'_>) -> bool
+    ensures workers { IsTrue result → vec_len seats.now.workers ≡ words.now.workers }
+    ensures sessions { IsTrue result → vec_len seats.now.sessions ≡ words.now.sessions }
+{
+    seats.workers.len() as u64 == u64::from(words.workers)
+        && seats.sessions.len() as u64 == u64::from(words.sessions)
+}
+
+/// All seats in one list, if these are the seats of all threads. Else a thread could not be made.
+fn all_seats<L: Opening>(
+    alloc: Global,
+    seats: Seats<L>,
+    words: &ServeOptions<'_>,
+) -> Result<Vec<Seat<L>>, ServeFault>
+    ensures all { IfOk result (λ all. AreReturned L.most words.now.workers words.now.sessions all.items) }
+    ensures err { IfErr result (λ fault. fault ≢ ServeFault.Unsettled) }
+{
+    let are_made = are_all(&seats, words);
+    if !are_made {
+        return Err(ServeFault::Memory);
+    }
+    Ok(seats.all(alloc)?)
+}
+
+/// Runs the threads of a server to their end. Returns the seats of all threads, with what was called at them.
 fn serve_by<L: Opening + Send + Sync, R: Threads + Wait + Sync, G: Gate + Sync>(
     rt: &R,
     alloc: Global,
     shared: &Shared<L>,
-    seats: &mut [Seat<L>],
+    seats: Seats<L>,
     words: &ServeOptions<'_>,
     running: Running<'_, G>,
-) -> Result<(), ServeFault>
-    ensures all { OnOk result (length seats.new ≡ words.now.workers + words.now.sessions) }
+) -> Result<Vec<Seat<L>>, ServeFault>
+    ensures all { IfOk result (λ all. AreReturned L.most words.now.workers words.now.sessions all.items) }
     ensures err { IfErr result (λ fault. fault ≢ ServeFault.Unsettled) }
 {
-    let workers = words.workers as usize;
-    let are_made = seats.len() as u64 == threads_of(words)
-        && run(rt, alloc, shared, seats, workers, &running);
+    let back = run(rt, alloc, shared, seats, &running);
     let Running { gate: _, turns } = running;
-    if !are_made {
-        return Err(ServeFault::Memory);
-    }
     if turns.has_failed() {
         return Err(ServeFault::Socket);
     }
-    Ok(())
+    all_seats(alloc, back?, words)
+}
+
+/// Serves sessions over a shared book to their end. Returns the seats of all threads, with what was called at them.
+fn serve_over<L: Opening + Send + Sync, R: Threads + Wait + Sync, G: Gate + Sync>(
+    rt: &R,
+    alloc: Global,
+    shared: &mut Shared<L>,
+    words: &ServeOptions<'_>,
+    running: Running<'_, G>,
+) -> Result<Vec<Seat<L>>, ServeFault>
+    ensures from { shared.new.from ≡ shared.old.from }
+    ensures all { IfOk result (λ all. AreReturned L.most words.now.workers words.now.sessions all.items) }
+    ensures err { IfErr result (λ fault. fault ≢ ServeFault.Unsettled) }
+{
+    let seats = seats_of(alloc, shared, words)?;
+    serve_by(rt, alloc, &*shared, seats, words, running)
 }
 
 /// Serves sessions over a new book with this ledger.
@@ -106,23 +171,18 @@ fn serve_in<L: Opening + Send + Sync, R: Threads + Wait + Sync, G: Gate + Sync>(
     requires seats { blank.parts ≡ words.now.workers + words.now.sessions }
     requires from { L.from ≡ 0 }
     requires most { L.most ≡ 1000000 }
-    ensures { Serves (words.now.workers + words.now.sessions) result }
+    ensures { Serves words.now.workers words.now.sessions result }
 {
-    let count = threads_of(words);
     let book = Book::new(alloc, Limits::FULL)?;
-    let mut shared = Shared::<L>::new(alloc, blank, book, count);
-    let mut seats = match seats_of(alloc, &mut shared, count) {
-        Ok(seats) => seats,
-        Err(_) => {
-            let _ended = settle(shared, Vec::new(alloc));
-            return Err(ServeFault::Memory);
-        }
-    };
+    let mut shared = Shared::<L>::new(alloc, blank, book, threads_of(words));
     let running = Running { gate, turns };
-    let served = serve_by(rt, alloc, &shared, seats.as_mut_slice(), words, running);
-    let length = settle(shared, seats);
-    served?;
-    length
+    match serve_over(rt, alloc, &mut shared, words, running) {
+        Ok(seats) => settle(shared, seats),
+        Err(fault) => {
+            let _ended = settle(shared, Vec::new(alloc));
+            Err(fault)
+        }
+    }
 }
 
 /// Serves sessions on a socket, and returns the length of the journal at the end. It ends once `stop_after` connections have ended; without
@@ -132,7 +192,7 @@ pub fn serve<R: Threads + Wait + Net + Files + AllocGlobal + Sync, G: Gate + Syn
     words: &ServeOptions<'_>,
     gate: &G,
 ) -> Result<u64, ServeFault>
-    ensures { Serves (words.now.workers + words.now.sessions) result }
+    ensures { Serves words.now.workers words.now.sessions result }
 {
     let alloc = rt.alloc();
     let listener = listen(rt, alloc, words.socket)?;

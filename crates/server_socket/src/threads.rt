@@ -1,17 +1,19 @@
-//! The threads of a server.
+//! The threads of a server. Each owns its seat, and returns it at its end.
 ghost use Rattle.std.specs.Prelude.{◌≡◌, ℕ, MatchResult};
 ghost use Rattle.server_socket.specs.Session.{HoldsSession, HoldsSessions};
 
+use crate::held_seats::{SessionSeat, WorkerSeat};
+use crate::returned::Seats;
 use crate::session::{Connection, session_at_seat};
 use crate::turns::Turns;
 use base_files::Limits;
 use server_session::SessionFault;
 use server_shared::{Gate, Opening, Seat, Shared, worker};
-use std::alloc::Global;
+use std::alloc::{AllocError, Global};
 use std::io::{BufReader, BufWriter};
 use std::os::unix::net::UnixStream;
 use std::sync::Wait;
-use std::thread::{Builder, Threads};
+use std::thread::{Builder, JoinHandle, Threads};
 use std::{io, thread};
 
 /// The stack of each thread, in bytes, whatever limit the server was started with. It is four times what a file at the limit of nesting
@@ -61,68 +63,109 @@ fn take_turns<L: Opening, R: Wait>(
     }
 }
 
-/// Serves sessions in one thread for each seat, until no more are accepted. No thread accepts before all are made. Returns false where a
-/// thread could not be made.
+/// Serves one connection after another at a seat, and returns the seat.
+fn serve_at<L: Opening, R: Wait>(
+    rt: &R,
+    alloc: Global,
+    shared: &Shared<L>,
+    held: SessionSeat<L>,
+    turns: &Turns,
+) -> SessionSeat<L> {
+    let SessionSeat { seat } = held;
+    let mut seat = seat;
+    take_turns(rt, alloc, shared, &mut seat, turns);
+    SessionSeat { seat }
+}
+
+/// Builds packages at a seat until the shared book is stopped, and returns the seat.
+fn work_at<L: Opening, R: Wait, G: Gate>(
+    rt: &R,
+    alloc: Global,
+    shared: &Shared<L>,
+    held: WorkerSeat<L>,
+    gate: &G,
+) -> WorkerSeat<L> {
+    let WorkerSeat { seat } = held;
+    let mut seat = seat;
+    worker(rt, alloc, shared, &mut seat, gate);
+    WorkerSeat { seat }
+}
+
+/// Waits for the end of each thread, and returns what they returned.
+fn all_joined<R: Threads, T: Drop>(
+    rt: &R,
+    alloc: Global,
+    threads: Vec<JoinHandle<T>>,
+) -> Result<Vec<T>, AllocError> {
+    let mut back = Vec::new(alloc);
+    for child in threads {
+        back.push(child.join(rt))?;
+    }
+    Ok(back)
+}
+
+/// Serves sessions in one thread for each seat, until no more are accepted, and returns the seats. No thread accepts before all are made.
+/// Where a thread could not be made, none accepts.
 fn serve_sessions<L: Opening + Send + Sync, R: Threads + Wait + Sync>(
     rt: &R,
     alloc: Global,
     shared: &Shared<L>,
-    seats: &mut [Seat<L>],
+    seats: Vec<SessionSeat<L>>,
     turns: &Turns,
     were_made: bool,
-) -> bool {
+) -> Result<Vec<SessionSeat<L>>, AllocError> {
     thread::scope(thread::scope_env(), rt, move |scope| {
         let mut are_made = were_made;
         let mut turn = turns.turn.lock(rt);
+        let mut threads = Vec::new(alloc);
         for seat in seats {
-            if sized()
-                .spawn_scoped(scope, move || take_turns(rt, alloc, shared, seat, turns))
-                .is_err()
-            {
-                are_made = false;
+            match sized().spawn_scoped(scope, move || serve_at(rt, alloc, shared, seat, turns)) {
+                Ok(child) => are_made = threads.push(child).is_ok() && are_made,
+                Err(_) => are_made = false,
             }
         }
         if !are_made {
             turn.end();
         }
         drop(turn);
-        are_made
+        all_joined(rt, alloc, threads)
     })
 }
 
 /// What the threads of a server share beside the book: the gate that hears of each worker's progress, and the turns at accepting
 /// connections.
+#[derive(Drop)]
 pub(crate) struct Running<'a, G> {
     pub(crate) gate: &'a G,
     pub(crate) turns: Turns,
 }
 
-/// Builds packages in `workers` threads, and serves sessions in the others, until no more are accepted. Returns false where a thread could
-/// not be made.
+/// Builds packages in one thread for each seat of a worker, and serves sessions in the others, until no more are accepted. Returns the
+/// seats of the threads that were made.
 pub(crate) fn run<L: Opening + Send + Sync, R: Threads + Wait + Sync, G: Gate + Sync>(
     rt: &R,
     alloc: Global,
     shared: &Shared<L>,
-    seats: &mut [Seat<L>],
-    workers: usize,
+    seats: Seats<L>,
     running: &Running<'_, G>,
-) -> bool {
+) -> Result<Seats<L>, AllocError> {
     let gate = running.gate;
     let turns = &running.turns;
-    thread::scope(thread::scope_env(), rt, move |scope| {
+    let Seats { workers, sessions } = seats;
+    let (workers, sessions) = thread::scope(thread::scope_env(), rt, move |scope| {
         let mut are_made = true;
-        let count = workers.min(seats.len());
-        let (at_work, in_sessions) = seats.split_at_mut(count);
-        for seat in at_work {
-            if sized()
-                .spawn_scoped(scope, move || worker(rt, alloc, shared, seat, gate))
-                .is_err()
-            {
-                are_made = false;
+        let mut threads = Vec::new(alloc);
+        for seat in workers {
+            match sized().spawn_scoped(scope, move || work_at(rt, alloc, shared, seat, gate)) {
+                Ok(child) => are_made = threads.push(child).is_ok() && are_made,
+                Err(_) => are_made = false,
             }
         }
-        let are_made = serve_sessions(rt, alloc, shared, in_sessions, turns, are_made);
+        let served = serve_sessions(rt, alloc, shared, sessions, turns, are_made);
         shared.stop(rt);
-        are_made
-    })
+        (all_joined(rt, alloc, threads), served)
+    });
+    let workers = workers?;
+    let sessions = sessions?;
+    Ok(Seats { workers, sessions })
 }

@@ -8,13 +8,13 @@ use std::process::Abort;
 use workspace_snapshot::{MadeChange, plan_put};
 
 /// 58 bytes.
-pub(crate) const A: &str = "package a\n\nvar x int\n\nfunc F(y int) int {\n\treturn x + y\n}\n";
+const A: &str = "package a\n\nvar x int\n\nfunc F(y int) int {\n\treturn x + y\n}\n";
 
 /// `A` with the name `z` for `x`.
 const RENAMED: &str = "package a\n\nvar z int\n\nfunc F(y int) int {\n\treturn z + y\n}\n";
 
 /// 10 bytes.
-pub(crate) const B: &str = "package b\n";
+const B: &str = "package b\n";
 
 /// What is answered where a Job is handed in: that it is done, in the state of a number, or the number of a refusal.
 #[derive(Clone, Copy, PartialEq, Eq)]
@@ -42,7 +42,7 @@ fn new_books(rt: &impl Abort, alloc: Global) -> Books {
 }
 
 /// A put of a text, planned on the current files of a book.
-pub(crate) fn planned(
+fn planned(
     rt: &impl Abort,
     alloc: Global,
     book: &mut Book,

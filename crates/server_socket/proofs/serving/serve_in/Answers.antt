@@ -1,13 +1,18 @@
--- What was settled with all seats.
-use Rattle.std.proofs.Common.{◌∙◌, sym, subst, ℕ}
-use Rattle.std.specs.Vec.{with_items}
+-- What was settled with the seats of all threads.
+use Rattle.std.proofs.Common.{◌∙◌, ℕ, sym, subst}
+use Rattle.server_socket.specs.Returned.{AreReturned}
 use Rattle.server_socket.specs.Served.{Settles}
-use Rattle.server_socket.proofs.ServedLaws.{served}
+use Rattle.server_socket.proofs.ServedLaws.{served, not_served}
 use Rattle.server_socket.proofs.serving.serve_in.Goals as goal
 
-pub returns : goal.returns
-returns g c =
-    let seats = with_items c.in-Ok.seats c.serve_by-served.new.seats in
-    let all = sym seats.ok.0 ∙ sym c.as_mut_slice.ensures.len ∙ sym c.serve_by-served.auto.seats ∙ c.in_ok-served.ensures.all in
-    let told = subst (λ (n : ℕ). Settles n seats.items c.settle-length.result) (sym c.requires.parts ∙ c.requires.seats) c.settle-length.ensures in
-    served _ seats.items c.settle-length.result all told
+pub returns-in-Ok : goal.returns-in-Ok
+returns-in-Ok g c =
+    let workers = c.args.words.now.workers in
+    let sessions = c.args.words.now.sessions in
+    let seats = c.in-Ok.seats in
+    served workers sessions seats.items c.settle.result
+    (subst (λ (most : ℕ). AreReturned most workers sessions seats.items) c.requires.most c.in-Ok.ensures.all)
+    (subst (λ (n : ℕ). Settles n seats.items c.settle.result) (sym c.requires.parts ∙ c.requires.seats) c.settle.ensures)
+
+pub returns-in-Err : goal.returns-in-Err
+returns-in-Err g c = not_served c.args.words.now.workers c.args.words.now.sessions c.in-Err.fault c.in-Err.ensures.err

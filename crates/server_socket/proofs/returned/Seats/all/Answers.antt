@@ -1,0 +1,15 @@
+-- The seats of workers, and then those of threads of sessions.
+use Rattle.std.proofs.Common.{List, subst, vec_len}
+use Rattle.server_socket.specs.Returned.{Adds, HasWorked}
+use Rattle.server_shared.specs.declared.receipt.Receipt.{Receipt}
+use Rattle.server_socket.proofs.ReturnedLaws.{returned}
+use Rattle.server_socket.proofs.returned.Seats.all.Goals as goal
+
+pub returns : goal.returns
+returns g c =
+    let most = g.L.Opening.most in
+    let some = c.add_workers.new.all.items in
+    let work = subst (λ (x : List (List Receipt)). Adds (HasWorked most) (vec_len c.args.self.workers) x some) c.new-all.ensures.items
+    c.in_ok-add_workers.ensures in
+    returned most (vec_len c.args.self.workers) (vec_len c.args.self.sessions)
+    c.add_sessions.new.all.items some work c.in_ok-add_sessions.ensures
