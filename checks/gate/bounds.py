@@ -1,59 +1,84 @@
-"""Lists loops that end only at the greatest number, and room that is asked for without a bound.
+"""Lists great numbers, loops that end only at one, and room that is asked for without a bound.
 
     python3 -m checks.gate.bounds
 
-- No loop goes over a range that ends at the MAX of a type. It would be proved to end only after as many steps.
-- The number that `with_capacity`, `reserve` or `reserve_exact` is given is made of literals, lengths, parameters and results of functions
-  whose contracts bound them (`≤` or `≡`), by `+`, `/`, `max`, `min` and `saturating_add` alone. So is what a parameter is given that such
-  a call is made of, in each call of its function.
+- A number over 65,536 stands in the code only where `GREAT` says: as a literal in any notation, the MAX of a type, a shift, a power, or a
+  product with a literal of three digits. No loop ends at a constant over it. Such a loop would be proved to end only after as many steps.
+- The number that `with_capacity`, `reserve`, `resize`, `from_elem` (and calls like these) or `vec![in alloc; value; number]` is given is
+  made of literals, constants, lengths, parameters and results of functions whose contracts bound them (`result`, and `≤` or `≡`), by `+`,
+  `-`, `/`, `max`, `min` and `saturating_add` alone. So is what a parameter is given that such a call is made of, in each call of its
+  function. No literal or constant is over 65,536, however it is written. The same holds of numbers whose sum answers want of memory where
+  it is over 64 bits, where no contract says when (`OkIff`).
 
 It ends with status 1 where it lists a place.
 """
+import copy
 import re
 import sys
 
 from checks import TOP
-from checks.gate.memory import code_of
+from checks.gate.memory import OWNER, code_of
 
-ENDLESS = re.compile(r"\bfor\b.*\bin\b.*\.\.=?\s*\(?(?:\w+::)*MAX\b")
-ROOM = {"with_capacity", "reserve", "reserve_exact"}
+# the lines on which a great number stands: limits, the greatest integers and characters of Go, a stack, and an end behind all tokens
+GREAT = {
+    "base_files/src/limits.rt": {"file_bytes: 1_048_576,", "total_bytes: 67_108_864,", "journal: 1_000_000,", "reads: 1_000_000_000,"},
+    "go_respelled/src/moved.rt": {"None => usize::MAX,"},
+    "go_scanner/src/integers.rt": {"if sum < 1 << 63 { Some(sum) } else { None }"},
+    "go_scanner/src/strings.rt": {"Some(number) => number < 0xD800 || (0xDFFF < number && number < 0x110000),"},
+    "server_socket/src/threads.rt": {"const STACK_BYTES: usize = 8_388_608;"},
+    "server_words/src/command_line.rt": {'number_option(alloc, "stop-after", "K", 1_000_000).help('},
+    "server_words/src/requests.rt": {'Some(_) => Some(Some(number(matches, "stop-after", 1_000_000)?)),'},
+}
+LOOP = re.compile(r"^\s*(?:'\w+: )?(?:for\b.*\.\..*|while\b.*)")
+MADE_GREAT = re.compile(r"\bMAX\b|\bmax_value\b|<<|\bpow\b|(?<![!=<>])!0\b|\d{3}\s*\*|\*\s*\d{3}")
+TEXT = re.compile(r'b?"(?:[^"\\]|\\.)*"')
+ROOM = {"with_capacity", "with_capacity_and_hasher", "reserve", "reserve_exact", "resize", "resize_with", "from_elem", "repeat"}
 CALL = re.compile(r"(?<!fn )\b(\w+)(?:::<[^()]*>)?\(")
+FILLED = re.compile(r"\bvec!\[in \w+(?:\.\w+)*(?:\(\))?; ")
+ADDED = re.compile(r"(?m)(?:^| = | return )\s*([^=;\n]*)\.checked_add\((.*)\)\.ok_or\(AllocError\)")
 LOCAL = re.compile(r"\blet (?:mut )?(\w+)(?:: \w+)? = ([^;]*);")
+CONSTANT = re.compile(r"(?m)^ *(?:pub(?:\(\w+\))? )?const (\w+): \w+ = ([^;]*);")
 LENGTH = re.compile(r"\b[\w.\[\]*]+\.len\(\)")
 ADDS = {"max", "min", "saturating_add"}
+BOUNDED = re.compile(r"ensures[^{]*\{[^{}]*\bresult\b[^{}]*[≤≡]")
 MOST_LITERAL = 1 << 16
 BEGINS = re.compile(r"(?m)^ *(?:pub(?:\(\w+\))? )?fn (\w+)")
+PIECE = re.compile(r"(?P<literal>\d\w*)|(?P<name>[A-Za-z_]\w*)|(?P<sign><<|>>|\S)")
+TYPES = {"as", "usize", "u64", "u32", "self", "Self"}
 
 
 class Function:
     """A function: where it begins and ends, its parameters, its contract, and the numbers that it has from bounded ones."""
 
-    def __init__(self, name, text, code):
-        self.name, self.code = name, code
+    def __init__(self, crate, name, owner, text, code):
+        self.crate, self.name, self.owner, self.code = crate, name, owner, code
         head = re.split(r"(?m)^ *\{$" if re.search(r"\b(requires|ensures)\b", text) else r"\{ *$", text, maxsplit=1)[0]
         given, _, self.contract = head.partition("->")
         given = given[given.index("(") + 1:] if "(" in given else ""
         self.parameters = [one for one in re.findall(r"(\w+): ", given) if one != "self"]
+        self.numbers = set(re.findall(r"(\w+): (?:usize|u64|u32)\b", given))
 
 
-def functions(text):
-    """The functions of a file, each with the line that it begins on."""
+def functions(crate, text):
+    """The functions of a file of a crate, each with the line that it begins on."""
     code = "\n".join(code_of(text)).split("\n")
     lines = text.split("\n")
     begins = [number for number, line in enumerate(lines) if re.match(r" *(?:pub(?:\(\w+\))? )?fn \w+", line)]
     for begin, end in zip(begins, [*begins[1:], len(lines)]):
         name = re.search(r"fn (\w+)", lines[begin])[1]
-        yield begin, Function(name, "\n".join(lines[begin:end]), "\n".join(code[begin:end]))
+        heads = [line for line in lines[:begin] if re.match(r"impl|(?:pub(?:\(\w+\))? )?trait |\}", line)]
+        owner = OWNER.match(heads[-1]) if heads and lines[begin].startswith(" ") else None
+        yield begin, Function(crate, name, owner[1] if owner else None, "\n".join(lines[begin:end]), "\n".join(code[begin:end]))
 
 
-def arguments(code, start):
-    """The arguments of a call whose opening bracket lies before `start`."""
+def arguments(code, start, mark=","):
+    """The arguments of a call whose opening bracket lies before `start`, with this mark between them."""
     depth, parts, part = 1, [], ""
     for sign in code[start:]:
         depth += (sign in "([{") - (sign in ")]}")
         if depth == 0:
             break
-        if sign == "," and depth == 1:
+        if sign == mark and depth == 1:
             parts, part = [*parts, part.strip()], ""
         else:
             part += sign
@@ -61,78 +86,139 @@ def arguments(code, start):
 
 
 def names_in(number):
-    """The names that a number is made of, without those inside calls."""
-    rest, before = LENGTH.sub("0", number), None
-    while rest != before:
-        before, rest = rest, re.sub(r"[\w.]+\([^()]*\)", "0", rest)
-    return set(re.findall(r"(?<![\w.])([a-z_]\w*)\b", rest)) - {"as", "usize", "u64"}
-
-
-def is_bounded(number, known, bounded):
-    """Whether a number is made of what is known and of results that contracts bound."""
+    """The names that a number is made of, without functions and types, and without paths in front of them."""
     rest = LENGTH.sub("0", number)
-    if not set(re.findall(r"(\w+)\(", rest)) <= bounded | ADDS or re.search(r"<<|\bpow\b|\bMAX\b", rest):
-        return False
-    if any(int(literal.replace("_", "")) > MOST_LITERAL for literal in re.findall(r"\b\d[\d_]*\b", rest)):
-        return False
-    return names_in(number) <= known
+    names = re.findall(r"(?<![\w.])([a-z_]\w*)\b(?!\w*(?:\(|::))", rest)
+    return set(names) - TYPES
+
+
+def literal_in(text):
+    """A literal's number."""
+    digits = re.sub(r"[ui](?:size|8|16|32|64|128)$", "", text.replace("_", ""))
+    return int(digits, 0) if digits[:1] == "0" and digits[1:2].isalpha() else int(digits)
+
+
+def is_sum(number, constants):
+    """Whether a number is made by operations that keep it small, of small literals and constants."""
+    before = ""
+    for piece in PIECE.finditer(LENGTH.sub("0", number)):
+        text = piece[0]
+        if piece["literal"] and literal_in(text) > MOST_LITERAL:
+            return False
+        if piece["name"] and text.isupper() and not constants.get(text, False):
+            return False
+        if piece["sign"]:
+            if text == "*" and before not in ("", "(", ",", "+", "-", "/"):
+                return False
+            if text not in "+-/*().,[]&:?":
+                return False
+        before = text
+    return True
+
+
+def is_bounded(number, known, bounded, constants):
+    """Whether a number is made of what is known and of results that contracts bound."""
+    calls = set(re.findall(r"(\w+)\(", LENGTH.sub("0", number)))
+    return calls <= bounded | ADDS and is_sum(number, constants) and names_in(number) <= known
+
+
+def places_of(function, makers, name, before):
+    """Which arguments of a call are numbers by which room is asked for: a set of places, None for each, or nothing."""
+    if name in ROOM:
+        return None if before.endswith((".", "::")) else set()
+    owners, path = makers.get(name, {}), re.search(r"(\w+)(?:::<[^()]*>)?::$", before)
+    owners = {owner: by.get(function.crate) or (set().union(*by.values()) if function.crate not in by else set()) for owner, by in owners.items()}
+    if before.endswith("."):
+        return set().union(*(places for owner, places in owners.items() if owner))
+    return owners.get((function.owner if path[1] == "Self" else path[1]) if path else None, set())
 
 
 def asked_of(function, makers):
     """The numbers by which a function asks for room, each with the line, counted from that on which the function begins."""
+    for filled in FILLED.finditer(function.code):
+        parts = arguments(function.code, filled.end(), ";")
+        if len(parts) == 2:
+            yield function.code.count("\n", 0, filled.start()), parts[1]
+    for added in ADDED.finditer("" if "OkIff" in function.contract else function.code):
+        yield from ((function.code.count("\n", 0, added.start()), one) for one in added.groups())
     for call in CALL.finditer(function.code):
         name, before = call[1], function.code[:call.start()]
-        if name not in makers or name in ROOM and not before.endswith((".", "::")):
+        if name not in makers and name not in ROOM:
             continue
+        places = places_of(function, makers, name, before)
         given = [one for one in arguments(function.code, call.end()) if one not in ("alloc", "rt.alloc()")]
-        places = makers[name]
         for place, one in enumerate(given):
             if not one.startswith("&") and (places is None or place in places):
                 yield function.code.count("\n", 0, call.start()), one
 
 
-def makers_of(crate_functions):
-    """The functions that ask for room: those of the library, for any number, and those of a crate, for what these parameters are given."""
-    makers = {name: None for name in ROOM}
-    own = {}
-    for function in crate_functions:
-        given = [one for one in function.parameters if one != "alloc"]
-        used = {name for _, one in asked_of(function, makers) for name in names_in(one)}
-        places = {place for place, name in enumerate(given) if name in used}
-        if places and function.name not in ROOM:
-            own[function.name] = own.get(function.name, set()) | places
-    return makers | own
+def makers_of(every):
+    """For each function, by name, type and crate, the places of parameters by which it, or a function that it calls, asks for room."""
+    own, before = {}, None
+    while own != before:
+        before = copy.deepcopy(own)
+        for function in every:
+            given = [one for one in function.parameters if one != "alloc"]
+            asked = asked_of(function, before) if function.numbers else ()
+            used = {name for _, one in asked for name in names_in(one)} & function.numbers
+            if function.name not in ROOM:
+                by = own.setdefault(function.name, {}).setdefault(function.owner, {})
+                by[function.crate] = by.get(function.crate, set()) | {place for place, name in enumerate(given) if name in used}
+    return own
 
 
-def unbounded(function, makers, bounded):
+def unbounded(function, makers, bounded, constants):
     """The lines of a function on which it asks for room without a bound."""
     known = set(function.parameters) | {"self"}
     for name, value in LOCAL.findall(function.code):
-        if is_bounded(value, known, bounded):
+        if is_bounded(value, known, bounded, constants):
             known.add(name)
-    return [line for line, one in asked_of(function, makers) if not is_bounded(one, known, bounded)]
+    return [line for line, one in asked_of(function, makers) if not is_bounded(one, known, bounded, constants)]
+
+
+def is_great(line):
+    """Whether a great number stands on the line."""
+    bare = TEXT.sub("", line)
+    return any(literal_in(literal) > MOST_LITERAL for literal in re.findall(r"(?<!\w)\d\w*", bare)) or bool(MADE_GREAT.search(bare))
+
+
+def is_endless(line, constants):
+    """Whether a line begins a loop up to a great constant."""
+    return bool(LOOP.match(line)) and any(not constants.get(one, True) for one in re.findall(r"\b[A-Z][A-Z_]+\b", line))
+
+
+def bounded_in(crates):
+    """For each crate the functions whose results are bounded: its own of a name, or those of other crates where it has none."""
+    every = {}
+    for crate, own in crates.items():
+        for one in own:
+            every.setdefault(one.name, {}).setdefault(crate, []).append(bool(BOUNDED.search(one.contract)))
+    return {crate: {name for name, by in every.items() if all(by.get(crate) or sum(by.values(), []))} for crate in crates}
 
 
 def main():
     root = TOP / "crates"
     files = {path: path.read_text() for path in sorted(root.glob("*/src/**/*.rt")) if not path.parts[-3].endswith("_tests")}
-    parts = {path: [*functions(text)] for path, text in files.items()}
+    parts = {path: [*functions(path.parts[-3], text)] for path, text in files.items()}
     every = [function for pairs in parts.values() for _, function in pairs]
-    bounded = {one.name for one in every if re.search(r"ensures(?:.|\n)*[≤≡]", one.contract)}
     crates = {}
     for path, pairs in parts.items():
         crates.setdefault(path.parts[-3], []).extend(function for _, function in pairs)
-    makers = {crate: makers_of(own) for crate, own in crates.items()}
+    makers = makers_of([one for own in crates.values() for one in own])
+    bounded = bounded_in(crates)
+    constants = {name: is_sum(value, {}) for text in files.values() for name, value in CONSTANT.findall(text)}
     found = 0
     for path, text in files.items():
-        lines = text.splitlines()
-        wrong = {number: "a loop that ends only at MAX" for number, line in enumerate(code_of(text)) if ENDLESS.search(line)}
+        lines, crate = text.splitlines(), path.parts[-3]
+        code, known = code_of(text), GREAT.get(str(path.relative_to(root)), set())
+        wrong = {number: "a great number" for number, line in enumerate(code) if is_great(line) and line.strip() not in known}
+        wrong |= {number: "a loop up to a great number" for number, line in enumerate(code) if is_endless(line, constants)}
         for begin, function in parts[path]:
-            wrong |= {begin + line: "room without a bound" for line in unbounded(function, makers[path.parts[-3]], bounded)}
+            wrong |= {begin + line: "room without a bound" for line in unbounded(function, makers, bounded[crate], constants)}
         for number, what in sorted(wrong.items()):
             found += 1
             print(f"{path.relative_to(root)}:{number + 1}: {what}: {lines[number].strip()}")
-    print(f"{found} loops or rooms without a bound")
+    print(f"{found} numbers, loops or rooms without a bound")
     return 1 if found else 0
 
 

@@ -8,8 +8,10 @@ Want of memory is `AllocError`, a variant `Memory` (as `Refusal::Memory`) or `No
 - in the arm of a match whose pattern is want of memory itself (`ErrorKind::OutOfMemory` as `clap` calls it),
 - in the arm `Err(_)` of a match on a call that fails for want of memory alone, or on what a function is given of such a call, as its
   type tells, or by `map_err` behind such a call,
-- where a thread could not be made (`if !are_made`), for which a server has no other fault,
+- where a thread of `server_socket` could not be made (`if !are_made`), for which a server has no other fault,
 - for a sum of lengths that passes what can be addressed (`checked_add(..).ok_or(AllocError)`), as the library does where it grows.
+
+No `use` brings in such a variant by its own name or by `*`, and none gives `AllocError` another.
 
 A place may answer `JournalFull` where the journal was asked for room and has none (`if !self.has_room(..)`).
 
@@ -20,7 +22,8 @@ import sys
 
 from checks import TOP
 
-WANT = re.compile(r"\b(?:\w+::(?:Memory|NoRoom)|AllocError)\b")
+WANT = re.compile(r"\b(?:\w+::(?:Memory|NoRoom)|AllocError)\b|\bAllocFailed(?:::<.*>)? \{")
+BROUGHT = re.compile(r"\buse\b.*(?:::|\{|, )(?:Memory|NoRoom|JournalFull|\*)|\b(?:AllocError|AllocFailed) as\b")
 FULL = re.compile(r"\b\w+::JournalFull\b")
 ASKED = re.compile(r"if !\w+(\.\w+)*\.has_room\(.*\) \{$")
 REFUSED = r"From<Alloc(?:Error|Failed)\b"
@@ -91,7 +94,7 @@ def is_sound(lines, number, crate, answers):
     is_failed = False
     for line in around(lines, number):
         pattern = line.partition("=>")[0].strip() if "=>" in line else ""
-        if WANT.search(pattern) or "ErrorKind::OutOfMemory" in pattern or line == "if !are_made {":
+        if WANT.search(pattern) or "ErrorKind::OutOfMemory" in pattern or line == "if !are_made {" and crate == "server_socket":
             return True
         is_failed = is_failed or pattern in ("Err(_)", "Err(_e)")
         if is_failed and "match " in line:
@@ -124,6 +127,10 @@ def main():
     answers, found, places = answers_of(files), 0, 0
     for path, text in files.items():
         lines = code_of(text)
+        brought = [number for number, line in enumerate(text.split("\n")) if BROUGHT.search(re.sub(r"//.*|.*\bghost use\b.*", "", line))]
+        for number in brought:
+            found += 1
+            print(f"{path.relative_to(root)}:{number + 1}: {text.splitlines()[number].strip()}")
         for number, line in enumerate(lines):
             if makes(line, WANT):
                 places += 1
