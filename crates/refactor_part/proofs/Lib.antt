@@ -1,0 +1,9 @@
+-- The proofs of this crate.
+pub mod GoodImports
+pub mod PartFiles
+pub mod PartClosures
+pub mod Smaller
+pub mod FaultOrder
+pub mod Carried
+pub mod PartEdits
+pub mod Leaving

@@ -1,0 +1,5 @@
+-- The definitions of this crate.
+pub mod FaultlessPart
+pub mod LeftOut
+pub mod Affected
+pub mod FirstFaults

@@ -1,0 +1,21 @@
+//! Reads the Go files of a folder on the disk, as Go finds them. Writes changed files so that each is old or new whatever happens.
+//!
+//! Crates above rely on: `FolderFiles::put` adds a file exactly as a put of a session does. No contract tells what a file gives or takes, so
+//! checks with real folders stand for the rest.
+#![tactic(auto)]
+
+mod fault;
+mod folder;
+mod holding;
+mod paths;
+mod recovery;
+mod steps;
+mod walking;
+mod writing;
+
+pub use fault::{ToolFault, told};
+pub use folder::FolderFiles;
+pub use holding::{HeldFolder, hold};
+pub use recovery::{recover, refuse_cut_off};
+pub use walking::{Loaded, load};
+pub use writing::{FileOf, FolderWriting, write_all};

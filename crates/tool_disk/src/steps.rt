@@ -1,0 +1,130 @@
+//! Single steps on the disk: real paths, new files that are flushed, and the journals of a folder.
+use crate::fault::{ToolFault, at};
+use crate::paths::{below, folder_and_name};
+use std::fs::{File, Metadata, OpenFile, OpenOptions};
+use std::io::{ErrorKind, Write};
+use std::os::unix::fs::{MetadataExt, OpenOptionsExt, chown};
+use std::rt::Files;
+use std::{fs, io};
+
+/// The journal while new texts are written beside their files.
+pub(crate) const PREPARE: &str = ".gorefd-prepare";
+
+/// The journal while new texts are put in place.
+pub(crate) const COMMIT: &str = ".gorefd-commit";
+
+/// The permissions of a file that its owner alone may read.
+const OWN_ALONE: u32 = 0o600;
+
+/// The path of a file behind symbolic links.
+pub(crate) fn real_path<R: Files + AllocGlobal>(
+    rt: &R,
+    root: &str,
+    path: &str,
+) -> Result<String, ToolFault> {
+    let alloc = rt.alloc();
+    let place = below(alloc, root, path)?;
+    let real = at(alloc, path, fs::canonicalize(rt, place.as_str()))?;
+    let text = String::from_str(alloc, real.as_str())?;
+    Ok(text)
+}
+
+/// Gives a new file the owner and the group of another one, where they differ, and its permissions.
+fn give_same<R: Files, F: OpenFile>(
+    rt: &R,
+    path: &str,
+    file: &F,
+    like: &Metadata,
+) -> io::Result<()> {
+    let new = file.metadata()?;
+    if new.uid() != like.uid() || new.gid() != like.gid() {
+        chown(rt, path, Some(like.uid()), Some(like.gid()))?;
+    }
+    file.set_permissions(like.permissions())
+}
+
+/// Writes bytes to a new file, which others may read as far as they may read another one, and flushes it.
+fn fill<R: Files, F: Write + OpenFile>(
+    rt: &R,
+    path: &str,
+    file: &mut F,
+    bytes: &[u8],
+    like: Option<&Metadata>,
+) -> io::Result<()> {
+    file.write_all(bytes)?;
+    if let Some(like) = like {
+        give_same(rt, path, file, like)?;
+    }
+    file.sync_all()
+}
+
+/// Writes a new file, and flushes it. It is as open to others as the file that it is like, if there is one, and never more. Where that fails,
+/// no file is left.
+pub(crate) fn write_new<R: Files>(
+    rt: &R,
+    path: &str,
+    bytes: &[u8],
+    like: Option<&Metadata>,
+) -> io::Result<()> {
+    let mut options = OpenOptions::new();
+    options.write(true).create_new(true);
+    if like.is_some() {
+        options.mode(OWN_ALONE);
+    }
+    let mut file = options.open(rt, path)?;
+    let filled = fill(rt, path, &mut file, bytes, like);
+    if filled.is_err() {
+        let _ = fs::remove_file(rt, path);
+    }
+    filled
+}
+
+/// Flushes a folder, so that the names in it stay.
+pub(crate) fn sync<R: Files>(rt: &R, folder: &str) -> io::Result<()> {
+    let folder = File::open(rt, folder)?;
+    folder.sync_all()
+}
+
+/// Flushes the folder of a path, so that the names in it stay.
+pub(crate) fn sync_folder<R: Files>(rt: &R, path: &str) -> io::Result<()> {
+    let (folder, _) = folder_and_name(path);
+    sync(rt, folder)
+}
+
+/// When the text, the name or the permissions of a file last changed: seconds, and billionths of one.
+fn changed_at(data: &Metadata) -> (i64, i64) {
+    (data.ctime(), data.ctime_nsec())
+}
+
+/// Whether a file was changed after another one.
+pub(crate) fn is_later<R: Files>(rt: &R, path: &str, other: &Metadata) -> io::Result<bool> {
+    let data = fs::metadata(rt, path)?;
+    Ok(changed_at(&data) > changed_at(other))
+}
+
+/// The text of a journal of the folder, or `None` where there is none.
+pub(crate) fn journal_there<R: Files + AllocGlobal>(
+    rt: &R,
+    root: &str,
+    name: &str,
+) -> Result<Option<Vec<u8>>, ToolFault> {
+    let alloc = rt.alloc();
+    let path = below(alloc, root, name)?;
+    match fs::read(rt, path.as_str()) {
+        Ok(text) => Ok(Some(text)),
+        Err(error) if error.kind() == ErrorKind::NotFound => Ok(None),
+        Err(error) => at(alloc, name, Err(error)),
+    }
+}
+
+/// Removes a journal of the folder.
+pub(crate) fn remove_journal<R: Files + AllocGlobal>(
+    rt: &R,
+    root: &str,
+    name: &str,
+) -> Result<(), ToolFault> {
+    let alloc = rt.alloc();
+    let path = below(alloc, root, name)?;
+    at(alloc, name, fs::remove_file(rt, path.as_str()))?;
+    at(alloc, name, sync_folder(rt, path.as_str()))
+}

@@ -1,0 +1,251 @@
+//! Reads the Go files below a folder, as Go finds them.
+use crate::fault::{ToolFault, at, told};
+use crate::folder::FolderFiles;
+use crate::paths::below;
+use base_files::{FileText, Refusal};
+use std::alloc::Global;
+use std::fs;
+use std::fs::{DirEntry, FileType};
+use std::io::ErrorKind;
+use std::rt::Files;
+use tool_text::{has_build_line, module_path, names_platform, takes_file, takes_folder};
+
+/// How many folders are looked at, at most.
+const MOST_FOLDERS: usize = 65_536;
+
+/// What was read of a folder: its Go files, what stands before it in their paths, and notes on files that were left out.
+#[derive(Drop)]
+pub struct Loaded {
+    pub files: FolderFiles,
+    pub prefix: String,
+    pub notes: Vec<String>,
+}
+
+/// A walk over folders: those that are left to look at, with a slash behind each, and what was read so far.
+#[derive(Drop)]
+struct Walk<'a> {
+    root: &'a str,
+    folders: Vec<String>,
+    loaded: Loaded,
+}
+
+/// Notes why a file or folder was left out.
+fn note(alloc: Global, loaded: &mut Loaded, path: &str, why: &str) -> Result<(), ToolFault> {
+    let line = format!(in alloc; "{path}: left out: {why}\n")?;
+    loaded.notes.push(line)?;
+    Ok(())
+}
+
+/// The path of the module that the text of a `go.mod` names, with a slash.
+fn module_prefix(alloc: Global, text: &[u8]) -> Result<String, ToolFault> {
+    let Some(path) = module_path(text) else {
+        return Err(told(alloc, "go.mod", "it names no module"));
+    };
+    let Ok(path) = std::str::from_utf8(path) else {
+        return Err(told(alloc, "go.mod", "the path of the module is not UTF-8"));
+    };
+    let prefix = format!(in alloc; "{path}/")?;
+    Ok(prefix)
+}
+
+/// What stands before a folder in the paths of its packages: the path of its module with a slash, or nothing without a `go.mod`.
+fn prefix_of<R: Files + AllocGlobal>(rt: &R, root: &str) -> Result<String, ToolFault> {
+    let alloc = rt.alloc();
+    let path = below(alloc, root, "go.mod")?;
+    match fs::read(rt, path.as_str()) {
+        Ok(text) => module_prefix(alloc, text.as_slice()),
+        Err(error) if error.kind() == ErrorKind::NotFound => Ok(String::new(alloc)),
+        Err(error) => at(alloc, path.as_str(), Err(error)),
+    }
+}
+
+/// Adds a file to those that were read. One that cannot be held ends the walk.
+fn put(alloc: Global, loaded: &mut Loaded, path: &str, bytes: Vec<u8>) -> Result<(), ToolFault> {
+    let text = FileText::new(alloc, bytes)?;
+    let prefix = loaded.prefix.as_str();
+    let name = format!(in alloc; "{prefix}{path}")?;
+    match loaded.files.put(alloc, name.as_str(), text) {
+        Ok(()) => Ok(()),
+        Err(Refusal::Memory) => Err(ToolFault::Memory),
+        Err(Refusal::BadPath) => Err(told(
+            alloc,
+            path,
+            "this path has characters or a length that no package has here",
+        )),
+        Err(_) => Err(told(alloc, path, "with this file the files exceed a limit")),
+    }
+}
+
+/// Reads a Go file whose name has no build constraint.
+fn read_file<R: Files + AllocGlobal>(
+    rt: &R,
+    walk: &mut Walk<'_>,
+    path: &str,
+) -> Result<(), ToolFault> {
+    let alloc = rt.alloc();
+    let place = below(alloc, walk.root, path)?;
+    let bytes = at(alloc, path, fs::read(rt, place.as_str()))?;
+    if has_build_line(bytes.as_slice()) {
+        note(alloc, &mut walk.loaded, path, "it has a build constraint")
+    } else {
+        put(alloc, &mut walk.loaded, path, bytes)
+    }
+}
+
+/// Takes a Go file, or notes why it is left out.
+fn take_file<R: Files + AllocGlobal>(
+    rt: &R,
+    walk: &mut Walk<'_>,
+    folder: &str,
+    name: &str,
+) -> Result<(), ToolFault> {
+    let alloc = rt.alloc();
+    let path = format!(in alloc; "{folder}{name}")?;
+    if names_platform(name.as_bytes()) {
+        note(
+            alloc,
+            &mut walk.loaded,
+            path.as_str(),
+            "its name has a build constraint",
+        )
+    } else if folder.is_empty() && walk.loaded.prefix.is_empty() {
+        note(
+            alloc,
+            &mut walk.loaded,
+            path.as_str(),
+            "without a go.mod this folder has no path of a package",
+        )
+    } else {
+        read_file(rt, walk, path.as_str())
+    }
+}
+
+/// Whether a folder has a `go.mod` of its own.
+fn is_module<R: Files + AllocGlobal>(rt: &R, folder: &str) -> Result<bool, ToolFault> {
+    let alloc = rt.alloc();
+    let path = below(alloc, folder, "go.mod")?;
+    at(alloc, path.as_str(), fs::exists(rt, path.as_str()))
+}
+
+/// Takes a folder, or leaves it out.
+fn take_folder<R: Files + AllocGlobal>(
+    rt: &R,
+    walk: &mut Walk<'_>,
+    folder: &str,
+    name: &str,
+) -> Result<(), ToolFault> {
+    if !takes_folder(name.as_bytes()) {
+        return Ok(());
+    }
+    let alloc = rt.alloc();
+    let path = format!(in alloc; "{folder}{name}/")?;
+    let place = below(alloc, walk.root, path.as_str())?;
+    if is_module(rt, place.as_str())? {
+        note(
+            alloc,
+            &mut walk.loaded,
+            path.as_str(),
+            "it has a go.mod of its own",
+        )
+    } else {
+        walk.folders.push(path)?;
+        Ok(())
+    }
+}
+
+/// Whether a path leads to a file, over symbolic links.
+fn leads_to_file<R: Files + AllocGlobal>(
+    rt: &R,
+    kind: FileType,
+    path: &str,
+) -> Result<bool, ToolFault> {
+    if !kind.is_symlink() {
+        return Ok(kind.is_file());
+    }
+    let data = at(rt.alloc(), path, fs::metadata(rt, path))?;
+    Ok(data.is_file())
+}
+
+/// Takes an entry of a folder.
+fn take_entry<R: Files + AllocGlobal>(
+    rt: &R,
+    walk: &mut Walk<'_>,
+    folder: &str,
+    entry: &DirEntry<R>,
+) -> Result<(), ToolFault> {
+    let alloc = rt.alloc();
+    let name = entry.file_name();
+    let path = entry.path();
+    let kind = at(alloc, path.as_str(), entry.file_type())?;
+    if kind.is_dir() {
+        take_folder(rt, walk, folder, name)
+    } else if takes_file(name.as_bytes()) && leads_to_file(rt, kind, path.as_str())? {
+        take_file(rt, walk, folder, name)
+    } else {
+        Ok(())
+    }
+}
+
+/// Looks at a folder.
+fn look<R: Files + AllocGlobal + Clone + Drop>(
+    rt: &R,
+    walk: &mut Walk<'_>,
+    folder: &str,
+) -> Result<(), ToolFault> {
+    let alloc = rt.alloc();
+    let path = below(alloc, walk.root, folder)?;
+    for entry in at(alloc, path.as_str(), fs::read_dir(rt, path.as_str()))? {
+        let entry = at(alloc, path.as_str(), entry)?;
+        take_entry(rt, walk, folder, &entry)?;
+    }
+    Ok(())
+}
+
+/// Looks at folders until none is left.
+fn look_at_all<R: Files + AllocGlobal + Clone + Drop>(
+    rt: &R,
+    walk: &mut Walk<'_>,
+) -> Result<(), ToolFault> {
+    for _ in 0..MOST_FOLDERS {
+        match walk.folders.pop() {
+            None => return Ok(()),
+            Some(folder) => look(rt, walk, folder.as_str())?,
+        }
+    }
+    Err(told(
+        rt.alloc(),
+        walk.root,
+        "it has more folders than are looked at",
+    ))
+}
+
+/// Reads the Go files below a folder.
+pub fn load<R: Files + AllocGlobal + Clone + Drop>(
+    rt: &R,
+    root: &str,
+) -> Result<Loaded, ToolFault> {
+    let alloc = rt.alloc();
+    let prefix = prefix_of(rt, root)?;
+    let loaded = Loaded {
+        files: FolderFiles::new(alloc)?,
+        prefix,
+        notes: Vec::new(alloc),
+    };
+    let mut folders = Vec::new(alloc);
+    folders.push(String::new(alloc))?;
+    let mut walk = Walk {
+        root,
+        folders,
+        loaded,
+    };
+    look_at_all(rt, &mut walk)?;
+    let Walk {
+        root: _,
+        folders,
+        loaded,
+    } = walk;
+    drop(folders);
+    let mut loaded = loaded;
+    loaded.notes.sort()?;
+    Ok(loaded)
+}

@@ -1,0 +1,7 @@
+-- The answers to the goals of `faults::is_other_name`.
+use Rattle.tool_text.specs.Faults.{is_other_name}
+use Rattle.tool_text.proofs.faults.is_other_name.Goals as goal
+
+pub returns : goal.returns
+unfolding is_other_name
+returns c = c.is_among.ensures

@@ -1,0 +1,13 @@
+-- The invariants of the loops of `parts::part_len`.
+use Rattle.std.proofs.Common.{◌≡◌, ◌+◌, ◌-◌, ◌≤◌, ◌==◌, drop, length}
+use Rattle.std.specs.List.{position_or_len}
+use Rattle.tool_text.proofs.parts.part_len.Given as goal
+
+abbrev pub invariant-loop-end : goal.invariant-loop-end
+invariant-loop-end l = record {
+  within : l.end ≤ length l.text;
+  passed : position_or_len (λ byte. byte == l.mark) l.text ≡ l.end + position_or_len (λ byte. byte == l.mark) (drop l.end l.text);
+}
+
+abbrev pub decreases-loop-end : goal.decreases-loop-end
+decreases-loop-end l = length l.text - l.end

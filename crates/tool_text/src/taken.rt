@@ -1,0 +1,128 @@
+//! Which folders and files Go takes, and which files have build constraints.
+ghost use Rattle.std.specs.Prelude.{◌≡◌};
+ghost use Rattle.tool_text.specs.Taken.{begins_with_word, ends_word, has_build_line, is_among, is_build_comment, is_build_line, is_hidden, is_platform, names_platform, takes_file, takes_folder};
+
+use crate::go_mod::{is_padding, trimmed};
+use crate::parts::split_part;
+
+/// Whether Go leaves out a folder or file of this name because it begins with `.` or `_`.
+fn is_hidden(name: &[u8]) -> bool
+    ensures { result ≡ is_hidden name.now }
+{
+    name.starts_with(b".") || name.starts_with(b"_")
+}
+
+/// Whether Go looks for packages in a folder of this name.
+pub fn takes_folder(name: &[u8]) -> bool
+    ensures { result ≡ takes_folder name.now }
+{
+    !(is_hidden(name) || name == b"vendor".as_slice() || name == b"testdata".as_slice())
+}
+
+/// Whether Go takes a file of this name as a file of a package, where no build constraint excludes it.
+pub fn takes_file(name: &[u8]) -> bool
+    ensures { result ≡ takes_file name.now }
+{
+    !is_hidden(name) && name.ends_with(b".go")
+}
+
+/// Whether nothing or a blank follows a word.
+fn ends_word(rest: &[u8]) -> bool
+    ensures { result ≡ ends_word rest.now }
+{
+    rest.is_empty() || is_padding(rest[0])
+}
+
+/// Whether a text begins with a word, with nothing or a blank behind it.
+fn begins_with_word(text: &[u8], word: &[u8]) -> bool
+    ensures { result ≡ begins_with_word text.now word.now }
+{
+    match text.strip_prefix(word) {
+        Some(rest) => ends_word(rest),
+        None => false,
+    }
+}
+
+/// Whether a text is a comment that begins with `+build`.
+fn is_build_comment(text: &[u8]) -> bool
+    ensures { result ≡ is_build_comment text.now }
+{
+    match text.strip_prefix(b"//".as_slice()) {
+        Some(comment) => begins_with_word(trimmed(comment), b"+build"),
+        None => false,
+    }
+}
+
+/// Whether a line is a build constraint.
+fn is_build_line(line: &[u8]) -> bool
+    ensures { result ≡ is_build_line line.now }
+{
+    let code = trimmed(line);
+    begins_with_word(code, b"//go:build") || is_build_comment(code)
+}
+
+/// Whether a line before the first that begins with `package` is a build constraint.
+pub fn has_build_line(text: &[u8]) -> bool
+    ensures { result ≡ has_build_line text.now }
+{
+    let mut rest = Some(text);
+    'lines: while let Some(lines) = rest {
+        let (line, left) = split_part(lines, b'\n');
+        if line.starts_with(b"package") {
+            return false;
+        }
+        if is_build_line(line) {
+            return true;
+        }
+        rest = left;
+    }
+    false
+}
+
+/// The names of operating systems and architectures that Go knows in names of files.
+const PLATFORMS: &[u8] =
+    b"aix android darwin dragonfly freebsd hurd illumos ios js linux nacl netbsd openbsd plan9 solaris wasip1 windows zos 386 amd64 amd64p32 arm armbe arm64 arm64be loong64 mips mipsle mips64 mips64le mips64p32 mips64p32le ppc ppc64 ppc64le riscv riscv64 s390 s390x sparc sparc64 wasm";
+
+/// Whether a word is one of the words between blanks.
+pub(crate) fn is_among(word: &[u8], words: &[u8]) -> bool
+    ensures { result ≡ is_among word.now words.now }
+{
+    let mut rest = Some(words);
+    'words: while let Some(more) = rest {
+        let (first, left) = split_part(more, b' ');
+        if first == word {
+            return true;
+        }
+        rest = left;
+    }
+    false
+}
+
+/// Whether the word is the name of an operating system or an architecture.
+fn is_platform(word: &[u8]) -> bool
+    ensures { result ≡ is_platform word.now }
+{
+    is_among(word, PLATFORMS)
+}
+
+/// Whether the name of a file restricts it to an operating system or an architecture: its last part behind an `_`, or the one before
+/// `test`, is the name of one.
+pub fn names_platform(name: &[u8]) -> bool
+    ensures { result ≡ names_platform name.now }
+{
+    let (stem, _) = split_part(name, b'.');
+    let (_, mut rest) = split_part(stem, b'_');
+    let mut before: &[u8] = b"";
+    let mut last: &[u8] = b"";
+    'parts: while let Some(parts) = rest {
+        let (part, left) = split_part(parts, b'_');
+        before = last;
+        last = part;
+        rest = left;
+    }
+    is_platform(if last == b"test".as_slice() {
+        before
+    } else {
+        last
+    })
+}
