@@ -9,3 +9,4 @@ pub mod Journaled
 pub mod NumberLaws
 pub mod RunLaws
 pub mod CurrentLaws
+pub mod PathNumbers

@@ -1,6 +1,7 @@
 -- The definitions of this crate.
 pub mod Kinds
 pub mod Codes
+pub mod PathPlaces
 pub mod State
 pub mod Journal
 pub mod Machine

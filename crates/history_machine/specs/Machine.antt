@@ -1,12 +1,14 @@
 -- The history of a workspace as a machine: its states, the Jobs that are out, and how its steps change both.
-use Rattle.std.specs.Prelude.{◌≡◌, ℕ, ◌+◌, ◌-◌, ◌^◌, ◌<◌, List, [], ◌∷◌, ◌++◌, length, drop, reverse}
-use Rattle.std.specs.FinMap as map
+use Rattle.std.specs.Prelude.{◌≡◌, ℕ, ◌+◌, ◌-◌, ◌^◌, ◌<◌, ⊤, List, [], ◌∷◌, ◌++◌, Option, Some, None, length, drop, map, reverse}
+use Rattle.std.specs.FinMap as files
+use Rattle.base_files.specs.Packages.{package_paths}
 use Rattle.base_files.specs.Workspace.{Workspace}
 use Rattle.base_files.specs.declared.limits.Limits.{Limits}
 use Rattle.build_unit.specs.Jobs.{JobsOut, RemovesJob, label_of}
 use Rattle.build_unit.specs.declared.job.JobRecord.{JobRecord}
 use Rattle.build_unit.specs.declared.unit.Unit.{Unit as PackageUnit}
 use Rattle.build_carry.specs.Finished.{Table, GainsUnit}
+use Rattle.history_machine.specs.declared.seen_state.SeenState.{SeenState}
 use Rattle.history_machine.specs.declared.view.View.{View}
 use Rattle.workspace_snapshot.specs.declared.snapshot.Snapshot.{Snapshot}
 use Rattle.workspace_snapshot.specs.declared.change.Change.{Change}
@@ -122,9 +124,36 @@ FinishesPackage old job unit new =
 abbrev pub snapshot_of : Content → Snapshot
 snapshot_of m = record { number = m.current.number; limits = m.limits; files = m.current.files }
 
--- the view of the current state: its snapshot, its finished units, and how many steps undo and redo can make
-abbrev pub view_of : Content → View
-view_of m = record { snapshot = snapshot_of m; finished = m.current.finished; undo = length m.earlier; redo = length m.later }
+-- a state as a view shows it: its number, the paths of its packages, and for each package its unit if it is finished
+abbrev pub seen : State → SeenState
+seen state = record { number = state.number; packages = package_paths state.files; finished = state.finished }
+
+-- the view of the current state: its snapshot, its finished units, how many steps undo and redo can make, and the states that it shows
+abbrev pub view_of : Content → Option (List SeenState) → View
+view_of m shown = record {
+  snapshot = snapshot_of m;
+  finished = m.current.finished;
+  undo = length m.earlier;
+  redo = length m.later;
+  history = shown;
+}
+
+-- all states as a view shows them: those that undo reaches, the current one, and those that redo reaches
+abbrev pub seen_states : Content → List SeenState
+seen_states m = map seen (m.earlier ++ m.current ∷ m.later)
+
+-- if a view shows states, they are all states
+abbrev pub ShowsStates : Content → Option (List SeenState) → Type 0
+ShowsStates m None = ⊤
+ShowsStates m (Some shown) = shown ≡ seen_states m
+
+-- `view` is a view of the current state, and shows all states or none
+abbrev pub IsViewOf : Content → View → Type 0
+IsViewOf m view = (view ≡ view_of m view.history) × ShowsStates m view.history
+
+-- the view shows states
+abbrev pub ShowsHistory : View → Type 0
+ShowsHistory view = (shown : List SeenState) × (view.history ≡ Some shown)
 
 -- the change is based on the current state: its basis is the current number, and its base the current files
 abbrev pub FitsCurrent : Content → ℕ → Change → Type 0
@@ -135,7 +164,7 @@ abbrev pub opening : Limits → Machine
 opening limits = record {
   limits = limits;
   earlier = [];
-  current = record { number = 0; files = map.empty; finished = [] };
+  current = record { number = 0; files = files.empty; finished = [] };
   later = [];
   next = 1;
   visit = 0;

@@ -16,7 +16,7 @@ use Rattle.workspace_snapshot.specs.Made.{IsMadeByEdits}
 use Rattle.base_edits.specs.EditSet.{FileChanges}
 use Rattle.history_machine.specs.declared.entry.Entry.{Entry}
 use Rattle.history_machine.specs.Journal.{Records, ShowsLine, entry_of, told_of}
-use Rattle.history_machine.specs.Machine.{Content, Machine, BeginsVisit, FinishesPackage, FitsCurrent, IsOneBefore, LosesJob, changed, content, view_of}
+use Rattle.history_machine.specs.Machine.{Content, Machine, BeginsVisit, FinishesPackage, FitsCurrent, IsOneBefore, LosesJob, changed, content, IsViewOf}
 use Rattle.history_machine.specs.Waiting.{IsNextJob, WaitsIn}
 use Rattle.history_machine.specs.Deliveries.{IsFresh, IsRightlyBuilt, HasUnit}
 
@@ -61,7 +61,7 @@ MayLackMemory out event = ⊤
 
 -- The content after an event that gets this reply. The journal, and want of memory, don't count here.
 abbrev pub Answers : Content → Event → Reply → Content → Type 0
-Answers old Look (Looked view) new = (view ≡ view_of old) × (new ≡ old)
+Answers old Look (Looked view) new = IsViewOf old view × (new ≡ old)
 Answers old (Log asked) (Logged number line) new = (number ≡ old.current.number) × (new ≡ old)
 Answers old (Commit basis change) (Done number) new =
     (FitsCurrent old basis change × IsMadeByEdits change) × (number ≡ old.next)

@@ -9,7 +9,9 @@ mod entry;
 mod entry_edits;
 mod event;
 mod laws;
+mod path_list;
 mod resting;
+mod seen_state;
 mod state;
 mod view;
 mod waiting;
@@ -21,7 +23,9 @@ pub use laws::{
     finished_units_are_current, journals_are_legal, numbers_are_used_once, refusals_keep_all,
     undo_and_redo_restore,
 };
+pub use path_list::PathList;
 pub use resting::Resting;
+pub use seen_state::{HistoryView, SeenState, SeenStates};
 pub use state::State;
 pub use view::{KnownSnapshot, View};
 pub use waiting::first_waiting;

@@ -1,9 +1,11 @@
 //! A state of the history.
 ghost use Rattle.std.specs.Prelude.{◌≡◌, IfOk};
 ghost use Rattle.workspace_check.specs.Found.{KnowsVerdicts};
+ghost use Rattle.history_machine.specs.Machine.{seen};
 ghost use Rattle.history_machine.specs.Resting.{IsRestOf};
 
-use crate::resting::{Resting, own_verdicts};
+use crate::resting::{Resting, own_verdicts, paths_near};
+use crate::seen_state::SeenState;
 use crate::view::KnownSnapshot;
 use base_files::Limits;
 use build_carry::{Finished, learned_from};
@@ -76,16 +78,33 @@ impl State {
         Ok(KnownSnapshot::new(snapshot, known))
     }
 
-    /// What the state keeps at rest. The units and the verdicts are shared.
-    pub fn rest(&self, alloc: Global) -> Result<Resting, AllocError>
+    /// What the state keeps at rest. The units and the verdicts are shared, and the paths of the packages with a state at rest that has the
+    /// same.
+    pub fn rest(&self, alloc: Global, near: Option<&Resting>) -> Result<Resting, AllocError>
         ensures { IfOk result (IsRestOf self.now) }
     {
+        let packages = paths_near(alloc, &self.files, near)?;
         let finished = self.finished.clone()?;
         let known = own_verdicts(alloc, &self.files, self.known.get())?;
         Ok(Resting {
             number: self.number,
+            packages,
             finished,
             known,
+        })
+    }
+
+    /// The state as a view of the history shows it. The units are shared, and the paths of the packages with a state at rest that has the
+    /// same.
+    pub fn seen(&self, alloc: Global, near: Option<&Resting>) -> Result<SeenState, AllocError>
+        ensures { IfOk result (λ shown. shown ≡ seen self.now) }
+    {
+        let packages = paths_near(alloc, &self.files, near)?;
+        let finished = self.finished.clone()?;
+        Ok(SeenState {
+            number: self.number,
+            packages,
+            finished,
         })
     }
 

@@ -1,7 +1,9 @@
-//! What a client sees of the current state: a snapshot, the finished units, and how far undo and redo reach.
+//! What a client sees of the current state: a snapshot, the finished units, how far undo and redo reach, and the states of the history if
+//! it asks for them.
 ghost use Rattle.std.specs.Prelude.{◌≡◌};
 ghost use Rattle.workspace_check.specs.Found.{KnowsVerdicts};
 
+use crate::seen_state::SeenStates;
 use build_carry::Finished;
 use std::marker::Model;
 use workspace_check::{Known, SharedKnown};
@@ -67,11 +69,13 @@ impl KnownSnapshot {
     }
 }
 
-/// A snapshot, with the units of its finished packages, and how many steps undo and redo can make from it.
+/// A snapshot, with the units of its finished packages, and how many steps undo and redo can make from it. A view that was asked for them
+/// shows all states of the history.
 #[derive(Drop)]
 pub struct View {
     pub snapshot: KnownSnapshot,
     pub finished: Finished,
     pub undo: usize,
     pub redo: usize,
+    pub history: Option<SeenStates>,
 }

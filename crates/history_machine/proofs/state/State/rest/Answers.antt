@@ -20,6 +20,7 @@ returns c =
     record {
       state_is = whole ∙ v;
       rests = record {
+        packages = c.in_ok-packages.ensures ∙ ap (λ (s : State). package_paths s.files) v;
         sized = ap (λ (t : Table). length t) same ∙ c.self.invariant.0 ∙ ap (λ (s : State). length (package_paths s.files)) v;
         known = subst (λ (s : State). KnowsVerdicts s.files c.in_ok-known.known) v c.in_ok-known.ensures;
       };
