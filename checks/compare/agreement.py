@@ -1,20 +1,29 @@
-"""Compares the model's two ways to find conflicts, on random renames and moves.
+"""Compares the model's two ways to find conflicts, on random renames and moves, and the objects of packages before and after renames.
 
     python3 -m checks.compare.agreement [SECONDS [SEED]]
+    python3 -m checks.compare.agreement objects PROGRAM [RENAMES [SEED]]
 
 It gives each declaration many new names and moves packages, in generated workspaces and in those of the stored sessions. Three answers
 have to agree on each edit: whether the edited workspace keeps all bindings and has no fault; the first conflict, by resolving the edited
 workspace; the first conflict, by the scopes before the change alone. The identifier that a conflict names has to be bound otherwise in
 the edited workspace, wherever that can be found out. Of a rename without a conflict it also compares the objects before and after.
 It prints a disagreement with a workspace that is as small as possible, and ends with status 1.
+
+With the word `objects` it makes RENAMES renames without a conflict (500) by a built program, each in a workspace whose packages are built,
+and of each workspace one of each kind of declaration at most.
+It asks for the objects before and after, and how they compare. It puts the edited files into a session of their own, and builds them from
+nothing. All replies have to be the model's. Each object has to be the one that is built from nothing, and the old one with the symbols
+changed. It prints the first rename of which that is not so, and ends with status 1.
 """
 
 import random
 import re
+import subprocess
 import sys
 import time
 
 from checks.generate import changes, sessions, shadows
+from checks.generate.sessions import Talk
 from checks.model.conflicts import first_conflict, is_moved, is_preserved
 from checks.model.identifiers import Identifiers, place_of
 from checks.model.moves import following_imports, move_edits
@@ -196,7 +205,92 @@ def run(seconds, seed):
             return None, counts
 
 
+def bodies_of(program, session):
+    """The bodies of a program's replies to a session, or None where it answers otherwise than the model."""
+    rest = subprocess.run([program, "run"], input=session.sent, stdout=subprocess.PIPE, check=True).stdout
+    if rest != session.answered:
+        return None
+    bodies = []
+    while rest:
+        head, _, rest = rest.partition(b"\n")
+        size = int(head.split(b" ")[2])
+        bodies.append(rest[:size].decode())
+        rest = rest[size:]
+    return bodies
+
+
+def build_all(talk):
+    """Builds all packages, and asks for the object of each."""
+    packages = talk.history.current.workspace.order
+    for _ in packages:
+        talk.send("work")
+    for path in packages:
+        talk.send(f"object {path}")
+    return packages
+
+
+def fault_of_objects(program, edit):
+    """What is wrong with the objects behind a rename of a workspace whose packages are built, or None."""
+    talk = Talk()
+    talk.change_to(edit.texts)
+    packages = build_all(talk)
+    number = talk.history.current.number
+    talk.send("rename %d %s:#%d %s" % (number, *edit.argument, edit.name))
+    build_all(talk)
+    talk.send(f"objects {number}")
+    anew = Talk()
+    anew.change_to(edit.edits.edited(edit.texts))
+    build_all(anew)
+    told, told_anew = bodies_of(program, talk.session), bodies_of(program, anew.session)
+    if told is None or told_anew is None:
+        return "the model answers otherwise"
+    count = len(packages)
+    old, new, compared = told[-3 * count - 2 : -2 * count - 2], told[-count - 1 : -1], told[-1]
+    if new != told_anew[-count:]:
+        return "built from nothing they are others"
+    if new != [renamed_object(text, edit) for text in old]:
+        return "they are not the old ones with the symbols changed"
+    wanted = "".join(f"{'equal' if a == b else 'differs'} {path}\n" for path, a, b in zip(packages, old, new))
+    return None if compared == wanted else "they compare otherwise"
+
+
+def kind_of(edit):
+    """What a rename renames; imports without a name are a kind of their own."""
+    declaration = next(d for d in renamable(edit.identifiers) if place_of(d) == edit.argument)
+    return "bare import" if declaration.kind == "import" and declaration.node.name is None else declaration.kind
+
+
+def run_objects(program, renames, seed):
+    """The first rename with wrong objects, if there is one, with what is wrong; and how many were tried of each kind of declaration."""
+    generator = random.Random(seed)
+    counts = {}
+    for texts in workspaces(generator):
+        kinds = set()
+        for edit in edits_of(generator, texts, 80):
+            if edit.way != "rename" or kind_of(edit) in kinds or not edit.is_agreed() or edit.conflict is not None:
+                continue
+            wrong = fault_of_objects(program, edit)
+            if wrong is not None:
+                return edit, wrong, counts
+            kinds.add(kind_of(edit))
+            counts[kind_of(edit)] = counts.get(kind_of(edit), 0) + 1
+            if sum(counts.values()) == renames:
+                return None, None, counts
+
+
+def main_objects(program, renames=500, seed=0):
+    edit, wrong, counts = run_objects(program, int(renames), int(seed))
+    print(", ".join(f"{count} of kind {kind}" for kind, count in sorted(counts.items())))
+    if edit is not None:
+        print(edit.told(), wrong)
+        for path, text in edit.texts.items():
+            print(f"--- {path}\n{text.decode()}")
+        sys.exit(1)
+
+
 def main():
+    if sys.argv[1:2] == ["objects"]:
+        return main_objects(*sys.argv[2:])
     seconds = int(sys.argv[1]) if len(sys.argv) > 1 else 60
     seed = int(sys.argv[2]) if len(sys.argv) > 2 else 0
     edit, counts = run(seconds, seed)

@@ -11,3 +11,4 @@ pub mod StepsTaken
 pub mod Advanced
 pub mod CurrentChanged
 pub mod Roomier
+pub mod SeenStates

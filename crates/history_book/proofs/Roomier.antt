@@ -1,13 +1,20 @@
 -- Lists of states at rest that got room, and what a move asks of them.
-use Rattle.std.proofs.Common.{◌≡◌, ℕ, ◌+◌, ◌<◌, ◌≤◌, Global, Vec, Option, Some, List, [], ◌∷◌, ◌++◌, length, arith, sym, ap, subst, ◌∙◌}
+use Rattle.std.proofs.Common.{◌≡◌, ℕ, ◌+◌, ◌<◌, ◌≤◌, Global, Vec, Option, Some, Result, Ok, Err, List, [], ◌∷◌, ◌++◌, length, arith, refl, sym, ap, subst, ◌∙◌}
 use Rattle.std.specs.Prelude.{option_to_list}
 use Rattle.std.proofs.lemmas.List.{length_push}
+use Rattle.std.specs.Result.{IsErrAnd}
 use Rattle.base_files.specs.Workspace.{Workspace}
+use Rattle.base_files.specs.declared.refusal.Refusal.{Refusal}
+use Rattle.base_files.specs.declared.refusal.Refusal.TheVariants.{Memory}
 use Rattle.base_files.specs.declared.limits.Limits.{Limits}
 use Rattle.base_edits.specs.EditSet.{FileChanges}
 use Rattle.build_unit.specs.Jobs.{JobsOut}
 use Rattle.history_inverses.specs.Inverses.{IsLast}
+use Rattle.history_machine.specs.declared.event.Event.{Event}
+use Rattle.history_machine.specs.declared.event.Reply.TheVariants.{Refused}
 use Rattle.history_machine.specs.declared.resting.Resting.{Resting}
+use Rattle.history_machine.specs.Machine.{Content}
+use Rattle.history_machine.specs.Step.{AnswersOrLacks, BringsJob, done}
 use Rattle.history_book.specs.declared.states.States.{States}
 use Rattle.history_book.specs.Histories.{AreAtRest, KeepStates, content_of, resting_states}
 use Rattle.history_book.proofs.AtRest.{as_many}
@@ -61,6 +68,17 @@ some_rest w ways rests way last are = above (length last.0) (length ways) (lengt
     above : (a b c : ℕ) → b ≡ a + 1 → b ≡ c → 0 < c
     above a b c e1 e2 = omega arith
 
+-- where no state rests, none is in the content
+pub none_awake : (w : Workspace) (ways : List FileChanges) (rests : List Resting) → rests ≡ [] → resting_states w ways rests ≡ []
+none_awake w [] rests none = refl
+none_awake w (way ∷ ways) rests none = ap (λ (x : List Resting). resting_states w (way ∷ ways) x) none
+
 -- the state that was taken from the end
 pub taken_last : (xs ys : List Resting) (o : Option Resting) (x : Resting) → xs ≡ ys ++ option_to_list o → o ≡ Some x → xs ≡ ys ++ x ∷ []
 taken_last xs ys o x is some = is ∙ ap (λ (p : Option Resting). ys ++ option_to_list p) some
+
+-- want of memory for a move leaves everything as it was
+pub lacking_room : (old new : Content) (event : Event) (r : Result ℕ Refusal) → (BringsJob event → ⊥) → IsErrAnd r (λ n. n ≡ Memory) → new ≡ old →
+    AnswersOrLacks old event (done r) new
+lacking_room old new event (Ok number) alone lacks same = absurd lacks
+lacking_room old new event (Err refusal) alone lacks same = subst (λ n. AnswersOrLacks old event (Refused n) new) (sym lacks) (alone, same)

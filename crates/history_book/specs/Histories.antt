@@ -1,9 +1,10 @@
 -- The content of the machine that the states of a book are part of.
-use Rattle.std.specs.Prelude.{◌≡◌, ◌+◌, ◌≤◌, ⊤, List, [], ◌∷◌, length}
+use Rattle.std.specs.Prelude.{◌≡◌, ◌+◌, ◌≤◌, ⊤, List, [], ◌∷◌, ◌++◌, length}
 use Rattle.base_files.specs.Workspace.{Workspace}
 use Rattle.base_files.specs.declared.limits.Limits.{Limits}
 use Rattle.base_edits.specs.EditSet.{FileChanges, edited}
 use Rattle.base_edits.specs.Inverse.{IsInverse}
+use Rattle.workspace_check.specs.Found.{KnowsVerdicts}
 use Rattle.build_unit.specs.Jobs.{JobsOut}
 use Rattle.history_inverses.specs.Inverses.{IsLast, StandsAt, walked}
 use Rattle.history_machine.specs.declared.event.Event.{Event}
@@ -67,9 +68,15 @@ IsOneStepOn before after old new =
     (limits : Limits) (out : JobsOut) → BeginsVisit (content_of old limits out) (content_of new limits out)
     × IsOneBefore (content_of before limits out) (content_of after limits out)
 
--- what the move from the state along the inverse needs: the files that the inverse makes, what leads back, and what the state keeps at rest
+-- this state rests nearest to the current one
+abbrev pub IsNearestState : List Resting → Resting → Type 0
+IsNearestState rests rest = (farther : List Resting) × (rests ≡ farther ++ rest ∷ [])
+
+-- what the move from the state along the inverse needs: the files that the inverse makes, right verdicts on their packages, what leads back,
+-- and what the state keeps at rest
 pub record IsMoving (state : State) (way : FileChanges) (moving : Moving) : Type 0 where
   pub files : moving.files ≡ edited way state.files
+  pub known : KnowsVerdicts moving.files moving.known
   pub turned : IsInverse moving.turned moving.files state.files
   pub rest : IsRestOf state moving.rest
 

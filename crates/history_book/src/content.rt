@@ -125,6 +125,7 @@ impl Content {
             finished,
             undo: self.history.earlier.len(),
             redo: self.history.later.len(),
+            history: None,
         })
     }
 

@@ -1,11 +1,13 @@
 //! The states of a workspace, and how a change, an undo and a redo move among them.
-ghost use Rattle.std.specs.Prelude.{◌≡◌, ◌+◌, ◌^◌, ◌<◌, ◌≤◌, IfOk, OnErr, OnOk, length, max, vec_capacity, vec_len};
+ghost use Rattle.std.specs.Prelude.{◌≡◌, ◌+◌, ◌^◌, ◌<◌, ◌≤◌, [], IfOk, MatchOption, OnErr, OnOk, length, max, vec_capacity, vec_len};
+ghost use Rattle.base_edits.specs.EditSet.{edited};
 ghost use Rattle.base_edits.specs.Fits.{Fits};
 ghost use Rattle.base_edits.specs.Inverse.{IsInverse};
 ghost use Rattle.history_inverses.specs.Inverses.{latest};
+ghost use Rattle.history_machine.specs.Resting.{RestsOn};
 ghost use Rattle.history_machine.specs.Step.{done};
 ghost use Rattle.history_machine.specs.declared.event.Event.TheVariants.{Redo, Undo};
-ghost use Rattle.history_book.specs.Histories.{AnswersAmongStates, GainsState, HasMove, IsMoving, IsOneStepOn, IsSameHistory, KeepStates};
+ghost use Rattle.history_book.specs.Histories.{AnswersAmongStates, GainsState, HasMove, IsMoving, IsOneStepOn, IsNearestState, IsSameHistory, KeepStates};
 
 use base_edits::{Inverse, Prepared, WayBack};
 use base_files::{Limits, Refusal};
@@ -13,6 +15,7 @@ use history_inverses::History;
 use history_machine::{Resting, State};
 use std::alloc::{AllocError, Global};
 use std::mem;
+use workspace_check::SharedKnown;
 use workspace_graph::Graph;
 use workspace_snapshot::graph_after;
 
@@ -32,26 +35,43 @@ pub struct States {
     pub visit: u64,
 }
 
-/// What an undo or a redo makes before anything changes: the files of the state that wakes, what the current state keeps at rest, and the
-/// inverse of the move.
+/// What an undo or a redo makes before anything changes: the files of the state that wakes, and what it knows of their packages. Beside
+/// these stand what the current state keeps at rest, and the inverse of the move.
 #[derive(Drop)]
 pub(crate) struct Moving {
     pub(crate) files: Graph,
+    pub(crate) known: SharedKnown,
     pub(crate) rest: Resting,
     pub(crate) turned: WayBack,
 }
 
-/// Makes what the move along an inverse needs. Only files that the inverse names are looked at.
-fn make_move(alloc: Global, current: &State, way: &Inverse) -> Result<Moving, AllocError>
-    requires { Fits way.now current.now.files }
+/// The state at rest that lies nearest, if there is one.
+fn nearest(states: &[Resting]) -> Option<&Resting>
+    ensures { MatchOption result (states.now ≡ []) (λ rest. IsNearestState states.now rest.now) }
+{
+    states.last()
+}
+
+/// Makes what the move along an inverse needs. Only files that the inverse names are looked at. The state that comes to rest shares the
+/// paths of its packages with the one that wakes, where they are the same.
+fn make_move(
+    alloc: Global,
+    current: &State,
+    way: &Inverse,
+    waking: &Resting,
+) -> Result<Moving, AllocError>
+    requires fits { Fits way.now current.now.files }
+    requires rests { RestsOn (edited way.now current.now.files) waking.now }
     ensures { IfOk result (IsMoving current.now way.now) }
 {
     let Prepared { files, inverse } = way.prepare(current.files.files())?;
     let turned = inverse.set_aside();
     let files = graph_after(alloc, &current.files, way.changed(), way.added(), files)?;
-    let rest = current.rest(alloc)?;
+    let known = waking.known_awake(alloc, &files, current)?;
+    let rest = current.rest(alloc, Some(waking))?;
     Ok(Moving {
         files,
+        known,
         rest,
         turned,
     })
@@ -100,7 +120,7 @@ impl States {
         ensures ok { OnOk result (GainsState limits self.old next self.new) }
         ensures err { OnErr result (IsSameHistory self.old self.new) }
     {
-        let rest = self.current.rest(alloc)?;
+        let rest = self.current.rest(alloc, self.earlier.last())?;
         make_room_for_one(&mut self.earlier)?;
         self.ways.reserve()?;
         let number = self.next;
@@ -130,7 +150,10 @@ impl States {
         let Some(way) = self.ways.nearest_behind() else {
             return Err(Refusal::NothingToUndo);
         };
-        let moving = make_move(alloc, &self.current, way)?;
+        let Some(waking) = nearest(&self.earlier) else {
+            return Err(Refusal::NothingToUndo);
+        };
+        let moving = make_move(alloc, &self.current, way, waking)?;
         make_room_for_one(&mut self.later)?;
         Ok(self.go_back(moving))
     }
@@ -149,13 +172,14 @@ impl States {
     {
         let Moving {
             files,
+            known,
             rest,
             turned,
         } = moving;
         let waking = self.earlier.pop().unwrap();
         let number = waking.number;
         self.ways.went_back(turned.take_up());
-        let left = mem::replace(&mut self.current, waking.wake(files));
+        let left = mem::replace(&mut self.current, waking.wake(files, known));
         drop(left);
         self.later.push_reserved(rest);
         self.visit += 1;
@@ -178,7 +202,10 @@ impl States {
         let Some(way) = self.ways.nearest_ahead() else {
             return Err(Refusal::NothingToRedo);
         };
-        let moving = make_move(alloc, &self.current, way)?;
+        let Some(waking) = nearest(&self.later) else {
+            return Err(Refusal::NothingToRedo);
+        };
+        let moving = make_move(alloc, &self.current, way, waking)?;
         make_room_for_one(&mut self.earlier)?;
         Ok(self.go_forth(moving))
     }
@@ -197,13 +224,14 @@ impl States {
     {
         let Moving {
             files,
+            known,
             rest,
             turned,
         } = moving;
         let waking = self.later.pop().unwrap();
         let number = waking.number;
         self.ways.went_forth(turned.take_up());
-        let left = mem::replace(&mut self.current, waking.wake(files));
+        let left = mem::replace(&mut self.current, waking.wake(files, known));
         drop(left);
         self.earlier.push_reserved(rest);
         self.visit += 1;

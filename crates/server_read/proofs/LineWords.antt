@@ -3,7 +3,7 @@ use Rattle.std.proofs.Common.{◌≡◌, ◌≢◌, ℕ, ◌+◌, ◌*◌, ◌<�
 use Rattle.std.specs.List.{AllByRecursion}
 use Rattle.server_read.specs.declared.command.Command.{Command}
 use Rattle.server_read.specs.declared.command.Command.TheVariants.{OnState, Wait, Log}
-use Rattle.server_read.specs.declared.command.StateCommand.TheVariants.{Look, Put, Del, Rename, Move, Undo, Redo, Cat, Uses, Faults, Object, Work}
+use Rattle.server_read.specs.declared.command.StateCommand.TheVariants.{Look, Put, Del, Rename, Move, Undo, Redo, Cat, Uses, Faults, Object, Objects, Work}
 use Rattle.server_read.specs.declared.command.StateCommand.TheVariants as state
 use Rattle.server_read.specs.Words.{HasNoSpace, spaced}
 use Rattle.server_read.specs.Lines.{verb_of, args_of, place_word, FitsLine, IsCommandLine}
@@ -26,6 +26,9 @@ four a b c d h i j k = (is_letters a h, (is_letters b i, (is_letters c j, (is_le
 six : (a b c d e f : ℕ) → 32 < a → 32 < b → 32 < c → 32 < d → 32 < e → 32 < f → HasNoSpace (a ∷ b ∷ c ∷ d ∷ e ∷ f ∷ [])
 six a b c d e f h i j k l m = (is_letters a h, (is_letters b i, (is_letters c j, (is_letters d k, (is_letters e l, (is_letters f m, tt))))))
 
+seven : (a b c d e f g : ℕ) → 32 < a → 32 < b → 32 < c → 32 < d → 32 < e → 32 < f → 32 < g → HasNoSpace (a ∷ b ∷ c ∷ d ∷ e ∷ f ∷ g ∷ [])
+seven a b c d e f g h i j k l m n = (is_letters a h, six b c d e f g i j k l m n)
+
 pub verb_no_space : (command : Command) → HasNoSpace (verb_of command)
 verb_no_space (OnState Look) = four 108 111 111 107 (omega arith) (omega arith) (omega arith) (omega arith)
 verb_no_space (OnState (Put basis path size body)) = three 112 117 116 (omega arith) (omega arith) (omega arith)
@@ -39,6 +42,8 @@ verb_no_space (OnState (Uses path offset)) = four 117 115 101 115 (omega arith) 
 verb_no_space (OnState state.List) = four 108 105 115 116 (omega arith) (omega arith) (omega arith) (omega arith)
 verb_no_space (OnState Faults) = six 102 97 117 108 116 115 (omega arith) (omega arith) (omega arith) (omega arith) (omega arith) (omega arith)
 verb_no_space (OnState (Object path)) = six 111 98 106 101 99 116 (omega arith) (omega arith) (omega arith) (omega arith) (omega arith) (omega arith)
+verb_no_space (OnState (Objects basis)) =
+    seven 111 98 106 101 99 116 115 (omega arith) (omega arith) (omega arith) (omega arith) (omega arith) (omega arith) (omega arith)
 verb_no_space (OnState Work) = four 119 111 114 107 (omega arith) (omega arith) (omega arith) (omega arith)
 verb_no_space Wait = four 119 97 105 116 (omega arith) (omega arith) (omega arith) (omega arith)
 verb_no_space (Log number) = three 108 111 103 (omega arith) (omega arith) (omega arith)
@@ -56,6 +61,7 @@ args_no_space (OnState (Uses path offset)) h = (place_word_no_space path offset 
 args_no_space (OnState state.List) h = tt
 args_no_space (OnState Faults) h = tt
 args_no_space (OnState (Object path)) h = (h.1, tt)
+args_no_space (OnState (Objects basis)) h = (decimal_word basis h, tt)
 args_no_space (OnState Work) h = tt
 args_no_space Wait h = tt
 args_no_space (Log number) h = (decimal_word number h, tt)
@@ -134,6 +140,10 @@ only_faults command P e h = absurd (omega (arith, ap weight e))
 pub only_object : (command : Command) (P : Command → Type 0) → verb_of command ≡ codes "object" → ((path : List ℕ) → P (OnState (Object path))) → P command
 only_object (OnState (Object path)) P e h = h path
 only_object command P e h = absurd (omega (arith, ap weight e))
+
+pub only_objects : (command : Command) (P : Command → Type 0) → verb_of command ≡ codes "objects" → ((basis : ℕ) → P (OnState (Objects basis))) → P command
+only_objects (OnState (Objects basis)) P e h = h basis
+only_objects command P e h = absurd (omega (arith, ap weight e))
 
 pub only_work : (command : Command) (P : Command → Type 0) → verb_of command ≡ codes "work" → P (OnState Work) → P command
 only_work (OnState Work) P e h = h

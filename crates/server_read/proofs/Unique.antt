@@ -4,7 +4,7 @@ use Rattle.std.proofs.lemmas.Fmt.{decimal_injective}
 use Rattle.base_files.specs.declared.limits.Limits.{Limits}
 use Rattle.server_read.specs.declared.command.Command.{Command}
 use Rattle.server_read.specs.declared.command.Command.TheVariants.{OnState, Wait, Log}
-use Rattle.server_read.specs.declared.command.StateCommand.TheVariants.{Look, Put, Del, Rename, Move, Undo, Redo, Cat, Uses, Faults, Object, Work}
+use Rattle.server_read.specs.declared.command.StateCommand.TheVariants.{Look, Put, Del, Rename, Move, Undo, Redo, Cat, Uses, Faults, Object, Objects, Work}
 use Rattle.server_read.specs.declared.command.StateCommand.TheVariants as state
 use Rattle.server_read.specs.declared.message.Message.{Message}
 use Rattle.server_read.specs.declared.message.Message.TheVariants.{Ask, Unknown, CutShort}
@@ -14,7 +14,7 @@ use Rattle.server_read.specs.Laws.{BeginsOneWay, ReadsOneWay}
 use Rattle.server_read.specs.FirstLine.{first_line, after_line}
 use Rattle.server_read.proofs.Places.{place_word_unique}
 use Rattle.server_read.proofs.LineWords.{same_words, only_put, only_del, only_rename, only_move, only_undo, only_redo, only_cat, only_uses, only_look}
-use Rattle.server_read.proofs.LineWords.{only_list, only_faults, only_object, only_work, only_wait, only_log, end_is_none}
+use Rattle.server_read.proofs.LineWords.{only_list, only_faults, only_object, only_objects, only_work, only_wait, only_log, end_is_none}
 
 -- two lists of words that are equal have equal parts
 head_of_two : (x y : List ℕ) (xs ys : List (List ℕ)) → x ∷ xs ≡ y ∷ ys → x ≡ y
@@ -40,6 +40,8 @@ same_line (OnState (Object path)) b e = only_object b (Same (OnState (Object pat
 same_line (Log number) b e = only_log b (Same (Log number)) e (λ other h k f. ap (λ x. Log x) (same_basis number other [] [] h k f))
 same_line (OnState (Undo basis)) b e = only_undo b (Same (OnState (Undo basis))) e (λ other h k f. ap (λ x. OnState (Undo x)) (same_basis basis other [] [] h k f))
 same_line (OnState (Redo basis)) b e = only_redo b (Same (OnState (Redo basis))) e (λ other h k f. ap (λ x. OnState (Redo x)) (same_basis basis other [] [] h k f))
+same_line (OnState (Objects basis)) b e = only_objects b (Same (OnState (Objects basis))) e (λ other h k f.
+    ap (λ x. OnState (Objects x)) (same_basis basis other [] [] h k f))
 same_line (OnState (Cat path)) b e = only_cat b (Same (OnState (Cat path))) e (λ other h k f. ap (λ x. OnState (Cat x)) (head_of_two path other [] [] f))
 same_line (OnState (Uses path offset)) b e = only_uses b (Same (OnState (Uses path offset))) e (λ way other h k f.
     let same = place_word_unique path way offset other h.1 k.1 (head_of_two (place_word path offset) (place_word way other) [] [] f) in

@@ -4,7 +4,7 @@ use Rattle.base_files.specs.PlaceText.{place_text}
 use Rattle.server_read.specs.Words.{HasNoSpace, IsArgument, spaced}
 use Rattle.server_read.specs.declared.command.Command.{Command}
 use Rattle.server_read.specs.declared.command.Command.TheVariants.{OnState, Wait, Log}
-use Rattle.server_read.specs.declared.command.StateCommand.TheVariants.{Look, Put, Del, Rename, Move, Undo, Redo, Cat, Uses, Faults, Object, Work}
+use Rattle.server_read.specs.declared.command.StateCommand.TheVariants.{Look, Put, Del, Rename, Move, Undo, Redo, Cat, Uses, Faults, Object, Objects, Work}
 use Rattle.server_read.specs.declared.command.StateCommand.TheVariants as state
 
 -- the first word of a command's line
@@ -21,6 +21,7 @@ verb_of (OnState (Uses path offset)) = codes "uses"
 verb_of (OnState state.List) = codes "list"
 verb_of (OnState Faults) = codes "faults"
 verb_of (OnState (Object path)) = codes "object"
+verb_of (OnState (Objects basis)) = codes "objects"
 verb_of (OnState Work) = codes "work"
 verb_of Wait = codes "wait"
 verb_of (Log number) = codes "log"
@@ -43,6 +44,7 @@ args_of (OnState (Uses path offset)) = place_word path offset ∷ []
 args_of (OnState state.List) = []
 args_of (OnState Faults) = []
 args_of (OnState (Object path)) = path ∷ []
+args_of (OnState (Objects basis)) = decimal basis ∷ []
 args_of (OnState Work) = []
 args_of Wait = []
 args_of (Log number) = decimal number ∷ []
@@ -65,6 +67,7 @@ FitsLine (OnState (Uses path offset)) = FitsPlace path offset
 FitsLine (OnState state.List) = ⊤
 FitsLine (OnState Faults) = ⊤
 FitsLine (OnState (Object path)) = IsArgument path
+FitsLine (OnState (Objects basis)) = basis < 2 ^ 64
 FitsLine (OnState Work) = ⊤
 FitsLine Wait = ⊤
 FitsLine (Log number) = number < 2 ^ 64

@@ -5,7 +5,8 @@ ghost use Rattle.std.specs.Prelude.{◌≡◌};
 use crate::word::Word;
 use base_files::FileText;
 
-/// A command about the current state, which begins with a look. Its basis is the number of the state that the client means it for.
+/// A command about the current state, which begins with a look. The basis of a change is the number of the state that the client
+/// means it for.
 #[derive(Drop)]
 pub enum StateCommand<'a> {
     /// How many steps undo and redo can make.
@@ -60,6 +61,10 @@ pub enum StateCommand<'a> {
     Object {
         path: Word<'a>,
     },
+    /// How the objects of all packages compare with those of the state with the number `basis`, which need not be the current one.
+    Objects {
+        basis: u64,
+    },
     /// Builds one package in this session.
     Work,
 }
@@ -67,7 +72,7 @@ pub enum StateCommand<'a> {
 impl StateCommand<'_> {
     ghost use Rattle.server_read.specs.Commands.{command_basis};
 
-    /// The basis of the command, or `None` where it has none.
+    /// The number that the current state must have for the command, or `None` where it may have any.
     pub fn basis(&self) -> Option<u64>
         ensures { result ≡ command_basis self.now }
     {
@@ -84,6 +89,7 @@ impl StateCommand<'_> {
             | StateCommand::List
             | StateCommand::Faults
             | StateCommand::Object { .. }
+            | StateCommand::Objects { .. }
             | StateCommand::Work => None,
         }
     }

@@ -163,6 +163,14 @@ fn parse_object(words: &str) -> Option<Command<'_>>
     Some(Command::OnState(StateCommand::Object { path }))
 }
 
+/// The command `objects BASIS` with this word after `objects`.
+fn parse_objects(words: &str) -> Option<Command<'_>>
+    ensures { ParsesArgs (codes "objects") words.now result }
+{
+    let basis = parse_u64(words)?;
+    Some(Command::OnState(StateCommand::Objects { basis }))
+}
+
 /// The command `uses PATH:#OFFSET` with this word after `uses`.
 fn parse_uses(words: &str) -> Option<Command<'_>>
     ensures { ParsesArgs (codes "uses") words.now result }
@@ -207,6 +215,7 @@ fn parse_verb<'a>(verb: &str, words: &'a str) -> Option<Command<'a>>
         "cat" => parse_cat(words),
         "uses" => parse_uses(words),
         "object" => parse_object(words),
+        "objects" => parse_objects(words),
         "log" => parse_log(words),
         _ => None,
     }

@@ -25,6 +25,7 @@ use Rattle.workspace_check.specs.contracts.shared_known.SharedKnown.{the_row as 
 use Rattle.build_unit.specs.contracts.unit.Compiled.{the_row as compiled}
 use Rattle.build_unit.specs.contracts.unit.Unit.{the_row as unit}
 use Rattle.build_carry.specs.contracts.finished.Finished.{the_row as finished}
+use Rattle.history_machine.specs.contracts.path_list.PathList.{the_row as path_list}
 use Rattle.history_machine.specs.contracts.state.State.{the_row as state}
 use Rattle.history_machine.specs.contracts.resting.Resting.{the_field as resting_field}
 use Rattle.history_inverses.proofs.history.History.TheSendSync.{the_send as Inverses-send}
@@ -39,6 +40,7 @@ use Rattle.base_chunks.proofs.list.SharedList.TheSendSync.{the_send as SharedLis
 use Rattle.base_files.proofs.file_text.FileText.TheSendSync.{the_send as FileText-send, the_sync as FileText-sync}
 use Rattle.base_files.proofs.files.Files.TheSendSync.{the_send as Files-send, the_sync as Files-sync}
 use Rattle.base_files.proofs.limits.Limits.TheSendSync.{the_send as Limits-send, the_sync as Limits-sync}
+use Rattle.base_files.proofs.shared_path.SharedPath.TheSendSync.{the_send as SharedPath-send, the_sync as SharedPath-sync}
 use Rattle.workspace_graph.proofs.faulty_file.FaultyFile.TheSendSync.{the_send as FaultyFile-send, the_sync as FaultyFile-sync}
 use Rattle.workspace_graph.proofs.shared_links.SharedLinks.TheSendSync.{the_send as SharedLinks-send, the_sync as SharedLinks-sync}
 use Rattle.build_unit.proofs.out.Out.TheSendSync.{the_send as Out-send}
@@ -156,9 +158,12 @@ finished_sent = search (owned, SharedList-send, SharedList-sync, unit_sent, unit
 pub state_sent : IsSend state
 state_sent = search (owned, graph_sent, finished_sent, shared_known_sent) depth 30 fits 50000
 
+path_list_sent : IsSend path_list
+path_list_sent = search (owned, SharedPath-send, SharedPath-sync) depth 30 fits 50000
+
 -- as fields, as a package is above
 resting_field_sent : IsSend resting_field.row
-resting_field_sent = search (owned, finished_sent, shared_known_sent) depth 30 fits 50000
+resting_field_sent = search (owned, path_list_sent, finished_sent, shared_known_sent) depth 30 fits 50000
 
 states_field_sent : IsSend states_field.row
 states_field_sent = search (owned, state_sent, resting_field_sent, Inverses-send) depth 30 fits 50000

@@ -1,5 +1,5 @@
 -- What the view shows is that of the current state, and each state at rest has its inverse.
-use Rattle.std.proofs.Common.{◌≡◌, length, refl, ap, ◌∙◌, arith}
+use Rattle.std.proofs.Common.{◌≡◌, None, length, refl, ap, ◌∙◌, arith}
 use Rattle.history_machine.specs.Machine.{Content, view_of}
 use Rattle.history_machine.specs.declared.view.View.{View}
 use Rattle.history_book.specs.Histories.{content_of}
@@ -17,11 +17,13 @@ returns c =
       finished = c.in_ok-snapshot.finished;
       undo = c.len.result;
       redo = c.len-2.result;
-    }) (view_of m) =
+      history = None;
+    }) (view_of m None) =
     (λ i. record {
       snapshot = c.in_ok-snapshot.ensures.snapshot i;
       finished = c.in_ok-snapshot.ensures.finished i;
       undo = (undo ∙ earlier_count h c.self.invariant.1) i;
       redo = (redo ∙ later_count h c.self.invariant.1) i;
+      history = None;
     }) in
-    (shown ∙ ap view_of c.self.view_is, refl)
+    ((shown ∙ ap (λ (x : Content). view_of x None) c.self.view_is, tt), refl)

@@ -18,8 +18,12 @@ wake-requires c =
     let h = c.args.self.now in
     let has = c.requires.has in
     let left = taken_last h.earlier.items c.pop.new.self.items c.pop.result c.unwrap-waking.result c.pop.ensures.items c.unwrap-waking.ensures in
-    can_wake h.current.files c.args.moving.files h.ways.behind has.1.0 h.earlier.items c.pop.new.self.items has.0 c.unwrap-waking.result has.2.files
-    has.1.1 left c.requires.keeps.earlier
+    record {
+      rests =
+          can_wake h.current.files c.args.moving.files h.ways.behind has.1.0 h.earlier.items c.pop.new.self.items has.0 c.unwrap-waking.result has.2.files
+          has.1.1 left c.requires.keeps.earlier;
+      known = has.2.known;
+    }
 
 pub returns-clause-moves : goal.returns-clause-moves
 returns-clause-moves c =
