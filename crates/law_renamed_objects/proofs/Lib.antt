@@ -1,6 +1,6 @@
 -- Lemmas of this crate.
 mod NamesMoved
-mod Sourced
+pub mod Sourced
 mod ObjectsMove
 mod LevelNames
 mod MovesFrom
@@ -8,4 +8,6 @@ mod QualifiedNames
 mod MethodNames
 mod GlobalLaws
 mod MethodLaws
-mod Laws
+pub mod Laws
+pub mod UnitTexts
+pub mod UnitsStay

@@ -1,0 +1,5 @@
+-- The lemmas of this crate.
+pub mod PlainRenames
+pub mod UnnamedRenames
+pub mod LocalRenames
+pub mod PlannedObjects
