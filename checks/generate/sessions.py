@@ -205,6 +205,11 @@ def ask_the_journal(generator, talk):
     talk.send(f"log {generator.randrange(len(talk.history.entries) + 3)}")
 
 
+def ask_how_objects_compare(generator, talk):
+    """How all objects compare with those of some state, or of a number that no state has."""
+    talk.send(f"objects {generator.randrange(talk.history.numbers + 1)}")
+
+
 def objects_of_packages(generator, count):
     """Packages that are put, deleted, built, undone and redone, and their objects."""
     packages = Packages(generator, generator.choice([0.0, 0.005]))
@@ -226,6 +231,8 @@ def objects_of_packages(generator, count):
             talk.send("work")
         for name in generator.sample(packages.NAMES + ["q"], 3):
             talk.send(f"object {name}")
+        if generator.random() < 0.5:
+            ask_how_objects_compare(generator, talk)
         for _ in range(generator.randrange(3)):
             ask_the_journal(generator, talk)
     return talk.session
@@ -238,8 +245,30 @@ FOLDERS = "a b c p q k/p k/q k/len x/init x/main x/a-b x/_ x/func p/x q/T z/X c-
 def a_workspace(generator, stored):
     """Texts, mostly without faults, in which there is much to rename and to move."""
     if generator.random() < 0.7:
-        return shadows.shadowed(generator)
-    return changes.changed(generator, generator.choice(stored))
+        texts = shadows.shadowed(generator)
+    else:
+        texts = changes.changed(generator, generator.choice(stored))
+    return with_fault(generator, texts) if generator.random() < 0.4 else texts
+
+
+def with_fault(generator, texts):
+    """The texts and a package with a fault, which may import one of theirs or a path of a move; or one of their files is cut."""
+    way = generator.random()
+    files = sorted(path for path in texts if path.endswith(".go"))
+    if way < 0.4 and files:
+        path = generator.choice(files)
+        return {**texts, path: texts[path][: generator.randrange(len(texts[path]) + 1)]}
+    imported = a_folder(generator, texts) if way < 0.8 else generator.choice(FOLDERS)
+    text = generator.choice(
+        [
+            'package w\n\nvar s string = "ab',
+            f'package w\n\nimport "{imported}"\n',
+            f'package w\n\nimport "{imported}"\nimport "nowhere"\n',
+            f'package w\n\nimport _ "{imported}"\nvar x int = "a"\n',
+            "package w\n\nfunc f() int { return }\n",
+        ]
+    )
+    return {**texts, f"{generator.choice(['w', 'a/w', 'k/w'])}/w.go": text.encode()}
 
 
 def a_new_name(generator, texts):
@@ -265,7 +294,7 @@ def a_target(generator, texts):
 def question(generator, talk):
     """A command that changes no text."""
     texts = talk.history.current.texts
-    way = generator.randrange(8)
+    way = generator.randrange(9)
     if way == 0:
         talk.send("faults")
     elif way == 1 and texts:
@@ -278,6 +307,8 @@ def question(generator, talk):
         talk.send("object " + a_folder(generator, texts))
     elif way == 5:
         ask_the_journal(generator, talk)
+    elif way == 6:
+        ask_how_objects_compare(generator, talk)
     else:
         talk.send("work")
 

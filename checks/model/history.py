@@ -28,6 +28,10 @@ class State:
             for file in self.workspace.packages[other].files
         }
 
+    def object_of(self, package):
+        """The object of a package that is finished and has no faults, else None."""
+        return object_of(self.workspace, package) if package in self.finished else None
+
     def carried(self, texts):
         """The finished packages that a change to other texts carries over."""
         after = State(None, texts, set())
@@ -107,6 +111,19 @@ class History:
         return object_of(workspace, package)
 
 
+    def objects(self, basis):
+        """How the object of each package compares with that in the state of a number."""
+        before = next((state for state in self.states if state.number == basis), None)
+        if before is None:
+            raise Refusal(6, f"{self.current.number}\n")
+        lines = []
+        for package in self.current.workspace.order:
+            text = self.current.object_of(package)
+            told = "missing" if text is None else "equal" if before.object_of(package) == text else "differs"
+            lines.append(f"{told} {package}\n")
+        return "".join(lines)
+
+
 def a_number(word, bits=64):
     if not re.fullmatch("0|[1-9][0-9]*", word) or int(word) >= 2**bits:
         raise Refusal(2)
@@ -171,6 +188,7 @@ VERBS = {
     "faults": 0,
     "uses": 1,
     "object": 1,
+    "objects": 1,
     "work": 0,
     "log": 1,
     "end": 0,
@@ -181,6 +199,7 @@ def body_of(history, words, body):
     """The body of the reply to a command that was read whole."""
     verb, *rest = words
     basis = a_number(rest[0]) if verb in ("put", "del", "rename", "move", "undo", "redo") else None
+    since = a_number(rest[0]) if verb == "objects" else None
     if verb == "put":
         a_number(rest[2], 32)
     place = a_place(rest[0] if verb == "uses" else rest[1]) if verb in ("uses", "rename") else None
@@ -224,6 +243,8 @@ def body_of(history, words, body):
         return uses_told(history.current, *place)
     elif verb == "object":
         return history.object(rest[0])
+    elif verb == "objects":
+        return history.objects(since)
     elif verb == "work":
         return history.work()
     return ""

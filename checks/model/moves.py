@@ -8,7 +8,7 @@ returns the edit set, or raises the first refusal.
 from checks.model import lexer
 from checks.model.conflicts import conflict_of_edits, refuse_conflict
 from checks.model.edits import EditSet
-from checks.model.refusals import Refusal, fault_lines, is_identifier, is_path, is_too_large
+from checks.model.refusals import Refusal, is_identifier, is_path, is_too_large, refuse_faults
 
 
 def moved_path(path, source, target):
@@ -60,6 +60,19 @@ def move_edits(workspace, texts, source, target):
     return EditSet(spans, paths)
 
 
+def starts_of_move(workspace, source, target):
+    """The packages that move, and those with an import literal whose value is an old path of the move, or a package's new one."""
+    moved = {path for path in workspace.packages if moved_path(path, source, target) != path}
+    new = {moved_path(path, source, target) for path in moved}
+    return moved | {
+        path
+        for path, package in workspace.packages.items()
+        for file in package.trees
+        for _, value in file.imports()
+        if moved_path(value, source, target) != value or value in new
+    }
+
+
 def plan_move(workspace, texts, source, target):
     if not is_path(source, 1) or not is_path(target, 1):
         raise Refusal(3)
@@ -71,10 +84,10 @@ def plan_move(workspace, texts, source, target):
         raise Refusal(18)
     if any(path.startswith(target + "/") for path in texts):
         raise Refusal(17)
-    if workspace.faults():
-        raise Refusal(9, fault_lines(workspace.faults()[:1]))
-    edits = move_edits(workspace, texts, source, target)
-    refuse_conflict(conflict_of_edits(workspace, texts, edits))
+    refuse_faults(workspace, workspace.affected(starts_of_move(workspace, source, target)))
+    sound, sound_texts = workspace.without_faulty(texts)
+    edits = move_edits(sound, sound_texts, source, target)
+    refuse_conflict(conflict_of_edits(sound, sound_texts, edits))
     if is_too_large(edits.edited(texts)):
         raise Refusal(5)
     return edits

@@ -57,3 +57,10 @@ def is_too_large(texts):
 
 def fault_lines(faults):
     return "".join("%s:#%d %s\n" % fault for fault in faults)
+
+
+def refuse_faults(workspace, packages):
+    """Refuses where one of these packages has a fault, with the first one."""
+    faults = [fault for path in workspace.order if path in packages for fault in workspace.package_faults(path)]
+    if faults:
+        raise Refusal(9, fault_lines(faults[:1]))

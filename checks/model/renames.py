@@ -7,7 +7,7 @@ returns the edit set, or raises the first refusal.
 
 from checks.model.conflicts import conflict_of_edits, refuse_conflict
 from checks.model.edits import EditSet
-from checks.model.refusals import Refusal, fault_lines, is_new_name, is_path, is_too_large
+from checks.model.refusals import Refusal, is_new_name, is_path, is_too_large, refuse_faults
 
 OF_THE_PACKAGE = ("var", "type", "func")
 
@@ -53,17 +53,18 @@ def plan_rename(workspace, texts, path, offset, name):
         raise Refusal(12)
     if path not in texts:
         raise Refusal(4)
-    if workspace.faults():
-        raise Refusal(9, fault_lines(workspace.faults()[:1]))
-    declaration = declaration_at(workspace, path, offset)
+    refuse_faults(workspace, [path.rsplit("/", 1)[0]])
+    sound, sound_texts = workspace.without_faulty(texts)
+    declaration = declaration_at(sound, path, offset)
     if not is_renamable(declaration):
         raise Refusal(11)
     if not may_be_called(declaration, name):
         raise Refusal(12)
     if declaration.name == name:
         raise Refusal(13)
-    edits = rename_edits(workspace, texts, declaration, name)
-    refuse_conflict(conflict_of_edits(workspace, texts, edits, declaration, name))
+    refuse_faults(workspace, workspace.affected([declaration.path.rsplit("/", 1)[0]]))
+    edits = rename_edits(sound, sound_texts, declaration, name)
+    refuse_conflict(conflict_of_edits(sound, sound_texts, edits, declaration, name))
     if is_too_large(edits.edited(texts)):
         raise Refusal(5)
     return edits

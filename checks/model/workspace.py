@@ -120,6 +120,21 @@ class Workspace:
     def faults(self):
         return [fault for path in self.order for fault in self.package_faults(path)]
 
+    def affected(self, starts):
+        """The packages whose closure has one of these packages, in order."""
+        return [path for path in self.order if self.closure(path) & set(starts)]
+
+    def without_faulty(self, texts):
+        """The workspace without the Go files of packages with faults, and its texts."""
+        sound = {
+            path: text
+            for path, text in texts.items()
+            if path not in self.files or not self.package_faults(path.rsplit("/", 1)[0])
+        }
+        part = self if len(sound) == len(texts) else Workspace(sound)
+        assert not part.faults()
+        return part, sound
+
     def bindings(self):
         """Each identifier and path literal: path, offset, length, declaration or None, whether it is an identifier."""
         for path in self.order:
