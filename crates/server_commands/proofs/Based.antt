@@ -2,8 +2,8 @@
 use Rattle.std.proofs.Common.{ℕ, List, Option, None, Some, Result, Ok, Err, IfOk, sym, subst}
 use Rattle.base_files.specs.Workspace.{Workspace}
 use Rattle.base_files.specs.declared.refusal.Refusal.{Refusal}
-use Rattle.refactor_plan.specs.MovePlan.{PlansMove}
-use Rattle.refactor_plan.specs.Plan.{PlansRename}
+use Rattle.refactor_affected.specs.Moves.{PlansAffectedMove}
+use Rattle.refactor_affected.specs.Renames.{PlansAffectedRename}
 use Rattle.workspace_snapshot.specs.Plan.{PlansPut, PlansDel}
 use Rattle.workspace_snapshot.specs.declared.change.Change.{Change}
 use Rattle.workspace_snapshot.specs.declared.snapshot.Snapshot.{Snapshot}
@@ -24,12 +24,12 @@ module _ (P : Workspace → Type 0) (snapshot : Snapshot) (here : P snapshot.fil
   del_based path (Ok change) plans = subst (λ (x : Change). P x.base) (sym plans.2) here
   del_based path (Err refusal) plans = tt
 
-  rename_based : (path : List ℕ) (offset : ℕ) (name : List ℕ) (planned : Result Change Refusal) → PlansRename snapshot path offset name planned →
+  rename_based : (path : List ℕ) (offset : ℕ) (name : List ℕ) (planned : Result Change Refusal) → PlansAffectedRename snapshot path offset name planned →
       OnBase P planned
   rename_based path offset name (Ok change) plans = subst (λ (x : Change). P x.base) (sym plans.1.is_change) here
   rename_based path offset name (Err refusal) plans = tt
 
-  move_based : (from to : List ℕ) (planned : Result Change Refusal) → PlansMove snapshot from to planned → OnBase P planned
+  move_based : (from to : List ℕ) (planned : Result Change Refusal) → PlansAffectedMove snapshot from to planned → OnBase P planned
   move_based from to (Ok change) plans = subst (λ (x : Change). P x.base) (sym plans.1.is_change) here
   move_based from to (Err refusal) plans = tt
 
@@ -39,12 +39,12 @@ with_known P (Ok planned) based = based
 with_known P (Err refusal) based = tt
 
 pub known_rename_based : (P : Workspace → Type 0) (snapshot : Snapshot) → P snapshot.files → (path : List ℕ) (offset : ℕ) (name : List ℕ)
-    (planned : Result Planned Refusal) → PlansRename snapshot path offset name (change_in planned) → IfOk planned (λ p. P p.change.base)
+    (planned : Result Planned Refusal) → PlansAffectedRename snapshot path offset name (change_in planned) → IfOk planned (λ p. P p.change.base)
 known_rename_based P snapshot here path offset name planned plans =
     with_known P planned (rename_based P snapshot here path offset name (change_in planned) plans)
 
 pub known_move_based : (P : Workspace → Type 0) (snapshot : Snapshot) → P snapshot.files → (from to : List ℕ) (planned : Result Planned Refusal) →
-    PlansMove snapshot from to (change_in planned) → IfOk planned (λ p. P p.change.base)
+    PlansAffectedMove snapshot from to (change_in planned) → IfOk planned (λ p. P p.change.base)
 known_move_based P snapshot here from to planned plans = with_known P planned (move_based P snapshot here from to (change_in planned) plans)
 
 pub body_based : (P : Workspace → Type 0) (view : View) → P view.snapshot.files → (path : List ℕ) (body : Option (List ℕ)) (planned : Result Change Refusal) →

@@ -4,8 +4,8 @@ use Rattle.base_files.specs.Path.{IsPath}
 use Rattle.base_files.specs.declared.place.Place.{Place}
 use Rattle.base_files.specs.declared.refusal.Refusal.{Refusal}
 use Rattle.base_files.specs.declared.refusal.Refusal.TheVariants.{Memory, BadPath, TooLarge, Moved}
-use Rattle.refactor_plan.specs.MovePlan.{PlansMove}
-use Rattle.refactor_plan.specs.Plan.{PlansRename}
+use Rattle.refactor_affected.specs.Moves.{PlansAffectedMove}
+use Rattle.refactor_affected.specs.Renames.{PlansAffectedRename}
 use Rattle.workspace_snapshot.specs.Plan.{PlansPut, PlansDel}
 use Rattle.history_machine.specs.declared.view.View.{View}
 use Rattle.workspace_snapshot.specs.declared.change.Change.{Change}
@@ -17,6 +17,7 @@ use Rattle.refs_binding.specs.Uses.{AnswersUses}
 use Rattle.workspace_check.specs.FaultLists.{ListsFaults}
 use Rattle.workspace_check.specs.declared.fault.FileFault.{FileFault}
 use Rattle.server_commands.specs.Queries.{FindsFile, FindsObject}
+use Rattle.server_commands.specs.ObjectChanges.{AnswersObjects}
 use Rattle.server_commands.specs.Wait.{WaitLaw, Waits}
 use Rattle.server_commands.specs.Work.{Works}
 use Rattle.server_read.specs.Commands.{command_basis}
@@ -91,9 +92,9 @@ module _ {D : Type 0} (steps : D → Event → Reply → D → Type 0) where
   ActsOn old view (state.Del basis path) answer new =
       (planned : Result Change Refusal) × PlansDel view.snapshot path planned × Commits old basis planned answer new
   ActsOn old view (state.Rename basis path offset name) answer new =
-      (planned : Result Change Refusal) × PlansRename view.snapshot path offset name planned × Commits old basis planned answer new
+      (planned : Result Change Refusal) × PlansAffectedRename view.snapshot path offset name planned × Commits old basis planned answer new
   ActsOn old view (state.Move basis from to) answer new =
-      (planned : Result Change Refusal) × PlansMove view.snapshot from to planned × Commits old basis planned answer new
+      (planned : Result Change Refusal) × PlansAffectedMove view.snapshot from to planned × Commits old basis planned answer new
   ActsOn old view (state.Undo basis) answer new = Sends old (Undo basis) answer new
   ActsOn old view (state.Redo basis) answer new = Sends old (Redo basis) answer new
   ActsOn old view (state.Cat path) answer new =
@@ -105,6 +106,7 @@ module _ {D : Type 0} (steps : D → Event → Reply → D → Type 0) where
   ActsOn old view state.Faults answer new = AnswersFaults view answer × (new ≡ old)
   ActsOn old view (state.Object path) answer new =
       ((found : Result (List ℕ) Refusal) × FindsObject view path found × (answer ≡ file_response view.snapshot.number found)) × (new ≡ old)
+  ActsOn old view (state.Objects basis) answer new = AnswersObjects view basis answer × (new ≡ old)
   ActsOn old view state.Work answer new = Works steps old answer new
 
   -- a command after its look has shown this view: it is refused where it is meant for another state

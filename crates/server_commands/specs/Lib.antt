@@ -1,5 +1,6 @@
 -- The definitions of this crate.
 pub mod Queries
+pub mod ObjectChanges
 pub mod Work
 pub mod Wait
 pub mod Act

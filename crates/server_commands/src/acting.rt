@@ -2,8 +2,8 @@
 ghost use Rattle.std.specs.Prelude.{◌≡◌, ◌↔◌, ℕ, IfOk, IsTrue, List, Result};
 ghost use Rattle.base_files.specs.declared.place.Place.{Place};
 ghost use Rattle.base_files.specs.declared.refusal.Refusal.{Refusal as WhyRefused};
-ghost use Rattle.refactor_plan.specs.MovePlan.{PlansMove};
-ghost use Rattle.refactor_plan.specs.Plan.{PlansRename};
+ghost use Rattle.refactor_affected.specs.Moves.{PlansAffectedMove};
+ghost use Rattle.refactor_affected.specs.Renames.{PlansAffectedRename};
 ghost use Rattle.refactor_preserve.specs.Planned.{change_in};
 ghost use Rattle.workspace_check.specs.FaultLists.{ListsFaults};
 ghost use Rattle.workspace_check.specs.Found.{AreFindings, IsFound, KnowsVerdicts};
@@ -26,6 +26,8 @@ ghost use Rattle.server_commands.specs.Act.{
   file_response,
   places_response,
 };
+ghost use Rattle.history_machine.specs.Machine.{ShowsHistory};
+ghost use Rattle.server_commands.specs.ObjectChanges.{AnswersObjects, NeedsHistory};
 ghost use Rattle.server_commands.specs.Wait.{Waits};
 ghost use Rattle.server_commands.specs.Queries.{FindsFile, FindsObject};
 
@@ -36,7 +38,8 @@ use crate::working::work;
 use base_files::{FileText, Path, Refusal};
 use history_book::{Changing, Logging};
 use history_machine::View;
-use refactor_plan::{plan_move, plan_rename};
+use history_objects::compare_objects;
+use refactor_affected::{plan_move, plan_rename};
 use refactor_preserve::Planned;
 use refs_uses::{Places, uses};
 use server_read::{Command, StateCommand, Word};
@@ -224,7 +227,7 @@ fn rename_plan<D: Desk>(
     name: &str,
 ) -> Result<Planned, Refusal>
     requires { D.sees desk.old view.now.snapshot.files }
-    ensures planned { PlansRename view.now.snapshot path.now offset name.now (change_in result) }
+    ensures planned { PlansAffectedRename view.now.snapshot path.now offset name.now (change_in result) }
     ensures known { IfOk result (λ p. KnowsVerdicts p.change.files p.known) }
     ensures same { desk.new ≡ desk.old }
 {
@@ -251,7 +254,7 @@ fn rename<D: Desk>(
     name: Word<'_>,
 ) -> Response
     requires { D.sees desk.old view.now.snapshot.files }
-    ensures { (planned : Result PlannedChange WhyRefused) × PlansRename view.now.snapshot at.entry.path at.entry.offset name.entry planned × Commits D.steps desk.old basis planned result desk.new }
+    ensures { (planned : Result PlannedChange WhyRefused) × PlansAffectedRename view.now.snapshot at.entry.path at.entry.offset name.entry planned × Commits D.steps desk.old basis planned result desk.new }
 {
     let planned = rename_plan(
         alloc,
@@ -273,7 +276,7 @@ fn move_plan<D: Desk>(
     to: &str,
 ) -> Result<Planned, Refusal>
     requires { D.sees desk.old view.now.snapshot.files }
-    ensures planned { PlansMove view.now.snapshot from.now to.now (change_in result) }
+    ensures planned { PlansAffectedMove view.now.snapshot from.now to.now (change_in result) }
     ensures known { IfOk result (λ p. KnowsVerdicts p.change.files p.known) }
     ensures same { desk.new ≡ desk.old }
 {
@@ -293,7 +296,7 @@ fn move_to<D: Desk>(
     to: Word<'_>,
 ) -> Response
     requires { D.sees desk.old view.now.snapshot.files }
-    ensures { (planned : Result PlannedChange WhyRefused) × PlansMove view.now.snapshot from.entry to.entry planned × Commits D.steps desk.old basis planned result desk.new }
+    ensures { (planned : Result PlannedChange WhyRefused) × PlansAffectedMove view.now.snapshot from.entry to.entry planned × Commits D.steps desk.old basis planned result desk.new }
 {
     let planned = move_plan(alloc, desk, view, from.as_str(), to.as_str());
     commit_known(desk, basis, planned)
@@ -349,6 +352,20 @@ fn find_uses<D: Desk>(
 {
     let found = find(alloc, desk, view)?;
     uses(alloc, view.snapshot.files(), &found, path, offset)
+}
+
+/// Answers an `objects` command.
+fn answer_objects(alloc: Global, view: &View, basis: u64) -> Response
+    requires { ShowsHistory view.now }
+    ensures { AnswersObjects view.now basis result }
+{
+    match compare_objects(alloc, view.states(), view, basis) {
+        Ok(objects) => Response::Objects {
+            number: view.snapshot.number(),
+            objects,
+        },
+        Err(refusal) => Response::Refused { refusal },
+    }
 }
 
 /// Answers a `uses` command.
@@ -412,7 +429,8 @@ fn answer_faults<D: Desk>(alloc: Global, desk: &mut D, view: &View) -> Response
 
 /// Acts on a command that is meant for the state that the view shows.
 fn act_on<D: Desk>(alloc: Global, desk: &mut D, view: &View, command: StateCommand<'_>) -> Response
-    requires { D.sees desk.old view.now.snapshot.files }
+    requires sees { D.sees desk.old view.now.snapshot.files }
+    requires history { NeedsHistory command → ShowsHistory view.now }
     ensures { ActsOn D.steps desk.old view.now command.entry result desk.new }
 {
     match command {
@@ -440,6 +458,7 @@ fn act_on<D: Desk>(alloc: Global, desk: &mut D, view: &View, command: StateComma
         StateCommand::Cat { path } => answer_cat(alloc, view, path),
         StateCommand::Uses { path, offset } => answer_uses(alloc, desk, view, path, offset),
         StateCommand::Object { path } => answer_object(alloc, view, path),
+        StateCommand::Objects { basis } => answer_objects(alloc, view, basis),
         StateCommand::Work => work(alloc, desk),
         StateCommand::List => answer_list(view),
         StateCommand::Faults => answer_faults(alloc, desk, view),
@@ -453,7 +472,8 @@ fn act_after<D: Desk>(
     view: &View,
     command: StateCommand<'_>,
 ) -> Response
-    requires { D.sees desk.old view.now.snapshot.files }
+    requires sees { D.sees desk.old view.now.snapshot.files }
+    requires history { NeedsHistory command → ShowsHistory view.now }
     ensures { ActsAfter D.steps desk.old view.now command.entry result desk.new }
 {
     if fits_view(view, &command) {
@@ -468,13 +488,42 @@ fn act_after<D: Desk>(
     }
 }
 
-/// Looks, and acts on a command about the current state.
+/// Whether the command is about the states of the history.
+fn needs_history(command: &StateCommand<'_>) -> bool
+    ensures { IsTrue result ↔ NeedsHistory command.now }
+{
+    matches!(command, StateCommand::Objects { .. })
+}
+
+/// Looks at the current state, and acts on a command that is not about other states.
 fn act_looking<D: Desk>(alloc: Global, desk: &mut D, command: StateCommand<'_>) -> Response
+    requires { NeedsHistory command → ⊥ }
     ensures { LooksFirst D.steps desk.old command.entry result desk.new }
 {
     match desk.look() {
         Ok(view) => act_after(alloc, desk, &view, command),
         Err(refusal) => Response::Refused { refusal },
+    }
+}
+
+/// Looks at all states of the history, and acts on a command about the current state.
+fn act_looking_back<D: Desk>(alloc: Global, desk: &mut D, command: StateCommand<'_>) -> Response
+    ensures { LooksFirst D.steps desk.old command.entry result desk.new }
+{
+    match desk.look_back() {
+        Ok(view) => act_after(alloc, desk, view.get(), command),
+        Err(refusal) => Response::Refused { refusal },
+    }
+}
+
+/// Looks, and acts on a command about the current state.
+fn act_on_state<D: Desk>(alloc: Global, desk: &mut D, command: StateCommand<'_>) -> Response
+    ensures { LooksFirst D.steps desk.old command.entry result desk.new }
+{
+    if needs_history(&command) {
+        act_looking_back(alloc, desk, command)
+    } else {
+        act_looking(alloc, desk, command)
     }
 }
 
@@ -506,7 +555,7 @@ pub fn act<D: Desk>(alloc: Global, desk: &mut D, command: Command<'_>) -> Respon
     ensures { Acts D.steps D.waits desk.old command.entry result desk.new }
 {
     match command {
-        Command::OnState(command) => act_looking(alloc, desk, command),
+        Command::OnState(command) => act_on_state(alloc, desk, command),
         Command::Wait => wait(desk),
         Command::Log { number } => log(desk, number),
     }

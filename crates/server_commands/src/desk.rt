@@ -14,8 +14,8 @@ ghost use Rattle.workspace_check.specs.Found.{KnowsVerdicts};
 
 use base_files::Refusal;
 use build_unit::{Built, Job};
-use history_book::{Book, Handed, Looking, Question, Taking};
-use history_machine::View;
+use history_book::{Book, Handed, Looking, LookingBack, Question, Taking};
+use history_machine::{HistoryView, View};
 use std::marker::Model;
 use workspace_check::Known;
 use workspace_graph::Graph;
@@ -44,6 +44,11 @@ pub trait Desk {
 
     /// A view of the current state. Until the next event the desk may know that its files are current.
     fn look(&mut self) -> Result<View, Refusal>
+        ensures step { steps self.old Look (looked result) self.new }
+        ensures sees { IfOk result (λ view. sees self.new view.snapshot.files) };
+
+    /// A view of the current state that shows all states of the history. It is a look.
+    fn look_back(&mut self) -> Result<HistoryView, Refusal>
         ensures step { steps self.old Look (looked result) self.new }
         ensures sees { IfOk result (λ view. sees self.new view.snapshot.files) };
 
@@ -134,6 +139,10 @@ impl Desk for Solo {
 
     fn look(&mut self) -> Result<View, Refusal> {
         self.book.step(Looking)
+    }
+
+    fn look_back(&mut self) -> Result<HistoryView, Refusal> {
+        self.book.step(LookingBack)
     }
 
     /// The basis alone is compared, and no text.

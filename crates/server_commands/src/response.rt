@@ -3,6 +3,7 @@ ghost use Rattle.std.specs.Prelude.{◌≡◌};
 
 use base_files::{FileText, Refusal};
 use history_machine::Line;
+use history_objects::ComparedObjects;
 use refs_uses::Places;
 use std::marker::Model;
 use types_expr::symbol::SharedPath;
@@ -72,6 +73,11 @@ pub enum Response {
     Faults {
         number: u64,
         faults: FaultList,
+    },
+    /// All packages, each with how its object compares with that in another state.
+    Objects {
+        number: u64,
+        objects: ComparedObjects,
     },
     /// The line of an entry of the journal, or `None` past the journal's end.
     Entry {

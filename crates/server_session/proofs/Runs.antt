@@ -115,6 +115,7 @@ acted_on old new view (state.Uses path offset) answer h = ([], h.1, λ before af
 acted_on old new view state.List answer h = ([], h.1, λ before after n. (h.0, nothing before after n))
 acted_on old new view state.Faults answer h = ([], h.1, λ before after n. (h.0, nothing before after n))
 acted_on old new view (state.Object path) answer h = ([], h.1, λ before after n. (h.0, nothing before after n))
+acted_on old new view (state.Objects basis) answer h = ([], h.1, λ before after n. (h.0, nothing before after n))
 acted_on old new view state.Work answer h = worked old new answer h
 
 continued : (old new : Machine) (reply : Reply) (asked : StateCommand) (answer : Response) → AfterLook Step old reply asked answer new

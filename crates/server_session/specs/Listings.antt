@@ -1,4 +1,4 @@
--- The text lines of files, places, faults, entries of the journal and packages.
+-- The text lines of files, places, faults, compared objects, entries of the journal and packages.
 use Rattle.std.specs.Prelude.{ℕ, List, [], ◌∷◌, ◌++◌, length, codes, decimal, Option, Some, None}
 use Rattle.std.specs.List.{flat_map}
 use Rattle.std.specs.FinMap as map
@@ -10,6 +10,9 @@ use Rattle.history_machine.specs.Kinds.{kind_name, reason_refusal}
 use Rattle.history_machine.specs.declared.entry.Line.{Line}
 use Rattle.history_machine.specs.declared.entry.Told.{Told}
 use Rattle.history_machine.specs.declared.entry.Told.TheVariants.{Done, Refused}
+use Rattle.history_objects.specs.declared.comparing.ComparedObject.{ComparedObject}
+use Rattle.history_objects.specs.declared.comparing.ObjectChange.{ObjectChange}
+use Rattle.history_objects.specs.declared.comparing.ObjectChange.TheVariants.{Equal, Differs, Missing}
 use Rattle.server_session.specs.Refusals.{code_of}
 
 -- a path, a space, the size of its text in bytes, and a newline
@@ -27,6 +30,20 @@ place_lines = flat_map (λ place. place_text place ++ 10 ∷ [])
 -- the lines of faults, in their order
 abbrev pub fault_lines : List FileFault → List ℕ
 fault_lines = flat_map (λ f. fault_line f.place f.kind)
+
+-- the word of how an object compares with that in another state
+abbrev pub change_word : ObjectChange → List ℕ
+change_word Equal = codes "equal"
+change_word Differs = codes "differs"
+change_word Missing = codes "missing"
+
+-- how the object of a package compares, a space, its path, and a newline
+abbrev pub object_line : ComparedObject → List ℕ
+object_line one = change_word one.change ++ 32 ∷ (one.package ++ 10 ∷ [])
+
+-- the lines of packages, in their order
+abbrev pub object_lines : List ComparedObject → List ℕ
+object_lines = flat_map object_line
 
 -- the path of a package, and a newline
 abbrev pub package_line : List ℕ → List ℕ

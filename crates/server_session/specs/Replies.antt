@@ -3,8 +3,8 @@
 use Rattle.std.specs.Prelude.{◌≡◌, ◌⊎◌, ⊤, ℕ, List, [], ◌∷◌, ◌++◌, length, codes, decimal, Bool, true, false, if◌then◌else◌}
 use Rattle.base_files.specs.declared.refusal.Refusal.TheVariants.{Memory}
 use Rattle.server_commands.specs.declared.response.Response.{Response}
-use Rattle.server_commands.specs.declared.response.Response.TheVariants.{Done, Steps, File, Listing, Places, Faults, Entry, Built, Refused}
-use Rattle.server_session.specs.Listings.{listing, place_lines, fault_lines, entry_text, package_line}
+use Rattle.server_commands.specs.declared.response.Response.TheVariants.{Done, Steps, File, Listing, Places, Faults, Objects, Entry, Built, Refused}
+use Rattle.server_session.specs.Listings.{listing, place_lines, fault_lines, object_lines, entry_text, package_line}
 use Rattle.server_session.specs.Refusals.{code_of, refusal_body}
 
 -- the line with how many steps undo and redo can make
@@ -20,6 +20,7 @@ is_done (File number text) = true
 is_done (Listing number files) = true
 is_done (Places number places) = true
 is_done (Faults number faults) = true
+is_done (Objects number objects) = true
 is_done (Entry number line) = true
 is_done (Built number path) = true
 
@@ -31,6 +32,7 @@ reply_number (File number text) = number
 reply_number (Listing number files) = number
 reply_number (Places number places) = number
 reply_number (Faults number faults) = number
+reply_number (Objects number objects) = number
 reply_number (Entry number line) = number
 reply_number (Built number path) = number
 reply_number (Refused refusal) = code_of refusal
@@ -43,6 +45,7 @@ reply_body (File number text) = text
 reply_body (Listing number files) = listing files
 reply_body (Places number places) = place_lines places
 reply_body (Faults number faults) = fault_lines faults
+reply_body (Objects number objects) = object_lines objects
 reply_body (Entry number line) = entry_text line
 reply_body (Built number path) = package_line path
 reply_body (Refused refusal) = refusal_body refusal
@@ -61,6 +64,7 @@ abbrev pub TakesMemory : Response → Type 0
 TakesMemory (Listing number files) = ⊤
 TakesMemory (Places number places) = ⊤
 TakesMemory (Faults number faults) = ⊤
+TakesMemory (Objects number objects) = ⊤
 TakesMemory other = ⊥
 
 -- the body of the reply if it takes memory, else nothing
@@ -68,6 +72,7 @@ abbrev pub made_body : Response → List ℕ
 made_body (Listing number files) = listing files
 made_body (Places number places) = place_lines places
 made_body (Faults number faults) = fault_lines faults
+made_body (Objects number objects) = object_lines objects
 made_body other = []
 
 -- the reply with this answer; for want of memory to make the body it is a refusal

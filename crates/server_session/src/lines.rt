@@ -1,9 +1,10 @@
-//! The text lines of files, places and faults.
+//! The text lines of files, places, faults and compared objects.
 ghost use Rattle.std.specs.Prelude.{◌≡◌, ◌++◌, IfOk, OnOk};
 ghost use Rattle.base_files.specs.PlaceText.{place_text, fault_line};
-ghost use Rattle.server_session.specs.Listings.{file_line, place_lines, fault_lines, listing};
+ghost use Rattle.server_session.specs.Listings.{change_word, fault_lines, file_line, listing, object_line, object_lines, place_lines};
 
 use base_files::{FileText, Files, Path, Place};
+use history_objects::{ComparedObject, ObjectChange};
 use itoa::Buffer;
 use std::alloc::{AllocError, Global};
 use workspace_check::FileFault;
@@ -69,6 +70,38 @@ pub(crate) fn fault_lines(alloc: Global, faults: &[FileFault]) -> Result<Vec<u8>
     let mut lines = Vec::new(alloc);
     for fault in faults {
         push_fault(&mut lines, fault)?;
+    }
+    Ok(lines)
+}
+
+/// The word of how an object compares with that in another state.
+fn change_word(change: ObjectChange) -> &'static str
+    ensures { result.now ≡ change_word change }
+{
+    match change {
+        ObjectChange::Equal => "equal",
+        ObjectChange::Differs => "differs",
+        ObjectChange::Missing => "missing",
+    }
+}
+
+/// Appends the line of one package: how its object compares, and its path.
+fn push_object(lines: &mut Vec<u8>, object: &ComparedObject) -> Result<(), AllocError>
+    ensures { OnOk result (lines.new.items ≡ lines.old.items ++ object_line object.now) }
+{
+    lines.extend_from_slice(change_word(object.change).as_bytes())?;
+    lines.extend_from_slice(b" ")?;
+    lines.extend_from_slice(object.package.path())?;
+    lines.extend_from_slice(b"\n")
+}
+
+/// The lines of packages, each with how its object compares, in their order.
+pub(crate) fn object_lines(alloc: Global, objects: &[ComparedObject]) -> Result<Vec<u8>, AllocError>
+    ensures { IfOk result (λ lines. lines.items ≡ object_lines objects.now) }
+{
+    let mut lines = Vec::new(alloc);
+    for object in objects {
+        push_object(&mut lines, object)?;
     }
     Ok(lines)
 }

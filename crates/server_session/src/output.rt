@@ -122,7 +122,8 @@ pub(crate) fn print_response<T: Sink>(
         Response::File { number, text } => print_parts(sink, *number, text.bytes()),
         Response::Listing { number, .. }
         | Response::Places { number, .. }
-        | Response::Faults { number, .. } => print_parts(sink, *number, made),
+        | Response::Faults { number, .. }
+        | Response::Objects { number, .. } => print_parts(sink, *number, made),
         Response::Entry { number, line } => {
             print_short(sink, true, *number, entry_text(*line).as_str())
         }

@@ -3,7 +3,7 @@ ghost use Rattle.std.specs.Prelude.{◌≡◌, IfOk, OnErr};
 ghost use Rattle.server_read.specs.Failures.{CountsFailure, WritesText};
 ghost use Rattle.server_session.specs.Replies.{IsWrittenFor, TakesMemory, made_body, reply_text};
 
-use crate::lines::{fault_lines, listing, place_lines};
+use crate::lines::{fault_lines, listing, object_lines, place_lines};
 use crate::output::print_response;
 use base_files::Refusal;
 use server_commands::Response;
@@ -42,6 +42,7 @@ fn made_body(alloc: Global, response: &Response) -> Result<Vec<u8>, AllocError>
         Response::Listing { files, .. } => listing(alloc, files.files()),
         Response::Places { places, .. } => place_lines(alloc, places.as_slice()),
         Response::Faults { faults, .. } => fault_lines(alloc, faults.as_slice()),
+        Response::Objects { objects, .. } => object_lines(alloc, objects.as_slice()),
         _ => Ok(Vec::new(alloc)),
     }
 }

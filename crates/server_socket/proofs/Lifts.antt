@@ -95,6 +95,7 @@ module _ {D E : Type 0} (steps : D → Event → Reply → D → Type 0) (waits 
   acted_on old new view state.List answer h = let k = same old new h.1 in (k.0, (h.0, k.1))
   acted_on old new view state.Faults answer h = let k = same old new h.1 in (k.0, (h.0, k.1))
   acted_on old new view (state.Object path) answer h = let k = same old new h.1 in (k.0, (h.0, k.1))
+  acted_on old new view (state.Objects basis) answer h = let k = same old new h.1 in (k.0, (h.0, k.1))
   acted_on old new view state.Work answer h = worked old new answer h
 
   continued : (old new : D) (reply : Reply) (asked : StateCommand) (answer : Response) → AfterLook steps old reply asked answer new

@@ -1,8 +1,8 @@
 //! A desk at a seat of a shared book.
 use base_files::Refusal;
 use build_unit::{Built, Job};
-use history_book::{Changing, Handed, HandingIn, Looking, Question, Taking};
-use history_machine::View;
+use history_book::{Changing, Handed, HandingIn, Looking, LookingBack, Question, Taking};
+use history_machine::{HistoryView, View};
 use server_commands::Desk;
 use server_shared::{Opening, Seat, Shared};
 use std::sync::Wait;
@@ -39,6 +39,10 @@ impl<'a, L: Opening, R: Wait> Desk for SeatDesk<'a, L, R> {
 
     fn look(&mut self) -> Result<View, Refusal> {
         self.step(Looking)
+    }
+
+    fn look_back(&mut self) -> Result<HistoryView, Refusal> {
+        self.step(LookingBack)
     }
 
     /// Its base is compared with the current files under the lock.

@@ -202,7 +202,7 @@ fn after_a_change(rt: HostRuntime) {
     holds(&rt, book.close() == 4);
 }
 
-/// A Job of another book comes back, and its own book takes it.
+/// A Job of another book comes back, built or not, and its own book takes it.
 #[test]
 fn to_another_book(rt: HostRuntime) {
     let alloc = rt.alloc();
@@ -213,7 +213,10 @@ fn to_another_book(rt: HostRuntime) {
         &rt,
         deliver(&rt, alloc, &mut books, strange) == Answer::NotOut,
     );
+    let again = books.plans.step(Taking).ok().expect(&rt, "a Job");
+    let handed = books.book.step(HandingIn::GiveBack(again));
+    holds(&rt, answer_in(handed, &mut books.plans) == Answer::NotOut);
     let own = books.take(&rt, 0);
     holds(&rt, deliver(&rt, alloc, &mut books, own) == Answer::Done(1));
-    books.end(&rt, 5);
+    books.end(&rt, 6);
 }

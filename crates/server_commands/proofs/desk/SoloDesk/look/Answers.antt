@@ -8,7 +8,7 @@ use Rattle.history_machine.specs.declared.view.View.{View}
 use Rattle.server_commands.proofs.desk.SoloDesk.look.Goals as goal
 
 shown : (old new : Machine) (answer : Result View Refusal) → Step old Look (looked answer) new → IfOk answer (λ view. view.snapshot.files ≡ new.current.files)
-shown old new (Ok view) step = ap (λ (v : View). v.snapshot.files) step.1.0 ∙ ap (λ (c : Content). c.current.files) (sym step.1.1)
+shown old new (Ok view) step = ap (λ (v : View). v.snapshot.files) step.1.0.0 ∙ ap (λ (c : Content). c.current.files) (sym step.1.1)
 shown old new (Err refusal) step = tt
 
 pub returns-clause-sees : goal.returns-clause-sees
