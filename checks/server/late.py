@@ -55,6 +55,11 @@ def builds(client, number, functions, *others):
     has_object(client, number, functions, *others)
 
 
+def compares(client, number, basis, told):
+    """The objects of all packages in the state of this number compare so with those of the state `basis`."""
+    same(client.ask(b"objects %d\n" % basis), (b"ok %d" % number, told))
+
+
 def waits_for(client, wanted):
     """Reads the journal until it shows an entry."""
     number, end = 0, time.monotonic() + DEADLINE
@@ -173,7 +178,8 @@ def put_of_another():
 
 
 def undone():
-    """The put is undone for which it is built: the delivery is stale, and behind redo the package is built again."""
+    """The put is undone for which it is built: the delivery is stale, and behind redo the package is built again. `objects` shows that the
+    state which was left has no object until then."""
 
     def play(first, second, functions):
         same(first.ask(put(0, "a/1.go", MORE)), (b"ok 1", b""))
@@ -181,8 +187,12 @@ def undone():
         begins(first, 1, functions)
         same(second.ask(b"undo 2\n"), (b"ok 1", b""))
         journal(first)
+        compares(second, 1, 1, b"equal a\n")
+        compares(second, 1, 2, b"differs a\n")
         same(second.ask(b"redo 1\n"), (b"ok 2", b""))
         builds(second, 2, functions, MORE)
+        compares(first, 2, 1, b"differs a\n")
+        compares(first, 2, 2, b"equal a\n")
         before = "commit 0 ok 1, take 1 ok 1, deliver 1 ok 1, commit 1 ok 2, take 2 ok 2, undo 2 ok 1"
         behind = "deliver 2 no 21, redo 1 ok 2, take 2 ok 2, deliver 2 ok 2"
         return shows(journal(first), before, behind, {0: 0, 1: 1, 2: 1})

@@ -5,7 +5,7 @@ limits at their full size, and a server with clients and workers on threads. che
 checks, which need more of a machine or take longer.
 """
 
-from checks.server import connections, editors, late, limits, serve, statuses, streams
+from checks.server import connections, editors, late, limits, serve, statuses, streams, tools
 
 CHECKS = (
     statuses.bad_words,
@@ -27,6 +27,7 @@ CHECKS = (
     connections.cut_while_sending,
     connections.cut_while_reading,
     *streams.CHECKS,
+    *tools.CHECKS,
 )
 
 if __name__ == "__main__":

@@ -10,10 +10,12 @@ minute fails.
 import os
 import sys
 
-from checks.server import connections, editors, late, limits, statuses, story, streams
+from checks.server import connections, editors, late, limits, statuses, story, streams, tools
 from checks.server.server import PROGRAM, passes
 
-CHECKS = statuses.CHECKS + limits.CHECKS + editors.CHECKS + late.CHECKS + connections.CHECKS + streams.CHECKS + story.CHECKS
+CHECKS = (
+    statuses.CHECKS + limits.CHECKS + editors.CHECKS + late.CHECKS + connections.CHECKS + streams.CHECKS + story.CHECKS + tools.CHECKS
+)
 
 
 def main(checks=CHECKS):

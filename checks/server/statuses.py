@@ -22,8 +22,12 @@ HELP = """Renames and moves in Go source, with undo, and builds packages
 Usage: gorefd <COMMAND>
 
 Commands:
-  run    Serves one session from standard input to standard output
-  serve  Serves sessions to those who connect to a Unix socket, and builds packages beside them
+  run     Serves one session from standard input to standard output
+  serve   Serves sessions to those who connect to a Unix socket, and builds packages beside them
+  rename  Gives what is declared or used at a place another name, in all files of a folder
+  move    Gives the folder of a package another path, and changes its imports
+  faults  Lists the faults of the Go files of a folder
+  uses    Lists the uses of what is declared or used at a place
 
 Options:
   -h, --help     Print help
@@ -79,7 +83,7 @@ def numbers(name, placeholder, most):
 
 
 BAD = [
-    ([], "error: 'gorefd' requires a subcommand but one was not provided\n  [subcommands: run, serve]" + ALL),
+    ([], "error: 'gorefd' requires a subcommand but one was not provided\n  [subcommands: run, serve, rename, move, faults, uses]" + ALL),
     (["frob"], "error: unrecognized subcommand 'frob'" + ALL),
     ([""], "error: unrecognized subcommand ''" + ALL),
     (["help"], "error: unrecognized subcommand 'help'" + ALL),

@@ -1,7 +1,8 @@
-//! The program `gorefd`: serves one session over a book of its own, from standard input to standard output, or sessions on a socket.
+//! The program `gorefd`. It serves one session over a book of its own, from standard input to standard output, or sessions on a socket. Or it
+//! does a command over a folder of Go files.
 #![tactic(auto)]
 
-ghost use Rattle.std.specs.Prelude.{◌≡◌, ◌≤◌, IfErr};
+ghost use Rattle.std.specs.Prelude.{◌≡◌, ◌≤◌, IfErr, false};
 ghost use Rattle.std.specs.Process.{exit_status};
 ghost use Rattle.gorefd.specs.Statuses.{IsStatusOf, IsUnread};
 
@@ -15,8 +16,11 @@ use server_socket::serve;
 use server_words::{RequestFault, Words, read_request};
 use std::env::Env;
 use std::fmt::Display;
-use std::io::{BufReader, BufWriter, ErrorKind};
+use std::io::{BufReader, BufWriter, ErrorKind, Write};
 use std::process::ExitCode;
+use tool_commands::{list_faults, list_uses, move_package, rename};
+use tool_disk::ToolFault;
+use tool_told::CommandOutcome;
 
 /// The usage text where a word of the command line is not UTF-8.
 const NOT_UTF8: &str =
@@ -67,6 +71,30 @@ fn print_fault<R: Print + Eprint>(rt: &R, fault: &RequestFault) -> ExitCode
     }
 }
 
+/// Prints what a command over a folder has to print, and returns the exit status: 0 where it was done, else 1.
+fn print_outcome(rt: &HostRuntime, outcome: &CommandOutcome) -> ExitCode
+    ensures within { exit_status result ≤ 1 }
+    ensures refused { outcome.now.is_done ≡ false → exit_status result ≡ 1 }
+{
+    let _ = rt.stderr().write_all(outcome.notes.as_slice());
+    match std::io::writer(rt).write_all(outcome.output.as_slice()) {
+        Ok(()) if outcome.is_done => ExitCode::SUCCESS,
+        Ok(()) => ExitCode::from(1),
+        Err(_) => ended(rt, ProgramFault::Write),
+    }
+}
+
+/// Prints what came of a command over a folder, and returns the exit status.
+fn print_command(rt: &HostRuntime, came: Result<CommandOutcome, ToolFault>) -> ExitCode
+    ensures within { exit_status result ≤ 1 }
+    ensures failed { IfErr came (λ _. exit_status result ≡ 1) }
+{
+    match came {
+        Ok(outcome) => print_outcome(rt, &outcome),
+        Err(fault) => ended(rt, fault),
+    }
+}
+
 /// The words of the command line, the first of which is the program's name.
 fn words<R: Env + AllocGlobal>(rt: &R) -> Result<Vec<String>, RequestFault>
     ensures { IfErr result (IsUnread NOT_UTF8.now) }
@@ -95,6 +123,10 @@ fn main(rt: HostRuntime) -> ExitCode {
             Ok(entries) => print_settled(&rt, entries),
             Err(fault) => ended(&rt, fault),
         },
+        Ok(Words::Rename(options)) => print_command(&rt, rename(&rt, &options)),
+        Ok(Words::Move(options)) => print_command(&rt, move_package(&rt, &options)),
+        Ok(Words::Uses(options)) => print_command(&rt, list_uses(&rt, &options)),
+        Ok(Words::Faults(options)) => print_command(&rt, list_faults(&rt, &options)),
         Err(fault) => print_fault(&rt, &fault),
     }
 }

@@ -1,7 +1,8 @@
 -- The program's command line, as the parser of command lines sees it.
-use Rattle.std.specs.Prelude.{ℕ, Some, true, codes, pos}
+use Rattle.std.specs.Prelude.{ℕ, Some, [], ◌∷◌, true, codes, pos}
 use Rattle.clap.specs.Words.{App, Rule, Text, new_app, new_rule, with_rule, with_subcommand}
 use Rattle.clap.specs.Simple.{on_top}
+use Rattle.clap.specs.declared.builder.action.ArgAction.TheVariants.{SetTrue}
 use Rattle.clap.specs.declared.builder.value_parser.ValueParser.TheVariants as parser
 
 -- an option with one value
@@ -36,6 +37,46 @@ serve_app = with_rule (with_rule (with_rule (with_rule (new_app (codes "serve"))
 abbrev pub bare_app : App
 bare_app = on_top (λ top. record top { has_version = true; subcommand_required = true; disable_help_subcommand = true }) (new_app (codes "gorefd"))
 
--- the program's command line, with the subcommands `run` and `serve`
+-- the option `--root`, which is the folder `.` where it is not given
+abbrev pub root_rule : Rule
+root_rule = record (option_rule (codes "root")) { defaults = codes "." ∷ [] }
+
+-- the option `--dry-run`, which has no value
+abbrev pub dry_run_rule : Rule
+dry_run_rule = record (new_rule (codes "dry-run")) { long = Some (codes "dry-run"); action = Some SetTrue }
+
+-- a word that must be given without the name of an option
+abbrev pub word_rule : Text → Rule
+word_rule name = record (new_rule name) { value_names = 1; required = true }
+
+-- a subcommand with the option `--root`
+abbrev pub rooted_app : Text → App
+rooted_app name = with_rule (new_app name) root_rule
+
+-- a subcommand with the options `--root` and `--dry-run`
+abbrev pub changing_app : Text → App
+changing_app name = with_rule (rooted_app name) dry_run_rule
+
+-- the subcommand `rename`, with its place and its name
+abbrev pub rename_app : App
+rename_app = with_rule (with_rule (changing_app (codes "rename")) (word_rule (codes "PLACE"))) (word_rule (codes "NAME"))
+
+-- the subcommand `move`, with its two paths
+abbrev pub move_app : App
+move_app = with_rule (with_rule (changing_app (codes "move")) (word_rule (codes "FROM"))) (word_rule (codes "TO"))
+
+-- the subcommand `uses`, with its place
+abbrev pub uses_app : App
+uses_app = with_rule (rooted_app (codes "uses")) (word_rule (codes "PLACE"))
+
+-- the subcommand `faults`
+abbrev pub faults_app : App
+faults_app = rooted_app (codes "faults")
+
+-- the command line with the subcommands that serve sessions
+abbrev pub serving_app : App
+serving_app = with_subcommand (with_subcommand bare_app run_app.top) serve_app.top
+
+-- the program's command line, with all its subcommands
 abbrev pub gorefd : App
-gorefd = with_subcommand (with_subcommand bare_app run_app.top) serve_app.top
+gorefd = with_subcommand (with_subcommand (with_subcommand (with_subcommand serving_app rename_app.top) move_app.top) faults_app.top) uses_app.top

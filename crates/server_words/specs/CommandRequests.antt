@@ -4,7 +4,8 @@ use Rattle.std.specs.Str.Parse.{IsNumeral, digits_value, without_leading_plus}
 use Rattle.clap.specs.Words.{Row, Text, first_of, one_of}
 use Rattle.server_words.specs.declared.requests.ServeOptions.{ServeOptions}
 use Rattle.server_words.specs.declared.requests.Words.{Words}
-use Rattle.server_words.specs.declared.requests.Words.TheVariants.{Run, Serve}
+use Rattle.server_words.specs.declared.requests.Words.TheVariants.{Faults, Move, Rename, Run, Serve, Uses}
+use Rattle.server_words.specs.ToolOptions.{AreFaultsOptions, AreMoveOptions, AreRenameOptions, AreUsesOptions}
 
 -- the option was given this number, which is from 1 to `most`
 abbrev pub IsOptionNumber : Text → ℕ → List Row → ℕ → Type 0
@@ -42,6 +43,10 @@ FindsServe rows None = (words : ServeOptions) → AreServeOptions rows words →
 abbrev pub MakesRequest : Option (Text × List Row) → Words → Type 0
 MakesRequest named Run = (rows : List Row) × (named ≡ Some (codes "run", rows))
 MakesRequest named (Serve words) = (rows : List Row) × (named ≡ Some (codes "serve", rows)) × AreServeOptions rows words
+MakesRequest named (Rename options) = (rows : List Row) × (named ≡ Some (codes "rename", rows)) × AreRenameOptions rows options
+MakesRequest named (Move options) = (rows : List Row) × (named ≡ Some (codes "move", rows)) × AreMoveOptions rows options
+MakesRequest named (Uses options) = (rows : List Row) × (named ≡ Some (codes "uses", rows)) × AreUsesOptions rows options
+MakesRequest named (Faults options) = (rows : List Row) × (named ≡ Some (codes "faults", rows)) × AreFaultsOptions rows options
 
 -- the request that the subcommand makes, or none where it makes none
 abbrev pub FindsRequest : Option (Text × List Row) → Option Words → Type 0

@@ -2,3 +2,4 @@
 pub mod CommandLine
 pub mod CommandRequests
 pub mod Reads
+pub mod ToolOptions

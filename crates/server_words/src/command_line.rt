@@ -1,12 +1,31 @@
 //! The program's command line, with its help.
 ghost use Rattle.std.specs.Prelude.{◌≡◌, IfOk, Some, codes, false, pos};
-ghost use Rattle.clap.specs.Words.{app_of, rule_of, with_subcommand};
+ghost use Rattle.clap.specs.Words.{app_of, rule_of, with_rule, with_subcommand};
 ghost use Rattle.clap.specs.declared.builder.command.Command.TheViews.{out-Command as fields_of};
 ghost use Rattle.clap.specs.declared.builder.value_parser.ValueParser.TheVariants as parser;
-ghost use Rattle.server_words.specs.CommandLine.{bare_app, gorefd, number_rule, option_rule, required_rule, run_app, serve_app, socket_rule};
+ghost use Rattle.server_words.specs.CommandLine.{
+  bare_app,
+  changing_app,
+  dry_run_rule,
+  faults_app,
+  gorefd,
+  move_app,
+  number_rule,
+  option_rule,
+  rename_app,
+  required_rule,
+  root_rule,
+  rooted_app,
+  run_app,
+  serve_app,
+  serving_app,
+  socket_rule,
+  uses_app,
+  word_rule,
+};
 
 use clap::builder::ValueParser;
-use clap::{Arg, Command};
+use clap::{Arg, ArgAction, Command};
 use std::alloc::{AllocError, Global};
 
 /// The version that `--version` prints.
@@ -87,6 +106,124 @@ fn serve_command<'a>(alloc: Global) -> Result<Command<'a>, AllocError>
     with_sessions.arg(stop_after(alloc))
 }
 
+/// The command with one more option, which its subcommands do not take over.
+fn with_option<'a>(command: Command<'a>, option: Arg<'a>) -> Result<Command<'a>, AllocError>
+    requires before { (fields_of command).has_globals ≡ false }
+    requires local { option.global ≡ false }
+    ensures app { IfOk result (λ new. app_of new ≡ with_rule (app_of command.entry) (rule_of option.entry)) }
+    ensures local { IfOk result (λ new. (fields_of new).has_globals ≡ false) }
+{
+    command.arg(option)
+}
+
+/// The option `--root DIR`.
+fn root<'a>(alloc: Global) -> Arg<'a>
+    ensures rule { rule_of result ≡ root_rule }
+    ensures local { result.global ≡ false }
+{
+    Arg::new(alloc, "root")
+        .long("root")
+        .value_name("DIR")
+        .help("The folder whose Go files are read")
+        .default_value(".")
+}
+
+/// The option `--dry-run`.
+fn dry_run<'a>(alloc: Global) -> Arg<'a>
+    ensures rule { rule_of result ≡ dry_run_rule }
+    ensures local { result.global ≡ false }
+{
+    Arg::new(alloc, "dry-run")
+        .long("dry-run")
+        .help("Prints the change as a unified diff, and changes no file")
+        .action(ArgAction::SetTrue)
+}
+
+/// A word that has to be given without the name of an option.
+fn word<'a>(alloc: Global, name: &'a str, help: &'a str) -> Arg<'a>
+    ensures rule { rule_of result ≡ word_rule name.now }
+    ensures local { result.global ≡ false }
+{
+    Arg::new(alloc, name)
+        .value_name(name)
+        .help(help)
+        .required(true)
+}
+
+/// A subcommand with the option `--root`.
+fn rooted_command<'a>(
+    alloc: Global,
+    name: &'a str,
+    about: &'a str,
+) -> Result<Command<'a>, AllocError>
+    ensures app { IfOk result (λ command. app_of command ≡ rooted_app name.now) }
+    ensures local { IfOk result (λ command. (fields_of command).has_globals ≡ false) }
+{
+    let bare = Command::new(alloc, name).about(about);
+    with_option(bare, root(alloc))
+}
+
+/// A subcommand with the options `--root` and `--dry-run`.
+fn changing_command<'a>(
+    alloc: Global,
+    name: &'a str,
+    about: &'a str,
+) -> Result<Command<'a>, AllocError>
+    ensures app { IfOk result (λ command. app_of command ≡ changing_app name.now) }
+    ensures local { IfOk result (λ command. (fields_of command).has_globals ≡ false) }
+{
+    let rooted = rooted_command(alloc, name, about)?;
+    with_option(rooted, dry_run(alloc))
+}
+
+/// What is said of a word that gives a place.
+const PLACE: &str =
+    "PATH:#OFFSET or PATH:LINE:COLUMN: the byte of an identifier, in a file below the folder";
+
+/// The subcommand `rename`.
+fn rename_command<'a>(alloc: Global) -> Result<Command<'a>, AllocError>
+    ensures app { IfOk result (λ command. app_of command ≡ rename_app) }
+    ensures local { IfOk result (λ command. (fields_of command).has_globals ≡ false) }
+{
+    let about = "Gives what is declared or used at a place another name, in all files of a folder";
+    let bare = changing_command(alloc, "rename", about)?;
+    let placed = with_option(bare, word(alloc, "PLACE", PLACE))?;
+    with_option(placed, word(alloc, "NAME", "The new name"))
+}
+
+/// The subcommand `move`.
+fn move_command<'a>(alloc: Global) -> Result<Command<'a>, AllocError>
+    ensures app { IfOk result (λ command. app_of command ≡ move_app) }
+    ensures local { IfOk result (λ command. (fields_of command).has_globals ≡ false) }
+{
+    let about = "Gives the folder of a package another path, and changes its imports";
+    let bare = changing_command(alloc, "move", about)?;
+    let from = with_option(bare, word(alloc, "FROM", "The folder of the package"))?;
+    with_option(from, word(alloc, "TO", "Its new path"))
+}
+
+/// The subcommand `uses`.
+fn uses_command<'a>(alloc: Global) -> Result<Command<'a>, AllocError>
+    ensures app { IfOk result (λ command. app_of command ≡ uses_app) }
+    ensures local { IfOk result (λ command. (fields_of command).has_globals ≡ false) }
+{
+    let about = "Lists the uses of what is declared or used at a place";
+    let bare = rooted_command(alloc, "uses", about)?;
+    with_option(bare, word(alloc, "PLACE", PLACE))
+}
+
+/// The subcommand `faults`.
+fn faults_command<'a>(alloc: Global) -> Result<Command<'a>, AllocError>
+    ensures app { IfOk result (λ command. app_of command ≡ faults_app) }
+    ensures local { IfOk result (λ command. (fields_of command).has_globals ≡ false) }
+{
+    rooted_command(
+        alloc,
+        "faults",
+        "Lists the faults of the Go files of a folder",
+    )
+}
+
 /// The program's command line without its subcommands.
 fn bare_command<'a>(alloc: Global) -> Command<'a>
     ensures { app_of result ≡ bare_app }
@@ -98,18 +235,33 @@ fn bare_command<'a>(alloc: Global) -> Command<'a>
         .disable_help_subcommand(true)
 }
 
-/// The program's command line with the subcommand `run` alone.
-fn with_run<'a>(alloc: Global) -> Result<Command<'a>, AllocError>
-    ensures { IfOk result (λ command. app_of command ≡ with_subcommand bare_app run_app.top) }
+/// The command line with the subcommands that serve sessions.
+fn serving_command<'a>(alloc: Global) -> Result<Command<'a>, AllocError>
+    ensures { IfOk result (λ command. app_of command ≡ serving_app) }
 {
-    bare_command(alloc).subcommand(run_command(alloc))
+    let command = bare_command(alloc).subcommand(run_command(alloc))?;
+    let serve = serve_command(alloc)?;
+    command.subcommand(serve)
+}
+
+/// The command line with the subcommands that serve sessions and those that change files.
+fn with_changes<'a>(alloc: Global) -> Result<Command<'a>, AllocError>
+    ensures { IfOk result (λ command. app_of command ≡ with_subcommand (with_subcommand serving_app rename_app.top) move_app.top) }
+{
+    let serving = serving_command(alloc)?;
+    let rename = rename_command(alloc)?;
+    let renaming = serving.subcommand(rename)?;
+    let moving = move_command(alloc)?;
+    renaming.subcommand(moving)
 }
 
 /// The program's command line.
 pub(crate) fn command_line<'a>(alloc: Global) -> Result<Command<'a>, AllocError>
     ensures { IfOk result (λ command. app_of command ≡ gorefd) }
 {
-    let command = with_run(alloc)?;
-    let serve = serve_command(alloc)?;
-    command.subcommand(serve)
+    let changing = with_changes(alloc)?;
+    let faults = faults_command(alloc)?;
+    let listing = changing.subcommand(faults)?;
+    let uses = uses_command(alloc)?;
+    listing.subcommand(uses)
 }

@@ -3,6 +3,10 @@ ghost use Rattle.std.specs.Prelude.{◌≡◌, Some, codes, option_map};
 ghost use Rattle.clap.specs.Words.{found_of, rows_of, subcommand_rows_of};
 ghost use Rattle.server_words.specs.CommandRequests.{FindsRequest, FindsNumber, FindsServe, FindsStopAfter};
 
+use crate::tools::{
+    FaultsOptions, MoveOptions, RenameOptions, UsesOptions, faults_options, move_options,
+    rename_options, uses_options,
+};
 use clap::ArgMatches;
 
 /// The options of `serve`: the path of the socket, and how many threads build packages and how many serve connections. `stop_after` is the
@@ -22,6 +26,14 @@ pub enum Words<'a> {
     Run,
     /// Serve sessions on a socket.
     Serve(ServeOptions<'a>),
+    /// Rename in the files of a folder.
+    Rename(RenameOptions<'a>),
+    /// Move a package in a folder.
+    Move(MoveOptions<'a>),
+    /// List uses in the files of a folder.
+    Uses(UsesOptions<'a>),
+    /// List the faults of the files of a folder.
+    Faults(FaultsOptions<'a>),
 }
 
 /// The number that an option was given, or `None` where it was given none from 1 to `most`.
@@ -80,6 +92,46 @@ fn serve_request<'a>(matches: &ArgMatches<'a>) -> Option<Words<'a>>
     }
 }
 
+/// The request of the subcommand `rename` with these matches.
+fn rename_request<'a>(matches: &ArgMatches<'a>) -> Option<Words<'a>>
+    ensures { FindsRequest (Some (codes "rename", rows_of (found_of matches.now))) result }
+{
+    match rename_options(matches) {
+        Some(options) => Some(Words::Rename(options)),
+        None => None,
+    }
+}
+
+/// The request of the subcommand `move` with these matches.
+fn move_request<'a>(matches: &ArgMatches<'a>) -> Option<Words<'a>>
+    ensures { FindsRequest (Some (codes "move", rows_of (found_of matches.now))) result }
+{
+    match move_options(matches) {
+        Some(options) => Some(Words::Move(options)),
+        None => None,
+    }
+}
+
+/// The request of the subcommand `uses` with these matches.
+fn uses_request<'a>(matches: &ArgMatches<'a>) -> Option<Words<'a>>
+    ensures { FindsRequest (Some (codes "uses", rows_of (found_of matches.now))) result }
+{
+    match uses_options(matches) {
+        Some(options) => Some(Words::Uses(options)),
+        None => None,
+    }
+}
+
+/// The request of the subcommand `faults` with these matches.
+fn faults_request<'a>(matches: &ArgMatches<'a>) -> Option<Words<'a>>
+    ensures { FindsRequest (Some (codes "faults", rows_of (found_of matches.now))) result }
+{
+    match faults_options(matches) {
+        Some(options) => Some(Words::Faults(options)),
+        None => None,
+    }
+}
+
 /// The request of the subcommand of this name with these matches.
 fn request_by<'a>(name: &str, matches: &ArgMatches<'a>) -> Option<Words<'a>>
     ensures { FindsRequest (Some (name.now, rows_of (found_of matches.now))) result }
@@ -87,6 +139,10 @@ fn request_by<'a>(name: &str, matches: &ArgMatches<'a>) -> Option<Words<'a>>
     match name {
         "run" => Some(Words::Run),
         "serve" => serve_request(matches),
+        "rename" => rename_request(matches),
+        "move" => move_request(matches),
+        "uses" => uses_request(matches),
+        "faults" => faults_request(matches),
         _ => None,
     }
 }

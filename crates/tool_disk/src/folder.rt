@@ -1,6 +1,7 @@
 //! The Go files of a folder, as they are read one after another.
-ghost use Rattle.std.specs.Prelude.{◌≡◌, IfOk, OnOk, OnErr};
+ghost use Rattle.std.specs.Prelude.{◌≡◌, IfOk};
 ghost use Rattle.std.specs.FinMap as map;
+ghost use Rattle.tool_disk.specs.Puts.{AreServerLimits, PutsFile};
 
 use base_files::{FileText, Limits, Refusal};
 use std::alloc::{AllocError, Global};
@@ -16,7 +17,8 @@ pub struct FolderFiles {
 impl FolderFiles {
     /// No files, with the limits of a server.
     pub fn new(alloc: Global) -> Result<FolderFiles, AllocError>
-        ensures { IfOk result (λ folder. folder.snapshot.files ≡ map.empty) }
+        ensures files { IfOk result (λ folder. folder.snapshot.files ≡ map.empty) }
+        ensures limits { IfOk result (λ folder. AreServerLimits folder.snapshot.limits) }
     {
         let files = Graph::empty(alloc)?;
         Ok(FolderFiles {
@@ -28,10 +30,9 @@ impl FolderFiles {
         })
     }
 
-    /// Adds a file, or refuses it as a put is refused. A refused file changes nothing.
+    /// Adds a file, or refuses it exactly as a put is refused. A refused file changes nothing.
     pub fn put(&mut self, alloc: Global, path: &str, text: FileText) -> Result<(), Refusal>
-        ensures ok { OnOk result (self.new.snapshot.files ≡ map.insert self.old.snapshot.files path.now text) }
-        ensures err { OnErr result (self.new ≡ self.old) }
+        ensures { PutsFile self.old.snapshot path.now text self.new.snapshot result }
     {
         let (change, _) = plan_put(alloc, &self.snapshot, path, text)?.into_parts();
         self.snapshot.files = change.files;

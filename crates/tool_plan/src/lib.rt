@@ -1,0 +1,9 @@
+//! Plans over the Go files of a folder, in which all packages were checked.
+//!
+//! Crates above rely on: a `CheckedFolder` plans exactly what `PlansAffectedRename`, `PlansAffectedMove`, `AnswersUses` and `ListsFaults`
+//! define for its files.
+#![tactic(auto)]
+
+mod checked;
+
+pub use checked::CheckedFolder;
