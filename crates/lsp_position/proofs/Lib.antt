@@ -1,0 +1,5 @@
+-- The lemmas of this crate.
+pub mod Stepping
+pub mod Rising
+pub mod Searching
+pub mod Counting
