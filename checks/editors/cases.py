@@ -4,11 +4,8 @@ The words, if any, are those of a command that runs the program. The answers are
 version 3.17, and of JSON-RPC 2.0; texts behind renames and moves, uses and faults are the model's.
 """
 
-import os
-import sys
-
 from checks.editors import changes, documents, messages
-from checks.server.server import PROGRAM, passes
+from checks.server.server import check_program
 
 CHECKS = (
     messages.capabilities,
@@ -81,10 +78,7 @@ CHECKS = (
 
 
 def main():
-    PROGRAM.extend(os.path.abspath(word) if os.path.isfile(word) else word for word in sys.argv[1:])
-    if not PROGRAM:
-        sys.exit(__doc__)
-    sys.exit(0 if passes(CHECKS) else 1)
+    check_program(CHECKS, __doc__)
 
 
 if __name__ == "__main__":

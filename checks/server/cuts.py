@@ -6,12 +6,10 @@ At each call the run is killed, or the call fails. Then each file is old or new,
 files new, and nothing beside them. It fails too where no run could be cut off.
 """
 
-import os
 import signal
 import subprocess
-import sys
 
-from checks.server.server import PROGRAM, passes
+from checks.server.server import PROGRAM, check_program
 from checks.server.tools import FILES, RENAMED, SHOP, TAX, Folder, bare
 
 CALLS = ("openat", "open", "write", "fsync", "fchmod", "rename", "renameat", "renameat2", "unlink", "unlinkat", "mkdir", "mkdirat")
@@ -78,10 +76,7 @@ def moves_failed():
 
 
 def main():
-    PROGRAM.extend(os.path.abspath(word) if os.path.isfile(word) else word for word in sys.argv[1:])
-    if not PROGRAM:
-        sys.exit(__doc__)
-    sys.exit(0 if passes((renames_killed, moves_killed, renames_failed, moves_failed)) else 1)
+    check_program((renames_killed, moves_killed, renames_failed, moves_failed), __doc__)
 
 
 if __name__ == "__main__":

@@ -7,11 +7,8 @@ where one fails. The answers are those of the protocol, by hand or by the model.
 minute fails.
 """
 
-import os
-import sys
-
 from checks.server import connections, editors, late, limits, statuses, story, streams, tools
-from checks.server.server import PROGRAM, passes
+from checks.server.server import check_program
 
 CHECKS = (
     statuses.CHECKS + limits.CHECKS + editors.CHECKS + late.CHECKS + connections.CHECKS + streams.CHECKS + story.CHECKS + tools.CHECKS
@@ -19,10 +16,7 @@ CHECKS = (
 
 
 def main(checks=CHECKS):
-    PROGRAM.extend(os.path.abspath(word) if os.path.isfile(word) else word for word in sys.argv[1:])
-    if not PROGRAM:
-        sys.exit(__doc__)
-    sys.exit(0 if passes(checks) else 1)
+    check_program(checks, __doc__)
 
 
 if __name__ == "__main__":

@@ -6,6 +6,7 @@ import resource
 import signal
 import socket
 import subprocess
+import sys
 import tempfile
 import threading
 
@@ -205,3 +206,11 @@ def passes(checks):
             print(f"{check.__name__}: {fault!r}", flush=True)
     print(f"{len(checks)} checks, {failed} failed")
     return not failed
+
+
+def check_program(checks, usage):
+    """Does checks on the program that the command line names. It ends with status 1 where one fails, or with the usage where none is named."""
+    PROGRAM.extend(os.path.abspath(word) if os.path.isfile(word) else word for word in sys.argv[1:])
+    if not PROGRAM:
+        sys.exit(usage)
+    sys.exit(0 if passes(checks) else 1)

@@ -15,12 +15,11 @@ import shlex
 import shutil
 import signal
 import subprocess
-import sys
 import tempfile
 import time
 
 from checks import TOP
-from checks.server.server import PROGRAM, passes, run, same
+from checks.server.server import PROGRAM, check_program, run, same
 
 NOBODY = 65534
 
@@ -617,10 +616,7 @@ CHECKS = (
 
 
 def main():
-    PROGRAM.extend(os.path.abspath(word) if os.path.isfile(word) else word for word in sys.argv[1:])
-    if not PROGRAM:
-        sys.exit(__doc__)
-    sys.exit(0 if passes(CHECKS) else 1)
+    check_program(CHECKS, __doc__)
 
 
 if __name__ == "__main__":
