@@ -4,7 +4,10 @@ use Rattle.std.proofs.Common.{append_assoc, Option, Some, None, Bool, true, fals
 use Rattle.std.proofs.lemmas.Bool.{true≢false}
 use Rattle.go_ast.specs.Tree.{ExprTree, BlockTree}
 use Rattle.go_ast.specs.View.{expr_view, option_view}
-use Rattle.go_ast.specs.FileView.{init_view, stmt_view, block_view, statements_view, if_view, else_view}
+use Rattle.go_ast.specs.FileView.{init_view, for_view, stmt_view, block_view, statements_view, if_view, else_view}
+use Rattle.go_ast.specs.declared.tree.ForHeader.{ForHeader}
+use Rattle.go_ast.specs.declared.tree.Stmt.{Stmt}
+use Rattle.go_ast.specs.declared.tree.Stmt.TheVariants as stmt
 use Rattle.go_ast.specs.declared.tree.BlockItem.{BlockItem}
 use Rattle.go_ast.specs.declared.tree.BlockStmt as trees
 use Rattle.go_ast.specs.declared.tree.BlockStmt.{BlockStmt', out-BlockStmt, outs-BlockStmt', Row_of-BlockItem, end_of-BlockItem, more_of-BlockItem}
@@ -16,7 +19,7 @@ use Rattle.build_object.specs.Lines.{CodeLine, End, Jump, JumpBack, JumpUnless}
 use Rattle.build_object.specs.Source.{Source}
 use Rattle.build_object.specs.Expressions.{value_lines}
 use Rattle.build_object.specs.Statements.{Exits, further, block_exits, body_exits, body_lines, branched, init_lines, no_exits, loop_condition, loop_lines}
-use Rattle.build_object.specs.Statements.{statement_lines, block_lines, statements_lines, if_lines, else_lines}
+use Rattle.build_object.specs.Statements.{for_condition, for_init, for_post, statement_lines, block_lines, statements_lines, if_lines, else_lines}
 use Rattle.build_object.specs.declared.code.Code.{Code}
 use Rattle.build_object.specs.LineView.{lines_in, Puts}
 use Rattle.build_object.specs.ExitsView.{exits_of, lines_of_each, lines_or_none, AreExitsWithin, PutsElse, else_jump}
@@ -62,6 +65,18 @@ if_from s slots r x (IfStmt' p init e b rest) =
     ap (λ i. init_lines s slots (option_view init_view i.init) ++ (value_lines s slots (expr_view i.condition)
     ++ branched (block_lines s slots r (block_exits (else_lines s slots r x (else_view i.otherwise)) x) (block_view i.body))
     (else_lines s slots r x (else_view i.otherwise)))) (outs-IfStmt' p init e b rest)
+
+pub for_taken : (s : Source) (slots : List ℕ) (r : ℕ) (x : Exits) {a : Stmt} (p : ℕ) (h : _) (b : trees.BlockStmt) → a ≡ stmt.For p h b →
+    (first second : ForHeader) → first ≡ h.value → second ≡ h.value → statement_lines s slots r x (stmt_view a) ≡
+    for_init s slots (for_view second) ++ loop_lines s slots (for_condition (for_view first))
+    (block_lines s slots r (body_exits (for_post s slots (for_view first))) (block_view b)) (for_post s slots (for_view first))
+unfolding statement_lines stmt_view
+for_taken s slots r x p h b is first second hf hs =
+    ap (λ v. statement_lines s slots r x (stmt_view v)) is ∙
+    (ap (λ k. for_init s slots (for_view k) ++ loop_lines s slots (for_condition (for_view h.value))
+    (block_lines s slots r (body_exits (for_post s slots (for_view h.value))) (block_view b)) (for_post s slots (for_view h.value))) (sym hs) ∙
+    ap (λ k. for_init s slots (for_view second) ++ loop_lines s slots (for_condition (for_view k))
+    (block_lines s slots r (body_exits (for_post s slots (for_view k))) (block_view b)) (for_post s slots (for_view k))) (sym hf))
 
 -- Exits: those of a statement behind which so many more lines lie
 

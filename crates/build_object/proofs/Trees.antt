@@ -40,10 +40,10 @@ pub blank_here : (s : Source) (slots : List ℕ) {e : Expr} (p : ℕ) → e ≡ 
 unfolding operand_of expr_view
 blank_here s slots p is = ap (λ x. operand_of s slots (expr_view x)) is
 
-pub composite_here : (s : Source) (slots : List ℕ) {e : Expr} (l : CompositeLit) → e ≡ expr.Composite l →
+pub composite_here : (s : Source) (slots : List ℕ) {e : Expr} (b : _) → e ≡ expr.Composite b → (l : CompositeLit) → l ≡ b.value →
     operand_of s slots (expr_view e) ≡ plain (literal_lines s slots (literal_view l))
 unfolding operand_of expr_view
-composite_here s slots l is = ap (λ x. operand_of s slots (expr_view x)) is
+composite_here s slots b is l hl = ap (λ z. operand_of s slots (expr_view z)) is ∙ ap (λ z. plain (literal_lines s slots (literal_view z))) (sym hl)
 
 pub paren_here : (s : Source) (slots : List ℕ) {e : Expr} (o : ℕ) (b : _) (c : ℕ) → e ≡ expr.Paren o b c → (x : Expr) → x ≡ b.value →
     operand_of s slots (expr_view e) ≡ grouped (operand_of s slots (expr_view x))
@@ -55,10 +55,11 @@ pub prefix_here : (s : Source) (slots : List ℕ) {e : Expr} (op : PrefixOp) (p 
 unfolding operand_of expr_view
 prefix_here s slots op p b is x hx = ap (λ z. operand_of s slots (expr_view z)) is ∙ ap (λ z. prefixed op (operand_of s slots (expr_view z)).value) (sym hx)
 
-pub address_here : (s : Source) (slots : List ℕ) {e : Expr} (p : ℕ) (l : CompositeLit) → e ≡ expr.Address p l →
+pub address_here : (s : Source) (slots : List ℕ) {e : Expr} (p : ℕ) (b : _) → e ≡ expr.Address p b → (l : CompositeLit) → l ≡ b.value →
     operand_of s slots (expr_view e) ≡ plain (literal_lines s slots (literal_view l) ++ (New ∷ []))
 unfolding operand_of expr_view
-address_here s slots p l is = ap (λ x. operand_of s slots (expr_view x)) is
+address_here s slots p b is l hl = ap (λ z. operand_of s slots (expr_view z)) is ∙
+    ap (λ z. plain (literal_lines s slots (literal_view z) ++ (New ∷ []))) (sym hl)
 
 chain_at : (s : Source) (slots : List ℕ) (b : _) (links : _) →
     operand_of s slots (expr_view (expr.Chain b links)) ≡ settled (linked s slots (operand_of s slots (expr_view b.value)) (links_in links.items))

@@ -200,6 +200,7 @@ fn meant_text(
     let mut text = Vec::new(alloc);
     push_head(alloc, origin.unit, &mut text)?;
     push_files(alloc, origin, bounds, &mut text)?;
+    text.shrink_to_fit();
     Ok(text)
 }
 

@@ -69,8 +69,8 @@ unfoldable mutual
   stmt_view (stmt.Var p g) = tree.Var p (group_view local_view g)
   stmt_view (stmt.Simple s) = tree.Simple (simple_view s)
   stmt_view (stmt.Block b) = tree.Inner (block_view b)
-  stmt_view (stmt.If i) = tree.If (if_view i)
-  stmt_view (stmt.For p h b) = tree.For p (for_view h) (block_view b)
+  stmt_view (stmt.If' p i) = tree.If (if_view i)
+  stmt_view (stmt.For p h b) = tree.For p (for_view h.value) (block_view b)
   stmt_view (stmt.Break p) = tree.Break p
   stmt_view (stmt.Continue p) = tree.Continue p
   stmt_view (stmt.Return p es) = tree.Return p (exprs_view es.items)

@@ -51,10 +51,10 @@ unfoldable mutual
   expr_view (expr.Text n) = tree.Text n
   expr_view (expr.Name n) = tree.Name n
   expr_view (expr.Blank n) = tree.Blank n
-  expr_view (expr.Composite l) = tree.Composite (literal_view l)
+  expr_view (expr.Composite' p l) = tree.Composite (literal_view l)
   expr_view (expr.Paren' o p e c) = tree.Paren o (expr_view e) c
   expr_view (expr.Prefix' op at p e) = tree.Prefix op at (expr_view e)
-  expr_view (expr.Address at l) = tree.Address at (literal_view l)
+  expr_view (expr.Address' at p l) = tree.Address at (literal_view l)
   expr_view (expr.Chain' p e shape row) = tree.Chain (expr_view e) (links_view row)
   expr_view (expr.Binary' p e shape row) = tree.Binary (expr_view e) (operands_view row)
 

@@ -47,7 +47,7 @@ pub enum TypeExpr {
 }
 
 /// An expression. A chain has at least one link, and its first operand is no chain. A binary expression has at least two operands, and all
-/// of its operators have one precedence.
+/// of its operators have one precedence. Literals lie in boxes, so that other expressions take little room.
 #[derive(Drop)]
 #[cycle(expression)]
 pub enum Expr {
@@ -55,7 +55,7 @@ pub enum Expr {
     Text(usize),
     Name(usize),
     Blank(usize),
-    Composite(CompositeLit),
+    Composite(Box<CompositeLit>),
     Paren {
         open: usize,
         inner: Box<Expr>,
@@ -68,7 +68,7 @@ pub enum Expr {
     },
     Address {
         at: usize,
-        literal: CompositeLit,
+        literal: Box<CompositeLit>,
     },
     Chain {
         first: Box<Expr>,
@@ -206,7 +206,7 @@ pub enum ForHeader {
     },
 }
 
-/// A statement.
+/// A statement. What is larger than a simple statement lies in a box.
 #[derive(Drop)]
 #[cycle(statement)]
 pub enum Stmt {
@@ -217,10 +217,10 @@ pub enum Stmt {
     },
     Simple(SimpleStmt),
     Block(BlockStmt),
-    If(IfStmt),
+    If(Box<IfStmt>),
     For {
         at: usize,
-        header: ForHeader,
+        header: Box<ForHeader>,
         body: BlockStmt,
     },
     Break(usize),

@@ -129,11 +129,11 @@ pub block_stmt_formed : (b : BlockStmt) → IsBlock (block_view b) → IsStateme
 unfolding IsStatement stmt_view
 block_stmt_formed b h = h
 
-pub if_stmt_formed : (i : IfStmt) → IsIf (if_view i) → IsStatement (stmt_view (stmt.If i))
+pub if_stmt_formed : (i : _) → let x = stmt.If i in IsIf (if_view i.value) → IsStatement (stmt_view x)
 unfolding IsStatement stmt_view
 if_stmt_formed i h = h
 
-pub for_stmt_formed : (p : ℕ) (f : ForHeader) (b : BlockStmt) → IsFor (for_view f) → IsBlock (block_view b) → IsStatement (stmt_view (stmt.For p f b))
+pub for_stmt_formed : (p : ℕ) (f : _) (b : BlockStmt) → let x = stmt.For p f b in IsFor (for_view f.value) → IsBlock (block_view b) → IsStatement (stmt_view x)
 unfolding IsStatement stmt_view
 for_stmt_formed p f b h k = (h, k)
 

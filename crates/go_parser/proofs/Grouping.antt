@@ -79,9 +79,9 @@ pub name_grouped : (h : Bool) (n : ℕ) → IsOperand h (expr_view (expr.Name n)
 unfolding expr_view IsExpr HasNoNamedLiteral
 name_grouped h n = record { expr = record { grouped = tt; unnamed = λ e. tt }; bare = refl }
 
-pub composite_grouped : (h : Bool) (l : CompositeLit) → IsLiteralIn h (literal_view l) → IsOperand h (expr_view (expr.Composite l))
+pub composite_grouped : (h : Bool) (l : _) → let x = expr.Composite l in IsLiteralIn h (literal_view l.value) → IsOperand h (expr_view x)
 unfolding expr_view IsExpr HasNoNamedLiteral
-composite_grouped h l w = record { expr = record { grouped = w.grouped; unnamed = λ e. unnamed_slice (literal_view l) (w.unnamed e) }; bare = refl }
+composite_grouped h l w = record { expr = record { grouped = w.grouped; unnamed = λ e. unnamed_slice (literal_view l.value) (w.unnamed e) }; bare = refl }
 
 pub paren_grouped : (h : Bool) (o : ℕ) (e : _) (c : ℕ) → let x = expr.Paren o e c in IsExprIn false (expr_view e.value) → IsOperand h (expr_view x)
 unfolding expr_view IsExpr HasNoNamedLiteral
@@ -91,9 +91,9 @@ pub prefix_grouped : (h : Bool) (op : PrefixOp) (p : ℕ) (e : _) → let x = ex
 unfolding expr_view IsExpr HasNoNamedLiteral
 prefix_grouped h op p e w = record { expr = record { grouped = (w.single, w.expr.grouped); unnamed = λ x. w.expr.unnamed x }; single = refl }
 
-pub address_grouped : (h : Bool) (p : ℕ) (l : CompositeLit) → IsLiteralIn h (literal_view l) → IsUnary h (expr_view (expr.Address p l))
+pub address_grouped : (h : Bool) (p : ℕ) (l : _) → let x = expr.Address p l in IsLiteralIn h (literal_view l.value) → IsUnary h (expr_view x)
 unfolding expr_view IsExpr HasNoNamedLiteral
-address_grouped h p l w = record { expr = record { grouped = w.grouped; unnamed = λ e. unnamed_slice (literal_view l) (w.unnamed e) }; single = refl }
+address_grouped h p l w = record { expr = record { grouped = w.grouped; unnamed = λ e. unnamed_slice (literal_view l.value) (w.unnamed e) }; single = refl }
 
 -- operands of one token
 

@@ -186,11 +186,11 @@ pub name_tokens : (n : ℕ) → expr_spelled (expr.Name n) ≡ sign kind.Name n 
 unfolding expr_tokens expr_view
 name_tokens n = refl
 
-pub composite_tokens : (l : CompositeLit) → expr_spelled (expr.Composite l) ≡ literal_spelled l
+pub composite_tokens : (l : _) → expr_spelled (expr.Composite l) ≡ literal_spelled l.value
 unfolding expr_tokens expr_view
 composite_tokens l = refl
 
-pub address_tokens : (p : ℕ) (l : CompositeLit) → expr_spelled (expr.Address p l) ≡ sign kind.Ampersand p ∷ literal_spelled l
+pub address_tokens : (p : ℕ) (l : _) → expr_spelled (expr.Address p l) ≡ sign kind.Ampersand p ∷ literal_spelled l.value
 unfolding expr_tokens expr_view
 address_tokens p l = refl
 

@@ -75,11 +75,11 @@ pub block_stmt_spelled : (b : BlockStmt) → stmt_spelled (stmt.Block b) ≡ blo
 unfolding statement_tokens stmt_view
 block_stmt_spelled b = refl
 
-pub if_stmt_spelled : (i : IfStmt) → stmt_spelled (stmt.If i) ≡ if_spelled i
+pub if_stmt_spelled : (i : _) → stmt_spelled (stmt.If i) ≡ if_spelled i.value
 unfolding statement_tokens stmt_view
 if_stmt_spelled i = refl
 
-pub for_stmt_spelled : (p : ℕ) (h : ForHeader) (b : BlockStmt) → stmt_spelled (stmt.For p h b) ≡ sign kind.For p ∷ (for_spelled h ++ block_spelled b)
+pub for_stmt_spelled : (p : ℕ) (h : _) (b : BlockStmt) → stmt_spelled (stmt.For p h b) ≡ sign kind.For p ∷ (for_spelled h.value ++ block_spelled b)
 unfolding statement_tokens stmt_view
 for_stmt_spelled p h b = refl
 

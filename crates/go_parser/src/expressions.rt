@@ -145,9 +145,14 @@ fn operand(alloc: Global, tokens: &[Token], depth: u32, header: bool) -> Parsed<
 
 /// Parses the composite literal after a `&`.
 #[cycle(expression)]
-fn addressed(alloc: Global, tokens: &[Token], depth: u32, header: bool) -> Parsed<'_, CompositeLit>
-    ensures exact { Parses (A (Address header) ∷ []) (λ x. literal_spelled x.0) (λ x. x.1.now) depth tokens.now result }
-    ensures grouped { IfOk result (λ x. IsLiteralIn header (literal_view x.0)) }
+fn addressed(
+    alloc: Global,
+    tokens: &[Token],
+    depth: u32,
+    header: bool,
+) -> Parsed<'_, Box<CompositeLit>>
+    ensures exact { Parses (A (Address header) ∷ []) (λ x. literal_spelled x.0.value) (λ x. x.1.now) depth tokens.now result }
+    ensures grouped { IfOk result (λ x. IsLiteralIn header (literal_view x.0.value)) }
 {
     if type_is_named(tokens, header) {
         let (literal_type, rest) = type_name(tokens, depth)?;
@@ -164,11 +169,11 @@ fn literal(
     literal_type: TypeExpr,
     tokens: &[Token],
     depth: u32,
-) -> Parsed<'_, CompositeLit>
+) -> Parsed<'_, Box<CompositeLit>>
     requires { is_literal_type (type_view literal_type) ≡ true }
-    ensures exact { Continues (A Elements ∷ []) (type_spelled literal_type) (λ x. literal_spelled x.0) (λ x. x.1.now) depth tokens.now result }
-    ensures grouped { IfOk result (λ x. IsLiteral (literal_view x.0)) }
-    ensures typed { IfOk result (λ x. literal_type_of (literal_view x.0) ≡ type_view literal_type) }
+    ensures exact { Continues (A Elements ∷ []) (type_spelled literal_type) (λ x. literal_spelled x.0.value) (λ x. x.1.now) depth tokens.now result }
+    ensures grouped { IfOk result (λ x. IsLiteral (literal_view x.0.value)) }
+    ensures typed { IfOk result (λ x. literal_type_of (literal_view x.0.value) ≡ type_view literal_type) }
 {
     let ((open, inside), start) = open(tokens, Kind::LeftBrace, depth)?;
     let mut elements = Vec::new(alloc);
@@ -187,7 +192,8 @@ fn literal(
         elements,
         close,
     };
-    Ok((literal, rest))
+    let boxed = Box::new(alloc, literal)?;
+    Ok((boxed, rest))
 }
 
 /// Parses an element of a composite literal with its comma.

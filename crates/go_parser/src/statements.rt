@@ -89,7 +89,8 @@ fn for_stmt(alloc: Global, tokens: &[Token], depth: u32) -> Parsed<'_, Stmt>
     ensures formed { IfOk result (λ x. IsStatement (stmt_view x.0)) }
 {
     let (at, rest) = expect(tokens, Kind::For, depth)?;
-    let (header, rest) = for_header(alloc, rest, depth)?;
+    let (clauses, rest) = for_header(alloc, rest, depth)?;
+    let header = Box::new(alloc, clauses)?;
     match block(alloc, rest, depth) {
         Ok((body, rest)) => Ok((Stmt::For { at, header, body }, rest)),
         Err(error) => {
@@ -101,9 +102,9 @@ fn for_stmt(alloc: Global, tokens: &[Token], depth: u32) -> Parsed<'_, Stmt>
 
 /// Parses an `if` statement whose `if` has been parsed.
 #[cycle(statement)]
-fn if_stmt(alloc: Global, at: usize, tokens: &[Token], depth: u32) -> Parsed<'_, IfStmt>
-    ensures exact { Continues (A IfHead ∷ []) (sign Kind.If at ∷ []) (λ x. if_spelled x.0) (λ x. x.1.now) depth tokens.now result }
-    ensures formed { IfOk result (λ x. IsIf (if_view x.0)) }
+fn if_stmt(alloc: Global, at: usize, tokens: &[Token], depth: u32) -> Parsed<'_, Box<IfStmt>>
+    ensures exact { Continues (A IfHead ∷ []) (sign Kind.If at ∷ []) (λ x. if_spelled x.0.value) (λ x. x.1.now) depth tokens.now result }
+    ensures formed { IfOk result (λ x. IsIf (if_view x.0.value)) }
 {
     let ((init, condition), rest) = if_header(alloc, tokens, depth)?;
     match branches(alloc, rest, depth) {
@@ -116,7 +117,8 @@ fn if_stmt(alloc: Global, at: usize, tokens: &[Token], depth: u32) -> Parsed<'_,
                 body,
                 otherwise,
             };
-            Ok((statement, rest))
+            let boxed = Box::new(alloc, statement)?;
+            Ok((boxed, rest))
         }
         Err(error) => {
             drop(init);
@@ -154,8 +156,7 @@ fn else_part(alloc: Global, tokens: &[Token], depth: u32) -> Parsed<'_, Else>
     let (word, rest) = expect(tokens, Kind::Else, depth)?;
     if at(rest, Kind::If) {
         let ((place, inside), rest) = open(rest, Kind::If, depth)?;
-        let (inner, rest) = if_stmt(alloc, place, rest, inside)?;
-        let branch = Box::new(alloc, inner)?;
+        let (branch, rest) = if_stmt(alloc, place, rest, inside)?;
         return Ok((Else::If { at: word, branch }, rest));
     }
     let (block, rest) = block(alloc, rest, depth)?;

@@ -1,12 +1,12 @@
 -- One step of the walks that check and move.
-use Rattle.std.proofs.Common.{ℕ, zero, suc, Bool, ◌≡◌, ◌+◌, ◌-◌, ◌<◌, ◌≤◌, true, false, List, [], ◌∷◌, ◌++◌, length, take, drop, get_or, map, Option, Some, None, Bor}
+use Rattle.std.proofs.Common.{ℕ, zero, suc, Bool, ◌≡◌, ◌+◌, ◌-◌, ◌^◌, ◌<◌, ◌≤◌, true, false, List, [], ◌∷◌, ◌++◌, length, take, drop, get_or, map, Option, Some, None, Bor}
 use Rattle.std.proofs.Common.{refl, sym, ap, ◌∙◌, subst, arith, append_assoc, inl, inr}
 use Rattle.std.specs.Prelude.{IfSome, MatchOption, ◌==◌, nat_eq}
 use Rattle.std.proofs.lemmas.Bool.{false≢true}
 use borrow.Author.Tests.{eqb-true}
 use Rattle.std.specs.Cmp.Lexicographic.{pointwise, bytes_decides}
-use Rattle.std.specs.List.{slice_range}
-use Rattle.std.proofs.lemmas.List.{drop_all, get_or_default, take_all, take-append-drop, append-nil, length-append}
+use Rattle.std.specs.List.{All, slice_range}
+use Rattle.std.proofs.lemmas.List.{drop_all, get_or-map, get_or_default, length-map, take_all, take-append-drop, append-nil, length-append}
 use Rattle.go_scanner.specs.declared.operators.Operator.TheVariants.{Semicolon}
 use Rattle.go_scanner.specs.declared.piece.Class.{Class}
 use Rattle.go_scanner.specs.declared.piece.Class.TheVariants.{InterpretedString, Operator}
@@ -17,14 +17,16 @@ use Rattle.go_scanner.specs.Pieces.{IsPiece}
 use Rattle.go_scanner.specs.Spans.{FollowFrom, IsTokenText}
 use Rattle.go_scanner.specs.Tokens.{semicolon}
 use Rattle.go_scanner.proofs.OneCutLemmas.{one_cut}
+use Rattle.go_scanner.proofs.SpanLemmas.{follow_at, tokens_in_order}
 use Rattle.go_ast.specs.SourceFile.{SourceFile, IsSourceFile}
 use Rattle.base_edits.specs.Edits.{AreInOrder, edited_from, edited_text}
+use Rattle.base_edits.specs.Moved.{moved_offset}
 use Rattle.base_edits.specs.PassedEdits.{ArePast, PassedEdits}
 use Rattle.base_edits.specs.declared.edit.Edit.{Edit}
 use Rattle.base_edits.proofs.Steps.{drop_next, past_all, past_later, past_start, past_stops}
 use Rattle.go_respelled.specs.PieceEdits.{ArePieceEdits, IsEncodedString}
 use Rattle.go_respelled.specs.Renamings.{moved_piece, recut}
-use Rattle.go_respelled.specs.Replaced.{AreFollowing, AreMoved, GoesOn, IsMovedBy, Make, MovesBefore, Respell, passed}
+use Rattle.go_respelled.specs.Replaced.{AreFollowing, AreMoved, FitsMoved, GoesOn, IsMovedBy, Make, MovesBefore, MovesStretch, Respell, passed}
 use Rattle.go_respelled.specs.declared.moved.Cursor.{Cursor}
 use Rattle.go_respelled.specs.Trees.{KeepKinds}
 use Rattle.go_respelled.proofs.ByTokens.{edits_of_pieces}
@@ -123,29 +125,27 @@ moved_more edits tokens c later moved more t new lt is put at grown so_far =
           ∙ ap (λ ts. moved ++ map (moved_piece edits) ts) (sym next) ∙ so_far.made;
     }
 
--- a token that ends before the next edit does
-pub run_more : (edits : List Edit) (tokens : List Piece) (c : Cursor) (limit : ℕ) (moved more : List Piece) (i j : ℕ) (d new : Piece) → i ≡ length moved →
-    j ≡ length moved → i < length tokens → (get_or tokens i d).span.end < limit → IsMovedBy c (get_or tokens j d) new →
-    ((last : ℕ) → ArePast edits last (passed c) → MovesBefore edits last limit c) → more ≡ moved ++ new ∷ [] →
-    AreMoved edits tokens c moved → AreMoved edits tokens c more
-run_more edits tokens c limit moved more i j d new first second lt within put moves grown so_far =
-    let t = get_or tokens (length moved) d in
-    let here : length moved < length tokens = subst (λ n. n < length tokens) first lt in
-    let is : t ≡ get_or tokens (length moved) t = get_or_default tokens (length moved) d t here in
-    let ends : t.span.end < limit = subst (λ n. (get_or tokens n d).span.end < limit) first within in
-    let own : IsMovedBy c t new = subst (λ n. IsMovedBy c (get_or tokens n d) new) second put in
-    let follow = subst (λ ts. FollowFrom so_far.last ts so_far.size) (drop_next tokens (length moved) t here is) so_far.follow in
-    let later = follow.0 in
-    let order = follow.1 in
-    let reached = past_later edits so_far.last t.span.end (passed c) so_far.reached (omega arith) in
-    let before = moves so_far.last so_far.reached in
-    let start = before t.span.start later (omega arith) in
-    let end = before t.span.end (omega arith) ends in
-    moved_more edits tokens c c moved more t new here is
-    (own ∙ (λ i. record { class = t.class; span = record { start = sym start i; end = sym end i } })) reached grown so_far
+-- a token that ends before the limit
+pub moved_near : (edits : List Edit) (c : Cursor) (limit : ℕ) (t new : Piece) → ArePast edits t.span.start (passed c) → t.span.start ≤ t.span.end →
+    t.span.end < limit → ((last : ℕ) → ArePast edits last (passed c) → MovesBefore edits last limit c) → IsMovedBy c t new → new ≡ moved_piece edits t
+moved_near edits c limit t new past order within moves own =
+    let before = moves t.span.start past in
+    let start = before t.span.start (omega arith) (omega arith) in
+    let end = before t.span.end order within in
+    own ∙ (λ i. record { class = t.class; span = record { start = sym start i; end = sym end i } })
 
-pub pushed : (first old new : List Piece) (p : Piece) → length first ≤ length old → new ≡ old ++ p ∷ [] → length first ≤ length new
-pushed first old new p le grown = omega (arith, ap length grown ∙ length-append old (p ∷ []))
+pub fits_near : (edits : List Edit) (c : Cursor) (limit : ℕ) (t : Piece) → ArePast edits t.span.start (passed c) → t.span.start ≤ t.span.end →
+    t.span.end < limit → ((last : ℕ) → ArePast edits last (passed c) → MovesBefore edits last limit c) → FitsMoved edits t →
+    c.new + (t.span.end - c.old) < 2 ^ 64
+fits_near edits c limit t past order within moves fits = subst (λ n. n < 2 ^ 64) (moves t.span.start past t.span.end order within) fits.1
+
+pub past_near : (edits : List Edit) (c : Cursor) (t : Piece) → ArePast edits t.span.start (passed c) → t.span.start ≤ t.span.end →
+    ArePast edits t.span.end (passed c)
+past_near edits c t past order = past_later edits t.span.start t.span.end (passed c) past order
+
+-- nothing lies before offset 0
+pub none_near : (edits : List Edit) (c : Cursor) → MovesStretch edits (record { cursor = c; limit = 0 })
+none_near edits c last past offset le less = absurd (omega (arith, less))
 
 pub moved_all : (edits : List Edit) (tokens : List Piece) (c : Cursor) (moved : List Piece) → length tokens ≤ length moved →
     AreMoved edits tokens c moved → moved ≡ map (moved_piece edits) tokens
@@ -180,6 +180,28 @@ has_tokens old edits new tokens cut r is =
       pieces = (recut edits old).pieces;
       is = record { cut = new_cut old edits cut are; tokens_are = is ∙ sym (tokens_stay old edits cut are) };
     })
+
+-- the tokens move into the new text, so their ends are numbers of the machine
+
+fit_at : (size limit start end : ℕ) → size < limit → start ≤ end → end ≤ size → (start < limit) × (end < limit)
+fit_at size limit start end less order within = (omega arith, omega arith)
+
+fit_from : (edits : List Edit) (from size : ℕ) (ts : List Piece) → size < 2 ^ 64 → FollowFrom from (map (moved_piece edits) ts) size → All (FitsMoved edits) ts
+fit_from edits from size ts less follow i d lt =
+    let move = moved_piece edits in
+    let many : i < length (map move ts) = subst (λ n. i < n) (sym (length-map ts move)) lt in
+    let at = subst (λ (p : Piece). (p.span.start ≤ p.span.end) × (p.span.end ≤ size)) (get_or-map move ts i d (move d) lt)
+    (follow_at from size (map move ts) i (move d) follow many) in
+    fit_at size (2 ^ 64) (moved_offset edits (get_or ts i d).span.start) (moved_offset edits (get_or ts i d).span.end) less at.0 at.1
+
+pub tokens_fit : (old : CutText) (edits : List Edit) (new : List ℕ) → IsCut old.text old.pieces → Respell old edits new → length new < 2 ^ 64 →
+    All (FitsMoved edits) (tokens_in old)
+tokens_fit old edits new cut r less =
+    let are = edits_respell old edits new r in
+    let text : List ℕ = edited_text edits old.text in
+    let order = tokens_in_order text (recut edits old).pieces (new_cut old edits cut are) in
+    fit_from edits 0 (length text) (tokens_in old) (subst (λ (l : List ℕ). length l < 2 ^ 64) r.make.made less)
+    (subst (λ ts. FollowFrom 0 ts (length text)) (tokens_stay old edits cut are) order.follow)
 
 -- the new text has no other cut
 pub only_recut : (old : CutText) (edits : List Edit) (new : List ℕ) (c : CutText) → IsCut old.text old.pieces → Respell old edits new → c.text ≡ new →

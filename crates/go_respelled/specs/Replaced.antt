@@ -1,5 +1,5 @@
 -- Edits of a cut text that replace names by names and strings by strings, as the code finds and checks them.
-use Rattle.std.specs.Prelude.{ℕ, ◌≡◌, ◌+◌, ◌-◌, ◌<◌, ◌≤◌, List, ◌++◌, drop, length, map, Some, slice_get}
+use Rattle.std.specs.Prelude.{ℕ, ◌≡◌, ◌+◌, ◌-◌, ◌^◌, ◌<◌, ◌≤◌, List, ◌++◌, drop, length, map, Some, slice_get}
 use Rattle.std.specs.List.{All, slice_range}
 use Rattle.go_scanner.specs.declared.piece.Class.{Class}
 use Rattle.go_scanner.specs.declared.piece.Piece.{Piece}
@@ -13,6 +13,7 @@ use Rattle.base_edits.specs.declared.edit.Edit.{Edit}
 use Rattle.go_respelled.specs.PieceEdits.{MayStandFor, edited_piece}
 use Rattle.go_respelled.specs.Renamings.{moved_piece}
 use Rattle.go_respelled.specs.declared.moved.Cursor.{Cursor}
+use Rattle.go_respelled.specs.declared.moved.Stretch.{Stretch}
 
 -- The edit replaces a token by bytes that may take its place. Both are `_`, or neither is.
 pub record ReplacesToken (c : CutText) (e : Edit) : Type 0 where
@@ -47,9 +48,17 @@ pub record IsCursorAt (edits : List Edit) (offset : ℕ) (c : Cursor) : Type 0 w
 abbrev pub MovesBefore : List Edit → ℕ → ℕ → Cursor → Type 0
 MovesBefore edits last limit c = (offset : ℕ) → last ≤ offset → offset < limit → moved_offset edits offset ≡ c.new + (offset - c.old)
 
+-- So does a cursor up to its limit.
+abbrev pub MovesStretch : List Edit → Stretch → Type 0
+MovesStretch edits at = (last : ℕ) → ArePast edits last (passed at.cursor) → MovesBefore edits last at.limit at.cursor
+
 -- The token is the old one, with both ends where the cursor moves them.
 abbrev pub IsMovedBy : Cursor → Piece → Piece → Type 0
 IsMovedBy c t new = new ≡ record { class = t.class; span = record { start = c.new + (t.span.start - c.old); end = c.new + (t.span.end - c.old) } }
+
+-- Both ends of the token move to offsets below 2^64.
+abbrev pub FitsMoved : List Edit → Piece → Type 0
+FitsMoved edits t = (moved_offset edits t.span.start < 2 ^ 64) × (moved_offset edits t.span.end < 2 ^ 64)
 
 -- The tokens `moved` are the first old ones, moved by the edits. The cursor is past the edits that end at or before the last of them.
 pub record AreMoved (edits : List Edit) (tokens : List Piece) (c : Cursor) (moved : List Piece) : Type 0 where

@@ -1,9 +1,12 @@
-//! Moves tokens by edits, in one walk over both. The tokens between two edits are moved in one run.
-ghost use Rattle.std.specs.Prelude.{◌≡◌, ◌+◌, ◌-◌, ◌<◌, ◌≤◌, ℕ, length, map, IfOk, OnOk};
+//! Moves tokens by edits, in one walk over both. Tokens between two edits move by the same cursor. No offset is computed that lies behind the
+//! new text, so none is too great.
+ghost use Rattle.std.specs.Prelude.{◌≡◌, ◌+◌, ◌-◌, ◌^◌, ◌<◌, ◌≤◌, ℕ, length, map, vec_capacity, IfOk};
+ghost use Rattle.std.specs.List.{All};
 ghost use Rattle.base_edits.specs.Edits.{AreInOrder};
+ghost use Rattle.base_edits.specs.Moved.{moved_offset};
 ghost use Rattle.base_edits.specs.PassedEdits.{ArePast};
 ghost use Rattle.go_respelled.specs.Renamings.{moved_piece};
-ghost use Rattle.go_respelled.specs.Replaced.{AreFollowing, AreMoved, IsCursorAt, IsMovedBy, MovesBefore, passed};
+ghost use Rattle.go_respelled.specs.Replaced.{AreFollowing, AreMoved, FitsMoved, IsCursorAt, IsMovedBy, MovesBefore, MovesStretch, passed};
 
 use base_edits::Edit;
 use base_files::Span;
@@ -18,79 +21,85 @@ pub(crate) struct Cursor {
     pub(crate) new: usize,
 }
 
-/// The sum of two lengths of texts, or `AllocError` where it overflows: no memory holds so many bytes.
-fn sum(one: usize, other: usize) -> Result<usize, AllocError>
-    ensures { IfOk result (λ n. n ≡ one + other) }
-{
-    one.checked_add(other).ok_or(AllocError)
+/// A cursor, with an offset before which it moves all that is behind it.
+#[derive(Clone, Copy)]
+pub(crate) struct Stretch {
+    pub(crate) cursor: Cursor,
+    pub(crate) limit: usize,
 }
 
 /// The offset in the new text of an old one, behind the edits passed and before all others.
-fn moved(cursor: Cursor, offset: usize) -> Result<usize, AllocError>
-    requires { cursor.old ≤ offset }
-    ensures { IfOk result (λ n. n ≡ cursor.new + (offset - cursor.old)) }
+fn moved(cursor: Cursor, offset: usize) -> usize
+    requires behind { cursor.old ≤ offset }
+    requires fits { cursor.new + (offset - cursor.old) < 2 ^ 64 }
+    ensures { result ≡ cursor.new + (offset - cursor.old) }
 {
-    sum(cursor.new, offset - cursor.old)
+    cursor.new + (offset - cursor.old)
 }
 
 /// Passes one more edit.
-fn next(cursor: Cursor, edit: &Edit) -> Result<Cursor, AllocError>
-    requires { cursor.old ≤ edit.now.span.start }
-    ensures { IfOk result (λ c. c ≡ record { edits = cursor.edits + 1; old = edit.now.span.end; new = cursor.new + ((edit.now.span.start - cursor.old) + length edit.now.text) }) }
+fn next(cursor: Cursor, edit: &Edit) -> Cursor
+    requires more { cursor.edits + 1 < 2 ^ 64 }
+    requires behind { cursor.old ≤ edit.now.span.start }
+    requires fits { cursor.new + ((edit.now.span.start - cursor.old) + length edit.now.text) < 2 ^ 64 }
+    ensures { result ≡ record { edits = cursor.edits + 1; old = edit.now.span.end; new = cursor.new + ((edit.now.span.start - cursor.old) + length edit.now.text) } }
 {
-    let added = sum(edit.span.start - cursor.old, edit.text.len())?;
-    Ok(Cursor {
-        edits: sum(cursor.edits, 1)?,
+    let added = (edit.span.start - cursor.old) + edit.text.len();
+    Cursor {
+        edits: cursor.edits + 1,
         old: edit.span.end,
-        new: sum(cursor.new, added)?,
-    })
+        new: cursor.new + added,
+    }
 }
 
 /// Passes the edits that end at or before an offset.
-fn pass(edits: &[Edit], cursor: Cursor, offset: usize) -> Result<Cursor, AllocError>
-    requires { ArePast edits.now offset (passed cursor) }
-    ensures { IfOk result (IsCursorAt edits.now offset) }
+fn pass(edits: &[Edit], cursor: Cursor, offset: usize) -> Cursor
+    requires past { ArePast edits.now offset (passed cursor) }
+    requires fits { moved_offset edits.now offset < 2 ^ 64 }
+    ensures { IsCursorAt edits.now offset result }
 {
     let mut cursor = cursor;
     while cursor.edits < edits.len() {
         let edit = &edits[cursor.edits];
         if offset < edit.span.end {
-            return Ok(cursor);
+            return cursor;
         }
-        cursor = next(cursor, edit)?;
+        cursor = next(cursor, edit);
     }
-    Ok(cursor)
+    cursor
 }
 
 /// A token at the place to which the edits move it, and the cursor at its end.
-fn move_token(edits: &[Edit], cursor: Cursor, token: &Piece) -> Result<(Cursor, Piece), AllocError>
+fn move_token(edits: &[Edit], cursor: Cursor, token: &Piece) -> (Cursor, Piece)
     requires past { ArePast edits.now token.now.span.start (passed cursor) }
     requires order { token.now.span.start ≤ token.now.span.end }
-    ensures token { IfOk result (λ m. m.1 ≡ moved_piece edits.now token.now) }
-    ensures past { IfOk result (λ m. ArePast edits.now token.now.span.end (passed m.0)) }
+    requires fits { FitsMoved edits.now token.now }
+    ensures token { result.1 ≡ moved_piece edits.now token.now }
+    ensures past { ArePast edits.now token.now.span.end (passed result.0) }
 {
     let span = token.span;
-    let cursor = pass(edits, cursor, span.start)?;
-    let start = moved(cursor, span.start)?;
-    let cursor = pass(edits, cursor, span.end)?;
-    let end = moved(cursor, span.end)?;
+    let cursor = pass(edits, cursor, span.start);
+    let start = moved(cursor, span.start);
+    let cursor = pass(edits, cursor, span.end);
+    let end = moved(cursor, span.end);
     let span = Span { start, end };
     let class = token.class;
-    Ok((cursor, Piece { class, span }))
+    (cursor, Piece { class, span })
 }
 
 /// A token at the place to which a cursor moves both its ends.
-fn moved_by(cursor: Cursor, token: &Piece) -> Result<Piece, AllocError>
+fn moved_by(cursor: Cursor, token: &Piece) -> Piece
     requires behind { cursor.old ≤ token.now.span.start }
     requires order { token.now.span.start ≤ token.now.span.end }
-    ensures { IfOk result (IsMovedBy cursor token.now) }
+    requires fits { cursor.new + (token.now.span.end - cursor.old) < 2 ^ 64 }
+    ensures { IsMovedBy cursor token.now result }
 {
-    let start = moved(cursor, token.span.start)?;
-    let end = moved(cursor, token.span.end)?;
-    Ok(Piece {
+    let start = moved(cursor, token.span.start);
+    let end = moved(cursor, token.span.end);
+    Piece {
         class: token.class,
         span: Span { start, end },
-    })
+    }
 }
 
 /// Where the next edit ends. A cursor moves all offsets before that.
@@ -103,23 +112,23 @@ fn next_end(edits: &[Edit], cursor: Cursor) -> usize
     }
 }
 
-/// Moves on with the tokens that end before the next edit does. The cursor stays.
-fn move_run(
-    moved: &mut Vec<Piece>,
-    tokens: &[Piece],
-    edits: &[Edit],
-    cursor: Cursor,
-) -> Result<(), AllocError>
-    requires { AreMoved edits.now tokens.now cursor moved.old.items }
-    ensures moved { OnOk result (AreMoved edits.now tokens.now cursor moved.new.items) }
-    ensures more { OnOk result (length moved.old.items ≤ length moved.new.items) }
+/// Moves the next token. Where it ends before the limit, the cursor stays.
+fn move_next(edits: &[Edit], at: Stretch, token: &Piece) -> (Stretch, Piece)
+    requires past { ArePast edits.now token.now.span.start (passed at.cursor) }
+    requires moves { MovesStretch edits.now at }
+    requires order { token.now.span.start ≤ token.now.span.end }
+    requires fits { FitsMoved edits.now token.now }
+    ensures token { result.1 ≡ moved_piece edits.now token.now }
+    ensures past { ArePast edits.now token.now.span.end (passed result.0.cursor) }
+    ensures moves { MovesStretch edits.now result.0 }
 {
-    let limit = next_end(edits, cursor);
-    while moved.len() < tokens.len() && tokens[moved.len()].span.end < limit {
-        let token = moved_by(cursor, &tokens[moved.len()])?;
-        moved.push(token)?;
+    if token.span.end < at.limit {
+        return (at, moved_by(at.cursor, token));
     }
-    Ok(())
+    let step = move_token(edits, at.cursor, token);
+    let limit = next_end(edits, step.0);
+    let cursor = step.0;
+    (Stretch { cursor, limit }, step.1)
 }
 
 /// The tokens at the places to which the edits move them. The list has no spare room.
@@ -130,19 +139,20 @@ pub(crate) fn moved_tokens(
 ) -> Result<Vec<Piece>, AllocError>
     requires order { AreInOrder 0 edits.now }
     requires tokens { AreFollowing tokens.now }
+    requires fits { All (FitsMoved edits.now) tokens.now }
     ensures { IfOk result (λ moved. moved.items ≡ map (moved_piece edits.now) tokens.now) }
 {
     let mut moved = Vec::with_capacity(alloc, tokens.len())?;
-    let mut cursor = Cursor {
+    let cursor = Cursor {
         edits: 0,
         old: 0,
         new: 0,
     };
+    let mut at = Stretch { cursor, limit: 0 };
     while moved.len() < tokens.len() {
-        let step = move_token(edits, cursor, &tokens[moved.len()])?;
-        moved.push(step.1)?;
-        cursor = step.0;
-        move_run(&mut moved, tokens, edits, cursor)?;
+        let step = move_next(edits, at, &tokens[moved.len()]);
+        moved.push_reserved(step.1);
+        at = step.0;
     }
     Ok(moved)
 }

@@ -34,6 +34,7 @@ fn respelled_pieces(
     ensures { IfOk result (λ made. made ≡ recut edits.now old.now) }
 {
     let _ = old.file();
+    let _ = new.len();
     let tokens = moved_tokens(alloc, old.tokens(), edits)?;
     Ok(Pieces::of_tokens(new.clone()?, tokens))
 }

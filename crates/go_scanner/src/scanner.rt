@@ -73,7 +73,8 @@ pub fn scan(alloc: Global, file: &FileText) -> Result<Pieces, ScanRefusal>
     ensures cut { IfOk result (λ pieces. (pieces.text ≡ file.now) × IsCut pieces.text pieces.pieces) }
     ensures refused { IfErr result (IsRefusalOfCut file.now) }
 {
-    let (pieces, tokens) = cut(alloc, file.bytes())?;
+    let (pieces, mut tokens) = cut(alloc, file.bytes())?;
+    tokens.shrink_to_fit();
     let file = file.clone()?;
     Ok(Pieces::new(file, pieces, tokens))
 }

@@ -96,10 +96,10 @@ left_default s b q (expr.Name n) no_name no_blank = absurd (no_name n refl)
 left_default s b q (expr.Blank n) no_name no_blank = absurd (no_blank n refl)
 left_default s b q (expr.Number n) no_name no_blank = refl
 left_default s b q (expr.Text n) no_name no_blank = refl
-left_default s b q (expr.Composite l) no_name no_blank = refl
+left_default s b q (expr.Composite' p l) no_name no_blank = refl
 left_default s b q (expr.Paren' o p e c) no_name no_blank = refl
 left_default s b q (expr.Prefix' op at p e) no_name no_blank = refl
-left_default s b q (expr.Address at l) no_name no_blank = refl
+left_default s b q (expr.Address' at p l) no_name no_blank = refl
 left_default s b q (expr.Chain' p e shape row) no_name no_blank = refl
 left_default s b q (expr.Binary' p e shape row) no_name no_blank = refl
 
@@ -109,10 +109,10 @@ assigned_default s (expr.Name n) no_blank = refl
 assigned_default s (expr.Blank n) no_blank = absurd (no_blank n refl)
 assigned_default s (expr.Number n) no_blank = refl
 assigned_default s (expr.Text n) no_blank = refl
-assigned_default s (expr.Composite l) no_blank = refl
+assigned_default s (expr.Composite' p l) no_blank = refl
 assigned_default s (expr.Paren' o p e c) no_blank = refl
 assigned_default s (expr.Prefix' op at p e) no_blank = refl
-assigned_default s (expr.Address at l) no_blank = refl
+assigned_default s (expr.Address' at p l) no_blank = refl
 assigned_default s (expr.Chain' p e shape row) no_blank = refl
 assigned_default s (expr.Binary' p e shape row) no_blank = refl
 
@@ -151,9 +151,11 @@ locals_from s b q g o items c xs eg ex =
     ap (flat_map (local_part s b c)) ex ∙ flat_map-map (λ x. local_sites s b (unwrap_or x.separator c) x.value) (item_view local_view) items.items ∙
     ap (λ z. group_sites (local_sites s b) q (group_view local_view z)) (sym eg)
 
-pub for_from : (s : TokenSpellings) (b : Block) (q : ℕ) (x : Stmt) (p : ℕ) (h : ForHeader) (body : trees.BlockStmt) → x ≡ stmt.For p h body →
-    for_sites s (blocks.Inner s.rank p q) (out-BlockStmt body).«open» (for_view h) ++ block_sites s (block_view body) ≡ statement_sites s b q (stmt_view x)
+pub for_from : (s : TokenSpellings) (b : Block) (q : ℕ) (x : Stmt) (p : ℕ) (h : _) (body : trees.BlockStmt) → x ≡ stmt.For p h body →
+    (k : ForHeader) → k ≡ h.value →
+    for_sites s (blocks.Inner s.rank p q) (out-BlockStmt body).«open» (for_view k) ++ block_sites s (block_view body) ≡ statement_sites s b q (stmt_view x)
 unfolding statement_sites stmt_view
-for_from s b q x p h body ex =
-    ap (λ z. for_sites s (blocks.Inner s.rank p q) z (for_view h) ++ block_sites s (block_view body)) (open_from body) ∙
+for_from s b q x p h body ex k ek =
+    ap (λ z. for_sites s (blocks.Inner s.rank p q) (out-BlockStmt body).«open» (for_view z) ++ block_sites s (block_view body)) ek ∙
+    ap (λ z. for_sites s (blocks.Inner s.rank p q) z (for_view h.value) ++ block_sites s (block_view body)) (open_from body) ∙
     ap (λ z. statement_sites s b q (stmt_view z)) (sym ex)

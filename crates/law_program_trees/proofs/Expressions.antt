@@ -47,10 +47,10 @@ module _ (g : ℕ → ℕ) where
     expression (expr.Text n) = (expr.Text (g n), refl)
     expression (expr.Name n) = (expr.Name (g n), refl)
     expression (expr.Blank n) = (expr.Blank (g n), refl)
-    expression (expr.Composite l) = let one = composite l in (expr.Composite one.0, ap tree.Composite one.1)
+    expression (expr.Composite' p l) = let one = composite l in (expr.Composite' p one.0, ap tree.Composite one.1)
     expression (expr.Paren' o p e c) = let one = expression e in (expr.Paren' (g o) p one.0 (g c), ap (λ t. tree.Paren (g o) t (g c)) one.1)
     expression (expr.Prefix' op at p e) = let one = expression e in (expr.Prefix' op (g at) p one.0, ap (tree.Prefix op (g at)) one.1)
-    expression (expr.Address at l) = let one = composite l in (expr.Address (g at) one.0, ap (tree.Address (g at)) one.1)
+    expression (expr.Address' at p l) = let one = composite l in (expr.Address' (g at) p one.0, ap (tree.Address (g at)) one.1)
     expression (expr.Chain' p e shape row) =
         let one = expression e in
         let rest = links row in

@@ -1,5 +1,6 @@
 -- Statements of the program with other token numbers.
 use Rattle.std.proofs.Common.{ℕ, ◌≡◌, None, option_map, refl, ap}
+use Rattle.std.specs.Box.{with_value}
 use Rattle.go_ast.specs.FileView.{block_view, else_view, for_view, if_view, init_view, local_view, simple_view, statements_view, stmt_view, values_view}
 use Rattle.go_ast.specs.Tree as tree
 use Rattle.go_ast.specs.View.{expr_view, ident_view, type_view}
@@ -76,11 +77,11 @@ module _ (g : ℕ → ℕ) where
     stated (stmt.Var p x) = let one = grouped g local_view (local_by g) locals x in (stmt.Var (g p) one.0, ap (tree.Var (g p)) one.1)
     stated (stmt.Simple s) = let one = simples s in (stmt.Simple one.0, ap tree.Simple one.1)
     stated (stmt.Block b) = let one = blocked b in (stmt.Block one.0, ap tree.Inner one.1)
-    stated (stmt.If x) = let one = branched x in (stmt.If one.0, ap tree.If one.1)
+    stated (stmt.If' p x) = let one = branched x in (stmt.If' p one.0, ap tree.If one.1)
     stated (stmt.For p h b) =
-        let one = headers h in
+        let one = headers h.value in
         let two = blocked b in
-        (stmt.For (g p) one.0 two.0, λ i. tree.For (g p) (one.1 i) (two.1 i))
+        (stmt.For (g p) (with_value h one.0) two.0, λ i. tree.For (g p) (one.1 i) (two.1 i))
     stated (stmt.Break p) = (stmt.Break (g p), refl)
     stated (stmt.Continue p) = (stmt.Continue (g p), refl)
     stated (stmt.Return p es) = let all = expressions g es in (stmt.Return (g p) all.0, ap (tree.Return (g p)) all.1)

@@ -53,10 +53,10 @@ pub blank_judged : (w : World) (locals : Locals) {e : Expr} (p : ℕ) → e ≡ 
 unfolding judge expr_view
 blank_judged w locals p is = ap (λ x. judge w locals (expr_view x)) is
 
-pub composite_judged : (w : World) (locals : Locals) {e : Expr} (l : CompositeLit) → e ≡ expr.Composite l →
+pub composite_judged : (w : World) (locals : Locals) {e : Expr} (b : _) → e ≡ expr.Composite b → (l : CompositeLit) → l ≡ b.value →
     judge w locals (expr_view e) ≡ judge_literal w locals (literal_view l)
 unfolding judge expr_view
-composite_judged w locals l is = ap (λ x. judge w locals (expr_view x)) is
+composite_judged w locals b is l hl = ap (λ z. judge w locals (expr_view z)) is ∙ ap (λ z. judge_literal w locals (literal_view z)) (sym hl)
 
 pub paren_judged : (w : World) (locals : Locals) {e : Expr} (o : ℕ) (b : _) (c : ℕ) → e ≡ expr.Paren o b c → (x : Expr) → x ≡ b.value →
     judge w locals (expr_view e) ≡ judge_value w locals (expr_view x)
@@ -69,10 +69,11 @@ unfolding judge expr_view
 prefix_judged w locals op p b is x hx = ap (λ z. judge w locals (expr_view z)) is ∙
     ap (λ z. followed (judge_value w locals (expr_view z)) (prefix_of w op p)) (sym hx)
 
-pub address_judged : (w : World) (locals : Locals) {e : Expr} (p : ℕ) (l : CompositeLit) → e ≡ expr.Address p l →
+pub address_judged : (w : World) (locals : Locals) {e : Expr} (p : ℕ) (b : _) → e ≡ expr.Address p b → (l : CompositeLit) → l ≡ b.value →
     judge w locals (expr_view e) ≡ followed (judge_literal w locals (literal_view l)) address_of
 unfolding judge expr_view
-address_judged w locals p l is = ap (λ x. judge w locals (expr_view x)) is
+address_judged w locals p b is l hl = ap (λ z. judge w locals (expr_view z)) is ∙
+    ap (λ z. followed (judge_literal w locals (literal_view z)) address_of) (sym hl)
 
 chain_judged : (w : World) (locals : Locals) (b : _) (links : _) → judge w locals (expr_view (expr.Chain b links)) ≡
     judge_links w locals (first_token (expr_view b.value)) (place_of (expr_view b.value)) (judge w locals (expr_view b.value)) (links_in links.items)

@@ -50,10 +50,10 @@ not_a_name p file (expr.Name n) other h = other n refl
 not_a_name p file (expr.Blank n) other h = h
 not_a_name p file (expr.Number n) other h = h
 not_a_name p file (expr.Text n) other h = h
-not_a_name p file (expr.Composite l) other h = h
+not_a_name p file (expr.Composite' q l) other h = h
 not_a_name p file (expr.Paren' o q e c) other h = h
 not_a_name p file (expr.Prefix' op at q e) other h = h
-not_a_name p file (expr.Address at l) other h = h
+not_a_name p file (expr.Address' at q l) other h = h
 not_a_name p file (expr.Chain' q e shape row) other h = h
 not_a_name p file (expr.Binary' q e shape row) other h = h
 

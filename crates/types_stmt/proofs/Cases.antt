@@ -18,10 +18,10 @@ assigned_default w ls (expr.Name n) no_blank = refl
 assigned_default w ls (expr.Blank n) no_blank = absurd (no_blank n refl)
 assigned_default w ls (expr.Number n) no_blank = refl
 assigned_default w ls (expr.Text n) no_blank = refl
-assigned_default w ls (expr.Composite l) no_blank = refl
+assigned_default w ls (expr.Composite' p l) no_blank = refl
 assigned_default w ls (expr.Paren' o p e c) no_blank = refl
 assigned_default w ls (expr.Prefix' op at p e) no_blank = refl
-assigned_default w ls (expr.Address at l) no_blank = refl
+assigned_default w ls (expr.Address' at p l) no_blank = refl
 assigned_default w ls (expr.Chain' p e shape row) no_blank = refl
 assigned_default w ls (expr.Binary' p e shape row) no_blank = refl
 
@@ -32,10 +32,10 @@ defined_default w ls (expr.Name n) no_blank no_such = absurd (no_such n refl)
 defined_default w ls (expr.Blank n) no_blank no_such = absurd (no_blank n refl)
 defined_default w ls (expr.Number n) no_blank no_such = refl
 defined_default w ls (expr.Text n) no_blank no_such = refl
-defined_default w ls (expr.Composite l) no_blank no_such = refl
+defined_default w ls (expr.Composite' p l) no_blank no_such = refl
 defined_default w ls (expr.Paren' o p e c) no_blank no_such = refl
 defined_default w ls (expr.Prefix' op at p e) no_blank no_such = refl
-defined_default w ls (expr.Address at l) no_blank no_such = refl
+defined_default w ls (expr.Address' at p l) no_blank no_such = refl
 defined_default w ls (expr.Chain' p e shape row) no_blank no_such = refl
 defined_default w ls (expr.Binary' p e shape row) no_blank no_such = refl
 

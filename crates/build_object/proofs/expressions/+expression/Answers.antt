@@ -43,13 +43,14 @@ operand-returns-in-Blank t c = puts_as (ap (lines_for c.args.want)
 
 pub operand-returns-in-Composite : goal.operand-returns-in-Composite
 operand-returns-in-Composite t c = on_ok_weaker c.literal.result
-    (λ q. puts_as (ap (lines_for c.args.want) (composite_here (source_of c.args.scope.source.now) c.args.scope.slots.now.places.items _ c.in-Composite.is) ∙
+    (λ q. puts_as (ap (lines_for c.args.want)
+    (composite_here (source_of c.args.scope.source.now) c.args.scope.slots.now.places.items _ c.in-Composite.is _ c.deref.ensures) ∙
     plain_lines c.args.want _) q) c.literal.ensures
 
 pub operand-returns-in-Paren : goal.operand-returns-in-Paren
 operand-returns-in-Paren t c = on_ok_weaker c.operand.result
     (λ q. puts_as (ap (lines_for c.args.want)
-    (paren_here (source_of c.args.scope.source.now) c.args.scope.slots.now.places.items _ _ _ c.in-Paren.is _ c.deref.ensures) ∙
+    (paren_here (source_of c.args.scope.source.now) c.args.scope.slots.now.places.items _ _ _ c.in-Paren.is _ c.deref-in-Paren.ensures) ∙
     grouped_lines c.args.want _) q) c.operand.ensures
 
 pub operand-returns-in_ok-put_prefix-in-Prefix : goal.operand-returns-in_ok-put_prefix-in-Prefix
@@ -61,7 +62,8 @@ operand-returns-in_ok-put_prefix-in-Prefix t c = on_ok_weaker c.operand-in-Prefi
 pub operand-returns-in_ok-put-in-Address : goal.operand-returns-in_ok-put-in-Address
 unfolding line_of
 operand-returns-in_ok-put-in-Address t c = on_ok_weaker c.literal-in-Address.result
-    (λ q. puts_as (ap (lines_for c.args.want) (address_here (source_of c.args.scope.source.now) c.args.scope.slots.now.places.items _ _ c.in-Address.is) ∙
+    (λ q. puts_as (ap (lines_for c.args.want)
+    (address_here (source_of c.args.scope.source.now) c.args.scope.slots.now.places.items _ _ c.in-Address.is _ c.deref-in-Address.ensures) ∙
     plain_lines c.args.want _) (puts_then c.in_ok-put-in-Address.ensures q)) c.literal-in-Address.ensures
 
 pub operand-returns-in_ok-want-in-Chain : goal.operand-returns-in_ok-want-in-Chain

@@ -1,9 +1,9 @@
 -- The answers to the goals of `slots::places`.
 use Rattle.std.proofs.Common.{◌++◌, ap, sym, ◌∙◌, append-nil}
 use Rattle.std.proofs.lemmas.Result.{on_ok_weaker}
-use Rattle.go_ast.specs.FileView.{stmt_view, if_view, else_view}
+use Rattle.go_ast.specs.FileView.{for_view, stmt_view, block_view, if_view, else_view}
 use Rattle.types_expr.specs.WorldView.{world_of}
-use Rattle.build_object.specs.Slots.{statement_places, if_places, else_places}
+use Rattle.build_object.specs.Slots.{header_places, statement_places, block_places, if_places, else_places}
 use Rattle.build_object.proofs.Loops.{rest_step, rest_end}
 use Rattle.build_object.proofs.Places.{places_of_each, each_step, each_end, block_read, if_from, added}
 use Rattle.build_object.proofs.slots.+places.Goals as goal
@@ -46,12 +46,15 @@ add_statement-returns-in-Block t c = on_ok_weaker c.add_block.result
 pub add_statement-returns-in-If : goal.add_statement-returns-in-If
 unfolding statement_places stmt_view
 add_statement-returns-in-If t c = on_ok_weaker c.add_if.result
-    (λ q. q ∙ ap (λ v. c.args.places.now.items ++ statement_places (world_of c.args.world.now) (stmt_view v)) (sym c.in-If.is)) c.add_if.ensures
+    (λ q. q ∙ (ap (λ z. c.args.places.now.items ++ if_places (world_of c.args.world.now) (if_view z)) c.deref.ensures ∙
+    ap (λ v. c.args.places.now.items ++ statement_places (world_of c.args.world.now) (stmt_view v)) (sym c.in-If.is))) c.add_if.ensures
 
 pub add_statement-returns-in_ok-add_header-in-For : goal.add_statement-returns-in_ok-add_header-in-For
 unfolding statement_places stmt_view
 add_statement-returns-in_ok-add_header-in-For t c =
     on_ok_weaker c.add_block-in-For.result (λ q. added _ _ _ c.in_ok-add_header-in-For.ensures q ∙
+    ap (λ h. c.args.places.now.items ++ (header_places (world_of c.args.world.now) (for_view h) ++ block_places (world_of c.args.world.now)
+    (block_view c.in-For.body))) c.deref-in-For.ensures ∙
     ap (λ v. c.args.places.now.items ++ statement_places (world_of c.args.world.now) (stmt_view v)) (sym c.in-For.is)) c.add_block-in-For.ensures
 
 pub add_block-loop-item-preserved : goal.add_block-loop-item-preserved

@@ -13,7 +13,7 @@ use Rattle.build_object.specs.ExitsView.{exits_of, lines_of_each}
 use Rattle.build_object.proofs.Putting.{puts_none, puts_as, puts_then, puts_length}
 use Rattle.build_object.proofs.Loops.{back_end, back_start}
 use Rattle.build_object.proofs.Blocks.{block_read, each_end, each_turn, else_as, else_grows, else_nothing, else_something, if_put, turns_put, within_more}
-use Rattle.build_object.proofs.Blocks.{within_put}
+use Rattle.build_object.proofs.Blocks.{for_taken, within_put}
 use Rattle.build_object.proofs.statements.+statement.Goals as goal
 
 pub statement-returns-in-Empty : goal.statement-returns-in-Empty
@@ -44,7 +44,9 @@ pub statement-returns-in-If : goal.statement-returns-in-If
 unfolding statement_lines stmt_view
 statement-returns-in-If t c = on_ok_weaker c.branches.result
     (λ q. puts_as (ap (λ v. statement_lines (source_of c.args.scope.source.now) c.args.scope.slots.now.places.items c.args.results
-    (exits_of c.args.marks (length (lines_in c.args.code.now))) (stmt_view v)) c.in-If.is) q) c.branches.ensures
+    (exits_of c.args.marks (length (lines_in c.args.code.now))) (stmt_view v)) c.in-If.is ∙
+    ap (λ z. if_lines (source_of c.args.scope.source.now) c.args.scope.slots.now.places.items c.args.results
+    (exits_of c.args.marks (length (lines_in c.args.code.now))) (if_view z)) (sym c.deref.ensures)) q) c.branches.ensures
 
 pub statement-returns-in-Break : goal.statement-returns-in-Break
 unfolding statement_lines stmt_view
@@ -64,13 +66,13 @@ statement-returns-in-Return t c = on_ok_weaker c.returned.result
     (λ q. puts_as (ap (λ v. statement_lines (source_of c.args.scope.source.now) c.args.scope.slots.now.places.items c.args.results
     (exits_of c.args.marks (length (lines_in c.args.code.now))) (stmt_view v)) c.in-Return.is ∙
     ap (λ xs. lines_of_values (source_of c.args.scope.source.now) c.args.scope.slots.now.places.items (exprs_view xs) ++ (Return c.args.results ∷ []))
-    (sym c.deref.ensures.value)) q) c.returned.ensures
+    (sym c.deref-in-Return.ensures.value)) q) c.returned.ensures
 
 pub statement-returns-in_ok-turns-in-For : goal.statement-returns-in_ok-turns-in-For
 unfolding statement_lines stmt_view
 statement-returns-in_ok-turns-in-For t c = on_ok_weaker c.header_init.result
-    (λ q. puts_as (ap (λ v. statement_lines (source_of c.args.scope.source.now) c.args.scope.slots.now.places.items c.args.results
-    (exits_of c.args.marks (length (lines_in c.args.code.now))) (stmt_view v)) c.in-For.is) (puts_then c.in_ok-turns-in-For.ensures q)) c.header_init.ensures
+    (λ q. puts_as (for_taken (source_of c.args.scope.source.now) c.args.scope.slots.now.places.items c.args.results
+    (exits_of c.args.marks (length (lines_in c.args.code.now))) _ _ _ c.in-For.is _ _ c.deref-in-For.ensures c.deref-in-For-2.ensures) (puts_then c.in_ok-turns-in-For.ensures q)) c.header_init.ensures
 
 pub turns-block-requires : goal.turns-block-requires
 turns-block-requires t c =

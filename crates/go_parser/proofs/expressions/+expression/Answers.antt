@@ -7,15 +7,15 @@ use Rattle.go_ast.specs.Grammar.{A, Close, Links, Elements, ElementList, MoreEle
 use Rattle.go_parser.specs.Machine.{first, later, last}
 use Rattle.go_parser.specs.Parsing.{list_rest}
 use Rattle.go_ast.specs.Flatten.{sign, prefix_kind, all_tokens, expr_tokens, type_tokens}
-use Rattle.go_ast.specs.View.{expr_view}
-use Rattle.go_ast.specs.WellFormed.{IsExpr, IsExprIn, strength_of}
-use Rattle.go_parser.specs.Grouping.{Each, IsLink, IsUnary, IsOperand, is_slice, is_literal_type}
+use Rattle.go_ast.specs.View.{expr_view, literal_view}
+use Rattle.go_ast.specs.WellFormed.{IsExpr, IsExprIn, IsLiteral, strength_of}
+use Rattle.go_parser.specs.Grouping.{Each, IsLink, IsUnary, IsOperand, is_slice, is_literal_type, literal_type_of}
 use Rattle.go_ast.specs.declared.tree.Element.{Element}
 use Rattle.go_ast.specs.declared.tree.ExprItem.{ExprItem}
 use Rattle.go_parser.proofs.Grouping.{so_far_none, so_far_push, each_push, composite_grouped, name_grouped, prefix_grouped, address_grouped, paren_grouped}
 use Rattle.go_parser.proofs.Grouping.{chain_grouped, binary_grouped, binary_strength, literal_wf, literal_typed, selector_wf, index_wf, call_wf, IsJoined}
 use Rattle.go_parser.proofs.Grouping.{IsSeparatedSoFar, named_not_in_header, not_zero, operator_strength}
-use Rattle.go_parser.specs.Spelling.{expr_spelled, link_spelled, expr_item_spelled, element_spelled}
+use Rattle.go_parser.specs.Spelling.{expr_spelled, literal_spelled, link_spelled, expr_item_spelled, element_spelled}
 use Rattle.go_parser.proofs.MachineSteps.{exits, fails_first, fails_later, fails_rule, fails_leads, fails_more, fails_after, read_then, read_rule}
 use Rattle.go_parser.proofs.MachineSteps.{read_to_close, read_as, read_on, read_led, read_through, leads_here, leads_then, leads_close, leads_rule, leads_on}
 use Rattle.go_parser.proofs.MachineSteps.{leads_as, leads_after, leads_to_end, tail_rule, tail_on, tail_through, continued_by}
@@ -285,7 +285,7 @@ literal-returns-clause-exact t c = continued_by (read_rule last
     c.elements.invariant.leads) c.in_ok-close.ensures))))
     (ap (λ x. x ++ (sign kind.LeftBrace c.in_ok-open.open ∷
     (all_tokens element_spelled c.elements.elements.items ++ (sign kind.RightBrace c.in_ok-close.close ∷ []))))
-    (ap type_tokens (sym c.elements.invariant.kept)) ∙ sym (literal_row_tokens _ _ _ _))
+    (ap type_tokens (sym c.elements.invariant.kept)) ∙ (sym (literal_row_tokens _ _ _ _) ∙ ap literal_spelled (sym c.in_ok-boxed.ensures.ok)))
 
 pub element-returns-in_err-name-clause-exact : goal.element-returns-in_err-name-clause-exact
 element-returns-in_err-name-clause-exact t c = exits _ _ _ _ c.in_err-name.field-0.0 c.from_residual.result c.from_residual.ensures.1
@@ -510,11 +510,12 @@ operand-chain-requires-2 t c = (
 )
 
 pub literal-returns-clause-grouped : goal.literal-returns-clause-grouped
-literal-returns-clause-grouped t c = literal_wf _ _ _ _ (ap is_literal_type c.elements.invariant.kept ∙ c.requires) c.elements.invariant.grouped
-    c.elements.invariant.separated.separated
+literal-returns-clause-grouped t c = subst (λ l. IsLiteral (literal_view l)) (sym c.in_ok-boxed.ensures.ok)
+    (literal_wf _ _ _ _ (ap is_literal_type c.elements.invariant.kept ∙ c.requires) c.elements.invariant.grouped
+    c.elements.invariant.separated.separated)
 
 pub literal-returns-clause-typed : goal.literal-returns-clause-typed
-literal-returns-clause-typed t c = literal_typed _ _ _ _ ∙ c.elements.invariant.kept
+literal-returns-clause-typed t c = ap (λ l. literal_type_of (literal_view l)) c.in_ok-boxed.ensures.ok ∙ (literal_typed _ _ _ _ ∙ c.elements.invariant.kept)
 
 pub link-returns-then-at-clause-grouped : goal.link-returns-then-at-clause-grouped
 link-returns-then-at-clause-grouped t c = selector_wf _ _

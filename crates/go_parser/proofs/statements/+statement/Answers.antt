@@ -1,10 +1,10 @@
 -- The answers to the goals of `statements::statement`.
-use Rattle.std.proofs.Common.{◌∷◌, [], ap, sym, ◌∙◌, refl}
+use Rattle.std.proofs.Common.{◌++◌, ◌∷◌, [], ap, sym, ◌∙◌, refl}
 use Rattle.go_ast.specs.declared.syntax.Kind.TheVariants as kind
 use Rattle.go_ast.specs.Grammar.{A, Close, MoreStatements, One, Statement, is}
 use Rattle.go_parser.specs.Machine.{first, last, later}
 use Rattle.go_ast.specs.Flatten.{sign}
-use Rattle.go_parser.specs.Spelling.{if_spelled}
+use Rattle.go_parser.specs.Spelling.{block_spelled, for_spelled, if_spelled}
 use Rattle.go_parser.proofs.MachineSteps.{exits, fails_first, fails_later, fails_leads, fails_rule, read_as, read_end, read_rule, read_then, read_to_close}
 use Rattle.go_parser.proofs.MachineSteps.{tail_rule}
 use Rattle.go_parser.proofs.StatementSteps.{continued, item_shorter, leads_item, leads_more, leads_none, leads_push, read_continued}
@@ -15,8 +15,8 @@ use Rattle.go_parser.proofs.ListedSteps.{listed_false, listed_none, listed_push}
 use Rattle.go_parser.proofs.SpelledStatements.{block_spelled_as, block_stmt_spelled, else_block_spelled, else_if_spelled, for_stmt_spelled, if_spelled_as}
 use Rattle.go_parser.proofs.SpelledStatements.{if_stmt_spelled, no_else_spelled, var_spelled, block_item_spelled}
 use Rattle.std.proofs.Common.{arith, length, ◌≤◌, subst}
-use Rattle.go_ast.specs.WellFormed.{IsIf}
-use Rattle.go_ast.specs.FileView.{if_view}
+use Rattle.go_ast.specs.WellFormed.{IsFor, IsIf}
+use Rattle.go_ast.specs.FileView.{for_view, if_view}
 use Rattle.go_parser.proofs.Lists.{items_rest}
 use Rattle.go_parser.proofs.MachineSteps.{fails_after}
 use Rattle.go_parser.proofs.MachineSteps.{fails_more}
@@ -119,20 +119,21 @@ pub for_stmt-returns-in_err-at-clause-exact : goal.for_stmt-returns-in_err-at-cl
 for_stmt-returns-in_err-at-clause-exact t c = exits _ _ _ _ c.in_err-at.field-0.0 c.from_residual.result c.from_residual.ensures.1
     (fails_first c.in_err-at.ensures)
 
-pub for_stmt-returns-in_err-header-clause-exact : goal.for_stmt-returns-in_err-header-clause-exact
-for_stmt-returns-in_err-header-clause-exact t c = exits _ _ _ _ c.in_err-header.field-0.0 c.from_residual-in_err-header.result
-    c.from_residual-in_err-header.ensures.1
-    (fails_later c.in_ok-at.ensures c.in_err-header.ensures.exact)
+pub for_stmt-returns-in_err-clauses-clause-exact : goal.for_stmt-returns-in_err-clauses-clause-exact
+for_stmt-returns-in_err-clauses-clause-exact t c = exits _ _ _ _ c.in_err-clauses.field-0.0 c.from_residual-in_err-clauses.result
+    c.from_residual-in_err-clauses.ensures.1
+    (fails_later c.in_ok-at.ensures c.in_err-clauses.ensures.exact)
 
 pub for_stmt-returns-in-Err-clause-exact : goal.for_stmt-returns-in-Err-clause-exact
-for_stmt-returns-in-Err-clause-exact t c = fails_later c.in_ok-at.ensures (fails_leads c.in_ok-header.ensures.exact c.in-Err.ensures.exact)
+for_stmt-returns-in-Err-clause-exact t c = fails_later c.in_ok-at.ensures (fails_leads c.in_ok-clauses.ensures.exact c.in-Err.ensures.exact)
 
 pub for_stmt-returns-in-Ok-clause-exact : goal.for_stmt-returns-in-Ok-clause-exact
-for_stmt-returns-in-Ok-clause-exact t c = read_as (read_then c.in_ok-at.ensures (read_led c.in_ok-header.ensures.exact c.in-Ok.ensures.exact))
-    (sym (for_stmt_spelled _ _ _))
+for_stmt-returns-in-Ok-clause-exact t c = read_as (read_then c.in_ok-at.ensures (read_led c.in_ok-clauses.ensures.exact c.in-Ok.ensures.exact))
+    (ap (λ h. sign kind.For c.in_ok-at.at ∷ (for_spelled h ++ block_spelled c.in-Ok.body)) (sym c.in_ok-header.ensures.ok) ∙ sym (for_stmt_spelled _ _ _))
 
 pub for_stmt-returns-in-Ok-clause-formed : goal.for_stmt-returns-in-Ok-clause-formed
-for_stmt-returns-in-Ok-clause-formed t c = for_stmt_formed _ _ _ c.in_ok-header.ensures.formed c.in-Ok.ensures.formed
+for_stmt-returns-in-Ok-clause-formed t c = for_stmt_formed _ _ _
+    (subst (λ h. IsFor (for_view h)) (sym c.in_ok-header.ensures.ok) c.in_ok-clauses.ensures.formed) c.in-Ok.ensures.formed
 
 pub if_stmt-returns-in_err-init-clause-exact : goal.if_stmt-returns-in_err-init-clause-exact
 if_stmt-returns-in_err-init-clause-exact t c = exits _ _ _ _ c.in_err-init.field-0.0 c.from_residual.result c.from_residual.ensures.1
@@ -154,9 +155,9 @@ branches-returns-in-Ok-clause-formed t c = (c.in_ok-body.ensures.formed, c.in-Ok
 pub if_stmt-returns-in-Err-clause-exact : goal.if_stmt-returns-in-Err-clause-exact
 if_stmt-returns-in-Err-clause-exact t c = fails_leads c.in_ok-init.ensures.exact c.in-Err.ensures.exact
 
-pub if_stmt-returns-in-Ok-clause-exact : goal.if_stmt-returns-in-Ok-clause-exact
-if_stmt-returns-in-Ok-clause-exact t c = continued (sign kind.If c.args.at ∷ []) (read_led c.in_ok-init.ensures.exact c.in-Ok.ensures.exact)
-    (sym (if_spelled_as _ _ _ _ _))
+pub if_stmt-returns-in_ok-boxed-in-Ok-clause-exact : goal.if_stmt-returns-in_ok-boxed-in-Ok-clause-exact
+if_stmt-returns-in_ok-boxed-in-Ok-clause-exact t c = continued (sign kind.If c.args.at ∷ []) (read_led c.in_ok-init.ensures.exact c.in-Ok.ensures.exact)
+    (sym (if_spelled_as _ _ _ _ _) ∙ ap if_spelled (sym c.in_ok-boxed-in-Ok.ensures.ok))
 
 pub else_part-returns-then-not-at-clause-exact : goal.else_part-returns-then-not-at-clause-exact
 else_part-returns-then-not-at-clause-exact t c = read_as (read_rule (later (sym c.at.ensures ∙ c.if-not-at.true) last) read_end) (sym no_else_spelled)
@@ -171,20 +172,20 @@ else_part-returns-in_err-place-clause-exact t c = exits _ _ _ _ c.in_err-place.f
     (fails_rule (first (sym c.at.ensures ∙ c.if-not-at.false))
     (fails_later c.in_ok-word.ensures (fails_rule (first (sym c.at-2.ensures ∙ c.if-at.true)) (fails_first c.in_err-place.ensures))))
 
-pub else_part-returns-in_err-inner-clause-exact : goal.else_part-returns-in_err-inner-clause-exact
-else_part-returns-in_err-inner-clause-exact t c = exits _ _ _ _ c.in_err-inner.field-0.0 c.from_residual-in_err-inner.result
-    c.from_residual-in_err-inner.ensures.1
+pub else_part-returns-in_err-branch-clause-exact : goal.else_part-returns-in_err-branch-clause-exact
+else_part-returns-in_err-branch-clause-exact t c = exits _ _ _ _ c.in_err-branch.field-0.0 c.from_residual-in_err-branch.result
+    c.from_residual-in_err-branch.ensures.1
     (fails_rule (first (sym c.at.ensures ∙ c.if-not-at.false))
     (fails_later c.in_ok-word.ensures
-    (fails_rule (first (sym c.at-2.ensures ∙ c.if-at.true)) (fails_later c.in_ok-place.ensures.read (fails_first c.in_err-inner.ensures.exact)))))
+    (fails_rule (first (sym c.at-2.ensures ∙ c.if-at.true)) (fails_later c.in_ok-place.ensures.read (fails_first c.in_err-branch.ensures.exact)))))
 
 pub else_part-returns-then-at-clause-exact : goal.else_part-returns-then-at-clause-exact
 else_part-returns-then-at-clause-exact t c = read_as
     (read_rule (first (sym c.at.ensures ∙ c.if-not-at.false))
     (read_then c.in_ok-word.ensures
     (read_rule (first (sym c.at-2.ensures ∙ c.if-at.true))
-    (read_level c.in_ok-place.ensures.deeper (read_continued c.in_ok-place.ensures.read c.in_ok-inner.ensures.exact)))))
-    (ap (λ x. sign kind.Else c.in_ok-word.word ∷ if_spelled x) (sym c.in_ok-branch.ensures.ok) ∙ sym (else_if_spelled _ _))
+    (read_level c.in_ok-place.ensures.deeper (read_continued c.in_ok-place.ensures.read c.in_ok-branch.ensures.exact)))))
+    (sym (else_if_spelled _ _))
 
 pub else_part-returns-in_err-block-clause-exact : goal.else_part-returns-in_err-block-clause-exact
 else_part-returns-in_err-block-clause-exact t c = exits _ _ _ _ c.in_err-block.field-0.0 c.from_residual-in_err-block.result
@@ -211,15 +212,15 @@ statement-returns-then-at-3-clause-formed t c = if_stmt_formed _ c.in_ok-branch.
 pub statement-returns-then-at-4-clause-formed : goal.statement-returns-then-at-4-clause-formed
 statement-returns-then-at-4-clause-formed t c = c.for_stmt.ensures.formed
 
-pub if_stmt-returns-in-Ok-clause-formed : goal.if_stmt-returns-in-Ok-clause-formed
-if_stmt-returns-in-Ok-clause-formed t c = if_formed _ _ _ _ _ c.in_ok-init.ensures.formed.0 c.in_ok-init.ensures.formed.1 c.in-Ok.ensures.formed.0
-    c.in-Ok.ensures.formed.1
+pub if_stmt-returns-in_ok-boxed-in-Ok-clause-formed : goal.if_stmt-returns-in_ok-boxed-in-Ok-clause-formed
+if_stmt-returns-in_ok-boxed-in-Ok-clause-formed t c = subst (λ i. IsIf (if_view i)) (sym c.in_ok-boxed-in-Ok.ensures.ok)
+    (if_formed _ _ _ _ _ c.in_ok-init.ensures.formed.0 c.in_ok-init.ensures.formed.1 c.in-Ok.ensures.formed.0 c.in-Ok.ensures.formed.1)
 
 pub else_part-returns-then-not-at-clause-formed : goal.else_part-returns-then-not-at-clause-formed
 else_part-returns-then-not-at-clause-formed t c = no_else_formed
 
 pub else_part-returns-then-at-clause-formed : goal.else_part-returns-then-at-clause-formed
-else_part-returns-then-at-clause-formed t c = else_if_formed _ _ (subst (λ i. IsIf (if_view i)) (sym c.in_ok-branch.ensures.ok) c.in_ok-inner.ensures.formed)
+else_part-returns-then-at-clause-formed t c = else_if_formed _ _ c.in_ok-branch.ensures.formed
 
 pub else_part-returns-clause-formed : goal.else_part-returns-clause-formed
 else_part-returns-clause-formed t c = else_block_formed _ _ c.in_ok-block.ensures.formed

@@ -1,10 +1,10 @@
 -- The answers to the goals of `expressions::expression`.
 use Rattle.std.proofs.Common.{ap, sym, ◌∙◌, arith}
-use Rattle.go_scope.specs.ExpressionSites.{expr_sites, link_sites}
+use Rattle.go_scope.specs.ExpressionSites.{expr_sites, literal_sites, link_sites}
 use Rattle.go_scope.specs.IdentifierViews.{as_source}
 use Rattle.go_scope.proofs.Adding.{adds_none, adds_as, adds_then, call_adds, each_step, each_all}
 use Rattle.go_scope.proofs.Parts.{leaf_none, link_part, operand_part, argument_part, element_part, chain_from, binary_from, call_from, index_from, literal_read}
-use Rattle.go_ast.specs.View.{expr_view, link_view}
+use Rattle.go_ast.specs.View.{expr_view, literal_view, link_view}
 use Rattle.go_scope.proofs.expressions.+expression.Goals as goal
 
 pub add_expr-returns-in-Name : goal.add_expr-returns-in-Name
@@ -18,14 +18,16 @@ add_expr-returns-in-Blank t c = call_adds _ _ c.add-in-Blank.result c.add-in-Bla
 
 pub add_expr-returns-in-Composite : goal.add_expr-returns-in-Composite
 unfolding expr_sites expr_view
-add_expr-returns-in-Composite t c = call_adds _ _ c.add_literal.result c.add_literal.ensures
-    (ap (λ v. expr_sites (as_source c.args.source.now) (expr_view v)) (sym c.in-Composite.is))
+add_expr-returns-in-Composite t c =
+    call_adds _ _ c.add_literal.result c.add_literal.ensures
+    (ap (λ l. literal_sites (as_source c.args.source.now) (literal_view l)) c.deref.ensures ∙
+    ap (λ v. expr_sites (as_source c.args.source.now) (expr_view v)) (sym c.in-Composite.is))
 
 pub add_expr-returns-in-Paren : goal.add_expr-returns-in-Paren
 unfolding expr_sites expr_view
 add_expr-returns-in-Paren t c =
     call_adds _ _ c.add_expr.result c.add_expr.ensures
-    (ap (λ v. expr_sites (as_source c.args.source.now) (expr_view v)) c.deref.ensures ∙
+    (ap (λ v. expr_sites (as_source c.args.source.now) (expr_view v)) c.deref-in-Paren.ensures ∙
     ap (λ v. expr_sites (as_source c.args.source.now) (expr_view v)) (sym c.in-Paren.is))
 
 pub add_expr-returns-in-Prefix : goal.add_expr-returns-in-Prefix
@@ -37,8 +39,10 @@ add_expr-returns-in-Prefix t c =
 
 pub add_expr-returns-in-Address : goal.add_expr-returns-in-Address
 unfolding expr_sites expr_view
-add_expr-returns-in-Address t c = call_adds _ _ c.add_literal-in-Address.result c.add_literal-in-Address.ensures
-    (ap (λ v. expr_sites (as_source c.args.source.now) (expr_view v)) (sym c.in-Address.is))
+add_expr-returns-in-Address t c =
+    call_adds _ _ c.add_literal-in-Address.result c.add_literal-in-Address.ensures
+    (ap (λ l. literal_sites (as_source c.args.source.now) (literal_view l)) c.deref-in-Address.ensures ∙
+    ap (λ v. expr_sites (as_source c.args.source.now) (expr_view v)) (sym c.in-Address.is))
 
 pub add_expr-returns-after-loop-link : goal.add_expr-returns-after-loop-link
 add_expr-returns-after-loop-link t c =

@@ -43,20 +43,22 @@ add_statement-returns-in-Block t c = call_adds _ _ c.add_block.result c.add_bloc
 
 pub add_statement-returns-in-If : goal.add_statement-returns-in-If
 unfolding statement_sites stmt_view
-add_statement-returns-in-If t c = call_adds _ _ c.add_if.result c.add_if.ensures
-    (ap (λ v. statement_sites (as_source c.args.source.now) c.args.block c.args.following (stmt_view v)) (sym c.in-If.is))
+add_statement-returns-in-If t c =
+    call_adds _ _ c.add_if.result c.add_if.ensures (ap (λ z. if_sites (as_source c.args.source.now) c.args.following (if_view z)) c.deref.ensures ∙
+    ap (λ v. statement_sites (as_source c.args.source.now) c.args.block c.args.following (stmt_view v)) (sym c.in-If.is))
 
 pub add_statement-returns-in-Return : goal.add_statement-returns-in-Return
 unfolding statement_sites stmt_view
 add_statement-returns-in-Return t c =
     call_adds _ _ c.add_exprs.result c.add_exprs.ensures
-    (ap (λ z. exprs_sites (as_source c.args.source.now) (exprs_view z)) c.deref.ensures.value ∙
+    (ap (λ z. exprs_sites (as_source c.args.source.now) (exprs_view z)) c.deref-in-Return.ensures.value ∙
     ap (λ v. statement_sites (as_source c.args.source.now) c.args.block c.args.following (stmt_view v)) (sym c.in-Return.is))
 
 pub add_statement-returns-in_ok-add_header-in-For : goal.add_statement-returns-in_ok-add_header-in-For
 add_statement-returns-in_ok-add_header-in-For t c =
     then_adds _ _ c.add_block-in-For.result c.in_ok-add_header-in-For.ensures c.add_block-in-For.ensures
-    (for_from _ c.args.block c.args.following c.args.statement.now c.in-For.at c.in-For.header c.in-For.body c.in-For.is)
+    (for_from _ c.args.block c.args.following c.args.statement.now c.in-For.at c.in-For.header c.in-For.body c.in-For.is _
+    c.deref-in-For.ensures)
 
 pub add_block-loop-item-preserved : goal.add_block-loop-item-preserved
 add_block-loop-item-preserved t c =

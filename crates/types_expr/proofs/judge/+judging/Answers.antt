@@ -103,11 +103,12 @@ judge-returns-in-Name t c = ok_map c.name_meaning.result
 
 pub judge-returns-in-Composite : goal.judge-returns-in-Composite
 judge-returns-in-Composite t c = ok_map c.literal.result
-    (λ m a. adds_as (composite_judged (world_of c.args.scope.world.now) (locals_of c.args.scope.locals.now) _ c.in-Composite.is) a) c.literal.ensures
+    (λ m a. adds_as (composite_judged (world_of c.args.scope.world.now) (locals_of c.args.scope.locals.now) _ c.in-Composite.is _ c.deref.ensures) a)
+    c.literal.ensures
 
 pub judge-returns-in-Paren : goal.judge-returns-in-Paren
 judge-returns-in-Paren t c = ok_map c.judge_value.result
-    (λ m a. adds_as (paren_judged (world_of c.args.scope.world.now) (locals_of c.args.scope.locals.now) _ _ _ c.in-Paren.is _ c.deref.ensures) a)
+    (λ m a. adds_as (paren_judged (world_of c.args.scope.world.now) (locals_of c.args.scope.locals.now) _ _ _ c.in-Paren.is _ c.deref-in-Paren.ensures) a)
     c.judge_value.ensures
 
 pub judge-returns-in_ok-meaning-in-Prefix : goal.judge-returns-in_ok-meaning-in-Prefix
@@ -190,7 +191,7 @@ judge-returns-in-Blank t c = adds_as (blank_judged (world_of c.args.scope.world.
 
 pub judge-returns-in_ok-meaning-in-Address : goal.judge-returns-in_ok-meaning-in-Address
 judge-returns-in_ok-meaning-in-Address t c = ok_map c.into_address.result
-    (λ m e. adds_as (address_judged (world_of c.args.scope.world.now) (locals_of c.args.scope.locals.now) _ _ c.in-Address.is)
+    (λ m e. adds_as (address_judged (world_of c.args.scope.world.now) (locals_of c.args.scope.locals.now) _ _ c.in-Address.is _ c.deref-in-Address.ensures)
     (adds_then address_of c.in_ok-meaning-in-Address.ensures (adds_as (sym e) (adds_meaning _ refl)))) c.into_address.ensures
 
 pub judge_link-returns-in_ok-value-in-Index : goal.judge_link-returns-in_ok-value-in-Index

@@ -43,8 +43,8 @@ add_statement-returns-in-Block t c = call_each (IsFaultOfMark (laid_in c.args.sc
 pub add_statement-returns-in-If : goal.add_statement-returns-in-If
 unfolding statement_marks stmt_view
 add_statement-returns-in-If t c = call_each (IsFaultOfMark (laid_in c.args.scope.table.now) c.args.scope.rank) c.args.found.now.items
-    c.add_if.new.found.items (if_marks c.args.in_for (if_view c.in-If.branch)) _ c.add_if.result c.add_if.ensures
-    (ap (λ v. statement_marks c.args.in_for (stmt_view v)) (sym c.in-If.is))
+    c.add_if.new.found.items (if_marks c.args.in_for (if_view c.deref.result.now)) _ c.add_if.result c.add_if.ensures
+    (ap (λ z. if_marks c.args.in_for (if_view z)) c.deref.ensures ∙ ap (λ v. statement_marks c.args.in_for (stmt_view v)) (sym c.in-If.is))
 
 pub add_statement-returns-in-Break : goal.add_statement-returns-in-Break
 unfolding statement_marks stmt_view
@@ -62,9 +62,10 @@ pub add_statement-returns-in_ok-add_header-in-For : goal.add_statement-returns-i
 unfolding statement_marks stmt_view
 add_statement-returns-in_ok-add_header-in-For t c =
     then_each (IsFaultOfMark (laid_in c.args.scope.table.now) c.args.scope.rank) c.args.found.now.items c.add_header.new.found.items
-    c.add_block-in-For.new.found.items (for_marks (for_view c.in-For.header)) (block_marks true (block_view c.in-For.body)) _
+    c.add_block-in-For.new.found.items (for_marks (for_view c.deref-in-For.result.now)) (block_marks true (block_view c.in-For.body)) _
     c.add_block-in-For.result c.in_ok-add_header-in-For.ensures c.add_block-in-For.ensures
-    (ap (λ v. statement_marks c.args.in_for (stmt_view v)) (sym c.in-For.is))
+    (ap (λ h. for_marks (for_view h) ++ block_marks true (block_view c.in-For.body)) c.deref-in-For.ensures ∙
+    ap (λ v. statement_marks c.args.in_for (stmt_view v)) (sym c.in-For.is))
 
 pub add_block-loop-item-preserved : goal.add_block-loop-item-preserved
 add_block-loop-item-preserved t c =

@@ -34,13 +34,13 @@ returns-in-Number t c = elim c.in-Number.is [
   | inr r ↦ elim r [
     | inl q ↦ sym (ap (λ p. p.mode) (text_here (source_of c.args.self.source.now) c.args.self.slots.now.places.items _ q.1))
     | inr r ↦ elim r [
-      | inl q ↦ sym (ap (λ p. p.mode) (composite_here (source_of c.args.self.source.now) c.args.self.slots.now.places.items _ q.1))
+      | inl q ↦ sym (ap (λ p. p.mode) (composite_here (source_of c.args.self.source.now) c.args.self.slots.now.places.items _ q.1 _ refl))
       | inr r ↦ elim r [
         | inl q ↦ sym (ap (λ p. p.mode) (paren_here (source_of c.args.self.source.now) c.args.self.slots.now.places.items _ _ _ q.3 _ refl))
         | inr r ↦ elim r [
           | inl q ↦ prefix_stands (source_of c.args.self.source.now) c.args.self.slots.now.places.items _ _ _ q.3
           | inr r ↦ elim r [
-            | inl q ↦ sym (ap (λ p. p.mode) (address_here (source_of c.args.self.source.now) c.args.self.slots.now.places.items _ _ q.2))
+            | inl q ↦ sym (ap (λ p. p.mode) (address_here (source_of c.args.self.source.now) c.args.self.slots.now.places.items _ _ q.2 _ refl))
             | inr q ↦ sym (ap (λ p. p.mode) (binary_here (source_of c.args.self.source.now) c.args.self.slots.now.places.items _ _ q.2 _ _ refl refl))
           ]
         ]

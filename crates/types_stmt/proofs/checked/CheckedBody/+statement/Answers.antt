@@ -3,11 +3,11 @@ use Rattle.std.proofs.Common.{◌+◌, ap, sym, ◌∙◌, drop, map}
 use Rattle.std.proofs.Math.ListN.{drop_of_length-le}
 use Rattle.std.proofs.lemmas.Result.{on_ok_weaker}
 use Rattle.go_ast.specs.View.{expr_view, exprs_view}
-use Rattle.go_ast.specs.FileView.{stmt_view, block_view, if_view, else_view}
+use Rattle.go_ast.specs.FileView.{for_view, stmt_view, block_view, if_view, else_view}
 use Rattle.go_ast.specs.declared.tree.IfStmt.{out-IfStmt}
 use Rattle.types_expr.specs.WorldView.{world_of}
 use Rattle.types_stmt.specs.Simple.{check_condition}
-use Rattle.types_stmt.specs.Statements.{check_return, check_statement, check_block, check_if, check_else}
+use Rattle.types_stmt.specs.Statements.{check_return, check_for_header, check_statement, check_block, check_if, check_else}
 use Rattle.types_stmt.specs.View.{checked_of, target_of}
 use Rattle.types_stmt.proofs.Blocks.{check_each, each_step, each_end, block_read, if_from}
 use Rattle.types_expr.proofs.Items.{next_item}
@@ -49,15 +49,16 @@ check_statement-returns-in-Block t c = on_ok_weaker c.check_block.result
 pub check_statement-returns-in-If : goal.check_statement-returns-in-If
 unfolding check_statement stmt_view
 check_statement-returns-in-If t c = on_ok_weaker c.check_if.result
-    (λ q. q ∙ ap (λ v. check_statement (world_of c.args.world.now) (map target_of c.args.results.now) (checked_of c.args.self.now) (stmt_view v))
-    (sym c.in-If.is)) c.check_if.ensures
+    (λ q. q ∙ (ap (λ z. check_if (world_of c.args.world.now) (map target_of c.args.results.now) (checked_of c.args.self.now) (if_view z)) c.deref.ensures ∙
+    ap (λ v. check_statement (world_of c.args.world.now) (map target_of c.args.results.now) (checked_of c.args.self.now) (stmt_view v))
+    (sym c.in-If.is))) c.check_if.ensures
 
 pub check_statement-returns-in-Return : goal.check_statement-returns-in-Return
 unfolding check_statement stmt_view
 check_statement-returns-in-Return t c =
     on_ok_weaker c.check_return.result (λ q. q ∙ (ap (λ z.
     check_return (world_of c.args.world.now) (checked_of c.args.self.now) c.in-Return.at (map target_of c.args.results.now) (exprs_view z))
-    c.deref.ensures.value ∙ ap (λ v.
+    c.deref-in-Return.ensures.value ∙ ap (λ v.
     check_statement (world_of c.args.world.now) (map target_of c.args.results.now) (checked_of c.args.self.now) (stmt_view v)) (sym c.in-Return.is)))
     c.check_return.ensures
 
@@ -66,7 +67,8 @@ unfolding check_statement stmt_view
 check_statement-returns-in_ok-check_for_header-in-For t c =
     on_ok_weaker c.check_block-in-For.result (λ q. q ∙
     (ap (λ s. check_block (world_of c.args.world.now) (map target_of c.args.results.now) s (block_view c.in-For.body))
-    c.in_ok-check_for_header-in-For.ensures ∙
+    (c.in_ok-check_for_header-in-For.ensures ∙ ap (λ h. check_for_header (world_of c.args.world.now) (checked_of c.args.self.now) (for_view h))
+    c.deref-in-For.ensures) ∙
     ap (λ v. check_statement (world_of c.args.world.now) (map target_of c.args.results.now) (checked_of c.args.self.now) (stmt_view v))
     (sym c.in-For.is))) c.check_block-in-For.ensures
 
