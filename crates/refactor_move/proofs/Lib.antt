@@ -1,5 +1,6 @@
 -- The lemmas of this crate.
 pub mod Marking
+pub mod NoEdits
 pub mod TokenEdits
 pub mod EditMaps
 pub mod Naming

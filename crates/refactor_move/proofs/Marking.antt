@@ -31,7 +31,7 @@ next_marked imports k item first old new lt is h m = record {
       );
 }
 
-abbrev tells : SourceFile → ℕ → FileImport → Type 0
+abbrev pub tells : SourceFile → ℕ → FileImport → Type 0
 tells file token found = (found.literal ≡ token) × HasValue file token found.path
 
 literal_of_import : (file : SourceFile) (imports : List FileImport) → ListsImports file imports → (i : ℕ) → IsLiteralAmong imports i →
@@ -43,7 +43,7 @@ literal_of_import file imports lists i x =
     let told : tells file (get_or lits k i) (get_or imports k x.0) = zip_at (tells file) lits imports lists k i x.0 within in
     subst (Contains lits) (sym told.0 ∙ ap (λ (f : FileImport). f.literal) x.1.2 ∙ x.2) (Contains-get_or lits k i within)
 
-import_of_literal : (file : SourceFile) (imports : List FileImport) → ListsImports file imports → (i : ℕ) → Contains (import_literals file.tree) i →
+pub import_of_literal : (file : SourceFile) (imports : List FileImport) → ListsImports file imports → (i : ℕ) → Contains (import_literals file.tree) i →
     IsLiteralAmong imports i
 import_of_literal file imports lists i has =
     let lits = import_literals file.tree in

@@ -5,5 +5,6 @@ pub mod Changes
 pub mod MoveEdits
 pub mod Steps
 pub mod Uses
+pub mod Untouched
 pub mod Paths
 pub mod PathSteps

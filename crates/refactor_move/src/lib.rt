@@ -17,6 +17,7 @@ mod names;
 mod package_edits;
 mod paths;
 mod quoting;
+mod untouched;
 
 pub use following::name_after;
 pub use moved::Moved;

@@ -11,6 +11,7 @@ ghost use Rattle.refactor_move.specs.Uses.{AreMarkedEdits, IsPackageOfMove, Know
 
 use crate::file_edits::{MovedFile, edits_of};
 use crate::moved::Moved;
+use crate::untouched::may_change;
 use base_edits::Edits;
 use base_files::Path;
 use go_ast::FileTree;
@@ -64,6 +65,9 @@ fn edits_in(
         moved: of.moved,
         rows: of.rows,
     };
+    if !may_change(alloc, &of)? {
+        return Ok(Edits::new(Vec::new(alloc)));
+    }
     Ok(Edits::new(edits_of(alloc, &of)?))
 }
 

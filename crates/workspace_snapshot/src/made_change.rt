@@ -86,6 +86,38 @@ impl MadeChange {
         Ok(MadeChange { change, back })
     }
 
+    /// The change of a snapshot's files by the edit set of a change of some of them. Only Go files at the paths `left_out` may differ from those
+    /// that this change makes. So only these are looked at, and no other is parsed again.
+    pub fn widened(
+        alloc: Global,
+        snapshot: &Snapshot,
+        part: MadeChange,
+        left_out: &[&Path],
+    ) -> Result<MadeChange, AllocError>
+        requires fits { Fits part.edits snapshot.now.files }
+        requires rest { DiffersOnlyAt (names left_out.now) part.files (edited part.edits snapshot.now.files) }
+        ensures { IfOk result (λ change. change ≡ record { base = snapshot.now.files; kind = part.kind; edits = part.edits; files = edited part.edits snapshot.now.files }) }
+    {
+        let (part, _) = part.into_parts();
+        let Change {
+            kind,
+            edits,
+            files: before,
+            ..
+        } = part;
+        let base = &snapshot.files;
+        let Prepared { files, inverse } = prepare(alloc, &edits, base.files())?;
+        let back = inverse.set_aside();
+        let files = Graph::changed(alloc, &before, files, left_out)?;
+        let change = Change {
+            base: base.clone()?,
+            kind,
+            edits,
+            files,
+        };
+        Ok(MadeChange { change, back })
+    }
+
     /// The change.
     pub fn get(&self) -> &Change
         ensures { result.now ≡ self.now }
