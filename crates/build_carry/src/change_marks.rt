@@ -65,7 +65,7 @@ fn changed_among<'a>(
 }
 
 /// Marks the packages in whose closures files differ between two workspaces, by the folders of the packages that differ.
-pub(crate) fn marks_by(
+pub fn marks_by(
     alloc: Global,
     before: &Graph,
     after: &Graph,

@@ -96,9 +96,9 @@ fn knows_each(known: &Known, count: usize) -> bool
 /// Verdicts that were found in another workspace, and the marks of the change from there.
 #[derive(Clone, Copy)]
 pub struct FoundElsewhere<'a> {
-    judged: &'a Graph,
-    found: &'a Known,
-    marks: &'a Marks,
+    pub judged: &'a Graph,
+    pub found: &'a Known,
+    pub marks: &'a Marks,
 }
 
 /// Takes in the verdict on the package `number`, if none is known and the package keeps the one that was found elsewhere.
@@ -131,7 +131,7 @@ fn take_kept(
 }
 
 /// Adds the verdicts that were found elsewhere, on packages that keep them, to what is known of a workspace.
-fn with_kept(
+pub fn with_kept(
     alloc: Global,
     files: &Graph,
     own: &Known,

@@ -1,7 +1,7 @@
 -- Affected packages without faults have none after the change. Packages that keep their closures keep their units.
-use Rattle.std.proofs.Common.{ℕ, inl, inr, List}
+use Rattle.std.proofs.Common.{◌≡◌, ℕ, inl, inr, true, List, sym, ◌∙◌}
 use Rattle.std.specs.Prelude.{Contains}
-use Rattle.std.proofs.lemmas.Bool.{cases_Bool}
+use Rattle.std.proofs.lemmas.Bool.{cases_Bool, true≢false}
 use Rattle.base_edits.specs.Revisions.{Revision}
 use Rattle.base_files.specs.Packages.{package_paths}
 use Rattle.base_files.specs.Workspace.{Workspace}
@@ -26,8 +26,16 @@ module _ (w : Workspace) (P : List ℕ → Type 0) where
   ]
 
   pub affected_stay_sound : (r : Revision) → HaveNoFault w P → PreservesSound w r → AreSoundAfter w r P
-  affected_stay_sound r sound h after right path to has among goes =
-      h.sound after right path to (sound_among sound h.before h.right path has among) goes
+  affected_stay_sound r sound h = record {
+    after = h.after;
+    right_after = h.right_after;
+    sound = λ known right path to has among goes. h.sound known right path to (sound_among sound h.before h.right path has among) goes;
+  }
+
+  -- so a package with faults is not among them
+  pub faulty_apart : HaveNoFault w P → (known : Verdicts) → AreVerdicts w known → (q : List ℕ) → Contains (package_paths w) q → (known q).faulty ≡ true →
+      P q → ⊥
+  faulty_apart sound known right q has faulty among = true≢false (sym faulty ∙ (sound_among sound known right q has among).sound)
 
   pub leaves_others : (after : Workspace) → ((path : List ℕ) → Contains (package_paths w) path → (P path → ⊥) → HasSameClosure w after path) →
       LeavesOthers w after P

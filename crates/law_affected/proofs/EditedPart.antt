@@ -1,6 +1,6 @@
 -- Edits of the part, made in the part and in the whole workspace: where no other Go file comes to a package of the edited part, each package
 -- of it has the same closure in both.
-use Rattle.std.proofs.Common.{◌≡◌, ℕ, true, List, [], Option, None, Some, refl, sym, ap, subst}
+use Rattle.std.proofs.Common.{◌≡◌, ℕ, inl, inr, true, List, [], Option, None, Some, refl, sym, ap, subst}
 use Rattle.std.specs.Prelude.{Contains, IsSome, unwrap_or, ◌==◌}
 use Rattle.std.specs.Cmp.Lexicographic.{pointwise, bytes_decides}
 use Rattle.std.specs.FinMap.{entries, get}
@@ -16,6 +16,8 @@ use Rattle.base_edits.specs.Fits.{path_after, path_by_change}
 use Rattle.base_edits.specs.Moved.{moved}
 use Rattle.base_edits.specs.declared.change.FileChange.{FileChange}
 use Rattle.base_edits.proofs.Entries.{entry_of, get_entry, some_is, value_of}
+use Rattle.base_edits.proofs.FilesAfter.{IsOldFile, comes_from}
+use Rattle.base_lemmas.proofs.Elements.{nothing_in}
 use Rattle.workspace_graph.proofs.ByPath.{has_file}
 use Rattle.workspace_check.specs.Closures.{HasSameClosure}
 use Rattle.workspace_check.specs.FaultLists.{ListsFaults}
@@ -59,6 +61,13 @@ after_at s old before new goes = by_change (change_of s old) goes
     by_change : (o : Option FileChange) → path_by_change o old ≡ Some new → (text : List ℕ) × (file_by o (old, before) ≡ Some (new, text))
     by_change None h = (before, ap (λ (p : List ℕ). Some (p, before)) (same_Some old new h))
     by_change (Some c) h = (edited_text c.edits before, ap (option_map {U = List ℕ × List ℕ} (λ p. (p, edited_text c.edits before))) h)
+
+-- what a file of the edited files was before
+pub was_before : (w : Workspace) (s : FileChanges) (none : s.added ≡ []) (path text : List ℕ) → get (edited s w) path ≡ Some text → IsOldFile s w path text
+was_before w s none path text has = elim (comes_from s w path text has) [
+  | inl new ↦ absurd (nothing_in (path, text) (subst (λ l. Contains l (path, text)) none new))
+  | inr old ↦ old
+]
 
 module _ (w : Workspace) (known : Verdicts) (s : FileChanges) (none : s.added ≡ []) (apart : AreApart s w) where
   abbrev part : Workspace

@@ -1,20 +1,19 @@
 -- The bytes that a rename or move beside packages with faults leaves.
 use Rattle.std.proofs.Common.{◌≡◌, ℕ, inl, inr, true, List, Option, None, Some, length, refl, sym, ap, subst, ◌∙◌}
-use Rattle.std.specs.Prelude.{Contains, MatchOption, Ok}
+use Rattle.std.specs.Prelude.{Contains, Ok}
 use Rattle.std.specs.FinMap.{get}
 use Rattle.std.proofs.lemmas.Bool.{and_parts, cases_Bool}
-use Rattle.std.proofs.lemmas.List.Elements.{All-contains}
 use Rattle.base_files.specs.Packages.{is_go}
 use Rattle.base_files.specs.Path.{folder}
 use Rattle.base_files.specs.Workspace.{Workspace}
-use Rattle.base_edits.specs.Edits.{AreInOrder, LieWithin, edited_text}
+use Rattle.base_edits.specs.Edits.{AreInOrder, edited_text}
 use Rattle.base_edits.specs.EditSet.{FileChanges, change_of}
-use Rattle.base_edits.specs.Fits.{HasSpans, path_after, path_by_change}
+use Rattle.base_edits.specs.Fits.{path_after, path_by_change}
 use Rattle.base_edits.specs.Moved.{edits_by}
 use Rattle.base_edits.specs.declared.change.FileChange.{FileChange}
 use Rattle.base_edits.specs.declared.change.Fate.TheVariants.{Stays}
 use Rattle.base_edits.proofs.Changes.{change_found}
-use Rattle.base_edits.proofs.Entries.{none_from, some_is}
+use Rattle.base_edits.proofs.Entries.{some_is}
 use Rattle.workspace_graph.proofs.ByPath.{has_file}
 use Rattle.workspace_check.specs.Verdicts.{Verdicts}
 use Rattle.workspace_snapshot.specs.declared.change.Change.{Change}
@@ -28,7 +27,8 @@ use Rattle.law_kept_bytes.proofs.FilesKept.{bytes_stay, file_there}
 use Rattle.law_kept_bytes.specs.MovedBytes.{IsPathAfterMove}
 use Rattle.law_moved_packages.proofs.MovedFolders.{folder_moves}
 use Rattle.refactor_part.specs.FaultlessPart.{faultless_part, is_of_faulty}
-use Rattle.refactor_part.proofs.PartFiles.{gone, kept}
+use Rattle.refactor_part.proofs.PartChanges.{no_change}
+use Rattle.refactor_part.proofs.PartFiles.{kept}
 use Rattle.refactor_affected.specs.Moves.{PlansAffectedMove}
 use Rattle.refactor_affected.proofs.MovesApart.{move_edits_apart}
 use Rattle.law_affected.specs.AffectedBytes.{AffectedRenamesKeepOtherBytes, AffectedMovesKeepOtherBytes}
@@ -108,16 +108,9 @@ module _ (snapshot : Snapshot) (from to : List ℕ) (change : Change) (plan : Pl
         | inr stays ↦ record { after = file; goes = stays.1; is_after = inr (subst (λ f. IsUnder f file → ⊥) source stays.0, refl); order = order }
       ]
 
-  -- a file of a package with faults has no change
-  no_change : is_of_faulty known file ≡ true → change_of s file ≡ None
-  no_change faulty = none_from (change_of s file) (λ c has.
-      let found = change_found s.changed file c has in
-      let gone_there : get part c.path ≡ None = ap (get part) found.1 ∙ gone w known file faulty in
-      subst (λ o. MatchOption o ⊥ (λ t. LieWithin (length t) c.edits)) gone_there (All-contains (HasSpans part) s.changed c plan.1.fit_part.there found.0))
-
   told_out : is_of_faulty known file ≡ true → IsToldOf
   told_out faulty =
-      let none = no_change faulty in
+      let none = no_change w known s are.none_added (move_edits_apart w part plan.1.moving.known from to s are plan.0.movable.free) plan.1.fit_part file faulty in
       let parts = and_parts (is_go file) (known (folder file)).faulty faulty in
       record {
         after = file;

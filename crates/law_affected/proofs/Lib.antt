@@ -1,5 +1,6 @@
 -- The lemmas of this crate.
 pub mod EditedPart
+pub mod VerdictsAfter
 pub mod SoundAfter
 pub mod StayingFiles
 pub mod MovingFiles

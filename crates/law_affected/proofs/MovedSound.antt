@@ -19,7 +19,7 @@ use Rattle.refactor_affected.specs.Moves.{PlansAffectedMove}
 use Rattle.refactor_affected.specs.Starts.{IsAffectedByMove}
 use Rattle.refactor_affected.proofs.MovesApart.{move_edits_apart}
 use Rattle.law_affected.specs.SoundMoves.{MovesSound, MovesKeepSoundBindings, UndoTakesAffectedMovesBack}
-use Rattle.law_affected.proofs.AffectedAfter.{affected_stay_sound, leaves_others}
+use Rattle.law_affected.proofs.AffectedAfter.{affected_stay_sound, faulty_apart, leaves_others}
 use Rattle.law_affected.proofs.SoundAfter.{preserves_sound}
 use Rattle.law_affected.proofs.MovingFiles.{each_goes_moving, none_comes_moving}
 use Rattle.law_affected.proofs.OthersMoved.{others_moved}
@@ -56,7 +56,9 @@ module _ (snapshot : Snapshot) (from to : List ℕ) (change : Change) (plan : Pl
   moved_sound =
       let back = none_comes_moving w known right from to target plan.0.movable.free plan.0.sound by s are apart in
       let preserved = preserves_sound w known right s are.none_added apart back
-      (each_goes_moving w known right from to target plan.0.movable.free plan.0.sound by s are apart back) plan.1.preserves in
+      (each_goes_moving w known right from to target plan.0.movable.free plan.0.sound by s are apart back) plan.1.preserves
+      plan.1.fit_part
+      (λ p has faulty. unaffected p has (faulty_apart w (IsAffectedByMove w from to) plan.0.sound known right p has faulty)) in
       record {
         asked = plan.0;
         moving = plan.1.moving;

@@ -24,9 +24,8 @@ use Rattle.refactor_part.proofs.PartEdits.{AreApart, has_old}
 use Rattle.refactor_part.proofs.PartFiles.{fine_package, kept}
 use Rattle.refactor_affected.specs.Starts.{IsAffectedByMove, IsAtOrUnder, moves}
 use Rattle.refactor_affected.proofs.MovesApart.{goes}
-use Rattle.law_affected.proofs.EditedPart.{NoneComes, file_is, is_file, go_file, goes_on, part_apart}
+use Rattle.law_affected.proofs.EditedPart.{NoneComes, file_is, is_file, go_file, goes_on, part_apart, was_before}
 use Rattle.law_affected.proofs.SoundAfter.{EachGoes}
-use Rattle.law_affected.proofs.StayingFiles.{was_before}
 
 -- what moves lies at the folder or in it
 pub old_at : (from to old new : List ℕ) → HasMovedPackage from to old new → IsAtOrUnder from old

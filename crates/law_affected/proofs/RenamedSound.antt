@@ -28,7 +28,7 @@ use Rattle.refactor_part.proofs.PartEdits.{AreApart, staying_apart}
 use Rattle.refactor_part.proofs.PartFiles.{from_part}
 use Rattle.refactor_affected.specs.Renames.{IsAffectedByRename, PlansAffectedRename}
 use Rattle.law_affected.specs.SoundRenames.{RenamesSound, RenamesKeepSoundBindings, UndoTakesAffectedRenamesBack}
-use Rattle.law_affected.proofs.AffectedAfter.{affected_stay_sound, leaves_others}
+use Rattle.law_affected.proofs.AffectedAfter.{affected_stay_sound, faulty_apart, leaves_others}
 use Rattle.law_affected.proofs.SoundAfter.{preserves_sound}
 use Rattle.law_affected.proofs.StayingFiles.{each_goes_staying, none_comes_staying}
 use Rattle.law_affected.proofs.OthersRenamed.{edited_reaches, others_renamed}
@@ -83,7 +83,9 @@ module _ (snapshot : Snapshot) (path : List ℕ) (offset : ℕ) (name : List ℕ
   pub renamed_sound : RenamesSound w path offset name s (edited s w)
   renamed_sound =
       let back = none_comes_staying w known s none apart stay in
-      let preserved = preserves_sound w known right s none apart back (each_goes_staying w known s none apart stay back right) plan.1.preserves in
+      let preserved = preserves_sound w known right s none apart back (each_goes_staying w known s none apart stay back right) plan.1.preserves
+      plan.1.fit_part
+      (λ p has faulty. unaffected p has (faulty_apart w (IsAffectedByRename w (faultless_part w known) path offset) plan.1.sound known right p has faulty)) in
       record {
         asked = plan.0;
         affected_sound = plan.1.sound;

@@ -8,6 +8,7 @@ use Rattle.base_files.specs.Workspace.{Workspace}
 use Rattle.base_files.specs.declared.place.Place.{Place}
 use Rattle.go_ast.specs.SourceFile.{source_of}
 use Rattle.base_edits.specs.EditSet.{FileChanges, edited}
+use Rattle.base_edits.specs.Fits.{Fits}
 use Rattle.base_edits.specs.Moved.{moved}
 use Rattle.base_edits.specs.Revisions.{PackageMovesTo}
 use Rattle.base_edits.specs.RevisionsOfEdits.{revision_of}
@@ -35,6 +36,7 @@ use Rattle.refactor_part.proofs.PartEdits.{AreApart}
 use Rattle.refactor_part.proofs.PartFiles.{from_part, same_package}
 use Rattle.law_affected.specs.SoundPackages.{IsSoundPackage, PreservesSound}
 use Rattle.law_affected.proofs.EditedPart.{NoneComes, kept_closure}
+use Rattle.law_affected.proofs.VerdictsAfter.{FaultyKeep, verdicts_there, verdicts_are_right}
 
 -- places of declarations, among more packages
 module _ (A B : Package → Type 0) (to : (p : Package) → A p → B p) where
@@ -145,10 +147,12 @@ module _ (w : Workspace) (known : Verdicts) (right : AreVerdicts w known) (s : F
             holds = becomes b.declaration e b.holds;
           }
 
-    pub preserves_sound : PreservesSound w (revision_of w s)
-    preserves_sound = record {
+    pub preserves_sound : Fits s part → FaultyKeep w known right s none apart back h → PreservesSound w (revision_of w s)
+    preserves_sound fits keep = record {
       before = known;
       right = right;
+      after = verdicts_there w known right s none apart back h;
+      right_after = verdicts_are_right w known right s none apart back h fits keep;
       sound = sound_there;
       kept = λ after right_after. record { keeps = keeps after right_after; adds_none = adds_none after right_after };
     }

@@ -3,7 +3,6 @@ use Rattle.std.proofs.Common.{◌≡◌, ℕ, inl, inr, false, List, [], Option,
 use Rattle.std.specs.Prelude.{Contains}
 use Rattle.std.specs.FinMap.{get}
 use Rattle.std.proofs.lemmas.Option.{same_Some}
-use Rattle.base_lemmas.proofs.Elements.{nothing_in}
 use Rattle.base_files.specs.Packages.{package_paths}
 use Rattle.base_files.specs.Workspace.{Workspace}
 use Rattle.base_edits.specs.EditSet.{FileChanges, change_of, edited, path_by}
@@ -11,21 +10,14 @@ use Rattle.base_edits.specs.Fits.{path_after, path_by_change}
 use Rattle.base_edits.specs.declared.change.FileChange.{FileChange}
 use Rattle.base_edits.specs.declared.change.Fate.TheVariants.{Stays}
 use Rattle.base_edits.proofs.Changes.{change_found}
-use Rattle.base_edits.proofs.FilesAfter.{IsOldFile, comes_from, gets}
+use Rattle.base_edits.proofs.FilesAfter.{gets}
 use Rattle.workspace_check.specs.Verdicts.{Verdicts, AreVerdicts}
 use Rattle.workspace_check.proofs.PackageFiles.{package_file}
 use Rattle.refactor_part.specs.FaultlessPart.{faultless_part}
 use Rattle.refactor_part.proofs.PartEdits.{AreApart, has_old}
 use Rattle.refactor_part.proofs.PartFiles.{fine_package, same_package}
-use Rattle.law_affected.proofs.EditedPart.{NoneComes, file_is, is_file, goes_on, part_apart}
+use Rattle.law_affected.proofs.EditedPart.{NoneComes, file_is, is_file, goes_on, part_apart, was_before}
 use Rattle.law_affected.proofs.SoundAfter.{EachGoes}
-
--- what a file of the edited files was before
-pub was_before : (w : Workspace) (s : FileChanges) (none : s.added ≡ []) (path text : List ℕ) → get (edited s w) path ≡ Some text → IsOldFile s w path text
-was_before w s none path text has = elim (comes_from s w path text has) [
-  | inl new ↦ absurd (nothing_in (path, text) (subst (λ l. Contains l (path, text)) none new))
-  | inr old ↦ old
-]
 
 module _ (s : FileChanges) (stay : (c : FileChange) → Contains s.changed c → c.fate ≡ Stays) where
   by_change : (old : List ℕ) (o : Option FileChange) → change_of s old ≡ o → path_by_change o old ≡ Some old

@@ -13,8 +13,7 @@ use Rattle.workspace_check.proofs.Closed.{in_closure_then}
 use Rattle.refs_lookup.specs.Reached.{IsReached, start, imported, HasSameReached}
 use Rattle.refs_lookup.proofs.Reached.{same_closure}
 use Rattle.refactor_part.proofs.PartEdits.{AreApart, has_old}
-use Rattle.law_affected.proofs.EditedPart.{file_is, is_file}
-use Rattle.law_affected.proofs.StayingFiles.{was_before}
+use Rattle.law_affected.proofs.EditedPart.{file_is, is_file, was_before}
 
 -- a package that is reached is in the closure
 pub reached_closed : (w : Workspace) (p q : List ℕ) → IsReached w p q → Contains (package_paths w) q → IsInClosure w p q

@@ -30,18 +30,23 @@ pub record KeepsSoundBindings (w : Workspace) (before : Verdicts) (r : Revision)
       IsBoundToOne w before place (λ d. Corresponds (IsCheckedPackage w before) (IsCheckedPackage r.after after) r.moved d e)
 
 -- A package without faults has none after the change, at the path to which the change moves it. Its identifiers keep their bindings. So it is
--- by any right verdicts on the packages after the change.
+-- by any right verdicts on the packages after the change, and `after` are such verdicts.
 pub record PreservesSound (w : Workspace) (r : Revision) : Type 0 where
   pub before : Verdicts
   pub right : AreVerdicts w before
-  pub sound : (after : Verdicts) → AreVerdicts r.after after → (path to : List ℕ) → IsSoundPackage w before path → PackageMovesTo w r path to →
-      IsSoundPackage r.after after to
-  pub kept : (after : Verdicts) → AreVerdicts r.after after → KeepsSoundBindings w before r after
+  pub after : Verdicts
+  pub right_after : AreVerdicts r.after after
+  pub sound : (known : Verdicts) → AreVerdicts r.after known → (path to : List ℕ) → IsSoundPackage w before path → PackageMovesTo w r path to →
+      IsSoundPackage r.after known to
+  pub kept : (known : Verdicts) → AreVerdicts r.after known → KeepsSoundBindings w before r known
 
--- Each package for whose path `P` holds has no fault after the change, at the path to which the change moves it.
-abbrev pub AreSoundAfter : (w : Workspace) → (r : Revision) → (P : List ℕ → Type 0) → Type 0
-AreSoundAfter w r P = (after : Verdicts) → AreVerdicts r.after after → (path to : List ℕ) → Contains (package_paths w) path → P path →
-    PackageMovesTo w r path to → IsSoundPackage r.after after to
+-- There are right verdicts on the packages after the change. By each of them, a package for whose path `P` holds has no fault then, at the
+-- path to which the change moves it.
+pub record AreSoundAfter (w : Workspace) (r : Revision) (P : List ℕ → Type 0) : Type 0 where
+  pub after : Verdicts
+  pub right_after : AreVerdicts r.after after
+  pub sound : (known : Verdicts) → AreVerdicts r.after known → (path to : List ℕ) → Contains (package_paths w) path → P path →
+      PackageMovesTo w r path to → IsSoundPackage r.after known to
 
 -- Each package for whose path `P` does not hold has the same closure after the change, with the same texts. Its unit is the same: its faults,
 -- or its export data and its object.

@@ -7,3 +7,4 @@ pub mod MovesApart
 pub mod MovePlanned
 pub mod Starting
 pub mod OwnMark
+pub mod PlannedRead

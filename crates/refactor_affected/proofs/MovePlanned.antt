@@ -26,6 +26,8 @@ use Rattle.refactor_move.specs.MoveEdits.{IsFree}
 use Rattle.refactor_part.specs.FaultlessPart.{faultless_part, part_of_snapshot}
 use Rattle.refactor_part.specs.FirstFaults.{RefusesFirstOf}
 use Rattle.refactor_part.proofs.Carried.{none_as}
+use Rattle.refactor_part.specs.LeftOut.{IsLeftOut}
+use Rattle.refactor_part.proofs.PartChanges.{folders_after, rest_after}
 use Rattle.refactor_part.proofs.PartClosures.{part_sound, whole}
 use Rattle.refactor_part.proofs.PartEdits.{AreApart, limits_of_part, fits_whole}
 use Rattle.refactor_part.proofs.PartFiles.{into_part, stays_there}
@@ -35,7 +37,7 @@ use Rattle.refactor_plan.specs.Proposals.{proposed_change}
 use Rattle.refactor_affected.specs.Moves.{PlansAffectedMove, changes_within, IsSoundMove, IsMoveOverLimit, IsMovedBeside, part_moved}
 use Rattle.refactor_affected.specs.Starts.{IsAffectedByMove, moves}
 use Rattle.refactor_affected.specs.Steps.{is_of_fault}
-use Rattle.refactor_affected.specs.Whole.{IsWholeChange}
+use Rattle.refactor_affected.specs.Whole.{IsWholeChange, DiffersByLeftOut}
 use Rattle.refactor_affected.proofs.MovesApart.{move_edits_apart, moves_apart}
 use Rattle.refactor_affected.proofs.WithinPart.{edited_within, fit_within}
 use Rattle.refactor_affected.proofs.Sound.{no_first_fault, none_faulty}
@@ -128,6 +130,16 @@ module _ (snapshot : Snapshot) (known : Verdicts) (right : AreVerdicts snapshot.
 
       pub move_fits : Fits s w
       move_fits = fits_whole w known s h.1.moving.edits.none_added (apart s h.1.moving) h.1.fit_files
+
+      -- the files after them in the part and in the whole
+      pub move_differs : (folders paths : List (List ℕ)) → IsLeftOut w known folders paths → DiffersByLeftOut planned.files (edited s w) folders paths
+      move_differs folders paths left =
+          let none = h.1.moving.edits.none_added in
+          let all_apart = apart s h.1.moving in
+          subst (λ (x : Workspace). DiffersByLeftOut x (edited s w) folders paths) (sym (ap (λ (c : Change). c.files) h.1.is_change)) (record {
+            rest = rest_after w known s none all_apart h.1.fit_files folders paths left;
+            packages = folders_after w known s none all_apart h.1.fit_files folders paths left;
+          })
 
       changed : (change : Change) → change ≡ proposed_change snapshot Move s → FitsLimits snapshot.limits (edited s w) → IsMovedBeside snapshot v from to change
       changed change is fits =

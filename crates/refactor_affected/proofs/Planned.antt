@@ -23,20 +23,21 @@ use Rattle.base_edits.specs.EditSet.{FileChanges, edited}
 use Rattle.base_edits.specs.Fits.{Fits}
 use Rattle.base_edits.specs.RevisionsOfEdits.{revision_of}
 use Rattle.refactor_preserve.specs.Preserved.{Preserves}
-use Rattle.refactor_part.specs.Affected.{IsMarkedPackage}
 use Rattle.refactor_part.specs.FaultlessPart.{faultless_part, part_of_snapshot, is_of_faulty}
 use Rattle.refactor_part.specs.FirstFaults.{HaveNoFault, RefusesFirstOf}
+use Rattle.refactor_part.specs.LeftOut.{IsLeftOut}
+use Rattle.refactor_part.proofs.PartChanges.{folders_after, rest_after}
 use Rattle.refactor_part.proofs.PartClosures.{part_sound}
 use Rattle.refactor_part.proofs.PartEdits.{AreApart, limits_of_part, fits_whole, staying_apart}
 use Rattle.refactor_part.proofs.PartFiles.{kept}
-use Rattle.refactor_part.proofs.Carried.{none_as, refuses_of}
+use Rattle.refactor_part.proofs.Carried.{none_as}
 use Rattle.refs_binding.specs.Uses.{HasFileAt}
 use Rattle.refactor_rename.specs.NewName.{IsNewName}
 use Rattle.refactor_plan.specs.Plan.{PlansRename, RenamesIdentifier, HasConflict, IsRenameTooLarge}
 use Rattle.refactor_plan.specs.Proposals.{proposed_change}
 use Rattle.refactor_affected.specs.Renames.{IsRenamedBeside, PlansAffectedRename, IsAskedInSound, IsAffectedByRename, MayRename, affected, own, IsOwnPath}
-use Rattle.refactor_affected.specs.Steps.{MarkPackages, MarksRenamed, fault_or, refusal_after}
-use Rattle.refactor_affected.specs.Whole.{IsWholeChange, AdmitsWhole}
+use Rattle.refactor_affected.specs.Steps.{MarksRenamed, fault_or, refusal_after}
+use Rattle.refactor_affected.specs.Whole.{IsWholeChange, AdmitsWhole, DiffersByLeftOut}
 use Rattle.refactor_affected.proofs.Sound.{no_first_fault}
 
 module _ (snapshot : Snapshot) (known : Verdicts) (right : AreVerdicts snapshot.files known) (path : List ℕ) (offset : ℕ) (name : List ℕ)
@@ -104,13 +105,6 @@ module _ (snapshot : Snapshot) (known : Verdicts) (right : AreVerdicts snapshot.
   affected_fault refusal.Already may h = absurd h
   affected_fault refusal.NoJob may h = absurd h
   affected_fault refusal.BodyShort may h = absurd h
-
-  -- the first fault of the marked packages is that of the affected ones
-  pub marked_first : (part : Snapshot) → part ≡ part_of_snapshot snapshot known → (marks : List Bool) →
-      MarkPackages w (IsAffectedByRename w part.files path offset) marks → (r : Result (Unit {0}) Refusal) →
-      RefusesFirstOf w (IsMarkedPackage w marks) r → RefusesFirstOf w Affected r
-  marked_first part is marks m r h =
-      refuses_of w (IsMarkedPackage w marks) Affected (subst (λ (s : Snapshot). MarkPackages w (IsAffectedByRename w s.files path offset) marks) is m) r h
 
   -- at the byte there is nothing to rename
   pub none_affected : (Z : Type 0) (r : Refusal) → MarksRenamed {Z = Z} w v path offset (Err r) → PlansAffectedRename snapshot path offset name (Err r)
@@ -210,6 +204,16 @@ module _ (snapshot : Snapshot) (known : Verdicts) (right : AreVerdicts snapshot.
 
     pub rename_fits : Fits s w
     rename_fits = fits_whole w known s h.1.renaming.edits.edits.none_added (stay s h.1.renaming) h.1.fit_files
+
+    -- the files after them in the part and in the whole
+    pub rename_differs : (folders paths : List (List ℕ)) → IsLeftOut w known folders paths → DiffersByLeftOut planned.files (edited s w) folders paths
+    rename_differs folders paths left =
+        let none = h.1.renaming.edits.edits.none_added in
+        let apart = stay s h.1.renaming in
+        subst (λ (x : Workspace). DiffersByLeftOut x (edited s w) folders paths) (sym (ap (λ (c : Change). c.files) h.1.is_change)) (record {
+          rest = rest_after w known s none apart h.1.fit_files folders paths left;
+          packages = folders_after w known s none apart h.1.fit_files folders paths left;
+        })
 
     changed : (change : Change) → HaveNoFault w Affected → change ≡ proposed_change snapshot Rename s → FitsLimits snapshot.limits (edited s w) →
         IsRenamedBeside snapshot v path offset name change

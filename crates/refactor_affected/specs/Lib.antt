@@ -4,3 +4,4 @@ pub mod Renames
 pub mod Moves
 pub mod Whole
 pub mod Steps
+pub mod InPart

@@ -1,14 +1,15 @@
 //! Marks the packages that a rename affects.
-ghost use Rattle.std.specs.Prelude.{[], IfOk};
-ghost use Rattle.workspace_check.specs.Found.{IsFound};
-ghost use Rattle.workspace_check.specs.FaultLists.{ListsFaults};
+ghost use Rattle.std.specs.Prelude.{◌≡◌, Some, slice_get, IfOk};
+ghost use Rattle.base_files.specs.Packages.{package_paths};
+ghost use Rattle.base_files.specs.Path.{folder};
 ghost use Rattle.workspace_graph.specs.Reaching.{MarksClosuresWith};
+ghost use Rattle.refactor_plan.specs.Bindings.{IsReadFor};
 ghost use Rattle.refactor_affected.specs.Steps.{MarksOfHome, MarksRenamed};
 
-use base_files::{Path, Refusal};
-use refactor_part::SoundPart;
-use refs_binding::{Declaration, FaultlessWorkspace, refuse_faults};
-use refs_lookup::declaration_at;
+use base_files::Refusal;
+use refactor_plan::{PackageBindings, Proposal};
+use refs_binding::Declaration;
+use refs_lookup::declaration_in_package;
 use refs_places::declared_places::package_path;
 use std::alloc::{AllocError, Global};
 use types_expr::symbol::SharedPath;
@@ -38,37 +39,27 @@ fn marks_of_home(
     }
 }
 
-/// Marks the packages that the rename of the identifier at a byte affects. The identifier is sought in the part, which has no fault.
-fn marks_in(
-    alloc: Global,
-    graph: &Graph,
-    part: &FaultlessWorkspace<'_>,
-    file: &Path,
-    offset: usize,
-) -> Result<Vec<bool>, Refusal>
-    ensures { MarksRenamed graph.now part.now.graph file.now offset result }
-{
-    part.has_no_faults();
-    match declaration_at(alloc, part, file, offset) {
-        Err(refusal) => Err(refusal),
-        Ok(declaration) => marks_of_home(alloc, graph, &declaration),
-    }
-}
-
-/// Marks the packages that the rename of the identifier at a byte affects, by the part.
+/// Marks the packages that the rename of the identifier at the byte of a proposal affects. The identifier is sought in its package in the
+/// part, which was read.
 pub(crate) fn affected_packages(
     alloc: Global,
     graph: &Graph,
-    part: &SoundPart,
-    file: &Path,
-    offset: usize,
+    proposal: &Proposal<'_>,
+    read: &PackageBindings<'_>,
 ) -> Result<Vec<bool>, Refusal>
-    requires found { IsFound part.now.snapshot.files part.now.found }
-    requires sound { ListsFaults part.now.snapshot.files [] }
-    ensures { MarksRenamed graph.now part.now.snapshot.files file.now offset result }
+    requires read { IsReadFor proposal.now read.now }
+    requires folder { slice_get (package_paths read.now.at.workspace.now.graph) read.now.at.number ≡ Some (folder proposal.now.path.now) }
+    ensures { MarksRenamed graph.now proposal.now.workspace.now.graph proposal.now.path.now proposal.now.offset result }
 {
-    match refuse_faults(alloc, &part.snapshot.files, &part.found.findings) {
+    proposal.workspace.has_no_faults();
+    match declaration_in_package(
+        alloc,
+        proposal.workspace,
+        &read.of,
+        proposal.path,
+        proposal.offset,
+    ) {
         Err(refusal) => Err(refusal),
-        Ok(workspace) => marks_in(alloc, graph, &workspace, file, offset),
+        Ok(declaration) => marks_of_home(alloc, graph, &declaration),
     }
 }

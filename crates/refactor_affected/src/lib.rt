@@ -9,6 +9,7 @@
 #![tactic(auto)]
 
 mod affected;
+mod in_part;
 mod moving;
 mod refusals;
 mod rename;

@@ -11,7 +11,7 @@ use crate::refusals::names_fault;
 use crate::starts::{MovedFolder, affected_by_move};
 use crate::whole::whole_change;
 use base_files::{Path, Refusal};
-use refactor_part::{faultless_part, refuse_marked};
+use refactor_part::{faultless_part, left_out, refuse_marked};
 use refactor_preserve::Planned;
 use std::alloc::Global;
 use workspace_check::Found;
@@ -43,12 +43,13 @@ fn plan_in_part(
     ensures planned { PlansAffectedMove snapshot.now moved.entry.from.now moved.entry.to.now (change_in result) }
     ensures known { IfOk result (λ p. KnowsVerdicts p.change.files p.known) }
 {
-    let part = faultless_part(alloc, snapshot, found)?;
+    let left = left_out(alloc, &snapshot.files, &found.findings.export_table)?;
+    let part = faultless_part(alloc, snapshot, found, &left)?;
     let from = moved.from.as_str();
     let to = moved.to.as_str();
     match refactor_plan::plan_move(alloc, &part.snapshot, &part.found, from, to) {
         Err(refusal) => Err(refusal),
-        Ok(planned) => whole_change(alloc, snapshot, &found.known, planned),
+        Ok(planned) => whole_change(alloc, snapshot, &found.known, planned, &left),
     }
 }
 

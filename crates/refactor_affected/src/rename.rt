@@ -1,38 +1,26 @@
 //! Plans a rename in a workspace in which packages may have faults.
-ghost use Rattle.std.specs.Prelude.{◌≡◌, IfOk};
-ghost use Rattle.base_edits.specs.Fits.{Fits};
+ghost use Rattle.std.specs.Prelude.{IfOk};
 ghost use Rattle.workspace_check.specs.Found.{IsFound, KnowsVerdicts};
 ghost use Rattle.workspace_check.specs.KnownFindings.{verdicts_by};
+ghost use Rattle.workspace_graph.specs.Borrows.{names};
 ghost use Rattle.refs_binding.specs.Uses.{HasFileAt};
 ghost use Rattle.refactor_rename.specs.NewName.{IsNewName};
 ghost use Rattle.refactor_preserve.specs.Planned.{change_in};
-ghost use Rattle.refactor_part.specs.FaultlessPart.{part_of_snapshot};
 ghost use Rattle.refactor_part.specs.FirstFaults.{RefusesFirstOf};
-ghost use Rattle.refactor_affected.specs.Renames.{IsAffectedByRename, IsAskedInSound, IsOwnPath, PlansAffectedRename};
-ghost use Rattle.refactor_affected.specs.Steps.{MarkPackages, refusal_after};
-ghost use Rattle.refactor_affected.specs.Whole.{AdmitsWhole};
+ghost use Rattle.refactor_part.specs.LeftOut.{IsLeftOut};
+ghost use Rattle.refactor_affected.specs.Renames.{IsAskedInSound, IsOwnPath, PlansAffectedRename};
+ghost use Rattle.refactor_affected.specs.Steps.{MarkPackages};
 
-use crate::affected::affected_packages;
+use crate::in_part::{AskedRename, RenameInPart, plan_in_part};
 use crate::refusals::names_fault;
-use crate::whole::whole_change;
 use base_files::{Path, Refusal};
 use build_carry::folder_marks;
-use refactor_part::{SoundPart, faultless_part, refuse_marked};
+use refactor_part::{LeftOut, faultless_part, left_out, refuse_marked};
 use refactor_preserve::Planned;
 use std::alloc::{AllocError, Global};
 use workspace_check::Found;
 use workspace_graph::Graph;
 use workspace_snapshot::Snapshot;
-
-/// The arguments of a rename, with the snapshot and what was found in its packages.
-#[derive(Clone, Copy)]
-struct AskedRename<'a> {
-    snapshot: &'a Snapshot,
-    found: &'a Found,
-    file: &'a Path,
-    offset: usize,
-    name: &'a str,
-}
 
 /// Marks the package in the folder of a file, if there is one.
 fn own_mark(alloc: Global, graph: &Graph, file: &Path) -> Result<Vec<bool>, AllocError>
@@ -52,86 +40,25 @@ fn refuse_own(alloc: Global, asked: &AskedRename<'_>) -> Result<(), Refusal>
     refuse_marked(graph, &asked.found.findings, &marks)
 }
 
-/// The refusal of a rename in the part. A conflict or a passed limit comes after the faults of affected packages.
-fn after_faults(refusal: Refusal, faults: Result<(), Refusal>) -> Refusal
-    ensures { result ≡ refusal_after refusal faults }
-{
-    match refusal {
-        Refusal::Captured { .. } | Refusal::Lost { .. } | Refusal::TooLarge => match faults {
-            Err(fault) => fault,
-            Ok(()) => refusal,
-        },
-        other => other,
-    }
-}
-
-/// The rename that was planned in the part, as a change of the whole workspace, or the first fault of the affected packages.
-fn admitted(
+/// Plans the rename in the part, whose left out packages are given.
+fn plan_without(
     alloc: Global,
     asked: &AskedRename<'_>,
-    faults: Result<(), Refusal>,
-    planned: Planned,
-) -> Result<Planned, Refusal>
-    requires found { KnowsVerdicts asked.now.snapshot.now.files asked.now.found.now.known }
-    requires fits { Fits planned.change.edits asked.now.snapshot.now.files }
-    requires known { KnowsVerdicts planned.change.files planned.known }
-    ensures planned { AdmitsWhole asked.now.snapshot.now faults planned.change.kind planned.change.edits (change_in result) }
-    ensures known { IfOk result (λ p. KnowsVerdicts p.change.files p.known) }
-{
-    match faults {
-        Err(fault) => Err(fault),
-        Ok(()) => whole_change(alloc, asked.snapshot, &asked.found.known, planned),
-    }
-}
-
-/// Plans the rename in the part. The marked packages are those that it affects.
-fn plan_marked(
-    alloc: Global,
-    asked: &AskedRename<'_>,
-    part: &SoundPart,
-    marks: &[bool],
+    left: &LeftOut<'_>,
 ) -> Result<Planned, Refusal>
     requires found { IsFound asked.now.snapshot.now.files asked.now.found.now }
     requires asked { IsAskedInSound asked.now.snapshot.now.files asked.now.file.now asked.now.name.now }
-    requires part { part.now.snapshot ≡ part_of_snapshot asked.now.snapshot.now (verdicts_by asked.now.found.now.findings.export_table) }
-    requires part_found { IsFound part.now.snapshot.files part.now.found }
-    requires marks { MarkPackages asked.now.snapshot.now.files (IsAffectedByRename asked.now.snapshot.now.files part.now.snapshot.files asked.now.file.now asked.now.offset) marks.now }
+    requires left { IsLeftOut asked.now.snapshot.now.files (verdicts_by asked.now.found.now.findings.export_table) (names left.now.folders.items) (names left.now.paths.items) }
     ensures planned { PlansAffectedRename asked.now.snapshot.now asked.now.file.now asked.now.offset asked.now.name.now (change_in result) }
     ensures known { IfOk result (λ p. KnowsVerdicts p.change.files p.known) }
 {
-    let faults = refuse_marked(&asked.snapshot.files, &asked.found.findings, marks);
-    let planned = refactor_plan::plan_rename(
-        alloc,
-        &part.snapshot,
-        &part.found,
-        asked.file.as_str(),
-        asked.offset,
-        asked.name,
-    );
-    match planned {
-        Err(refusal) => Err(after_faults(refusal, faults)),
-        Ok(planned) => admitted(alloc, asked, faults, planned),
-    }
-}
-
-/// Plans the rename in the part without faulty packages.
-fn plan_in_part(
-    alloc: Global,
-    asked: &AskedRename<'_>,
-    part: &SoundPart,
-) -> Result<Planned, Refusal>
-    requires found { IsFound asked.now.snapshot.now.files asked.now.found.now }
-    requires asked { IsAskedInSound asked.now.snapshot.now.files asked.now.file.now asked.now.name.now }
-    requires part { part.now.snapshot ≡ part_of_snapshot asked.now.snapshot.now (verdicts_by asked.now.found.now.findings.export_table) }
-    requires part_found { IsFound part.now.snapshot.files part.now.found }
-    ensures planned { PlansAffectedRename asked.now.snapshot.now asked.now.file.now asked.now.offset asked.now.name.now (change_in result) }
-    ensures known { IfOk result (λ p. KnowsVerdicts p.change.files p.known) }
-{
-    let graph = &asked.snapshot.files;
-    match affected_packages(alloc, graph, part, asked.file, asked.offset) {
-        Err(refusal) => Err(refusal),
-        Ok(marks) => plan_marked(alloc, asked, part, &marks),
-    }
+    let part = faultless_part(alloc, asked.snapshot, asked.found, left)?;
+    let renaming = RenameInPart {
+        asked,
+        part: &part,
+        left,
+    };
+    plan_in_part(alloc, &renaming)
 }
 
 /// Plans the rename of an identifier in an existing file. Its own package must have no fault.
@@ -145,8 +72,12 @@ fn plan_file(alloc: Global, asked: &AskedRename<'_>) -> Result<Planned, Refusal>
     match refuse_own(alloc, asked) {
         Err(refusal) => Err(refusal),
         Ok(()) => {
-            let part = faultless_part(alloc, asked.snapshot, asked.found)?;
-            plan_in_part(alloc, asked, &part)
+            let left = left_out(
+                alloc,
+                &asked.snapshot.files,
+                &asked.found.findings.export_table,
+            )?;
+            plan_without(alloc, asked, &left)
         }
     }
 }

@@ -6,4 +6,7 @@ pub mod Smaller
 pub mod FaultOrder
 pub mod Carried
 pub mod PartEdits
-pub mod Leaving
+pub mod PartChanges
+pub mod LeftFiles
+pub mod LeavingOut
+pub mod MorePaths

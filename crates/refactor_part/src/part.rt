@@ -1,17 +1,19 @@
 //! Makes the part of a snapshot whose packages are those without faults.
 ghost use Rattle.std.specs.Prelude.{◌≡◌, IfOk};
 ghost use Rattle.std.specs.FinMap as map;
+ghost use Rattle.build_carry.specs.Changes.{AreChanged};
 ghost use Rattle.workspace_check.specs.Found.{IsFound, KnowsVerdicts};
 ghost use Rattle.workspace_check.specs.KnownFindings.{verdicts_by};
+ghost use Rattle.workspace_check.specs.Verdicts.{Verdicts};
 ghost use Rattle.workspace_graph.specs.Borrows.{names};
-ghost use Rattle.refactor_part.specs.FaultlessPart.{faultless_part, is_of_faulty, part_of_snapshot};
-ghost use Rattle.refactor_part.specs.LeftOut.{AreOfFaulty, LeavesOut};
+ghost use Rattle.refactor_part.specs.FaultlessPart.{faultless_part, part_of_snapshot};
+ghost use Rattle.refactor_part.specs.LeftOut.{AreOfFaulty, IsLeftOut, LeavesOut};
 
+use crate::leaving::LeftOut;
 use base_files::{Files, Path};
-use build_carry::learned_from;
+use build_carry::{FoundElsewhere, marks_by, with_kept};
 use std::alloc::{AllocError, Global};
-use types_declared::ExportTable;
-use workspace_check::{Found, Known, SharedKnown, verdicts};
+use workspace_check::{Found, Known, verdicts};
 use workspace_graph::Graph;
 use workspace_snapshot::Snapshot;
 
@@ -20,30 +22,6 @@ use workspace_snapshot::Snapshot;
 pub struct SoundPart {
     pub snapshot: Snapshot,
     pub found: Found,
-}
-
-/// Whether a path is that of a Go file of a package with faults. A package without export data has faults.
-fn is_of_faulty(table: &ExportTable, path: &Path) -> bool
-    ensures { result ≡ is_of_faulty (verdicts_by table.now) path.now }
-{
-    path.is_go() && table.scope(path.folder()).is_none()
-}
-
-/// The paths of the Go files of packages with faults.
-fn faulty_paths<'a>(
-    alloc: Global,
-    files: &'a Files,
-    table: &ExportTable,
-) -> Result<Vec<&'a Path>, AllocError>
-    ensures { IfOk result (λ paths. AreOfFaulty (verdicts_by table.now) (map.entries files.now) (names paths.items)) }
-{
-    let mut paths = Vec::new(alloc);
-    for (path, _) in files.iter() {
-        if is_of_faulty(table, path) {
-            paths.push(path)?;
-        }
-    }
-    Ok(paths)
 }
 
 /// The files without those at some paths.
@@ -57,56 +35,74 @@ fn without(files: &Files, paths: &[&Path]) -> Result<Files, AllocError>
     Ok(left)
 }
 
-/// The graph of the part.
-fn part_graph(alloc: Global, graph: &Graph, table: &ExportTable) -> Result<Graph, AllocError>
-    ensures { IfOk result (λ part. part ≡ faultless_part graph.now (verdicts_by table.now)) }
+/// The graph of the part, which leaves out the files at these paths.
+fn part_graph(alloc: Global, graph: &Graph, paths: &[&Path]) -> Result<Graph, AllocError>
+    ensures { IfOk result (λ part. (known : Verdicts) → AreOfFaulty known (map.entries graph.now) (names paths.now) → part ≡ faultless_part graph.now known) }
 {
-    let paths = faulty_paths(alloc, graph.files(), table)?;
-    let left = without(graph.files(), &paths)?;
-    Graph::changed(alloc, graph, left, &paths)
+    let left = without(graph.files(), paths)?;
+    Graph::changed(alloc, graph, left, paths)
 }
 
-/// The verdicts on packages of the part that are known of the workspace.
-fn part_known(
+/// Verdicts that were found in another workspace, whose files differ in these folders alone.
+#[derive(Clone, Copy)]
+pub struct FoundBeside<'a> {
+    pub judged: &'a Graph,
+    pub found: &'a Known,
+    pub folders: &'a [&'a [u8]],
+}
+
+/// Adds to what is known of a workspace the verdicts that were found in another one, on packages whose closures have the same texts here. No
+/// text is compared.
+pub fn known_beside(
     alloc: Global,
-    graph: &Graph,
-    known: &Known,
-    part: &Graph,
-) -> Result<SharedKnown, AllocError>
-    requires { KnowsVerdicts graph.now known.now }
-    ensures { IfOk result (KnowsVerdicts part.now) }
+    files: &Graph,
+    own: &Known,
+    beside: FoundBeside<'_>,
+) -> Result<Known, AllocError>
+    requires own { KnowsVerdicts files.now own.now }
+    requires found { KnowsVerdicts beside.judged.now beside.found.now }
+    requires changed { AreChanged beside.judged.now files.now (names beside.folders.now) }
+    ensures { IfOk result (KnowsVerdicts files.now) }
 {
-    let nothing = SharedKnown::new(alloc, Known::new(alloc))?;
-    learned_from(alloc, part, &nothing, graph, known)
+    let marks = marks_by(alloc, beside.judged, files, beside.folders)?;
+    let from = FoundElsewhere {
+        judged: beside.judged,
+        found: beside.found,
+        marks: &marks,
+    };
+    with_kept(alloc, files, own, &from)
 }
 
 /// The findings of the part. No package is checked anew on which a verdict is known.
-fn part_found(
-    alloc: Global,
-    graph: &Graph,
-    known: &Known,
-    part: &Graph,
-) -> Result<Found, AllocError>
-    requires { KnowsVerdicts graph.now known.now }
+fn part_found(alloc: Global, part: &Graph, beside: FoundBeside<'_>) -> Result<Found, AllocError>
+    requires found { KnowsVerdicts beside.judged.now beside.found.now }
+    requires changed { AreChanged beside.judged.now part.now (names beside.folders.now) }
     ensures { IfOk result (IsFound part.now) }
 {
-    let known = part_known(alloc, graph, known, part)?;
-    verdicts(alloc, part, known.get())
+    let nothing = Known::new(alloc);
+    let known = known_beside(alloc, part, &nothing, beside)?;
+    verdicts(alloc, part, &known)
 }
 
-/// The part of a snapshot whose packages are those without faults, with their findings.
+/// The part of a snapshot whose packages are those without faults, with their findings. What it leaves out is given.
 pub fn faultless_part(
     alloc: Global,
     snapshot: &Snapshot,
     found: &Found,
+    left: &LeftOut<'_>,
 ) -> Result<SoundPart, AllocError>
-    requires { IsFound snapshot.now.files found.now }
+    requires found { IsFound snapshot.now.files found.now }
+    requires left { IsLeftOut snapshot.now.files (verdicts_by found.now.findings.export_table) (names left.now.folders.items) (names left.now.paths.items) }
     ensures part { IfOk result (λ part. part.snapshot ≡ part_of_snapshot snapshot.now (verdicts_by found.now.findings.export_table)) }
     ensures found { IfOk result (λ part. IsFound part.snapshot.files part.found) }
 {
-    let graph = &snapshot.files;
-    let files = part_graph(alloc, graph, &found.findings.export_table)?;
-    let found = part_found(alloc, graph, &found.known, &files)?;
+    let files = part_graph(alloc, &snapshot.files, &left.paths)?;
+    let beside = FoundBeside {
+        judged: &snapshot.files,
+        found: &found.known,
+        folders: &left.folders,
+    };
+    let found = part_found(alloc, &files, beside)?;
     let snapshot = Snapshot {
         number: snapshot.number,
         limits: snapshot.limits,

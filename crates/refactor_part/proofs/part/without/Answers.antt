@@ -3,7 +3,7 @@ use Rattle.std.proofs.Common.{◌≡◌, ◌+◌, ◌++◌, ◌∷◌, [], List,
 use Rattle.workspace_graph.specs.Borrows.{names}
 use Rattle.workspace_graph.proofs.ChangedFiles.{names_more}
 use Rattle.refactor_part.specs.LeftOut.{LeavesOut}
-use Rattle.refactor_part.proofs.Leaving.{leaves_more}
+use Rattle.refactor_part.proofs.LeftFiles.{leaves_more}
 use Rattle.refactor_part.proofs.part.without.Goals as goal
 
 pub loop-path-preserved : goal.loop-path-preserved
