@@ -1,5 +1,5 @@
 -- The unit of a package: its faults if it has any, else its export data and its object.
-use Rattle.std.specs.Prelude.{ℕ, ◌≡◌, List, [], ◌∷◌, None, map, Contains}
+use Rattle.std.specs.Prelude.{ℕ, ◌≡◌, List, [], ◌∷◌, Option, None, Some, map, slice_get, Contains}
 use Rattle.base_files.specs.Workspace.{Workspace}
 use Rattle.base_files.specs.Packages.{package_paths, package_files}
 use Rattle.go_ast.specs.SourceFile.{SourceFile, FileParts, source_of}
@@ -82,6 +82,10 @@ ExportsOnly p (compiled.Done export_data object) = KnowsOnly p export_data
 pub record IsUnitOf (w : Workspace) (p : List ℕ) (unit : PackageUnit) : Type 0 where
   pub value : IsUnitValue w p (unit_value p unit)
   pub alone : ExportsOnly p unit
+
+-- If a unit is given, it is that of the package of this number of w.
+abbrev pub IsUnitAt : Workspace → (number : ℕ) → Option PackageUnit → Type 0
+IsUnitAt w number given = (p : List ℕ) (unit : PackageUnit) → slice_get (package_paths w) number ≡ Some p → given ≡ Some unit → IsUnitOf w p unit
 
 -- If p is a package of these inputs, `unit` is its unit in them. If it is none, `unit` may be any.
 abbrev pub IsUnitIn : Workspace → List ℕ → PackageUnit → Type 0

@@ -84,8 +84,8 @@ impl Built {
     }
 }
 
-/// Builds the unit of a Job's package. It checks only packages on which the Job brings no verdict. The answer for a path that is no package
-/// of the inputs may be any unit.
+/// Builds the unit of a Job's package, or answers it where the inputs bring it. It checks only packages on which the Job brings no verdict.
+/// The answer for a path that is no package of the inputs may be any unit.
 pub fn build(alloc: Global, job: &Job) -> Result<Built, AllocError>
     ensures { IfOk result (IsBuiltOf job.now) }
 {

@@ -36,7 +36,7 @@ fn export_data_of(
 }
 
 /// Makes the unit of a package with this object and its export data in `all`.
-fn done_unit(
+pub fn done_unit(
     alloc: Global,
     path: &SharedPath,
     all: &ExportTable,

@@ -1,15 +1,17 @@
 //! The inputs from which the unit of a package is built.
-ghost use Rattle.std.specs.Prelude.{◌≡◌, ◌<◌, IfOk, IsTrue, Some, length, slice_get, slice_index_or};
+ghost use Rattle.std.specs.Prelude.{◌≡◌, ◌<◌, [], IfOk, IsTrue, Some, length, slice_get, slice_index_or};
 ghost use Rattle.std.specs.List.{Contains};
 ghost use Rattle.base_files.specs.Packages.{package_paths};
 ghost use Rattle.base_files.specs.Workspace.{Workspace};
 ghost use Rattle.workspace_graph.specs.Graphs.{IsPackage, OfPackage};
 ghost use Rattle.workspace_check.specs.Found.{AreVerdictsOf, KnowsVerdicts};
-ghost use Rattle.build_unit.specs.Compiling.{IsMadeUnitIn};
+ghost use Rattle.build_unit.specs.Compiling.{IsMadeUnit, IsMadeUnitIn};
 ghost use Rattle.build_unit.specs.Inputs.{AreGoFiles, AreInputs, HasClosuresOf, IsClosureAt};
+ghost use Rattle.build_unit.specs.Units.{IsUnitAt};
 
 use crate::compiling::{MadeUnit, unit_in, unit_of};
 use crate::package_at::PackageAt;
+use crate::unit::Unit;
 use std::alloc::{AllocError, Global};
 use std::marker::Model;
 use std::sync::Arc;
@@ -17,14 +19,15 @@ use types_expr::symbol::SharedPath;
 use workspace_check::{KnownVerdict, SharedKnown};
 use workspace_graph::{Graph, PackageList, ParsedPackage, is_among};
 
-/// The shared parts of a package's inputs: the graph of its workspace, the number of the package, the numbers of its closure, and the known
-/// verdicts on packages of this workspace.
+/// The shared parts of a package's inputs: the graph of its workspace, the number of the package, and the numbers of its closure. With them
+/// come the known verdicts on packages of this workspace, and the unit of the package if it is known.
 #[derive(Drop)]
 struct InputParts {
     whole: Graph,
     number: usize,
     closure: PackageList,
     known: SharedKnown,
+    unit: Option<Unit>,
 }
 
 /// The Go files of a package's closure, as a workspace of their own. They are read in the workspace that they come from: no text is copied,
@@ -49,6 +52,7 @@ impl Model for PackageInputs {
     ghost use Rattle.base_files.specs.Workspace.{path_cmp};
     ghost use Rattle.workspace_check.specs.Found.{KnowsVerdicts};
     ghost use Rattle.build_unit.specs.Inputs.{IsClosureAt, part_of};
+    ghost use Rattle.build_unit.specs.Units.{IsUnitAt};
 
     ghost Value = { map.FinMap path_cmp (List ℕ) };
 
@@ -56,7 +60,7 @@ impl Model for PackageInputs {
 
     ghost view = { λ a. part_of (arc_value a.parts).whole (arc_value a.parts).closure };
 
-    ghost invariant = { λ a. IsClosureAt (arc_value a.parts).whole (arc_value a.parts).number (arc_value a.parts).closure × KnowsVerdicts (arc_value a.parts).whole (arc_value a.parts).known };
+    ghost invariant = { λ a. IsClosureAt (arc_value a.parts).whole (arc_value a.parts).number (arc_value a.parts).closure × KnowsVerdicts (arc_value a.parts).whole (arc_value a.parts).known × IsUnitAt (arc_value a.parts).whole (arc_value a.parts).number (arc_value a.parts).unit };
 }
 
 /// The number at this place of a list.
@@ -75,26 +79,49 @@ fn has_path(graph: &Graph, number: usize, path: &[u8]) -> bool
     graph.package(number).path.as_slice() == path
 }
 
+/// A known unit. No verdict is found.
+fn known_unit(alloc: Global, unit: &Unit) -> Result<MadeUnit, AllocError>
+    ensures { IfOk result (λ made. (made.unit ≡ unit.now) × (made.found.items ≡ [])) }
+{
+    let copy = unit.clone()?;
+    let found = Vec::new(alloc);
+    Ok(MadeUnit { unit: copy, found })
+}
+
+/// Makes the unit of the package of the inputs, unless it is known.
+fn made_here(alloc: Global, parts: &InputParts, path: &SharedPath) -> Result<MadeUnit, AllocError>
+    requires here { slice_get (package_paths parts.now.whole) parts.now.number ≡ Some path.now }
+    requires at { IsClosureAt parts.now.whole parts.now.number parts.now.closure }
+    requires known { KnowsVerdicts parts.now.whole parts.now.known }
+    requires unit { IsUnitAt parts.now.whole parts.now.number parts.now.unit }
+    ensures { IfOk result (IsMadeUnit parts.now.whole path.now) }
+{
+    if let Some(unit) = &parts.unit {
+        return known_unit(alloc, unit);
+    }
+    let at = PackageAt {
+        graph: &parts.whole,
+        number: parts.number,
+        closure: parts.closure.as_slice(),
+        known: parts.known.get(),
+    };
+    unit_of(alloc, at, path)
+}
+
 /// Makes the unit of the package at `path`, if the workspace has it. The closure is searched for only where this is not the package of the
 /// inputs.
 fn made_by(alloc: Global, parts: &InputParts, path: &SharedPath) -> Result<MadeUnit, AllocError>
     requires at { IsClosureAt parts.now.whole parts.now.number parts.now.closure }
     requires known { KnowsVerdicts parts.now.whole parts.now.known }
+    requires unit { IsUnitAt parts.now.whole parts.now.number parts.now.unit }
     ensures { IfOk result (IsMadeUnitIn parts.now.whole path.now) }
 {
     let graph = &parts.whole;
     let number = parts.number;
-    let known = parts.known.get();
     if !has_path(graph, number, path.path()) {
-        return unit_in(alloc, graph, path, known);
+        return unit_in(alloc, graph, path, parts.known.get());
     }
-    let at = PackageAt {
-        graph,
-        number,
-        closure: parts.closure.as_slice(),
-        known,
-    };
-    unit_of(alloc, at, path)
+    made_here(alloc, parts, path)
 }
 
 impl PackageInputs {
@@ -109,6 +136,22 @@ impl PackageInputs {
         requires known { KnowsVerdicts files.now known.now }
         ensures { IfOk result (λ inputs. OfPackage files.now number (λ p. AreInputs files.now p inputs)) }
     {
+        PackageInputs::with_unit(alloc, files, number, known, None)
+    }
+
+    /// The inputs of the package `number`, with the known verdicts, and with the unit of this package if it is known.
+    pub fn with_unit(
+        alloc: Global,
+        files: &Graph,
+        number: usize,
+        known: &SharedKnown,
+        unit: Option<Unit>,
+    ) -> Result<PackageInputs, AllocError>
+        requires number { number < length (package_paths files.now) }
+        requires known { KnowsVerdicts files.now known.now }
+        requires unit { IsUnitAt files.now number unit }
+        ensures { IfOk result (λ inputs. OfPackage files.now number (λ p. AreInputs files.now p inputs)) }
+    {
         let closure = files.closure(alloc, number)?;
         let whole = files.clone()?;
         let own = known.clone()?;
@@ -117,6 +160,7 @@ impl PackageInputs {
             number,
             closure,
             known: own,
+            unit,
         };
         let shared = Arc::new(alloc, parts)?;
         Ok(PackageInputs { parts: shared })

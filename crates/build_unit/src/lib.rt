@@ -2,7 +2,8 @@
 //! one package.
 //!
 //! Crates above rely on: `build` returns the unit of the Job's inputs (`IsBuiltOf`), with new verdicts on packages of the inputs. A package
-//! has one unit, which its closure determines (`units_are_unique`, `units_are_local`).
+//! has one unit, which its closure determines (`units_are_unique`, `units_are_local`). Inputs may bring the unit of their package, if it is
+//! known. Then `build` answers it, and neither checks nor prints anything.
 #![tactic(auto)]
 
 mod built;
@@ -18,6 +19,7 @@ mod package_at;
 mod unit;
 
 pub use built::{Built, build};
+pub use compiling::done_unit;
 pub use inputs::PackageInputs;
 pub use job::{Job, JobRecord};
 pub use out::{JobLabel, Out};

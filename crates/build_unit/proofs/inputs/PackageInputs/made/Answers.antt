@@ -2,6 +2,7 @@
 use Rattle.std.proofs.Common.{◌≡◌, sym, ap, subst, ◌∙◌}
 use Rattle.workspace_check.specs.Found.{AreVerdictsOf, KnowsVerdicts}
 use Rattle.build_unit.specs.Inputs.{HasClosuresOf, IsClosureAt, part_of}
+use Rattle.build_unit.specs.Units.{IsUnitAt}
 use Rattle.build_unit.specs.declared.inputs.InputParts.{InputParts}
 use Rattle.build_unit.proofs.ClosurePart.{closures_at}
 use Rattle.build_unit.proofs.InputVerdicts.{unit_here}
@@ -9,9 +10,9 @@ use Rattle.build_unit.proofs.inputs.PackageInputs.made.Goals as goal
 
 pub made_by-requires : goal.made_by-requires
 made_by-requires c =
-    let both = subst (λ (q : InputParts). IsClosureAt q.whole q.number q.closure × KnowsVerdicts q.whole q.known) (sym c.deref-parts.ensures)
-    c.self.invariant in
-    record { at = both.0; known = both.1 }
+    let all = subst (λ (q : InputParts). IsClosureAt q.whole q.number q.closure × KnowsVerdicts q.whole q.known × IsUnitAt q.whole q.number q.unit)
+    (sym c.deref-parts.ensures) c.self.invariant in
+    record { at = all.0; known = all.1; unit = all.2 }
 
 pub returns : goal.returns
 returns c =
