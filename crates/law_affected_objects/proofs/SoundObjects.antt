@@ -25,7 +25,7 @@ use Rattle.refs_places.specs.Outside.{declaring_path}
 use Rattle.refactor_part.specs.FaultlessPart.{faultless_part, part_of_snapshot}
 use Rattle.refactor_part.proofs.PartClosures.{part_closure}
 use Rattle.refactor_plan.specs.Plan.{ResolvesIdentifier}
-use Rattle.law_renamed_objects.specs.Objects.{HasObject, HasObjectText, IsOwnerCalled, IsUnprinted, ReplacesNames}
+use Rattle.law_renamed_objects.specs.Objects.{HasObject, HasObjectText, IsOwnerCalled, IsUnprinted, ReplacesNamesAt}
 use Rattle.law_replaced_names.specs.Replaced.{Replaced, of_global, of_method}
 use Rattle.refactor_units.specs.PlannedObjects.{RenamesInObjects, RenamesObjects}
 use Rattle.refactor_units.proofs.PlannedObjects.{planned_objects}
@@ -35,7 +35,7 @@ use Rattle.law_affected.specs.SoundPackages.{IsSoundPackage}
 use Rattle.law_affected.proofs.AffectedAfter.{sound_among}
 use Rattle.law_affected.proofs.PlannedInPart.{renames_in_part}
 use Rattle.workspace_snapshot.specs.declared.change.ChangeKind.TheVariants.{Rename}
-use Rattle.law_affected_objects.specs.SoundObjects.{AffectedRenamesRenameObjects, RenamesInSoundObjects, ReplacesSoundNames}
+use Rattle.law_affected_objects.specs.SoundObjects.{AffectedRenamesRenameObjects, RenamesInSoundObjects}
 
 -- the object of a package whose closure has the same texts elsewhere
 module _ (w x : Workspace) (before after : Verdicts) (right : AreVerdicts w before) (also : AreVerdicts x after) (path : List ℕ)
@@ -158,16 +158,17 @@ module _ (snapshot : Snapshot) (path : List ℕ) (offset : ℕ) (name : List ℕ
           subst (Contains (package_paths (edited s part))) h.has.of_path h.has.is_package.of_workspace in
           text_moved (edited s part) (edited s w) then after right_then right_after q (throughout.after q own) text h
 
-      replaced : (r : Replaced) → ReplacesNames part asked.known (edited s part) then r → ReplacesSoundNames w known (edited s w) after r
-      replaced r names q files_of o fine h = text_back q _ (names q files_of o (object_there q files_of o fine h))
+      replaced : (q : List ℕ) → IsSoundPackage w known q → (r : Replaced) → ReplacesNamesAt part asked.known (edited s part) then q r →
+          ReplacesNamesAt w known (edited s w) after q r
+      replaced q fine r names files_of o h = text_back q _ (names files_of o (object_there q files_of o fine h))
 
       pub in_sound : RenamesInSoundObjects w known d name (edited s w) after
-      in_sound = record {
-        unprinted = λ none q text fine h. text_back q text (law.unprinted (unprinted_there d refl none) q text (text_there q text fine h));
+      in_sound q fine = record {
+        unprinted = λ none text h. text_back q text ((law q).unprinted (unprinted_there d refl none) text (text_there q text fine h));
         package_level = λ own n same is level.
-            replaced (of_global own.path (own.names n) name) (law.package_level own n same (home_there own (ap declaring_path same) is) level);
+            replaced q fine (of_global own.path (own.names n) name) ((law q).package_level own n same (home_there own (ap declaring_path same) is) level);
         method = λ m called type_called same has_name owner.
-            replaced (of_method m.package type_called called name) (law.method m called type_called same
+            replaced q fine (of_method m.package type_called called name) ((law q).method m called type_called same
             (subst (λ e. HasDeclaredName Q e called) (sym same) (name_there m called same (subst (λ e. HasDeclaredName P e called) same has_name)))
             (owner_there m type_called same owner));
       }

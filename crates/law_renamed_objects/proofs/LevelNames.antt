@@ -9,7 +9,7 @@ use Rattle.go_ast.specs.Tree.{Item, Group, single, several, DeclTree, VarDecl, T
 use Rattle.go_scope.specs.declared.model.Block.TheVariants.{Universe, File, Inner}
 use Rattle.go_scope.specs.declared.model.Block.TheVariants.{Package as PackageBlock}
 use Rattle.go_scope.specs.declared.model.Role.TheVariants.{Declaring}
-use Rattle.go_scope.specs.Bindings.{Layout, IsPackageLevel, use_bound, own, block_of, is_implied}
+use Rattle.go_scope.specs.Bindings.{Layout, IsPackageLevel, use_bound, own, is_implied}
 use Rattle.go_scope.specs.Bindings as scopes
 use Rattle.go_scope.specs.FileSites.{imports_sites, decl_sites, file_sites, spec_sites, type_spec_sites, func_role}
 use Rattle.go_scope.specs.StatementSites.{group_sites, separated_sites}

@@ -18,12 +18,12 @@ use Rattle.types_expr.specs.declared.symbol.Symbol.{Symbol}
 use Rattle.types_declared.specs.Files.{package_name}
 use Rattle.types_declared.specs.Package.{Package, PlacedType, PlacedFunction, declared_types, declared_functions}
 use Rattle.types_info.proofs.DeclKinds.{Holds}
-use Rattle.workspace_graph.specs.Packages.{ImportsPath, IsInClosure, itself, through}
+use Rattle.workspace_graph.specs.Packages.{ImportsPath}
 use Rattle.workspace_graph.specs.Parsed.{AreParsed}
 use Rattle.workspace_check.specs.FaultLists.{ListsFaults}
 use Rattle.workspace_check.specs.Earlier.{HaveSameImports}
 use Rattle.workspace_check.specs.Verdicts.{Verdicts, AreVerdicts, AreVerdictsBelow, BuildsOn}
-use Rattle.workspace_check.proofs.Closed.{to_package, from_package}
+use Rattle.workspace_check.proofs.Closed.{to_package}
 use Rattle.workspace_check.proofs.PackageFiles.{at_rank}
 use Rattle.workspace_check.proofs.OnePackage.{all_read, one_sources}
 use Rattle.workspace_check.proofs.OneVerdict.{right_below}

@@ -38,10 +38,14 @@ pub record HasObjectText (w : Workspace) (known : Verdicts) (path text : List �
   pub has : HasObject w known path files_of object
   pub printed : text ≡ object_text (type_name files_of) object
 
--- The object of each package of `x` has the text of the old one in `w` with these names.
-abbrev pub ReplacesNames : (w : Workspace) (before : Verdicts) (x : Workspace) (after : Verdicts) → Replaced → Type 0
-ReplacesNames w before x after r = (path : List ℕ) (files_of : List ℕ → List SourceFile) (o : Object) → HasObject w before path files_of o →
+-- In `x` the object of the package at the path has the text of the old one in `w` with these names.
+abbrev pub ReplacesNamesAt : (w : Workspace) (before : Verdicts) (x : Workspace) (after : Verdicts) (path : List ℕ) → Replaced → Type 0
+ReplacesNamesAt w before x after path r = (files_of : List ℕ → List SourceFile) (o : Object) → HasObject w before path files_of o →
     HasObjectText x after path (text_by r (type_name files_of) o)
+
+-- So has that of each package.
+abbrev pub ReplacesNames : (w : Workspace) (before : Verdicts) (x : Workspace) (after : Verdicts) → Replaced → Type 0
+ReplacesNames w before x after r = (path : List ℕ) → ReplacesNamesAt w before x after path r
 
 -- No object prints the name of the declaration: it is a field, or declared in a scope within a package's files or functions.
 abbrev pub IsUnprinted : (Package → Type 0) → Declaration → Type 0

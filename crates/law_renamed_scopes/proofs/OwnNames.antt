@@ -11,10 +11,8 @@ use Rattle.base_edits.specs.EditSet.{FileChanges}
 use Rattle.base_edits.specs.RevisionsOfEdits.{revision_of}
 use Rattle.go_scope.specs.declared.model.Block.TheVariants.{Universe, File, Inner}
 use Rattle.go_scope.specs.declared.model.Block.TheVariants.{Package as PackageBlock}
-use Rattle.go_scope.specs.declared.model.Role.{Role}
-use Rattle.go_scope.specs.declared.model.Role.TheVariants.{Use, Declaring, LeftName, Implied, NotLexical}
-use Rattle.go_scope.specs.Bindings.{Layout, Names, IsImport, IsLeftName, IsPackageLevel, Declares, Counts, AllCount, use_bound, own, block_of}
-use Rattle.go_scope.specs.Bindings.{is_implied, is_left_name, is_use, may_declare}
+use Rattle.go_scope.specs.Bindings.{Layout, Names, IsImport, IsPackageLevel, Counts, AllCount, use_bound, own, block_of}
+use Rattle.go_scope.specs.Bindings.{is_implied, is_use, may_declare}
 use Rattle.go_scope.specs.Bindings as scopes
 use Rattle.go_scope.specs.FileSites.{universe, universe_site, files_sites, package_sites}
 use Rattle.go_scope.specs.Named.{named_sites}
@@ -47,7 +45,7 @@ use Rattle.law_renamed_packages.specs.Layouts.{IsRelaid}
 use Rattle.law_renamed_packages.specs.Renames.{IsPlainRename}
 use Rattle.law_renamed_scopes.specs.Scopes.{OwnRenamesAreRenames}
 use Rattle.law_renamed_scopes.proofs.Renamed.{bound_is_called, others_are_kept}
-use Rattle.law_renamed_scopes.proofs.SameNames.{left_roles}
+use Rattle.law_renamed_scopes.proofs.SameNames.{left_roles, use_identifies}
 use Rattle.law_renamed_scopes.proofs.Standing.{StandsAtName, IsLaid, begins_there, use_stands, declared_stands, laid_literal, in_package}
 
 -- behind the predeclared names there are identifiers of files
@@ -204,13 +202,6 @@ module _ (w : Workspace) (before : Verdicts) (path : List ℕ) (n : ℕ) (name :
     | inl use_of ↦ use_identifies (l.role u) use_of
     | inr left ↦ (left_roles (l.role u) left.0).1
   ]
-    where
-      use_identifies : (r : Role) → is_use r ≡ true → is_implied r ≡ false
-      use_identifies Use e = refl
-      use_identifies (Declaring b start) e = refl
-      use_identifies (LeftName b start) e = refl
-      use_identifies (NotLexical p) e = refl
-      use_identifies (Implied b start) e = absurd (true≢false (sym e))
   bound_identifies u (own e c) = ap (λ k. is_implied (l.role k)) e ∙ identifies_it
 
   renamed_so : (u : ℕ) → scopes.IsBoundTo l p.names u n → q.names u ≡ name

@@ -15,6 +15,14 @@ left_roles (Implied b start) e = absurd (true≢false (sym e))
 left_roles Use e = absurd (true≢false (sym e))
 left_roles (NotLexical p) e = absurd (true≢false (sym e))
 
+-- what uses a name is not predeclared
+pub use_identifies : (r : Role) → is_use r ≡ true → is_implied r ≡ false
+use_identifies Use e = refl
+use_identifies (Declaring b start) e = refl
+use_identifies (LeftName b start) e = refl
+use_identifies (NotLexical p) e = refl
+use_identifies (Implied b start) e = absurd (true≢false (sym e))
+
 -- each identifier that may declare has the same name
 abbrev AreSame : Layout → (a b : Names) → Type 0
 AreSame l a b = (d : ℕ) → may_declare (l.role d) ≡ true → b d ≡ a d

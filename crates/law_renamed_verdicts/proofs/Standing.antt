@@ -1,13 +1,10 @@
 -- Where identifiers of a package stand, and what an import that is seen exports.
 use Rattle.std.proofs.Common.{ℕ, suc, ◌≡◌, ◌+◌, ◌<◌, inl, inr, true, false, List, ap, refl, sym, subst, ◌∙◌, arith}
 use Rattle.std.specs.Prelude.{Option, Some}
-use Rattle.std.proofs.lemmas.Bool.{true≢false}
 use Rattle.std.proofs.lemmas.Option.{none-some}
 use Rattle.base_files.specs.Workspace.{Workspace}
 use Rattle.go_scope.specs.declared.model.Block.TheVariants.{Universe, File}
-use Rattle.go_scope.specs.declared.model.Role.{Role}
-use Rattle.go_scope.specs.declared.model.Role.TheVariants.{Use, Declaring, LeftName, Implied, NotLexical}
-use Rattle.go_scope.specs.Bindings.{IsBoundTo, IsImport, use_bound, own, block_of, is_implied, is_left_name, is_use}
+use Rattle.go_scope.specs.Bindings.{IsBoundTo, IsImport, use_bound, own, block_of, is_implied}
 use Rattle.go_scope.specs.FileSites.{universe}
 use Rattle.go_ast.specs.SourceFile.{source_of}
 use Rattle.types_declared.specs.Laid.{is_exported}
@@ -23,20 +20,7 @@ use Rattle.law_faultless.proofs.Declared.{given, old_site, new_site, role_is, ke
 use Rattle.law_faultless.proofs.Numbers.{IsTold, OfKind, IsKept, universal, plain, laid}
 use Rattle.law_faultless.proofs.FilesDecided.{IsGlobal}
 use Rattle.law_faultless.proofs.Scoped.{found_first}
-
-use_identifies : (r : Role) → is_use r ≡ true → is_implied r ≡ false
-use_identifies Use e = refl
-use_identifies (Declaring b s) e = refl
-use_identifies (LeftName b s) e = refl
-use_identifies (Implied b s) e = absurd (true≢false (sym e))
-use_identifies (NotLexical p) e = refl
-
-left_identifies : (r : Role) → is_left_name r ≡ true → is_implied r ≡ false
-left_identifies Use e = refl
-left_identifies (Declaring b s) e = refl
-left_identifies (LeftName b s) e = refl
-left_identifies (Implied b s) e = absurd (true≢false (sym e))
-left_identifies (NotLexical p) e = refl
+use Rattle.law_renamed_scopes.proofs.SameNames.{left_roles, use_identifies}
 
 module _ (w : Workspace) (known : Verdicts) (path : List ℕ) (p : Package) (h : IsPackageIn w known path p) where
   import_identifies : (d : ℕ) → d < p.size → IsImport p.layout d → is_implied (p.layout.role d) ≡ false
@@ -55,7 +39,7 @@ module _ (w : Workspace) (known : Verdicts) (path : List ℕ) (p : Package) (h :
   -- what is bound to an import is an identifier
   bound_identifies : (u d : ℕ) → u < p.size → IsImport p.layout d → IsBoundTo p.layout p.names u d → is_implied (p.layout.role u) ≡ false
   bound_identifies u d lt import (use_bound (inl used) at) = use_identifies (p.layout.role u) used
-  bound_identifies u d lt import (use_bound (inr left) at) = left_identifies (p.layout.role u) left.0
+  bound_identifies u d lt import (use_bound (inr left) at) = (left_roles (p.layout.role u) left.0).1
   bound_identifies u d lt import (own e counts) = import_identifies u lt (subst (IsImport p.layout) (sym e) import)
 
   -- in a qualified identifier the package's name is bound at its token, and the other name is selected two tokens further on

@@ -83,7 +83,7 @@ fn place_at(
 }
 
 /// The place of a declaration, or `None` where it has none.
-fn declared_place(
+pub fn declared_place(
     alloc: Global,
     workspace: &FaultlessWorkspace<'_>,
     declaration: &Declaration,

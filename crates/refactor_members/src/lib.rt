@@ -6,7 +6,7 @@
 
 mod beginning;
 mod concerned;
-mod declared_place;
+pub mod declared_place;
 mod definition;
 mod first;
 mod judged_names;

@@ -1,29 +1,21 @@
 -- A rename is decided by the workspace before it: its conflict is refused, and without one it preserves bindings and keeps known verdicts.
-use Rattle.std.proofs.Common.{ℕ, ◌≡◌, ◌<◌, inl, inr, true, false, Bool, List, Option, Some, None, refl, sym, subst, ◌∙◌}
-use Rattle.std.specs.Prelude.{[], ◌∷◌, Contains, Err, IsTrue, slice_get}
-use Rattle.std.proofs.lemmas.Bool.{false≢true, true≢false}
-use Rattle.base_lemmas.proofs.Elements.{first_in, nothing_in}
+use Rattle.std.proofs.Common.{ℕ, ◌≡◌, ◌<◌, inl, inr, true, false, Bool, List, Option, Some, None, refl, sym, subst}
+use Rattle.std.specs.Prelude.{[], Err, IsTrue, slice_get}
+use Rattle.std.proofs.lemmas.Bool.{false≢true}
 use Rattle.base_files.specs.Workspace.{Workspace}
-use Rattle.base_files.specs.declared.place.Place.{Place}
 use Rattle.base_edits.specs.EditSet.{FileChanges, edited}
 use Rattle.base_edits.specs.Fits.{Fits}
 use Rattle.base_edits.specs.RevisionsOfEdits.{revision_of}
 use Rattle.go_ast.specs.SourceFile.{SourceFile, source_of}
-use Rattle.go_scope.specs.declared.model.Block.TheVariants.{File, Inner, Universe}
-use Rattle.go_scope.specs.declared.model.Role.{Role}
-use Rattle.go_scope.specs.declared.model.Role.TheVariants.{Declaring, Implied, LeftName, NotLexical, Use}
-use Rattle.go_scope.specs.Bindings.{IsImport, IsUse, block_of, is_implied, is_left_name, is_use}
 use Rattle.types_declared.specs.Package.{Package}
 use Rattle.workspace_check.specs.declared.known.Known.{Known}
 use Rattle.workspace_check.specs.FaultLists.{ListsFaults}
 use Rattle.workspace_check.specs.Found.{KnowsVerdicts}
 use Rattle.workspace_check.specs.Verdicts.{Verdicts, AreVerdicts}
-use Rattle.workspace_check.proofs.OnePackage.{layout_formed}
 use Rattle.workspace_check.proofs.Telling.{known_same}
 use Rattle.refs_binding.specs.declared.declaration.Declaration.{Declaration}
 use Rattle.refs_binding.specs.declared.declaration.Declaration.TheVariants.{Predeclared, Declared, Field, Method}
-use Rattle.refs_binding.specs.Binding.{by_scope}
-use Rattle.refs_binding.specs.Uses.{IsCheckedPackage, IsUseOf}
+use Rattle.refs_binding.specs.Uses.{IsCheckedPackage}
 use Rattle.refs_binding.proofs.Units.{one_package}
 use Rattle.refs_lookup.proofs.BoundUsedMembers.{file_at}
 use Rattle.refs_places.specs.Outside.{declaring_path}
@@ -40,9 +32,7 @@ use Rattle.refactor_conflict.specs.Staying.{NoneIsLost}
 use Rattle.refactor_conflict.proofs.ConflictsDiffer.{not_staying}
 use Rattle.refactor_conflict.specs.Conflicts.{IsFirstConflict}
 use Rattle.law_renamed_packages.specs.Renames.{IsPlainRename}
-use Rattle.law_renamed_scopes.proofs.KeptBindings.{IsPlain, lexical, plain_stands}
-use Rattle.law_renamed_scopes.proofs.OwnNames.{bound_within, identifies}
-use Rattle.law_renamed_scopes.proofs.SameBindings.{imports_used}
+use Rattle.law_renamed_scopes.proofs.OwnNames.{identifies}
 use Rattle.law_renamed_scopes.proofs.Standing.{in_package}
 use Rattle.law_kept_members.specs.NamesAfterwards.{IsMember}
 use Rattle.law_member_conflicts.specs.MemberRenames.{IsMemberRename}
@@ -61,6 +51,7 @@ use Rattle.refactor_decide.specs.declared.decision.ScopeDecision.{ScopeDecision}
 use Rattle.refactor_decide.proofs.Told.{first_told, is_hidden as hidden_told, no_literal, plain}
 use Rattle.refactor_plan.specs.Decided.{DecidesRename, DecidesRenames, IsDecided, IsLegalFor, KeepsKnown}
 use Rattle.refactor_plan.specs.Proposals.{PlansChange}
+use Rattle.refactor_plan.proofs.ImportUses.{import_used}
 use Rattle.refactor_plan.proofs.Premises.{have_steps}
 use Rattle.refactor_plan.proofs.Proposed.{conflict_named, conflict_planned}
 
@@ -124,28 +115,6 @@ member_decided w sound known right path d name s legal edits fit member home tol
 
 -- A rename of a declaration of scopes
 
--- a use declares in no file block
-use_no_import : (r : Role) (f : ℕ) → is_use r ≡ true → block_of r ≡ File f → ⊥
-use_no_import Use f u e = let z : Universe ≡ File f = e in cc
-use_no_import (Declaring b s) f u e = true≢false (sym u)
-use_no_import (LeftName b s) f u e = true≢false (sym u)
-use_no_import (Implied b s) f u e = true≢false (sym u)
-use_no_import (NotLexical x) f u e = true≢false (sym u)
-
-left_identifies : (r : Role) → is_left_name r ≡ true → is_implied r ≡ false
-left_identifies (LeftName b s) u = refl
-left_identifies (Declaring b s) u = refl
-left_identifies (Implied b s) u = absurd (true≢false (sym u))
-left_identifies Use u = refl
-left_identifies (NotLexical x) u = refl
-
-use_identifies : (r : Role) → is_use r ≡ true → is_implied r ≡ false
-use_identifies Use u = refl
-use_identifies (Declaring b s) u = absurd (true≢false (sym u))
-use_identifies (LeftName b s) u = absurd (true≢false (sym u))
-use_identifies (Implied b s) u = absurd (true≢false (sym u))
-use_identifies (NotLexical x) u = absurd (true≢false (sym u))
-
 module _ (w : Workspace) (sound : ListsFaults w []) (known : Verdicts) (right : AreVerdicts w known) (p : Package) (is : IsCheckedPackage w known p) (n : ℕ)
     (name : List ℕ) (can : CanRename p n name) where
   abbrev d : Declaration
@@ -171,27 +140,6 @@ module _ (w : Workspace) (sound : ListsFaults w []) (known : Verdicts) (right : 
       let here : IsPathLiteralIn p n l =
       subst (λ (x : Package). IsPathLiteralIn x n l) (one_package w known literal.inside p literal.is_package is literal.of_path) literal.holds in
       here.1
-
-  -- an import is used
-  left_inner : (u : ℕ) → IsUse p.layout p.names u → IsImport p.layout u → ⊥
-  left_inner u (inl use_of) import = use_no_import (p.layout.role u) import.0 use_of import.1
-  left_inner u (inr left) import =
-      let i = (layout_formed w known p.path p is.is_checked).left_inner u left.0 in
-      let z : File import.0 ≡ Inner i.0 i.1 i.2 = sym import.1 ∙ i.3 in cc
-
-  used_once : (places : List Place) → ((place : Place) → IsUseOf w known d place → Contains places place) →
-      ((place : Place) → Contains places place → IsUseOf w known d place) → IsImport p.layout n → (place : Place) × IsUseOf w known d place
-  used_once (place ∷ rest) has is_use_of import = (place, is_use_of place (first_in place rest))
-  used_once [] has is_use_of import = absurd (imports_used w sound known right p is n import can.declares (λ u used bound.
-      let plain_u : IsPlain p.layout u =
-      record { identifies = identified u used; no_import = left_inner u used; is_lexical = lexical p.layout p.names u n bound } in
-      let there = plain_stands w known p is u (bound_within w known p.path p is.is_checked u n bound) plain_u in
-      nothing_in there.0
-      (has there.0 (record { used_in = p; is_package = is; user = u; begins = there.1; bound = by_scope (refl, can.own, bound) }))))
-    where
-      identified : (u : ℕ) → IsUse p.layout p.names u → is_implied (p.layout.role u) ≡ false
-      identified u (inl use_of) = use_identifies (p.layout.role u) use_of
-      identified u (inr left) = left_identifies (p.layout.role u) left.0
 
   -- decided
 
@@ -236,7 +184,8 @@ module _ (w : Workspace) (sound : ListsFaults w []) (known : Verdicts) (right : 
             renamable = legal.renamable;
             allowed = legal.allowed;
             other = legal.other;
-            used = used_once edits.renamed.places (λ place. (uses.each place).1) (λ place. (uses.each place).0) unnamed.0;
+            used = import_used w sound known right p is n unnamed.0 h.can.declares h.can.own edits.renamed.places (λ place. (uses.each place).1)
+                (λ place. (uses.each place).0);
             edits = edits;
             fit = fit;
           };

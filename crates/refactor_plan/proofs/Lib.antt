@@ -1,6 +1,7 @@
 -- The lemmas of this crate.
 pub mod Proposed
 pub mod Premises
+pub mod ImportUses
 pub mod DecidedRenames
 pub mod Homes
 pub mod DecidedMoves

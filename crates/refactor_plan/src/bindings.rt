@@ -15,13 +15,13 @@ use types_declared::{Index, Package};
 
 /// A package that was read: its number in a workspace without faults, and its scopes, index, type definitions and uses of members.
 #[derive(Clone, Copy)]
-pub(crate) struct PackageBindings<'a> {
+pub struct PackageBindings<'a> {
     pub at: Numbered<'a>,
     pub of: Indexed<'a>,
 }
 
 /// The package of a number, with its index, as it was read.
-pub(crate) fn bindings_of<'a, 'w: 'a, 'i: 'a>(
+pub fn bindings_of<'a, 'w: 'a, 'i: 'a>(
     at: Numbered<'w>,
     unit: Package<'a>,
     index: &'a Index<'i>,

@@ -4,7 +4,7 @@
 //! The workspace before it decides each move and each rename. No edited workspace is judged.
 //!
 //! Crates above rely on: `plan_rename` and `plan_move` return the change of the definitions (`PlansRename`, `PlansMove`), or refuse exactly
-//! where these say so. An admitted change preserves each binding.
+//! where these say so. An admitted change preserves each binding. `plan_read` plans a rename in a package that was read already.
 #![tactic(auto)]
 
 pub mod admitted_plans;
@@ -20,5 +20,7 @@ mod proposal;
 pub mod restored;
 mod targets;
 
+pub use bindings::{PackageBindings, bindings_of};
 pub use move_plan::plan_move;
-pub use plan::plan_rename;
+pub use plan::{plan_read, plan_rename};
+pub use proposal::Proposal;

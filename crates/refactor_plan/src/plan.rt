@@ -198,7 +198,7 @@ fn plan_home(
 }
 
 /// Plans the rename of the identifier at the byte of a proposal, in a file of the package that was read.
-fn plan_read(
+pub fn plan_read(
     alloc: Global,
     proposal: &Proposal<'_>,
     read: &PackageBindings<'_>,

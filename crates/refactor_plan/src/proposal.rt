@@ -13,7 +13,7 @@ use workspace_snapshot::{ChangeKind, MadeChange, Snapshot};
 /// What a rename or a move is proposed for: a snapshot, its workspace without faults, and what is known of the packages. The path and the
 /// offset are those at which an identifier is to be renamed. Where a package moves, the path is that of the package, and the offset is 0.
 #[derive(Clone, Copy)]
-pub(crate) struct Proposal<'a> {
+pub struct Proposal<'a> {
     pub snapshot: &'a Snapshot,
     pub workspace: &'a FaultlessWorkspace<'a>,
     pub known: &'a Known,

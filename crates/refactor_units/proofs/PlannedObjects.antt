@@ -115,18 +115,18 @@ module _ (snapshot : Snapshot) (path : List ℕ) (offset : ℕ) (name : List ℕ
     stay (Method s) same none also = absurd none
 
     objects : RenamesInObjects w known d name x after
-    objects = record {
-      unprinted = λ none. stay d refl none none;
+    objects q = record {
+      unprinted = λ none. stay d refl none none q;
       package_level = λ own n same is level.
           let named = subst (HasOwnName (IsCheckedPackage w known)) (sym same) (level_named w sound known right path offset own n is level) in
           globals w known after own n name change.edits
           (subst (λ e. IsPlainRename w known e name change.edits) same
-          (plain named (used_declared w sound known right path offset d has named own n is same))) right_after renamed.preserves is level;
+          (plain named (used_declared w sound known right path offset d has named own n is same))) right_after renamed.preserves is level q;
       method = λ s called type_called same has_name owner.
           let named = subst (HasOwnName (IsCheckedPackage w known)) (sym same) tt in
           methods w known after s called type_called name change.edits
           (subst (λ e. IsPlainRename w known e name change.edits) same (plain named (used_method w sound known right path offset d has s same))) right_after
-          renamed.preserves (subst (λ e. HasDeclaredName (IsCheckedPackage w known) e called) same has_name) owner;
+          renamed.preserves (subst (λ e. HasDeclaredName (IsCheckedPackage w known) e called) same has_name) owner q;
     }
 
   -- the objects that builds make
@@ -149,11 +149,12 @@ module _ (snapshot : Snapshot) (path : List ℕ) (offset : ℕ) (name : List ℕ
 
   built : RenamesBuiltObjects w known d name x
   built = record {
-    unprinted = λ none q there i j old new c now. one_built q j new old (all.unprinted none q old (text_of_unit w known right q there i old c)) now;
+    unprinted = λ none q there i j old new c now.
+        one_built q j new old ((all q).unprinted none old (text_of_unit w known right q there i old c)) now;
     package_level = λ own n same is level.
-        replaced (of_global own.path (own.names n) name) (all.package_level own n same is level);
+        replaced (of_global own.path (own.names n) name) (λ q. (all q).package_level own n same is level);
     method = λ s called type_called same has_name owner.
-        replaced (of_method s.package type_called called name) (all.method s called type_called same has_name owner);
+        replaced (of_method s.package type_called called name) (λ q. (all q).method s called type_called same has_name owner);
   }
 
   files : change.files ≡ x

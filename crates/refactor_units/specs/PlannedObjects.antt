@@ -15,17 +15,22 @@ use Rattle.refs_binding.specs.Uses.{IsCheckedPackage}
 use Rattle.refactor_plan.specs.Plan.{PlansRename, ResolvesIdentifier}
 use Rattle.build_object.specs.Names.{type_name}
 use Rattle.build_unit.specs.Units.{IsCompiled}
-use Rattle.law_renamed_objects.specs.Objects.{HasObjectText, IsOwnerCalled, IsUnprinted, ReplacesNames}
+use Rattle.law_renamed_objects.specs.Objects.{HasObjectText, IsOwnerCalled, IsUnprinted, ReplacesNamesAt}
 use Rattle.law_replaced_names.specs.Replaced.{Replaced, of_global, of_method, text_by}
 
--- What the rename of `d`, which makes `x` of `w`, does to objects. They stay where they print no name of `d`. Else the name of `d` alone is
--- replaced.
-pub record RenamesInObjects (w : Workspace) (known : Verdicts) (d : Declaration) (name : List ℕ) (x : Workspace) (after : Verdicts) : Type 0 where
-  pub unprinted : IsUnprinted (IsCheckedPackage w known) d → (path text : List ℕ) → HasObjectText w known path text → HasObjectText x after path text
+-- What the rename of `d`, which makes `x` of `w`, does to the object of the package at the path. It stays where it prints no name of `d`. Else
+-- the name of `d` alone is replaced.
+pub record RenamesInObjectAt (w : Workspace) (known : Verdicts) (d : Declaration) (name : List ℕ) (x : Workspace) (after : Verdicts) (path : List ℕ) :
+    Type 0 where
+  pub unprinted : IsUnprinted (IsCheckedPackage w known) d → (text : List ℕ) → HasObjectText w known path text → HasObjectText x after path text
   pub package_level : (own : Package) (n : ℕ) → d ≡ Declared own.path n → IsCheckedPackage w known own → IsPackageLevel own.layout n →
-      ReplacesNames w known x after (of_global own.path (own.names n) name)
+      ReplacesNamesAt w known x after path (of_global own.path (own.names n) name)
   pub method : (method : Symbol) (called type_called : List ℕ) → d ≡ Method method → HasDeclaredName (IsCheckedPackage w known) d called →
-      IsOwnerCalled w known method type_called → ReplacesNames w known x after (of_method method.package type_called called name)
+      IsOwnerCalled w known method type_called → ReplacesNamesAt w known x after path (of_method method.package type_called called name)
+
+-- It does so to the object of each package.
+abbrev pub RenamesInObjects : (w : Workspace) (known : Verdicts) (d : Declaration) (name : List ℕ) (x : Workspace) (after : Verdicts) → Type 0
+RenamesInObjects w known d name x after = (path : List ℕ) → RenamesInObjectAt w known d name x after path
 
 -- The object that a build makes of each package of x is the one that a build makes of it in w.
 abbrev pub KeepBuiltObjects : (w x : Workspace) → Type 0
