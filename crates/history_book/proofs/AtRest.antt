@@ -1,12 +1,10 @@
 -- States at rest, with one more or fewer of them.
-use Rattle.std.proofs.Common.{◌≡◌, ℕ, suc, zero, List, [], ◌∷◌, ◌++◌, length, drop, refl, sym, ap, subst, ◌∙◌}
+use Rattle.std.proofs.Common.{◌≡◌, ℕ, suc, zero, List, [], ◌∷◌, ◌++◌, length, drop, refl, sym, ap, subst}
 use Rattle.base_files.specs.Workspace.{Workspace}
 use Rattle.base_edits.specs.EditSet.{FileChanges, edited}
-use Rattle.history_inverses.specs.Inverses.{walked}
 use Rattle.history_inverses.proofs.Walks.{walked_push}
 use Rattle.history_machine.specs.declared.resting.Resting.{Resting}
 use Rattle.history_machine.specs.Resting.{RestsOn, woken}
-use Rattle.history_machine.specs.State.{State}
 use Rattle.history_book.specs.Histories.{AreAtRest, resting_states}
 
 -- ---- one state more, the nearest

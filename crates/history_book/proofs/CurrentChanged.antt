@@ -5,7 +5,6 @@ use Rattle.base_files.specs.declared.limits.Limits.{Limits}
 use Rattle.build_unit.specs.Jobs.{JobsOut}
 use Rattle.history_inverses.specs.Inverses.{StandsAt}
 use Rattle.history_machine.specs.declared.event.Reply.{Reply}
-use Rattle.history_machine.specs.Machine.{Content}
 use Rattle.history_machine.specs.State.{State}
 use Rattle.history_book.specs.declared.deliveries.DeliveryOutcome.{DeliveryOutcome}
 use Rattle.history_book.specs.declared.deliveries.DeliveryOutcome.TheVariants.{Late, Known, Entered}

@@ -1,12 +1,11 @@
 -- The states at rest as a view shows them: what each keeps is of its files.
-use Rattle.std.proofs.Common.{◌≡◌, List, [], ◌∷◌, ◌++◌, map, refl, sym, ap, ◌∙◌}
+use Rattle.std.proofs.Common.{◌≡◌, List, [], ◌∷◌, ◌++◌, map, refl, sym, ◌∙◌}
 use Rattle.std.proofs.lemmas.List.{append_assoc, map-append}
 use Rattle.base_files.specs.Workspace.{Workspace}
 use Rattle.base_files.specs.declared.limits.Limits.{Limits}
 use Rattle.base_edits.specs.EditSet.{FileChanges}
 use Rattle.build_unit.specs.Jobs.{JobsOut}
 use Rattle.history_machine.specs.declared.resting.Resting.{Resting}
-use Rattle.history_machine.specs.declared.seen_state.SeenState.{SeenState}
 use Rattle.history_machine.specs.Machine.{seen, seen_states}
 use Rattle.history_machine.specs.Resting.{seen_resting}
 use Rattle.history_book.specs.declared.states.States.{States}

@@ -1,5 +1,5 @@
 //! The states of a workspace, and how a change, an undo and a redo move among them.
-ghost use Rattle.std.specs.Prelude.{◌≡◌, ◌+◌, ◌^◌, ◌<◌, ◌≤◌, [], IfOk, MatchOption, OnErr, OnOk, length, max, vec_capacity, vec_len};
+ghost use Rattle.std.specs.Prelude.{◌≡◌, ◌+◌, ◌^◌, ◌<◌, ◌≤◌, [], IfOk, MatchOption, OnErr, OnOk, max, vec_capacity, vec_len};
 ghost use Rattle.base_edits.specs.EditSet.{edited};
 ghost use Rattle.base_edits.specs.Fits.{Fits};
 ghost use Rattle.base_edits.specs.Inverse.{IsInverse};

@@ -113,7 +113,7 @@ fn send_change<D: Desk>(desk: &mut D, basis: u64, change: MadeChange) -> Respons
 }
 
 /// Commits a planned change, or answers why there is none.
-fn commit<D: Desk>(desk: &mut D, basis: u64, planned: Result<MadeChange, Refusal>) -> Response
+pub fn commit<D: Desk>(desk: &mut D, basis: u64, planned: Result<MadeChange, Refusal>) -> Response
     requires { IfOk planned (λ change. D.sees desk.old change.base) }
     ensures { Commits D.steps desk.old basis planned result desk.new }
 {
@@ -146,7 +146,7 @@ fn commit_learning<D: Desk>(
 }
 
 /// Commits a planned change. If it is admitted, the desk learns the findings of its files, unless memory is wanting to share these.
-fn commit_planned<D: Desk>(desk: &mut D, basis: u64, planned: Planned) -> Response
+pub fn commit_planned<D: Desk>(desk: &mut D, basis: u64, planned: Planned) -> Response
     requires seen { D.sees desk.old planned.change.base }
     requires known { KnowsVerdicts planned.change.files planned.known }
     ensures { Sends D.steps desk.old (Commit basis planned.change) result desk.new }
@@ -196,7 +196,7 @@ fn del<D: Desk>(alloc: Global, desk: &mut D, view: &View, basis: u64, path: Word
 }
 
 /// Checks the packages of a view's files. The desk learns the findings.
-fn find<D: Desk>(alloc: Global, desk: &mut D, view: &View) -> Result<Findings, AllocError>
+pub fn find<D: Desk>(alloc: Global, desk: &mut D, view: &View) -> Result<Findings, AllocError>
     requires { D.sees desk.old view.now.snapshot.files }
     ensures findings { IfOk result (AreFindings view.now.snapshot.files) }
     ensures same { desk.new ≡ desk.old }
@@ -218,7 +218,7 @@ fn learn<D: Desk>(desk: &mut D, view: &View, found: Found)
 }
 
 /// Plans a rename. The desk learns what was found in the view's packages for it.
-fn rename_plan<D: Desk>(
+pub fn rename_plan<D: Desk>(
     alloc: Global,
     desk: &mut D,
     view: &View,
@@ -268,7 +268,7 @@ fn rename<D: Desk>(
 }
 
 /// Plans a move. The desk learns what was found in the view's packages for it.
-fn move_plan<D: Desk>(
+pub fn move_plan<D: Desk>(
     alloc: Global,
     desk: &mut D,
     view: &View,
@@ -339,7 +339,7 @@ fn answer_object(alloc: Global, view: &View, path: Word<'_>) -> Response
 }
 
 /// The uses of the declaration that the identifier at `path:offset` is bound to.
-fn find_uses<D: Desk>(
+pub fn find_uses<D: Desk>(
     alloc: Global,
     desk: &mut D,
     view: &View,
@@ -400,7 +400,11 @@ fn answer_list(view: &View) -> Response
 }
 
 /// The faults of a view's files, in the order of packages, paths, offsets and kinds.
-fn find_faults<D: Desk>(alloc: Global, desk: &mut D, view: &View) -> Result<FaultList, AllocError>
+pub fn find_faults<D: Desk>(
+    alloc: Global,
+    desk: &mut D,
+    view: &View,
+) -> Result<FaultList, AllocError>
     requires { D.sees desk.old view.now.snapshot.files }
     ensures faults { IfOk result (ListsFaults view.now.snapshot.files) }
     ensures same { desk.new ≡ desk.old }

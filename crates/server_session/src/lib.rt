@@ -1,8 +1,8 @@
 //! Serves a session: reads messages, has a desk answer them, and writes the answers as text.
 //!
 //! Crates above rely on: `session` writes the text of the replies to exactly the messages that it read, in order (`SessionEnds`). It
-//! sends each reply before it waits for the next message. `print_reply` writes the text of one reply and takes no memory. The replies of a session over a book
-//! of its own are those of a run of the machine (`runs_the_machine`).
+//! sends each reply before it waits for the next message. `print_reply` writes the text of one reply and takes no memory. The replies of
+//! a session over a book of its own are those of a run of the machine (`runs_the_machine`).
 #![tactic(auto)]
 
 mod conversing;

@@ -12,6 +12,7 @@ use Rattle.go_ast.specs.contracts.tree.Values.{the_row as values}
 use Rattle.go_ast.specs.contracts.tree.LocalSpec.{the_row as local_spec}
 use Rattle.go_ast.specs.contracts.tree.SimpleStmt.{the_row as simple}
 use Rattle.go_ast.specs.contracts.tree.IfInit.{the_row as if_init}
+use Rattle.go_ast.specs.contracts.tree.ForHeader.{the_row as header}
 use Rattle.go_ast.specs.contracts.tree.VarSpec.{the_row as var_spec}
 use Rattle.go_ast.specs.contracts.tree.TypeSpec.{the_row as type_spec}
 use Rattle.go_ast.specs.contracts.tree.Param.{the_row as param}
@@ -22,7 +23,7 @@ use Rattle.go_ast.specs.contracts.file_tree.FileTreeParts.{the_row as file_parts
 use Rattle.go_ast.specs.contracts.file_tree.FileTree.{the_row as file_tree}
 use Rattle.go_scanner.specs.contracts.trail.Trail.{the_type as trail_type}
 use Rattle.go_ast.specs.contracts.tree.SimpleStmt.{enum as simple_enum, the_type as simple_type, the_field as simple_field}
-use Rattle.go_ast.specs.contracts.tree.ForHeader.{the_type as header_type, the_field as header_field}
+use Rattle.go_ast.specs.contracts.tree.ForHeader.{enum as header_enum}
 use Rattle.go_ast.specs.contracts.tree.BlockStmt.{the_field as block_field}
 use Rattle.go_ast.specs.contracts.tree.FuncDecl.{the_type as func_type}
 use Rattle.go_ast.specs.contracts.tree.Decl.{enum as decl_enum}
@@ -185,8 +186,8 @@ simple_field_shared = enum_sync (shape simple_type) (
   ),
 )
 
-pub header_field_sent : IsSend (header_field).row
-header_field_sent = enum_send (shape header_type) (
+pub header_sent : IsSend header
+header_sent = variants_send header_enum (
   search owned depth 30 fits 50000,
   (
     search owned depth 30 fits 50000,
@@ -197,8 +198,8 @@ header_field_sent = enum_send (shape header_type) (
   ),
 )
 
-pub header_field_shared : IsSync (header_field).row
-header_field_shared = enum_sync (shape header_type) (
+pub header_shared : IsSync header
+header_shared = variants_sync header_enum (
   search owned depth 30 fits 50000,
   (
     search owned depth 30 fits 50000,
@@ -215,7 +216,7 @@ block_sent = send-BlockStmt
     (search owned depth 30 fits 50000)
     (search (owned, local_spec_sent) depth 30 fits 50000)
     simple_field_sent
-    header_field_sent
+    (search (owned, header_sent) depth 30 fits 50000)
     (search owned depth 30 fits 50000)
     (search owned depth 30 fits 50000)
     (search owned depth 30 fits 50000)
@@ -228,7 +229,7 @@ block_shared = sync-BlockStmt
     (search owned depth 30 fits 50000)
     (search (owned, local_spec_shared) depth 30 fits 50000)
     simple_field_shared
-    header_field_shared
+    (search (owned, header_shared) depth 30 fits 50000)
     (search owned depth 30 fits 50000)
     (search owned depth 30 fits 50000)
     (search owned depth 30 fits 50000)

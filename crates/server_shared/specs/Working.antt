@@ -1,5 +1,5 @@
 -- The calls of a worker.
-use Rattle.std.specs.Prelude.{◌≡◌, ◌⊎◌, ℕ, zero, suc, List, ⊤, true, false, Bool}
+use Rattle.std.specs.Prelude.{◌≡◌, ◌⊎◌, ℕ, zero, suc, ⊤, true, false, Bool}
 use Rattle.base_files.specs.declared.refusal.Refusal.{Refusal}
 use Rattle.build_unit.specs.Builds.{IsBuiltOf}
 use Rattle.build_unit.specs.declared.built.Built.{Built}

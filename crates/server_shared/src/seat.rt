@@ -1,5 +1,5 @@
 //! A seat at a shared book.
-ghost use Rattle.std.specs.Prelude.{◌≡◌, ◌+◌, ◌<◌, ◌≤◌, [], length, vec_len, vec_capacity, IfOk, IsOk};
+ghost use Rattle.std.specs.Prelude.{◌≡◌, ◌+◌, ◌^◌, ◌<◌, ◌≤◌, [], length, vec_len, vec_capacity, IfOk, IsOk, OkIff};
 ghost use Rattle.server_shared.specs.Held.{jobs_left};
 ghost use Rattle.server_shared.specs.Reserved.{IsGiveBack, receipts_needed};
 
@@ -66,17 +66,18 @@ impl<L: Opening> Seat<L> {
     }
 }
 
-/// The sum of two counts, or an error where it is over 64 bits.
+/// The sum of two counts, or an error exactly where it is over 64 bits.
 fn sum(one: u64, other: u64) -> Result<u64, AllocError>
-    ensures { IfOk result (λ all. all ≡ one + other) }
+    ensures { OkIff result (one + other < 2 ^ 64) (one + other) }
 {
     one.checked_add(other).ok_or(AllocError)
 }
 
-/// For how many receipts a seat with `jobs` Jobs in hand needs room before an event of this kind. For a Job in hand that is given back, the
-/// room is there.
+/// For how many receipts a seat with `jobs` Jobs in hand needs room before an event of this kind. It fails exactly where that is over 64
+/// bits. For a Job in hand that is given back, the room is there.
 fn receipts_needed(jobs: u64, kind: EntryKind) -> Result<u64, AllocError>
-    ensures needed { IfOk result (λ needed. (needed ≡ receipts_needed kind jobs) × (0 < needed)) }
+    ensures needed { OkIff result (receipts_needed kind jobs < 2 ^ 64) (receipts_needed kind jobs) }
+    ensures some { IfOk result (λ needed. 0 < needed) }
     ensures given_back { IsGiveBack kind → IsOk result }
 {
     match kind {

@@ -1,5 +1,4 @@
 -- A look shows a view of the content.
-use Rattle.std.proofs.Common.{subst}
 use Rattle.history_book.proofs.looking_back.look_back.Goals as goal
 
 pub with_states-requires : goal.with_states-requires

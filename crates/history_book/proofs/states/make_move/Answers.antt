@@ -1,9 +1,7 @@
 -- The inverse fits the files of the current state, and what is kept at rest is of the files that it makes.
-use Rattle.std.proofs.Common.{◌≡◌, ap, sym, subst, ◌∙◌}
-use Rattle.base_files.specs.Workspace.{Workspace}
-use Rattle.base_edits.specs.EditSet.{FileChanges, edited}
+use Rattle.std.proofs.Common.{◌≡◌, sym, subst}
+use Rattle.base_edits.specs.EditSet.{FileChanges}
 use Rattle.base_edits.specs.Fits.{Fits}
-use Rattle.history_machine.specs.Resting.{RestsOn}
 use Rattle.history_machine.specs.State.{State}
 use Rattle.history_book.proofs.states.make_move.Goals as goal
 

@@ -1,6 +1,6 @@
 -- The delivery is entered once there is room, and that is a step. The bounds that the journal gives still hold, and the content is still
 -- the journal's replay.
-use Rattle.std.proofs.Common.{◌≡◌, ◌+◌, ◌≤◌, ◌↔◌, IsTrue, List, Some, length, sym, ap, subst, ◌∙◌, vec_capacity, arith}
+use Rattle.std.proofs.Common.{◌≡◌, ◌+◌, ◌≤◌, ◌↔◌, IsTrue, List, length, sym, ap, subst, ◌∙◌, vec_capacity, arith}
 use Rattle.std.proofs.lemmas.Bool.{false≢true}
 use Rattle.base_files.specs.declared.refusal.Refusal.TheVariants.{Memory, JournalFull}
 use Rattle.history_machine.specs.declared.entry.Entry.{Entry}
