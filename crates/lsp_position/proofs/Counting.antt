@@ -1,10 +1,10 @@
 -- The units of characters.
-use Rattle.std.proofs.Common.{◌≡◌, ◌∙◌, ◌+◌, ◌*◌, ◌/◌, ◌%◌, ◌<◌, ◌≤◌, ◌⊎◌, inl, inr, ℕ, Bool, true, false, cond, List, [], ◌∷◌, ◌++◌, length, refl, sym, ap, subst, length-append, arith}
+use Rattle.std.proofs.Common.{◌≡◌, ◌∙◌, ◌+◌, ◌/◌, ◌%◌, ◌<◌, ◌≤◌, ◌⊎◌, inl, inr, ℕ, false, List, [], ◌∷◌, length, refl, sym, ap, length-append, arith}
 use Rattle.std.specs.Char.{encode_utf8}
 use Rattle.std.specs.Char.Escape.{encode_utf16}
-use Rattle.std.specs.List.{flat_map, sum_by}
-use Rattle.std.specs.Str.{IsUtf8, all_scalars, chars, encode_utf8_all}
-use Rattle.std.proofs.lemmas.Bool.{and_left, and_parts, and_right, cases_lt, le-ltb, lt-leb, lt-ltb, le-leb}
+use Rattle.std.specs.List.{flat_map}
+use Rattle.std.specs.Str.{encode_utf8_all}
+use Rattle.std.proofs.lemmas.Bool.{and_left, and_right, cases_lt, le-ltb, lt-leb, lt-ltb, le-leb}
 use Rattle.std.proofs.lemmas.List.Sums.{sum_by-append, sum_by-cons}
 use Rattle.std.proofs.lemmas.Str.{chars_from_encodes}
 use Rattle.lsp_position.specs.Laws.{UnitsAreCounted}

@@ -3,7 +3,7 @@ use Rattle.std.proofs.Common.{◌≡◌, ◌+◌, ◌-◌, ◌<◌, ◌≤◌, �
 use Rattle.std.proofs.lemmas.Bool.{cases_lt, cond_both}
 use Rattle.lsp_position.specs.Units.{continues_character, unit_count}
 use Rattle.lsp_position.specs.Positions.{editor_position, is_line_end}
-use Rattle.lsp_position.specs.Offsets.{IsAtOrBefore, IsOffsetAt, IsEditorPlace}
+use Rattle.lsp_position.specs.Offsets.{IsAtOrBefore, IsEditorPlace}
 use Rattle.lsp_position.specs.Laws.{OffsetsKeepOrder, PlacesAreNamed}
 use Rattle.lsp_position.specs.declared.units.PositionEncoding.{PositionEncoding}
 use Rattle.lsp_position.specs.declared.units.PositionEncoding.TheVariants.{Utf8, Utf16}

@@ -1,5 +1,5 @@
 -- The last place at or before a position, as far as a text was searched.
-use Rattle.std.proofs.Common.{◌≡◌, ◌≢◌, ◌+◌, ◌-◌, ◌<◌, ◌≤◌, ◌⊎◌, ◌==◌, ◌&&◌, ltb, inl, inr, ◌↔◌, ℕ, Bool, true, false, List, length, get_or, refl, sym, subst, ap, arith}
+use Rattle.std.proofs.Common.{◌≡◌, ◌+◌, ◌-◌, ◌<◌, ◌≤◌, ◌==◌, ◌&&◌, ltb, inl, inr, ◌↔◌, ℕ, Bool, true, false, List, length, get_or, refl, sym, subst, arith}
 use Rattle.std.proofs.lemmas.List.{get_or_past}
 use Rattle.std.proofs.lemmas.Bool.{and_right, both_ways, cases_lt}
 use Rattle.lsp_position.specs.Units.{continues_character}

@@ -1,6 +1,6 @@
 -- The answers to the goals of `offsets::offset_at`.
-use Rattle.std.proofs.Common.{◌≡◌, ℕ, length, subst, arith}
-use Rattle.lsp_position.specs.Offsets.{IsAtOrBefore, IsOffsetAt}
+use Rattle.std.proofs.Common.{◌≡◌, length, subst, arith}
+use Rattle.lsp_position.specs.Offsets.{IsAtOrBefore}
 use Rattle.lsp_position.specs.Positions.{editor_position}
 use Rattle.lsp_position.proofs.Searching.{at_or_before, end_is_last, found_is_last, found_more}
 use Rattle.lsp_position.proofs.offsets.offset_at.Goals as goal

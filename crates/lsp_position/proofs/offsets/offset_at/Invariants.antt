@@ -1,5 +1,5 @@
 -- The invariants of the loops of `offsets::offset_at`.
-use Rattle.std.proofs.Common.{◌≡◌, ◌≤◌, ◌<◌, ℕ}
+use Rattle.std.proofs.Common.{◌≡◌}
 use Rattle.lsp_position.specs.Positions.{editor_position}
 use Rattle.lsp_position.proofs.Searching.{HasFound}
 use Rattle.lsp_position.proofs.offsets.offset_at.Given as goal
