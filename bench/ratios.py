@@ -3,11 +3,13 @@
 Each row divides the instructions of one step by those of another step of the same program, as valgrind counts them. So neither the machine
 nor other programs change it. A row is red where its ratio is over the bound beside it, and the exit status is then 1.
 
-The bounds are 1.5 times the ratios of 2026-11-29; that of `again`, which was below 0.001, is 0.01. Each row has a change of a few words
+The bounds are 1.5 times the ratios of 2026-11-29; those of `again` and `undone`, which were below 0.001, are 0.01. Each row has a change of a few words
 of the code: what is kept is then not used, though every answer stays right. The row is there to find such a change. No program with one
 of these changes was built, so no row was seen to be red.
 
     again     server_commands/src/acting.rt: `find_faults` teaches the desk nothing
+    renamed   refactor_plan/src/kept_known.rt, `kept_known`: `known_but(alloc, known, number, 0)`
+    undone    history_machine/src/resting.rt, `known_awake`: it answers `SharedKnown::new(alloc, Known::new(alloc))`
     leaf      build_carry/src/carried_known.rt, `kept_verdicts`: `if known.is_empty()` becomes `if true`
     hub       workspace_check/src/reuse.rt, `keeps_export_data`: `&& false` behind `are_alike(..)`
     kinds     go_parser/src/file_tree.rt, `parse_file_sharing`: `if false &&` in place of the `if` before `shared`
@@ -95,6 +97,20 @@ class Rows:
         asked.end()
         return again / first
 
+    def renamed(self, *more):
+        """The faults behind a rename of what all use, and behind more commands, by the first faults."""
+        asked, first = self.judged()
+        path = "gen/hub/f.go"
+        asked.taken([(f"rename {path}:#{star()[path].index(b'Sum0')} Added0", b"")])
+        for command in more:
+            asked.taken([(command, b"")])
+        again = asked.taken([("faults", b"")])
+        asked.end()
+        return again / first
+
+    def undone(self):
+        return self.renamed("undo")
+
     def leaf(self):
         return self.behind("gen/p07/f.go")
 
@@ -129,6 +145,8 @@ class Rows:
 
 BOUNDS = {
     "again": ("faults again, by the first faults", 0.01),
+    "renamed": ("faults behind a rename of what all use, by the first faults", 0.036),
+    "undone": ("faults behind its undo, by the first faults", 0.01),
     "leaf": ("faults behind a put in a package that none imports, by the first faults", 0.05),
     "hub": ("faults behind a put in a package that all import, by the first faults", 0.05),
     "kinds": ("a put of other literals, by a put of one token more in each function", 0.54),

@@ -4,11 +4,12 @@
 
 - A number over 65,536 stands in the code only where `GREAT` says: as a literal in any notation, the MAX of a type, a shift, a power, or a
   product with a literal of three digits. No loop ends at a constant over it. Such a loop would be proved to end only after as many steps.
+  The end of a range that a loop goes through is made as the numbers below are. No condition of a loop names a limit, or a number made of one.
 - The number that `with_capacity`, `reserve`, `resize`, `from_elem` (and calls like these) or `vec![in alloc; value; number]` is given is
-  made of literals, constants, lengths, parameters and results of functions whose contracts bound them (`result`, and `≤` or `≡`), by `+`,
-  `-`, `/`, `max`, `min` and `saturating_add` alone. So is what a parameter is given that such a call is made of, in each call of its
-  function. No literal or constant is over 65,536, however it is written. The same holds of numbers whose sum answers want of memory where
-  it is over 64 bits, where no contract says when (`OkIff`).
+  made of literals, constants, lengths, parameters and results of functions whose contracts bound them (`result`, and `≤`, `≡` or `OkIff`), by `+`,
+  `-`, `/`, `max`, `min` and `saturating_add` alone. Of fields only those named in `FIELDS` stand in it, so no limit does. So is what a
+  parameter is given that such a call is made of, in each call of its function. No literal or constant is over 65,536, however it is
+  written. The same holds of numbers whose sum answers want of memory where it is over 64 bits, where no contract says when (`OkIff`).
 
 It ends with status 1 where it lists a place.
 """
@@ -38,9 +39,15 @@ FILLED = re.compile(r"\bvec!\[in \w+(?:\.\w+)*(?:\(\))?; ")
 ADDED = re.compile(r"(?m)(?:^| = | return )\s*([^=;\n]*)\.checked_add\((.*)\)\.ok_or\(AllocError\)")
 LOCAL = re.compile(r"\blet (?:mut )?(\w+)(?:: \w+)? = ([^;]*);")
 CONSTANT = re.compile(r"(?m)^ *(?:pub(?:\(\w+\))? )?const (\w+): \w+ = ([^;]*);")
+# the fields of which room is made, and no others: how long a list is, the number of a token, and the size that a `put` was given
+FIELDS = {"len", "index", "size"}
+FIELD = re.compile(r"(?<!\.)\.([a-z_]\w*)\b(?![(.\[])")
+RANGE = re.compile(r"^\s*(?:'\w+: )?for \w+ in \(?[^;{}]*?\.\.=?([^;{}]*?)(?:\)\.rev\(\))? \{", re.M)
+LIMIT = re.compile(r"\blimits\.\w+\b(?![(.\[])")
+WHILE = re.compile(r"^\s*(?:'\w+: )?while (?!let\b)([^{;]*) \{", re.M)
 LENGTH = re.compile(r"\b[\w.\[\]*]+\.len\(\)")
 ADDS = {"max", "min", "saturating_add"}
-BOUNDED = re.compile(r"ensures[^{]*\{[^{}]*\bresult\b[^{}]*[≤≡]")
+BOUNDED = re.compile(r"ensures[^{]*\{[^{}]*\b(?:result\b[^{}]*[≤≡]|OkIff result\b)")
 MOST_LITERAL = 1 << 16
 BEGINS = re.compile(r"(?m)^ *(?:pub(?:\(\w+\))? )?fn (\w+)")
 PIECE = re.compile(r"(?P<literal>\d\w*)|(?P<name>[A-Za-z_]\w*)|(?P<sign><<|>>|\S)")
@@ -118,8 +125,9 @@ def is_sum(number, constants):
 
 def is_bounded(number, known, bounded, constants):
     """Whether a number is made of what is known and of results that contracts bound."""
-    calls = set(re.findall(r"(\w+)\(", LENGTH.sub("0", number)))
-    return calls <= bounded | ADDS and is_sum(number, constants) and names_in(number) <= known
+    rest = LENGTH.sub("0", number)
+    calls, fields = set(re.findall(r"(\w+)\(", rest)), set(FIELD.findall(rest))
+    return calls <= bounded | ADDS and fields <= FIELDS and is_sum(number, constants) and names_in(number) <= known
 
 
 def places_of(function, makers, name, before):
@@ -167,13 +175,32 @@ def makers_of(every):
     return own
 
 
-def unbounded(function, makers, bounded, constants):
-    """The lines of a function on which it asks for room without a bound."""
+def known_in(function, bounded, constants):
+    """The names of a function's numbers that are bounded, or that it is given."""
     known = set(function.parameters) | {"self"}
     for name, value in LOCAL.findall(function.code):
         if is_bounded(value, known, bounded, constants):
             known.add(name)
+    return known
+
+
+def unbounded(function, makers, bounded, constants):
+    """The lines of a function on which it asks for room without a bound."""
+    known = known_in(function, bounded, constants)
     return [line for line, one in asked_of(function, makers) if not is_bounded(one, known, bounded, constants)]
+
+
+def far_loops(function, bounded, constants):
+    """The lines of a function on which a loop begins that goes through a range with an end that isn't bounded, or up to a limit."""
+    known = known_in(function, bounded, constants)
+    far = {name for name, value in LOCAL.findall(function.code) if LIMIT.search(value) and "{" not in value}
+    for found in RANGE.finditer(function.code):
+        end = found[1].strip()
+        if not end.endswith(".len()") and not is_bounded(end, known, bounded, constants):
+            yield function.code.count("\n", 0, found.start(1))
+    for found in WHILE.finditer(function.code):
+        if LIMIT.search(found[1]) or names_in(found[1]) & far:
+            yield function.code.count("\n", 0, found.start(1))
 
 
 def is_great(line):
@@ -214,6 +241,7 @@ def main():
         wrong = {number: "a great number" for number, line in enumerate(code) if is_great(line) and line.strip() not in known}
         wrong |= {number: "a loop up to a great number" for number, line in enumerate(code) if is_endless(line, constants)}
         for begin, function in parts[path]:
+            wrong |= {begin + line: "a loop without a bound" for line in far_loops(function, bounded[crate], constants)}
             wrong |= {begin + line: "room without a bound" for line in unbounded(function, makers, bounded[crate], constants)}
         for number, what in sorted(wrong.items()):
             found += 1

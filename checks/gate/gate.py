@@ -44,6 +44,8 @@ KEEPS_FREED = ("MIMALLOC_PURGE_DELAY", "-1")
 LONG = 0.8
 SECONDS = TOP / "checks" / "gate" / "seconds.txt"
 PROGRAM = "gorefd"
+# What each build of the program is asked beside the stored sessions.
+CHECKS = ("checks.server.program",)
 
 
 def load(path):
@@ -155,9 +157,9 @@ def answers_sessions(rt, program):
     return bool(sessions) and not lines
 
 
-def passes_checks(rt, program):
-    """Runs the checks of program.py on the program. It tells of all of them where one fails."""
-    words = [sys.executable, "-B", "-m", "checks.server.program", os.path.abspath(program)]
+def passes_checks(rt, program, module):
+    """Runs the checks of a module on the program. It tells of all of them where one fails."""
+    words = [sys.executable, "-B", "-m", module, os.path.abspath(program)]
     ran = subprocess.run(words, cwd=TOP, stdout=subprocess.PIPE, text=True)
     lines = ran.stdout.splitlines()
     for line in lines if ran.returncode else lines[-1:]:
@@ -176,8 +178,8 @@ def with_checks(rt, asked):
             return is_well
         asked.append(ending)
         program = f"{crate.folder}/out/{crate.name}{ending}"
-        # both are to be told of
-        return all([answers_sessions(rt, program), passes_checks(rt, program)])
+        # all are to be told of
+        return all([answers_sessions(rt, program), *(passes_checks(rt, program, module) for module in CHECKS)])
 
     return run
 

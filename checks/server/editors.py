@@ -1,10 +1,12 @@
 """Checks sessions of a built `gorefd` that end well, alone and at once, with workers, and how a server ends."""
 
+import os
 import re
 import resource
 import socket
 import subprocess
 import threading
+import time
 
 from checks.server.server import A, DEADLINE, OBJECT, PROGRAM, Server, put, retried, same, settles, together
 
@@ -319,6 +321,55 @@ def one_worker_alone():
         settles(server)
 
 
+def all_wake():
+    """A session that begins to wait behind workers which sleep is woken as they are: behind the last delivery all who wait look again."""
+    with Server(4, 1, 1) as server:
+        client, text = server.connect(), a_large_package(b"a")
+        client.send(put(0, "a/x.go", text) + b"wait\n")
+        same([client.reply() for _ in range(2)], [(b"ok 1", b"")] * 2)
+        client.end()
+        settles(server)
+
+
+def none_missed():
+    """One worker, and two sessions that put a small package and wait for it, again and again: no put is missed, also not one that comes as
+    the worker is about to sleep."""
+
+    def edits(client, name):
+        number = client.number()
+        for turn in range(250):
+            text = b"package %s\n\nvar V%d int\n" % (name, turn)
+            number, _ = retried(client, b"put %%d %s/x.go %d" % (name, len(text)), number, text)
+            same(client.ask(b"wait\n")[0][:3], b"ok ")
+        client.end()
+
+    with Server(1, 2, 2) as server:
+        clients = [server.connect() for _ in range(2)]
+        together(*(lambda c=c, n=n: edits(c, n) for c, n in zip(clients, (b"a", b"b"))))
+        settles(server)
+
+
+def seconds_of(process):
+    """The processor time that a process has taken."""
+    with open(f"/proc/{process.pid}/stat") as told:
+        words = told.read().rpartition(")")[2].split()
+    return (int(words[11]) + int(words[12])) / os.sysconf("SC_CLK_TCK")
+
+
+def asleep():
+    """Threads that have nothing to do sleep: workers without a Job, and sessions without a line."""
+    with Server(4, 3, 1) as server:
+        client = server.connect()
+        same(client.ask(put(0, "a/a.go", A)), (b"ok 1", b""))
+        same(client.ask(b"wait\n"), (b"ok 1", b""))
+        begin = seconds_of(server.process)
+        time.sleep(1)
+        taken = seconds_of(server.process) - begin
+        same(taken < 0.2, True)
+        client.end()
+        settles(server)
+
+
 def builds_meanwhile():
     """Sessions change files while workers build; each `wait` answers a state all of whose packages have an object."""
 
@@ -392,6 +443,9 @@ CHECKS = (
     alone_settled,
     workers_at_once,
     one_worker_alone,
+    all_wake,
+    none_missed,
+    asleep,
     builds_meanwhile,
     many_at_once,
     with_a_small_stack,

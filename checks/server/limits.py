@@ -1,8 +1,8 @@
 """Checks each limit of a workspace and of its history, as docs/PROTOCOL.md has it, on a built `gorefd run`: the largest input is admitted,
-and the next larger one is refused.
+and the next larger one is refused. A server is asked for the bytes of a file and for the steps of undo.
 """
 
-from checks.server.server import put, run, same
+from checks.server.server import Server, put, run, same, settles
 
 FILE_BYTES, FILES, TOTAL_BYTES, PACKAGES, STEPS, ENTRIES = 1_048_576, 4_096, 67_108_864, 1_024, 100, 1_000_000
 LOOK = b"look\n"
@@ -68,4 +68,16 @@ def entries():
     answers(first + LOOK * count + b"work\n" + LOOK * 2, b"ok 1 0\n" + looked * count + FULL + looked + FULL)
 
 
-CHECKS = (steps_of_undo, bytes_of_a_file, packages, files, bytes_in_all, entries)
+def at_a_server():
+    """In one session at a server: as many bytes of a file as there may be, one more, and all steps of undo."""
+    texts = [("a/f.txt", b"%d" % turn) for turn in range(STEPS)] + [("a/f.txt", b"x" * FILE_BYTES)]
+    count, undone = len(texts), b"".join(b"undo %d\n" % number for number in range(len(texts), 1, -1))
+    with Server(1, 1, 1) as server:
+        client = server.connect()
+        client.send(puts(texts) + put(count, "a/f.txt", b"x" * (FILE_BYTES + 1)) + undone + b"undo 1\nend\n")
+        same(client.rest(), done(count) + TOO_LARGE + b"".join(b"ok %d 0\n" % number for number in range(count - 1, 0, -1)) + b"no 7 0\n")
+        client.close()
+        settles(server)
+
+
+CHECKS = (steps_of_undo, bytes_of_a_file, packages, files, bytes_in_all, entries, at_a_server)

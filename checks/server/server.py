@@ -67,18 +67,21 @@ def connect(path, process=None):
 class Server:
     """A server on a socket of its own, in a folder of its own."""
 
-    def __init__(self, workers=1, sessions=1, stop_after=None, umask=0o022, limits=()):
+    def __init__(self, workers=1, sessions=1, stop_after=None, umask=0o022, limits=(), environment=None, before=()):
+        """The words before those of the program are those of a command that runs it."""
         self.folder = tempfile.TemporaryDirectory()
         self.path = os.path.join(self.folder.name, "s")
-        words = serve_words(self.path, workers, sessions, stop_after)
-        self.process = subprocess.Popen(
-            PROGRAM + words, stdout=subprocess.PIPE, stderr=subprocess.PIPE, preexec_fn=limited(limits, umask)
-        )
+        words = [*before, *PROGRAM, *serve_words(self.path, workers, sessions, stop_after)]
+        options = {"stdout": subprocess.PIPE, "stderr": subprocess.PIPE, "env": os.environ | (environment or {})}
+        self.is_group = bool(before)
+        self.process = subprocess.Popen(words, preexec_fn=limited(limits, umask), start_new_session=self.is_group, **options)
 
     def __enter__(self):
         return self
 
     def __exit__(self, *_):
+        if self.is_group and self.process.returncode is None:
+            os.killpg(self.process.pid, signal.SIGKILL)
         self.process.kill()
         self.process.communicate()
         self.folder.cleanup()

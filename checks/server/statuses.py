@@ -8,10 +8,11 @@ import pathlib
 import resource
 import socket
 import stat
+import subprocess
 import tempfile
 import threading
 
-from checks.server.server import PROGRAM, Server, connect, run, same, serve_words, settles, together
+from checks.server.server import PROGRAM, Server, connect, limited, run, same, serve_words, settles, together
 
 MORE = "\n\nFor more information, try '--help'.\n"
 RUN = "\n\nUsage: gorefd run" + MORE
@@ -312,4 +313,38 @@ def owner_alone():
     return "no other user tried" if NO_OTHER in others else "another user was refused"
 
 
-CHECKS = (bad_words, helps, one_session, wanting_memory, none_accepted, untold_end, taken_paths, second_server, servers_at_once, owner_alone)
+def owner_enters():
+    """Only its owner may enter the folder in which the socket is made, whatever the mask. The folder is there for a moment, so it is tried
+    often. Something stands at the socket's path, so that each try ends at once."""
+    modes = set()
+    with tempfile.TemporaryDirectory() as folder:
+        path = os.path.join(folder, "s")
+        pathlib.Path(path).touch()
+        for turn in range(1, 301):
+            silent = {"stdout": subprocess.DEVNULL, "stderr": subprocess.DEVNULL}
+            ran = subprocess.Popen(PROGRAM + serve_words(path), preexec_fn=limited((), 0), **silent)
+            while ran.poll() is None:
+                try:
+                    modes.add(stat.S_IMODE(os.stat(path + ".new").st_mode))
+                except FileNotFoundError:
+                    pass
+            same(ran.returncode, 1)
+            if modes:
+                same(modes, {0o700})
+                return f"seen in turn {turn}"
+    raise AssertionError("never seen")
+
+
+CHECKS = (
+    bad_words,
+    helps,
+    one_session,
+    wanting_memory,
+    none_accepted,
+    untold_end,
+    taken_paths,
+    second_server,
+    servers_at_once,
+    owner_alone,
+    owner_enters,
+)
