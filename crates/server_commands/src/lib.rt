@@ -10,7 +10,9 @@ mod queries;
 mod response;
 mod working;
 
-pub use acting::{act, commit, commit_planned, find, find_faults, find_uses, move_plan, rename_plan};
+pub use acting::{
+    act, commit, commit_planned, find, find_faults, find_uses, move_plan, rename_plan,
+};
 pub use desk::{Desk, Solo};
 pub use queries::{cat, object};
 pub use response::{FaultList, Response};
