@@ -1,4 +1,4 @@
-"""What the gate tries on each build of the program, beside the stored sessions and checks/server/program.py: python3 -m checks.attack.program PROGRAM
+"""Attacks that take minutes, by hand: python3 -m checks.attack.program PROGRAM
 
 Each point of the worked rows: each allocation that is refused in a session, and each byte behind which an input or an output fails. Each allocation
 from the start on, under `run` and under `serve`, of a few of them. And the attacks on a server that take seconds. It needs `cc`. The other
@@ -55,7 +55,7 @@ def each_allocation_of_servers():
 
 
 def wants():
-    """What workers do where memory is wanting once, or for a while."""
+    """What workers do where memory is wanting once, or for a while. It fails today (docs/ATTACKS.md), so it stands in no list yet."""
     return on_processors(lambda library, pool: f"{serving.want_that_passes(library)} calls, {serving.want_that_lasts(library)} tries")
 
 

@@ -1,4 +1,4 @@
-"""The worked rows among the stored sessions: short sessions whose answers were written by hand. What the gate tries at each point, it tries on
+"""The worked rows among the stored sessions: short sessions whose answers were written by hand. What is tried at each point, is tried on
 these."""
 
 from checks.gate.replay import stored
