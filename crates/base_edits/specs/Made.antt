@@ -1,16 +1,24 @@
--- How the map of new files is made: first the changed paths are removed, and then all new files are inserted.
+-- How the map of new files is made: first the files that leave their paths are removed, and then all new files are inserted.
 use Rattle.std.specs.Prelude.{ℕ, List, [], ◌∷◌, Option, Some}
 use Rattle.std.specs.Option.{option_and_then}
 use Rattle.std.specs.List.{filter_map}
 use Rattle.std.specs.FinMap as files
 use Rattle.base_files.specs.Workspace.{Workspace}
 use Rattle.base_edits.specs.EditSet.{FileChanges, file_by}
+use Rattle.base_edits.specs.declared.change.Fate.{Fate}
+use Rattle.base_edits.specs.declared.change.Fate.TheVariants.{Stays, Moves, Dropped}
 use Rattle.base_edits.specs.declared.change.FileChange.{FileChange}
 
--- The workspace without the files of the changes.
+-- The workspace without the file at a path, unless it stays there.
+abbrev pub without_file : Fate → List ℕ → Workspace → Workspace
+without_file Stays path w = w
+without_file (Moves to) path w = files.remove w path
+without_file Dropped path w = files.remove w path
+
+-- The workspace without the files of the changes that do not stay at their paths.
 abbrev pub without_files : List FileChange → Workspace → Workspace
 without_files [] w = w
-without_files (c ∷ changes) w = without_files changes (files.remove w c.path)
+without_files (c ∷ changes) w = without_files changes (without_file c.fate c.path w)
 
 -- The workspace with the files inserted.
 abbrev pub with_files : List (List ℕ × List ℕ) → Workspace → Workspace

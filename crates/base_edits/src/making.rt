@@ -6,7 +6,7 @@ ghost use Rattle.base_edits.specs.Edits.{AreInOrder, LieWithin, edited_text};
 ghost use Rattle.base_edits.specs.EditSet.{file_by};
 ghost use Rattle.base_edits.specs.Fits.{HasSpans};
 ghost use Rattle.base_edits.specs.Inverse.{reversed, undo_by, drop_by, undo_of, drop_of, dropped, inverse};
-ghost use Rattle.base_edits.specs.Made.{without_files, with_files, file_made, made};
+ghost use Rattle.base_edits.specs.Made.{without_file, without_files, with_files, file_made, made};
 
 use crate::change::{Fate, FileChange};
 use crate::edit::Edits;
@@ -23,12 +23,23 @@ pub(crate) struct Making {
     pub(crate) lost: Vec<(Path, FileText)>,
 }
 
-/// Removes the files of the changes.
+/// Removes the file of a change, unless it stays at its path.
+fn take_one(files: &mut Files, change: &FileChange) -> Result<(), AllocError>
+    ensures { OnOk result (files.new ≡ without_file change.now.fate change.now.path files.old) }
+{
+    match &change.fate {
+        Fate::Stays => Ok(()),
+        Fate::Moves(_) => files.remove(&change.path),
+        Fate::Dropped => files.remove(&change.path),
+    }
+}
+
+/// Removes the files of the changes that do not stay at their paths. The others are replaced where they stand.
 fn take_out(files: &mut Files, changed: &[FileChange]) -> Result<(), AllocError>
     ensures { OnOk result (files.new ≡ without_files changed.now files.old) }
 {
     for change in changed {
-        files.remove(&change.path)?;
+        take_one(files, change)?;
     }
     Ok(())
 }

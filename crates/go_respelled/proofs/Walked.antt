@@ -1,12 +1,13 @@
 -- One step of the walks that check and move.
-use Rattle.std.proofs.Common.{ℕ, zero, suc, Bool, ◌≡◌, ◌+◌, ◌-◌, ◌^◌, ◌<◌, ◌≤◌, true, false, List, [], ◌∷◌, ◌++◌, length, take, drop, get_or, map, Option, Some, None, Bor}
+use Rattle.std.proofs.Common.{ℕ, zero, suc, Bool, ◌≡◌, ◌+◌, ◌-◌, ◌^◌, ◌<◌, ◌≤◌, true, false, List, [], ◌∷◌, ◌++◌, length, take, drop, get_or, map}
 use Rattle.std.proofs.Common.{refl, sym, ap, ◌∙◌, subst, arith, append_assoc, inl, inr}
-use Rattle.std.specs.Prelude.{IfSome, MatchOption, ◌==◌, nat_eq}
+use Rattle.std.specs.Prelude.{nat_eq}
 use Rattle.std.proofs.lemmas.Bool.{false≢true}
 use borrow.Author.Tests.{eqb-true}
-use Rattle.std.specs.Cmp.Lexicographic.{pointwise, bytes_decides}
 use Rattle.std.specs.List.{All, slice_range}
-use Rattle.std.proofs.lemmas.List.{drop_all, get_or-map, get_or_default, length-map, take_all, take-append-drop, append-nil, length-append}
+use Rattle.std.proofs.lemmas.List.{drop_all, get_or-map, get_or_default, length-map, take_all, take-append-drop, take-take, append-nil, length-append}
+use Rattle.std.proofs.lemmas.List.Elements.{All-nil, All-push}
+use Rattle.std.proofs.Math.Seq.{take-add}
 use Rattle.go_scanner.specs.declared.operators.Operator.TheVariants.{Semicolon}
 use Rattle.go_scanner.specs.declared.piece.Class.{Class}
 use Rattle.go_scanner.specs.declared.piece.Class.TheVariants.{InterpretedString, Operator}
@@ -14,11 +15,12 @@ use Rattle.go_scanner.specs.declared.piece.Piece.{Piece}
 use Rattle.go_scanner.specs.Cuts.{IsCut, bytes_of}
 use Rattle.go_scanner.specs.CutText.{CutText, HasTokens, token_at, tokens_in}
 use Rattle.go_scanner.specs.Pieces.{IsPiece}
-use Rattle.go_scanner.specs.Spans.{FollowFrom, IsTokenText}
+use Rattle.go_scanner.specs.Spans.{AreTokensInOrder, FollowFrom, IsTokenText}
 use Rattle.go_scanner.specs.Tokens.{semicolon}
 use Rattle.go_scanner.proofs.OneCutLemmas.{one_cut}
 use Rattle.go_scanner.proofs.SpanLemmas.{follow_at, tokens_in_order}
 use Rattle.go_ast.specs.SourceFile.{SourceFile, IsSourceFile}
+use Rattle.base_files.specs.declared.place.Span.{Span}
 use Rattle.base_edits.specs.Edits.{AreInOrder, edited_from, edited_text}
 use Rattle.base_edits.specs.Moved.{moved_offset}
 use Rattle.base_edits.specs.PassedEdits.{ArePast, PassedEdits}
@@ -26,7 +28,8 @@ use Rattle.base_edits.specs.declared.edit.Edit.{Edit}
 use Rattle.base_edits.proofs.Steps.{drop_next, past_all, past_later, past_start, past_stops}
 use Rattle.go_respelled.specs.PieceEdits.{ArePieceEdits, IsEncodedString}
 use Rattle.go_respelled.specs.Renamings.{moved_piece, recut}
-use Rattle.go_respelled.specs.Replaced.{AreFollowing, AreMoved, FitsMoved, GoesOn, IsMovedBy, Make, MovesBefore, MovesStretch, Respell, passed}
+use Rattle.go_respelled.specs.Replaced.{AreFollowing, AreMoved, FitsMoved, GoesOn, IsBehindSame, IsMovedBy, IsTokenBehind, MovesBefore, MovesStretch, PutsToken, ReplacesToken, Respell, passed}
+use Rattle.go_respelled.specs.declared.between.TokenBehind.{TokenBehind}
 use Rattle.go_respelled.specs.declared.moved.Cursor.{Cursor}
 use Rattle.go_respelled.specs.Trees.{KeepKinds}
 use Rattle.go_respelled.proofs.ByTokens.{edits_of_pieces}
@@ -34,53 +37,86 @@ use Rattle.go_respelled.proofs.Many.{new_cut}
 use Rattle.go_respelled.proofs.MovedTokens.{tokens_stay}
 use Rattle.go_respelled.proofs.Trees.{tree_stays}
 
--- what follows in a text
+-- the same bytes, some more of them
 
-front_off : (front text rest : List ℕ) → pointwise ◌==◌ (take (length front) text) front ≡ true → rest ≡ drop (length front) text → text ≡ front ++ rest
-front_off front text rest same is =
-    sym (take-append-drop (length front) text) ∙ ap (λ l. l ++ drop (length front) text) ((bytes_decides (take (length front) text) front).0 same)
-    ∙ ap (λ l. front ++ l) (sym is)
+pub same_more : (one other : List ℕ) (n step : ℕ) → take n one ≡ take n other → slice_range one n (n + step) ≡ slice_range other n (n + step) →
+    take (n + step) one ≡ take (n + step) other
+same_more one other n step same more =
+    let size : n + step - n ≡ step = omega arith in
+    let next : take step (drop n one) ≡ take step (drop n other) =
+    ap (λ k. take k (drop n one)) (sym size) ∙ more ∙ ap (λ k. take k (drop n other)) size in
+    take-add n step one ∙ (λ i. same i ++ next i) ∙ sym (take-add n step other)
 
-pub goes_on : (old : List ℕ) (at : ℕ) (e : Edit) (text kept middle bytes : List ℕ) (o : Option (Bor (List ℕ))) → at ≤ e.span.start →
-    e.span.start ≤ e.span.end → e.span.end ≤ length old → kept ≡ slice_range old at e.span.start →
-    pointwise ◌==◌ (take (length kept) text) kept ≡ true → middle ≡ drop (length kept) text → bytes ≡ e.text →
-    MatchOption o (pointwise ◌==◌ (take (length bytes) middle) bytes ≡ false)
-    (λ x. (pointwise ◌==◌ (take (length bytes) middle) bytes ≡ true) × (x.now ≡ drop (length bytes) middle) × (length x.now + length bytes ≡ length middle))
-    → IfSome o (λ rest. GoesOn old at e text rest.now)
-goes_on old at e text kept middle bytes None a b w is same then spelled h = tt
-goes_on old at e text kept middle bytes (Some x) a b w is same then spelled h = record {
-  behind = a;
-  order = b;
-  within = w;
-  is = front_off kept text middle same then ∙ (λ i. is i ++ middle)
-      ∙ ap (λ l. slice_range old at e.span.start ++ l) (front_off bytes middle x.now h.0 h.1 ∙ ap (λ l. l ++ x.now) spelled);
-}
+-- where the texts differ
 
--- the edits that are left make the rest
-
-pub record MakeRest (old : List ℕ) (edits : List Edit) (new : List ℕ) (index at : ℕ) (left : List ℕ) : Type 0 where
-  pub inside : at ≤ length old
-  pub order : AreInOrder at (drop index edits) → AreInOrder 0 edits
-  pub made : left ≡ edited_from at (drop index edits) old → new ≡ edited_text edits old
-
-pub make_more : (old : List ℕ) (edits : List Edit) (new : List ℕ) (index at : ℕ) (left rest : List ℕ) (e : Edit) → index < length edits →
-    e ≡ get_or edits index e → GoesOn old at e left rest → MakeRest old edits new index at left → MakeRest old edits new (index + 1) e.span.end rest
-make_more old edits new index at left rest e lt is goes so_far =
-    let next = drop_next edits index e lt is in
+pub same_before : (old : CutText) (at n : ℕ) (left : List ℕ) (t : TokenBehind) → take n (drop at old.text) ≡ take n left → n ≤ length left →
+    IsTokenBehind (tokens_in old) at (at + n) t → IsBehindSame old at left t
+same_before old at n left t same within behind =
+    let less : t.same ≤ n = omega (arith, behind.before) in
     record {
+      is_token = behind.is_token;
+      place = behind.place;
+      within = omega arith;
+      alike = sym (take-take t.same n (drop at old.text) less) ∙ ap (take t.same) same ∙ take-take t.same n left less;
+    }
+
+pub same_to_end : (rest left : List ℕ) (n : ℕ) → take n rest ≡ take n left → n ≡ length rest → n ≡ length left → left ≡ rest
+same_to_end rest left n same all whole = sym (take_all n left (omega arith)) ∙ sym same ∙ take_all n rest (omega arith)
+
+-- a token with the same bytes before it
+
+pub goes_behind : (old : CutText) (at : ℕ) (left : List ℕ) (t : TokenBehind) (e : Edit) → AreTokensInOrder old.text (tokens_in old) →
+    IsBehindSame old at left t → PutsToken old t.number (drop t.same left) e → GoesOn old.text at e left (drop (length e.text) (drop t.same left))
+goes_behind old at left t e order behind puts =
+    let rest : List ℕ = drop t.same left in
+    let start : e.span.start ≡ at + t.same = ap (λ (s : Span). s.start) puts.span ∙ behind.place in
+    let size : t.same ≡ e.span.start - at = omega (arith, start) in
+    let ends = subst (λ (s : Span). (s.start ≤ s.end) × (s.end ≤ length old.text)) (sym puts.span)
+    (follow_at 0 (length old.text) (tokens_in old) t.number (semicolon 0) order.follow behind.is_token) in
+    record {
+      behind = omega (arith, start);
+      order = ends.0;
+      within = ends.1;
+      is = sym (take-append-drop t.same left) ∙ ap (λ l. l ++ rest) (sym behind.alike) ∙ ap (λ k. take k (drop at old.text) ++ rest) size
+          ∙ ap (λ l. slice_range old.text at e.span.start ++ l)
+          (sym (take-append-drop (length e.text) rest) ∙ ap (λ l. l ++ drop (length e.text) rest) (sym puts.leads));
+    }
+
+-- The edits replace tokens. Further edits from `at` on, that make what is left of the new text, make the whole of it with them.
+pub record RespellUpTo (old : CutText) (edits : List Edit) (new : List ℕ) (at : ℕ) (left : List ℕ) : Type 0 where
+  pub inside : at ≤ length old.text
+  pub order : (more : List Edit) → AreInOrder at more → AreInOrder 0 (edits ++ more)
+  pub made : (more : List Edit) → left ≡ edited_from at more old.text → new ≡ edited_text (edits ++ more) old.text
+  pub tokens : All (ReplacesToken old) edits
+
+pub respell_none : (old : CutText) (edits : List Edit) (new : List ℕ) → edits ≡ [] → RespellUpTo old edits new 0 new
+respell_none old edits new none = subst (λ es. RespellUpTo old es new 0 new) (sym none) (record {
+  inside = omega arith;
+  order = λ more order. order;
+  made = λ more is. is;
+  tokens = All-nil (ReplacesToken old);
+})
+
+pub respell_more : (old : CutText) (edits later : List Edit) (new : List ℕ) (at : ℕ) (left rest : List ℕ) (e : Edit) → later ≡ edits ++ e ∷ [] →
+    GoesOn old.text at e left rest → ReplacesToken old e → RespellUpTo old edits new at left → RespellUpTo old later new e.span.end rest
+respell_more old edits later new at left rest e grown goes replaces so_far =
+    subst (λ es. RespellUpTo old es new e.span.end rest) (sym grown) (record {
       inside = goes.within;
-      order = λ order. so_far.order (subst (AreInOrder at) (sym next) (goes.behind, goes.order, order));
-      made = λ made. so_far.made (goes.is ∙ ap (λ l. slice_range old at e.span.start ++ (e.text ++ l)) made ∙ ap (λ es. edited_from at es old) (sym next));
-    }
+      order = λ more order. subst (AreInOrder 0) (sym (append_assoc edits (e ∷ []) more)) (so_far.order (e ∷ more) (goes.behind, goes.order, order));
+      made = λ more is. so_far.made (e ∷ more) (goes.is ∙ ap (λ l. slice_range old.text at e.span.start ++ (e.text ++ l)) is)
+          ∙ ap (λ es. edited_text es old.text) (sym (append_assoc edits (e ∷ []) more));
+      tokens = All-push (ReplacesToken old) edits e so_far.tokens replaces;
+    })
 
-pub make_all : (old : List ℕ) (edits : List Edit) (new : List ℕ) (index at : ℕ) (left : List ℕ) → length edits ≤ index →
-    MakeRest old edits new index at left → left ≡ drop at old → Make old edits new
-make_all old edits new index at left all so_far is =
-    let none : drop index edits ≡ [] = drop_all index edits all in
-    record {
-      order = so_far.order (subst (AreInOrder at) (sym none) tt);
-      made = so_far.made (is ∙ ap (λ es. edited_from at es old) (sym none));
-    }
+pub respell_all : (old : CutText) (edits : List Edit) (new : List ℕ) (at : ℕ) (left : List ℕ) → RespellUpTo old edits new at left →
+    left ≡ drop at old.text → Respell old edits new
+respell_all old edits new at left so_far is = record {
+  make = record {
+    order = subst (AreInOrder 0) (append-nil edits) (so_far.order [] tt);
+    made = so_far.made [] is ∙ ap (λ es. edited_text es old.text) (append-nil edits);
+  };
+  tokens = so_far.tokens;
+}
 
 -- the tokens moved so far
 

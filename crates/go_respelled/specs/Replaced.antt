@@ -1,10 +1,11 @@
 -- Edits of a cut text that replace names by names and strings by strings, as the code finds and checks them.
-use Rattle.std.specs.Prelude.{ℕ, ◌≡◌, ◌+◌, ◌-◌, ◌^◌, ◌<◌, ◌≤◌, List, ◌++◌, drop, length, map, Some, slice_get}
+use Rattle.std.specs.Prelude.{ℕ, ◌≡◌, ◌+◌, ◌-◌, ◌^◌, ◌<◌, ◌≤◌, List, ◌++◌, drop, get_or, length, map, take, Some, slice_get}
 use Rattle.std.specs.List.{All, slice_range}
 use Rattle.go_scanner.specs.declared.piece.Class.{Class}
 use Rattle.go_scanner.specs.declared.piece.Piece.{Piece}
-use Rattle.go_scanner.specs.CutText.{CutText, tokens_in}
+use Rattle.go_scanner.specs.CutText.{CutText, token_at, tokens_in}
 use Rattle.go_scanner.specs.Spans.{FollowFrom}
+use Rattle.go_scanner.specs.Tokens.{semicolon}
 use Rattle.go_ast.specs.Kinds.{kind_of_name}
 use Rattle.base_edits.specs.Edits.{AreInOrder, edited_text}
 use Rattle.base_edits.specs.Moved.{moved_offset}
@@ -12,6 +13,9 @@ use Rattle.base_edits.specs.PassedEdits.{ArePast, PassedEdits}
 use Rattle.base_edits.specs.declared.edit.Edit.{Edit}
 use Rattle.go_respelled.specs.PieceEdits.{MayStandFor, edited_piece}
 use Rattle.go_respelled.specs.Renamings.{moved_piece}
+use Rattle.go_respelled.specs.declared.between.Difference.{Difference}
+use Rattle.go_respelled.specs.declared.between.Difference.TheVariants.{Absent, Elsewhere, InToken}
+use Rattle.go_respelled.specs.declared.between.TokenBehind.{TokenBehind}
 use Rattle.go_respelled.specs.declared.moved.Cursor.{Cursor}
 use Rattle.go_respelled.specs.declared.moved.Stretch.{Stretch}
 
@@ -34,6 +38,32 @@ pub record GoesOn (old : List ℕ) (at : ℕ) (e : Edit) (text rest : List ℕ) 
   pub order : e.span.start ≤ e.span.end
   pub within : e.span.end ≤ length old
   pub is : text ≡ slice_range old at e.span.start ++ (e.text ++ rest)
+
+-- A token begins at or behind an offset, and at or before another one. `same` is the number of bytes from the first offset to it.
+pub record IsTokenBehind (tokens : List Piece) (at offset : ℕ) (t : TokenBehind) : Type 0 where
+  pub is_token : t.number < length tokens
+  pub place : (get_or tokens t.number (semicolon 0)).span.start ≡ at + t.same
+  pub before : at + t.same ≤ offset
+
+-- A token of the old text lies behind an offset. What is left of the new text begins with the bytes from the offset to the token.
+pub record IsBehindSame (old : CutText) (at : ℕ) (left : List ℕ) (t : TokenBehind) : Type 0 where
+  pub is_token : t.number < length (tokens_in old)
+  pub place : (token_at old t.number).span.start ≡ at + t.same
+  pub within : t.same ≤ length left
+  pub alike : take t.same (drop at old.text) ≡ take t.same left
+
+-- Where the old text from an offset on and what is left of the new one differ. Where they do not, these are the same bytes.
+abbrev pub IsDifference : CutText → ℕ → List ℕ → Difference → Type 0
+IsDifference old at left Absent = left ≡ drop at old.text
+IsDifference old at left (InToken t) = IsBehindSame old at left t
+IsDifference old at left Elsewhere = Unit {0}
+
+-- The edit puts the first of some bytes for a token of the old text, whose place they may take.
+pub record PutsToken (old : CutText) (number : ℕ) (bytes : List ℕ) (e : Edit) : Type 0 where
+  pub span : e.span ≡ (token_at old number).span
+  pub within : length e.text ≤ length bytes
+  pub leads : e.text ≡ take (length e.text) bytes
+  pub replaces : ReplacesToken old e
 
 -- The edits that a cursor has passed.
 abbrev pub passed : Cursor → PassedEdits

@@ -1,28 +1,42 @@
-//! Finds edits that may make one text of another by replacing names and strings.
-ghost use Rattle.std.specs.Prelude.{◌≡◌, ◌≤◌, drop, length, IfSome};
+//! Finds the edits that make one text of another by replacing names and strings, in one walk over both.
+ghost use Rattle.std.specs.Prelude.{◌≡◌, ◌<◌, ◌≤◌, drop, length, take, IfOk, IfSome, IsTrue};
+ghost use Rattle.go_scanner.specs.CutText.{tokens_in};
+ghost use Rattle.go_respelled.specs.Replaced.{IsDifference, IsTokenBehind, PutsToken, Respell};
 
+use crate::token_edits::replaces_token;
 use base_edits::Edit;
 use base_files::{FileText, Span};
 use go_scanner::{Class, Piece, Pieces, name_len};
 use std::alloc::{AllocError, Global};
 
-/// The bytes that are compared at once.
-const STEP: usize = 64;
+/// How far two texts are the same, by steps of as many bytes. They are the same up to `from`.
+#[inline(always)]
+fn same_by(one: &[u8], other: &[u8], from: usize, step: usize) -> usize
+    requires step { 0 < step }
+    requires one { from ≤ length one.now }
+    requires other { from ≤ length other.now }
+    requires same { take from one.now ≡ take from other.now }
+    ensures one { result ≤ length one.now }
+    ensures other { result ≤ length other.now }
+    ensures same { take result one.now ≡ take result other.now }
+{
+    let size = one.len().min(other.len());
+    let mut n = from;
+    while step <= size - n && one[n..n + step] == other[n..n + step] {
+        n += step;
+    }
+    n
+}
 
 /// The number of equal bytes with which both texts begin.
 fn common_len(one: &[u8], other: &[u8]) -> usize
     ensures one { result ≤ length one.now }
     ensures other { result ≤ length other.now }
+    ensures same { take result one.now ≡ take result other.now }
 {
-    let size = one.len().min(other.len());
-    let mut n = 0;
-    while STEP <= size - n && one[n..n + STEP] == other[n..n + STEP] {
-        n += STEP;
-    }
-    while n < size && one[n] == other[n] {
-        n += 1;
-    }
-    n
+    let far = same_by(one, other, 0, 64);
+    let near = same_by(one, other, far, 8);
+    same_by(one, other, near, 1)
 }
 
 /// The number of tokens that begin at or before an offset, found by binary search.
@@ -42,53 +56,82 @@ fn begun(tokens: &[Piece], offset: usize) -> usize
     low
 }
 
-/// The span of the token of this number, if it is a name that reaches up to an offset, or a string about the offset.
-fn token_up_to(tokens: &[Piece], number: usize, offset: usize) -> Option<Span> {
-    let token = tokens.get(number)?;
-    match token.class {
-        Class::Name if offset <= token.span.end => Some(token.span),
-        Class::InterpretedString if offset < token.span.end => Some(token.span),
-        _ => None,
-    }
-}
-
-/// The span of the name or string that contains an offset, or of the name that ends there.
-fn token_near(tokens: &[Piece], offset: usize) -> Option<Span> {
-    let count = begun(tokens, offset);
-    let last = token_up_to(tokens, count.wrapping_sub(1), offset);
-    if last.is_some() {
-        return last;
-    }
-    token_up_to(tokens, count.wrapping_sub(2), offset)
-}
-
-/// How far the old text and the new one are compared.
-#[derive(Clone, Copy)]
-struct TextsAt {
-    old: usize,
-    new: usize,
-}
-
-/// The bytes from an offset on. None where it lies past the end.
-fn from(bytes: &[u8], offset: usize) -> &[u8]
-    ensures { result.now ≡ drop offset bytes.now }
+/// Whether the token of this number is a name that reaches up to an offset, or a string about the offset.
+fn reaches(tokens: &[Piece], number: usize, offset: usize) -> bool
+    ensures { IsTrue result → number < length tokens.now }
 {
-    if offset <= bytes.len() {
-        &bytes[offset..]
-    } else {
-        &[]
+    match tokens.get(number) {
+        Some(token) => match token.class {
+            Class::Name => offset <= token.span.end,
+            Class::InterpretedString => offset < token.span.end,
+            _ => false,
+        },
+        None => false,
     }
 }
 
-/// The first name or string of the old text, behind both offsets, at which the texts differ.
-fn differing(old: &Pieces, new: &[u8], at: TextsAt) -> Option<Span> {
-    let size = common_len(from(old.file().bytes(), at.old), from(new, at.new));
-    let offset = at.old.checked_add(size)?;
-    let span = token_near(old.tokens(), offset)?;
-    if at.old <= span.start {
-        Some(span)
-    } else {
-        None
+/// The number of the name or string that contains an offset, or of the name that ends there.
+fn token_near(tokens: &[Piece], offset: usize) -> Option<usize>
+    ensures { IfSome result (λ number. number < length tokens.now) }
+{
+    let count = begun(tokens, offset);
+    let last = count.wrapping_sub(1);
+    if reaches(tokens, last, offset) {
+        return Some(last);
+    }
+    let before = count.wrapping_sub(2);
+    if reaches(tokens, before, offset) {
+        return Some(before);
+    }
+    None
+}
+
+/// A token of the old text, and the number of the bytes before it that stand in the new text as well.
+#[derive(Clone, Copy)]
+pub(crate) struct TokenBehind {
+    pub(crate) number: usize,
+    pub(crate) same: usize,
+}
+
+/// Where two texts differ first.
+#[derive(Clone, Copy)]
+pub(crate) enum Difference {
+    /// Nowhere.
+    Absent,
+    /// At a name or string.
+    InToken(TokenBehind),
+    /// At other bytes.
+    Elsewhere,
+}
+
+/// The name or string at an offset, if it begins where the texts are the same: at or behind `at`, and at or before the offset.
+fn token_behind(tokens: &[Piece], at: usize, offset: usize) -> Option<TokenBehind>
+    ensures { IfSome result (λ token. IsTokenBehind tokens.now at offset token) }
+{
+    let number = token_near(tokens, offset)?;
+    let start = tokens[number].span.start;
+    if start < at || offset < start {
+        return None;
+    }
+    Some(TokenBehind {
+        number,
+        same: start - at,
+    })
+}
+
+/// Where the old text from an offset on and what is left of the new one differ first.
+fn first_difference(old: &Pieces, at: usize, left: &[u8]) -> Difference
+    requires { at ≤ length old.now.text }
+    ensures { IsDifference old.now at left.now result }
+{
+    let rest = &old.file().bytes()[at..];
+    let same = common_len(rest, left);
+    if same == rest.len() && same == left.len() {
+        return Difference::Absent;
+    }
+    match token_behind(old.tokens(), at, at + same) {
+        Some(token) => Difference::InToken(token),
+        None => Difference::Elsewhere,
     }
 }
 
@@ -118,43 +161,84 @@ fn token_len(bytes: &[u8]) -> Option<usize>
     }
 }
 
-/// The name or string of the new text at an offset. It has no bytes where none begins there.
-fn token_from(new: &[u8], offset: usize) -> &[u8] {
-    let rest = from(new, offset);
-    match token_len(rest) {
-        Some(size) => &rest[..size],
+/// The bytes from an offset on. None where it lies past the end.
+fn from(bytes: &[u8], offset: usize) -> &[u8]
+    ensures { result.now ≡ drop offset bytes.now }
+{
+    if offset <= bytes.len() {
+        &bytes[offset..]
+    } else {
+        &[]
+    }
+}
+
+/// The name or string with which some bytes begin. It has no bytes where there is none.
+fn leading_token(bytes: &[u8]) -> &[u8]
+    ensures within { length result.now ≤ length bytes.now }
+    ensures leads { result.now ≡ take (length result.now) bytes.now }
+{
+    match token_len(bytes) {
+        Some(size) => &bytes[..size],
         None => &[],
     }
 }
 
 /// A text with the bytes of a token. It is that of the edit before where this has the same bytes, so that a token put often stands once.
-fn token_text(alloc: Global, token: &[u8], before: Option<&Edit>) -> Result<FileText, AllocError> {
+fn token_text(alloc: Global, token: &[u8], before: Option<&Edit>) -> Result<FileText, AllocError>
+    ensures { IfOk result (λ text. text ≡ token.now) }
+{
     match before {
         Some(edit) if edit.text.bytes() == token => edit.text.clone(),
         _ => FileText::new(alloc, Vec::from_slice(alloc, token)?),
     }
 }
 
-/// Edits of names and strings that make the new text of the old one, if such edits do. Otherwise they make it in part.
+/// The edit that puts the name or string with which `left` begins for a token. `None` where it may not take its place.
+fn edit_of(
+    alloc: Global,
+    old: &Pieces,
+    number: usize,
+    left: &[u8],
+    before: Option<&Edit>,
+) -> Result<Option<Edit>, AllocError>
+    requires { number < length (tokens_in old.now) }
+    ensures { IfOk result (λ made. IfSome made (PutsToken old.now number left.now)) }
+{
+    let span = old.tokens()[number].span;
+    let text = token_text(alloc, leading_token(left), before)?;
+    let edit = Edit { span, text };
+    if replaces_token(alloc, old, number, &edit)? {
+        Ok(Some(edit))
+    } else {
+        Ok(None)
+    }
+}
+
+/// The edits of names and strings that make the new text of the old one. `None` where such edits do not. A file begins with a keyword, so
+/// that fewer tokens are replaced than it has.
 pub(crate) fn edits_between(
     alloc: Global,
     old: &Pieces,
     new: &[u8],
-) -> Result<Vec<Edit>, AllocError> {
+) -> Result<Option<Vec<Edit>>, AllocError>
+    ensures { IfOk result (λ made. IfSome made (λ edits. Respell old.now edits.items new.now)) }
+{
     let mut edits = Vec::new(alloc);
-    let mut at = TextsAt { old: 0, new: 0 };
+    let mut at = 0;
+    let mut left = new;
     for _ in 0..old.tokens().len() {
-        let Some(span) = differing(old, new, at) else {
-            return Ok(edits);
+        let token = match first_difference(old, at, left) {
+            Difference::Absent => return Ok(Some(edits)),
+            Difference::InToken(token) => token,
+            Difference::Elsewhere => return Ok(None),
         };
-        let start = at.new.saturating_add(span.start.saturating_sub(at.old));
-        let token = token_from(new, start);
-        let text = token_text(alloc, token, edits.last())?;
-        edits.push(Edit { span, text })?;
-        at = TextsAt {
-            old: span.end,
-            new: start.saturating_add(token.len()),
+        let rest = from(left, token.same);
+        let Some(edit) = edit_of(alloc, old, token.number, rest, edits.last())? else {
+            return Ok(None);
         };
+        left = from(rest, edit.text.len());
+        at = edit.span.end;
+        edits.push(edit)?;
     }
-    Ok(edits)
+    Ok(None)
 }

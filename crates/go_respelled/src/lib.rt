@@ -6,7 +6,6 @@
 #![tactic(auto)]
 
 mod between;
-mod edited;
 mod moved;
 pub mod recut;
 mod respelling;

@@ -1,27 +1,15 @@
 //! Parsed files in which names are replaced by names, and strings by strings.
-ghost use Rattle.std.specs.Prelude.{◌≡◌, IfOk, IfSome, IsTrue};
+ghost use Rattle.std.specs.Prelude.{◌≡◌, IfOk, IfSome};
 ghost use Rattle.go_respelled.specs.Renamings.{recut};
 ghost use Rattle.go_respelled.specs.Replaced.{Respell};
 
 use crate::between::edits_between;
-use crate::edited::make;
 use crate::moved::moved_tokens;
-use crate::token_edits::replace_tokens;
 use base_edits::Edit;
 use base_files::{FileText, Path};
 use go_ast::FileTree;
 use go_scanner::Pieces;
 use std::alloc::{AllocError, Global};
-
-/// Whether the edits replace names and strings of the old text by such, and make the new text so.
-fn respell(alloc: Global, old: &Pieces, edits: &[Edit], new: &[u8]) -> Result<bool, AllocError>
-    ensures { IfOk result (λ is. IsTrue is → Respell old.now edits.now new.now) }
-{
-    if !make(old.file().bytes(), edits, new) {
-        return Ok(false);
-    }
-    replace_tokens(alloc, old, edits)
-}
 
 /// The new text with its tokens, which are those of the old text, moved.
 fn respelled_pieces(
@@ -50,11 +38,9 @@ pub fn respelled(
     ensures { IfOk result (λ made. IfSome made (λ file. (file.path ≡ path.now) × (file.cut.text ≡ text.now))) }
 {
     let old = like.pieces();
-    let new = text.bytes();
-    let edits = edits_between(alloc, old, new)?;
-    if !respell(alloc, old, &edits, new)? {
+    let Some(edits) = edits_between(alloc, old, text.bytes())? else {
         return Ok(None);
-    }
+    };
     let _ = like.file();
     let pieces = respelled_pieces(alloc, old, &edits, text)?;
     let path = path.clone()?;

@@ -1,6 +1,5 @@
-//! Whether edits replace names by names, and strings by strings.
+//! Whether an edit replaces a name by a name, or a string by a string.
 ghost use Rattle.std.specs.Prelude.{◌≡◌, ◌<◌, IfOk, IsTrue, length};
-ghost use Rattle.std.specs.List.{All};
 ghost use Rattle.go_scanner.specs.declared.piece.Class.TheVariants.{Name};
 ghost use Rattle.go_scanner.specs.CutText.{tokens_in};
 ghost use Rattle.go_scanner.specs.Pieces.{IsPiece};
@@ -71,7 +70,7 @@ fn have_same_kind(one: &[u8], other: &[u8]) -> bool
 }
 
 /// Whether an edit replaces the token of this number by bytes that may take its place. Both must be `_`, or neither.
-fn replaces_token(
+pub(crate) fn replaces_token(
     alloc: Global,
     old: &Pieces,
     number: usize,
@@ -88,32 +87,4 @@ fn replaces_token(
         return Ok(false);
     }
     may_stand_for(alloc, token.class, &edit.text)
-}
-
-/// Whether an edit replaces a token by bytes that may take its place. The token is found by binary search.
-fn replaces(alloc: Global, old: &Pieces, edit: &Edit) -> Result<bool, AllocError>
-    ensures { IfOk result (λ replaces. IsTrue replaces → ReplacesToken old.now edit.now) }
-{
-    let start = edit.span.start;
-    let tokens = old.tokens();
-    match tokens.binary_search_by(|token| token.span.start.cmp(&start)) {
-        Ok(number) => replaces_token(alloc, old, number, edit),
-        Err(_) => Ok(false),
-    }
-}
-
-/// Whether each edit replaces a token by bytes that may take its place.
-pub(crate) fn replace_tokens(
-    alloc: Global,
-    old: &Pieces,
-    edits: &[Edit],
-) -> Result<bool, AllocError>
-    ensures { IfOk result (λ all. IsTrue all → All (ReplacesToken old.now) edits.now) }
-{
-    for edit in edits {
-        if !replaces(alloc, old, edit)? {
-            return Ok(false);
-        }
-    }
-    Ok(true)
 }
