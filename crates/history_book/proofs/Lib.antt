@@ -12,3 +12,5 @@ pub mod Advanced
 pub mod CurrentChanged
 pub mod Roomier
 pub mod SeenStates
+pub mod WorkLeft
+pub mod BookUnits

@@ -8,11 +8,13 @@ ghost use Rattle.history_machine.specs.Step.{Step, done, entries_due};
 ghost use Rattle.history_machine.specs.declared.event.Event.TheVariants.{Commit, Deliver};
 ghost use Rattle.history_book.specs.CurrentInputs.{HasCurrentInputs};
 ghost use Rattle.history_book.specs.Handed.{handed};
+ghost use Rattle.history_book.specs.WorkLeft.{HasJob, IsWaitEnd};
 
 use crate::changing::enter_on_current;
 use crate::handing::{asked_of, enter_delivery};
 use crate::{Asked, Content, Handed, Question, answer};
 use base_files::{Limits, Refusal};
+use build_kept::KnownUnits;
 use build_unit::{Built, Job};
 use history_machine::{Entry, EntryKind};
 use std::alloc::{AllocError, Global};
@@ -29,12 +31,13 @@ pub struct Book {
     journal: Vec<Entry>,
 }
 
-/// The invariant of each book says that its content is the replay of its journal.
+/// The invariant of each book says that its content is the replay of its journal, and that all finished units are right.
 impl Model for Book {
     ghost use Rattle.std.specs.Prelude.{◌+◌, ◌≤◌, length, vec_capacity};
     ghost use Rattle.history_machine.specs.Codes.{entry_code};
     ghost use Rattle.history_machine.specs.Machine.{Machine, with_journal};
     ghost use Rattle.history_machine.specs.Run.{IsReplay};
+    ghost use Rattle.history_machine.specs.Current.{UnitsAreCurrent};
     ghost use Rattle.std.specs.Coded.{codes};
     ghost use Rattle.build_unit.specs.Codes.{unit_code, workspace_code};
 
@@ -50,8 +53,12 @@ impl Model for Book {
         × (a.content.out.ticket ≤ length a.journal.items)
         × (length a.journal.items + length a.content.out.jobs ≤ a.content.limits.journal)
         × (length a.journal.items + length a.content.out.jobs ≤ vec_capacity a.journal)
-        × ∥ IsReplay a.content.limits a.journal.items a.content ∥₁ };
+        × ∥ IsReplay a.content.limits a.journal.items a.content ∥₁
+        × UnitsAreCurrent (with_journal a.content a.journal.items) };
 }
+
+/// For how many entries the journal needs room before a Take: its own, and that of its Job.
+const ENTRIES_OF_TAKE: u64 = 2;
 
 /// Makes room for more entries. Where the journal grows it has room for as many again as it has, so that it seldom grows.
 fn grow(journal: &mut Vec<Entry>, needed: usize) -> Result<(), AllocError>
@@ -115,6 +122,34 @@ impl Book {
         ensures { IsTrue result ↔ (entries_due self.now + needed ≤ self.now.limits.journal) }
     {
         self.content.limits.journal - self.entries_due() >= needed
+    }
+
+    /// Whether a Take hands out a Job, unless memory is wanting. It is no event.
+    pub fn has_job(&self) -> bool
+        ensures { IsTrue result ↔ HasJob self.now }
+    {
+        if !self.has_room(ENTRIES_OF_TAKE) {
+            return false;
+        }
+        self.content.has_waiting()
+    }
+
+    /// How a wait for all packages ends: `Ok` where each is finished, and a refusal where none can be built any more, since the journal is
+    /// full. It is `None` where the wait goes on. It is no event.
+    pub fn wait_end(&self) -> Option<Result<(), Refusal>>
+        ensures end { IsWaitEnd self.now result }
+        ensures replay { ∥ IsReplay self.now.limits self.now.journal (content self.now) ∥₁ }
+    {
+        if self.content.has_all_finished() {
+            return Some(Ok(()));
+        }
+        if !self.content.has_no_job_out() {
+            return None;
+        }
+        if !self.has_room(ENTRIES_OF_TAKE) {
+            return Some(Err(Refusal::JournalFull));
+        }
+        None
     }
 
     /// Makes one step of the machine, and returns a copy of the entry that it adds. Room is made before anything changes. So a refusal for
@@ -190,6 +225,29 @@ impl Book {
         ensures { self.new ≡ self.old }
     {
         self.content.learn_current(known);
+    }
+
+    /// What is known of the units of the current state's packages. It is no event.
+    pub fn known_units(&self) -> Result<KnownUnits, AllocError>
+        ensures { IfOk result (λ units. units ≡ self.now.current.files) }
+    {
+        self.content.known_units()
+    }
+
+    /// Keeps what is known of the units of packages, if their files are the current ones. It is no event: it affects how long later builds
+    /// take, and the machine stays as it is.
+    pub fn learn_units(&mut self, units: KnownUnits)
+        ensures { self.new ≡ self.old }
+    {
+        self.content.learn_units(units);
+    }
+
+    /// Keeps what is known of the units of the current state's packages. No file is compared.
+    pub fn learn_current_units(&mut self, units: KnownUnits)
+        requires { units ≡ self.old.current.files }
+        ensures { self.new ≡ self.old }
+    {
+        self.content.learn_current_units(units);
     }
 
     /// Ends the book, and returns the length of its journal.

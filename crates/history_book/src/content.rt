@@ -1,21 +1,28 @@
 //! The content of a book: the states of a workspace, the Jobs that are out, and what each event makes of them.
-ghost use Rattle.std.specs.Prelude.{◌≡◌, ◌↔◌, IfOk, IsTrue, length};
+ghost use Rattle.std.specs.Prelude.{◌≡◌, ◌↔◌, ℕ, [], IfOk, IsTrue, List, length};
 ghost use Rattle.workspace_check.specs.Found.{KnowsVerdicts};
 ghost use Rattle.build_unit.specs.Jobs.{IsOut};
+ghost use Rattle.build_unit.specs.Units.{IsUnitAt};
+ghost use Rattle.build_kept.specs.KnownUnits.{AreKnownUnits};
+ghost use Rattle.history_book.specs.CurrentUnits.{AreKnownIn};
 ghost use Rattle.history_machine.specs.Machine.{HasNumbersLeft, content, opening};
 ghost use Rattle.history_book.specs.CurrentInputs.{HasCurrentInputs};
 ghost use Rattle.history_book.specs.Handed.{handed};
 ghost use Rattle.history_book.specs.Outcomes.{HasOutcome};
+ghost use Rattle.history_book.specs.WorkLeft.{AreAllFinished};
 ghost use Rattle.history_machine.specs.Step.{AnswersOrLacks, committed, done, looked, taken};
+ghost use Rattle.history_machine.specs.Waiting.{WaitsIn};
 ghost use Rattle.history_machine.specs.declared.event.Event.TheVariants.{Commit, Deliver, GiveBack, Look, Redo, Take, Undo};
 
 use crate::deliveries::{DeliveryOutcome, outcome_of, outcome_on_current};
 use crate::following::state_after;
 use crate::handed::{Handed, take_in};
 use crate::states::States;
+use crate::work_left::{are_all_finished, has_package_waiting};
 use base_files::{Limits, Refusal};
 use build_carry::Finished;
-use build_unit::{Built, Job, Out, PackageInputs, SharedPath};
+use build_kept::KnownUnits;
+use build_unit::{Built, Job, Out, PackageInputs, SharedPath, Unit};
 use history_inverses::History;
 use history_machine::{EntryEdits, KnownSnapshot, State, View, first_waiting};
 use std::alloc::{AllocError, Global};
@@ -30,10 +37,13 @@ pub struct Content {
     pub limits: Limits,
     pub(crate) history: States,
     pub out: Out,
+    /// What is known of units of the current state's packages before these are built. Contracts don't see it.
+    pub(crate) ready: Option<KnownUnits>,
 }
 
 impl Model for Content {
     ghost use Rattle.std.specs.Prelude.{◌≡◌};
+    ghost use Rattle.history_book.specs.CurrentUnits.{AreKnownIn};
     ghost use Rattle.history_book.specs.Histories.{KeepStates, content_of};
     ghost use Rattle.history_machine.specs.Machine.{Content};
     ghost use Rattle.std.specs.Coded.{codes};
@@ -45,7 +55,7 @@ impl Model for Content {
 
     ghost view = { λ a. content_of a.history a.limits a.out };
 
-    ghost invariant = { λ a. (a.history.ways.depth ≡ a.limits.undo_depth) × KeepStates a.history };
+    ghost invariant = { λ a. (a.history.ways.depth ≡ a.limits.undo_depth) × KeepStates a.history × AreKnownIn a.history.current.files a.ready };
 }
 
 /// Whether the base of a change has these files, byte for byte.
@@ -63,6 +73,72 @@ fn parts_shown(state: &State, limits: Limits) -> Result<(KnownSnapshot, Finished
     let snapshot = state.snapshot(limits)?;
     let finished = state.finished.clone()?;
     Ok((snapshot, finished))
+}
+
+/// The unit of the package of a number of a state, if it is known before it is built.
+fn ready_unit(
+    alloc: Global,
+    ready: &Option<KnownUnits>,
+    state: &State,
+    number: usize,
+) -> Result<Option<Unit>, AllocError>
+    requires { AreKnownIn state.now.files ready.now }
+    ensures { IfOk result (IsUnitAt state.now.files number) }
+{
+    match ready {
+        Some(known) => known.unit(alloc, number),
+        None => Ok(None),
+    }
+}
+
+/// Whether a unit is known of the first package that either is finished in a state or has a known unit, but not both.
+fn knows_more(ready: &KnownUnits, state: &State) -> bool {
+    for number in 0..state.files.len() {
+        let is_known = ready.has(number);
+        if is_known != state.finished.get(number).is_some() {
+            return is_known;
+        }
+    }
+    false
+}
+
+/// The finished units of a state. They are shared.
+fn finished_units(alloc: Global, state: &State) -> Result<KnownUnits, AllocError>
+    requires { AreKnownUnits state.now.files [] state.now.finished }
+    ensures { IfOk result (λ units. units ≡ state.now.files) }
+{
+    let files = state.files.clone()?;
+    let finished = state.finished.clone()?;
+    Ok(KnownUnits::of(alloc, files, finished))
+}
+
+/// What is known of the units of a state's packages: the finished ones, or what was known before they were built, where that is more.
+fn more_units(alloc: Global, known: &KnownUnits, state: &State) -> Result<KnownUnits, AllocError>
+    requires known { known.now ≡ state.now.files }
+    requires finished { AreKnownUnits state.now.files [] state.now.finished }
+    ensures { IfOk result (λ units. units ≡ state.now.files) }
+{
+    if knows_more(known, state) {
+        known.copy(alloc)
+    } else {
+        finished_units(alloc, state)
+    }
+}
+
+/// The same, where something may be known before the packages are built.
+fn units_in(
+    alloc: Global,
+    ready: &Option<KnownUnits>,
+    state: &State,
+) -> Result<KnownUnits, AllocError>
+    requires ready { AreKnownIn state.now.files ready.now }
+    requires finished { AreKnownUnits state.now.files [] state.now.finished }
+    ensures { IfOk result (λ units. units ≡ state.now.files) }
+{
+    match ready {
+        Some(known) => more_units(alloc, known, state),
+        None => finished_units(alloc, state),
+    }
 }
 
 impl Content {
@@ -91,6 +167,7 @@ impl Content {
                 visit: 0,
             },
             out: Out::new(alloc),
+            ready: None,
         })
     }
 
@@ -115,6 +192,27 @@ impl Content {
         self.out.is_out(job)
     }
 
+    /// Whether no Job is out.
+    pub fn has_no_job_out(&self) -> bool
+        ensures { IsTrue result ↔ (length self.now.out.jobs ≡ 0) }
+    {
+        self.jobs() == 0
+    }
+
+    /// Whether a package of the current state waits to be built.
+    pub fn has_waiting(&self) -> bool
+        ensures { IsTrue result ↔ ((p : List ℕ) × WaitsIn self.now p) }
+    {
+        has_package_waiting(&self.history.current, &self.out, self.history.visit)
+    }
+
+    /// Whether each package of the current state is finished.
+    pub fn has_all_finished(&self) -> bool
+        ensures { IsTrue result ↔ AreAllFinished self.now.current }
+    {
+        are_all_finished(&self.history.current)
+    }
+
     /// A view of the current state. The files and the finished units are shared.
     pub fn look(&self) -> Result<View, Refusal>
         ensures { AnswersOrLacks self.now Look (looked result) self.now }
@@ -136,6 +234,7 @@ impl Content {
         ensures answer { AnswersOrLacks self.old (Commit self.old.current.number change) (committed result) self.new }
         ensures edits { IfOk result (λ made. made.1 ≡ change.edits) }
     {
+        self.ready = None;
         let (state, edits, back) = state_after(
             self.alloc,
             &self.history.current,
@@ -184,6 +283,7 @@ impl Content {
         requires { HasNumbersLeft self.old }
         ensures { AnswersOrLacks self.old (Undo basis) (done result) self.new }
     {
+        self.ready = None;
         self.history.undo(self.alloc, basis)
     }
 
@@ -192,6 +292,7 @@ impl Content {
         requires { HasNumbersLeft self.old }
         ensures { AnswersOrLacks self.old (Redo basis) (done result) self.new }
     {
+        self.ready = None;
         self.history.redo(self.alloc, basis)
     }
 
@@ -205,7 +306,14 @@ impl Content {
             return Err(Refusal::NoJob);
         };
         let package = SharedPath::new(self.alloc, &current.files.package(number).path)?;
-        let inputs = PackageInputs::of(self.alloc, &current.files, number, &current.known)?;
+        let unit = ready_unit(self.alloc, &self.ready, current, number)?;
+        let inputs = PackageInputs::with_unit(
+            self.alloc,
+            &current.files,
+            number,
+            &current.known,
+            unit,
+        )?;
         let job = self
             .out
             .hand_out(current.number, self.history.visit, package, inputs)?;
@@ -286,6 +394,32 @@ impl Content {
         }
     }
 
+    /// What is known of the units of the current state's packages: the finished ones, or what was known before they were built, where that is
+    /// more.
+    pub fn known_units(&self) -> Result<KnownUnits, AllocError>
+        requires { AreKnownUnits self.now.current.files [] self.now.current.finished }
+        ensures { IfOk result (λ units. units ≡ self.now.current.files) }
+    {
+        units_in(self.alloc, &self.ready, &self.history.current)
+    }
+
+    /// Keeps what is known of the units of packages, if their files are the current ones.
+    pub fn learn_units(&mut self, units: KnownUnits)
+        ensures { self.new ≡ self.old }
+    {
+        if units.is_of(&self.history.current.files) {
+            self.ready = Some(units);
+        }
+    }
+
+    /// Keeps what is known of the units of the current state's packages. No file is compared.
+    pub fn learn_current_units(&mut self, units: KnownUnits)
+        requires { units ≡ self.old.current.files }
+        ensures { self.new ≡ self.old }
+    {
+        self.ready = Some(units);
+    }
+
     /// Drops all states and Jobs.
     pub fn close(self) {
         let Content {
@@ -293,7 +427,9 @@ impl Content {
             limits: _,
             history,
             out,
+            ready,
         } = self;
+        drop(ready);
         let States {
             earlier,
             current,

@@ -20,6 +20,7 @@ mod looking_back;
 mod question;
 mod reasons;
 mod states;
+mod work_left;
 
 pub use answering::{answer, enter};
 pub use asking::{Logging, Looking, Taking};
@@ -33,3 +34,4 @@ pub use handing::HandingIn;
 pub use looking_back::LookingBack;
 pub use question::{Answered, Asked, Question};
 pub use states::States;
+pub use work_left::{takes_only_jobs, takes_or_lacks};

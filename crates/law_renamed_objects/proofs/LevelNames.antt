@@ -72,12 +72,13 @@ module _ (w : Workspace) (known : Verdicts) (p : Package) (is : IsCheckedPackage
       ∙ ap (spelling_of st.source) (sym lies.2)
       ∙ sym (named_as_spelled w known p.path p checked u (lt, lies.0) st.source st.of_rank st.is_name)
 
-  level_identifies : (u : ℕ) → IsPackageLevel l u → is_implied (l.role u) ≡ false
+  -- a package-level declaration stands at its name
+  pub level_identifies : (u : ℕ) → IsPackageLevel l u → is_implied (l.role u) ≡ false
   level_identifies u level =
       identifies w known p.path p checked u
       (λ known_one. let z : Universe ≡ PackageBlock = sym (in_universe w known p.path p checked u known_one) ∙ level in cc)
 
-  level_stands : (u : ℕ) → u < p.size → IsPackageLevel l u → StandsAtName p u
+  pub level_stands : (u : ℕ) → u < p.size → IsPackageLevel l u → StandsAtName p u
   level_stands u lt level =
       declared_stands w known p.path p checked u lt (level_declares l (layout_formed w known p.path p checked) p.names u level).may
       (level_identifies u level)

@@ -2,8 +2,8 @@
 mod NamesMoved
 pub mod Sourced
 mod ObjectsMove
-mod LevelNames
-mod MovesFrom
+pub mod LevelNames
+pub mod MovesFrom
 mod QualifiedNames
 mod MethodNames
 mod GlobalLaws

@@ -88,7 +88,7 @@ all_weaker K H f [] h = tt
 all_weaker K H f (t ∷ ts) h = (f t.kind t.place h.0, all_weaker K H f ts h.1)
 
 -- the tokens of a file's declarations
-of_decls : (K : Kind → ℕ → Type 0) (f : FileTree) → AllOf K (flatten f) → AllOf K (all_tokens decl_tokens f.decls)
+pub of_decls : (K : Kind → ℕ → Type 0) (f : FileTree) → AllOf K (flatten f) → AllOf K (all_tokens decl_tokens f.decls)
 unfolding flatten
 of_decls K f h = back K (all_tokens imports_tokens f.imports) (all_tokens decl_tokens f.decls) h.1.1.1
 

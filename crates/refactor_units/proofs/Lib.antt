@@ -2,4 +2,6 @@
 pub mod PlainRenames
 pub mod UnnamedRenames
 pub mod LocalRenames
+pub mod LevelAt
+pub mod LevelRenames
 pub mod PlannedObjects

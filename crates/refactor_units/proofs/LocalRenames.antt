@@ -1,11 +1,9 @@
--- A planned rename of a local declaration is a plain one, and keeps the units of all packages.
+-- A planned rename of a local declaration is a plain one, and its files carry all units over.
 use Rattle.std.proofs.Common.{ℕ, ◌≡◌, inl, inr, List, [], refl, sym, ap, subst, ◌∙◌}
-use Rattle.base_files.specs.Packages.{package_paths}
 use Rattle.base_files.specs.Path.{folder}
 use Rattle.base_files.specs.Workspace.{Workspace}
 use Rattle.base_files.specs.declared.place.Place.{Place}
 use Rattle.types_declared.specs.Package.{Package}
-use Rattle.workspace_check.specs.Closures.{HasSameClosure}
 use Rattle.workspace_check.specs.FaultLists.{ListsFaults}
 use Rattle.workspace_check.specs.Verdicts.{Verdicts, AreVerdicts}
 use Rattle.workspace_snapshot.specs.declared.change.Change.{Change}
@@ -21,17 +19,13 @@ use Rattle.refactor_rename.specs.Literals.{IsUnnamedImport}
 use Rattle.refactor_rename.specs.NewName.{IsNewName}
 use Rattle.refactor_plan.specs.Plan.{IsRenamed}
 use Rattle.law_known_verdicts.specs.KnownVerdicts.{IsHiddenIn, IsUnseen}
-use Rattle.law_renamed_objects.specs.KeptUnits.{KeepsUnitOf}
+use Rattle.build_kept.specs.KnownUnits.{CarriesUnits}
+use Rattle.law_kept_units.proofs.Carried.{local_carried}
 use Rattle.law_renamed_objects.specs.Objects.{IsUnprinted}
-use Rattle.law_renamed_objects.proofs.UnitsStay.{units_stay}
 use Rattle.law_renamed_packages.specs.Renames.{IsPlainRename}
-use Rattle.law_renamed_packages.proofs.Packages.{same_imports}
-use Rattle.refactor_units.specs.LocalNames.{IsLocalAt, IsLocalNumber, KeepsUnits}
-use Rattle.refactor_units.proofs.PlainRenames.{HasOwnName, planned_plain, used_there}
-
--- a workspace has the closures that it has
-same_closure : (w : Workspace) (p : List ℕ) → HasSameClosure w w p
-same_closure w p file = (λ h. h, λ h. h)
+use Rattle.refactor_units.specs.CarriedNames.{CarriesPlanned, CarriesRename}
+use Rattle.refactor_units.specs.LocalNames.{IsLocalAt, IsLocalNumber}
+use Rattle.refactor_units.proofs.PlainRenames.{HasOwnName, planned_plain, same_closure, used_there}
 
 module _ (w : Workspace) (sound : ListsFaults w []) (known : Verdicts) (right : AreVerdicts w known) (p : Package) (is : IsCheckedPackage w known p) (n : ℕ)
     (local : IsLocalNumber p n) where
@@ -77,18 +71,21 @@ module _ (snapshot : Snapshot) (path : List ℕ) (offset : ℕ) (h : IsLocalAt s
       (subst (λ e. (place : Place) × IsUseOf w known e place) (sym same) (used w sound known right h.declared_in is_package h.number h.is_local))
       (subst (HasOwnName (IsCheckedPackage w known)) (sym same) (named w sound known right h.declared_in is_package h.number h.is_local))
 
-  paths : package_paths w ≡ package_paths change.files
-  paths = (same_imports w known d name change.edits plain).paths ∙ ap (λ (x : Change). package_paths x.files) (sym renamed.is_change)
+  carried : CarriesUnits w change.files []
+  carried =
+      subst (λ (x : Change). CarriesUnits w x.files []) (sym renamed.is_change)
+      (local_carried w known d name change.edits plain renamed.preserves
+      (subst (IsUnprinted (IsCheckedPackage w known)) (sym same) (unprinted w sound known right h.declared_in is_package h.number h.is_local))
+      (λ q. subst (λ e. IsUnseen w known e name q) (sym same) (unseen w sound known right h.declared_in is_package h.number h.is_local name q)))
 
-  units : (q : List ℕ) → KeepsUnitOf w change.files q
-  units q =
-      subst (λ (x : Change). KeepsUnitOf w x.files q) (sym renamed.is_change)
-      (units_stay w known d name change.edits plain renamed.preserves
-      (subst (IsUnprinted (IsCheckedPackage w known)) (sym same) (unprinted w sound known right h.declared_in is_package h.number h.is_local)) q
-      (subst (λ e. IsUnseen w known e name q) (sym same) (unseen w sound known right h.declared_in is_package h.number h.is_local name q)))
-
-pub local_keeps : (snapshot : Snapshot) (path : List ℕ) (offset : ℕ) → IsLocalAt snapshot.files path offset → KeepsUnits snapshot path offset
-local_keeps snapshot path offset h name change plans = record {
-  paths = paths snapshot path offset h name change plans.0.sound plans.0.form plans.1;
-  units = units snapshot path offset h name change plans.0.sound plans.0.form plans.1;
+pub local_carries : (snapshot : Snapshot) (path : List ℕ) (offset : ℕ) (name : List ℕ) → ListsFaults snapshot.files [] →
+    IsLocalAt snapshot.files path offset → CarriesPlanned snapshot path offset name []
+local_carries snapshot path offset name sound h = record {
+  sound = sound;
+  carries = λ change plans. carried snapshot path offset h name change plans.0.sound plans.0.form plans.1;
 }
+
+pub local_renames : (w : Workspace) (path : List ℕ) (offset : ℕ) (name : List ℕ) → ListsFaults w [] → IsLocalAt w path offset →
+    CarriesRename w path offset name []
+local_renames w path offset name sound h snapshot same =
+    local_carries snapshot path offset name (subst (λ x. ListsFaults x []) (sym same) sound) (subst (λ x. IsLocalAt x path offset) (sym same) h)

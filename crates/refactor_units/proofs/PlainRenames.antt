@@ -4,6 +4,7 @@ use Rattle.base_files.specs.Workspace.{Workspace}
 use Rattle.base_files.specs.declared.place.Place.{Place}
 use Rattle.go_scope.specs.Bindings.{Declares, own}
 use Rattle.types_declared.specs.Package.{Package}
+use Rattle.workspace_check.specs.Closures.{HasSameClosure}
 use Rattle.workspace_check.specs.FaultLists.{ListsFaults}
 use Rattle.workspace_check.specs.Verdicts.{Verdicts, AreVerdicts}
 use Rattle.workspace_snapshot.specs.declared.change.Change.{Change}
@@ -20,6 +21,10 @@ use Rattle.refactor_rename.specs.NewName.{IsNewName}
 use Rattle.refactor_plan.specs.Plan.{IsRenamed}
 use Rattle.law_renamed_packages.specs.Renames.{IsPlainRename}
 use Rattle.law_renamed_scopes.proofs.OwnNames.{identifies}
+
+-- a workspace has the closures that it has
+pub same_closure : (w : Workspace) (p : List ℕ) → HasSameClosure w w p
+same_closure w p file = (λ h. h, λ h. h)
 
 -- the declaration is no import without a name
 abbrev pub HasOwnName : (Package → Type 0) → Declaration → Type 0

@@ -1,19 +1,14 @@
--- Identifiers that are bound to local declarations, and planned renames that keep the units of all packages.
-use Rattle.std.specs.Prelude.{ℕ, ◌≡◌, ◌<◌, List, Ok}
-use Rattle.base_files.specs.Packages.{package_paths}
+-- Identifiers that are bound to local declarations.
+use Rattle.std.specs.Prelude.{ℕ, ◌≡◌, ◌<◌, List}
 use Rattle.base_files.specs.Workspace.{Workspace}
 use Rattle.go_scope.specs.Bindings.{Declares, IsPackageLevel}
 use Rattle.types_declared.specs.Package.{Package}
 use Rattle.workspace_check.specs.Verdicts.{Verdicts, AreVerdicts}
-use Rattle.workspace_snapshot.specs.declared.change.Change.{Change}
-use Rattle.workspace_snapshot.specs.declared.snapshot.Snapshot.{Snapshot}
 use Rattle.refs_binding.specs.declared.declaration.Declaration.{Declaration}
 use Rattle.refs_binding.specs.declared.declaration.Declaration.TheVariants.{Declared}
 use Rattle.refs_binding.specs.Binding.{IsPredeclaredNumber}
 use Rattle.refs_binding.specs.Uses.{IsCheckedPackage, HasDeclaration}
 use Rattle.refactor_rename.specs.Literals.{IsUnnamedImport}
-use Rattle.refactor_plan.specs.Plan.{PlansRename}
-use Rattle.law_renamed_objects.specs.KeptUnits.{KeepsUnitOf}
 
 -- `n` declares in the package `p`. It is neither predeclared nor package-level, and is no import without a name.
 pub record IsLocalNumber (p : Package) (n : ℕ) : Type 0 where
@@ -36,13 +31,3 @@ pub record IsLocalAt (w : Workspace) (path : List ℕ) (offset : ℕ) : Type 0 w
   pub number : ℕ
   pub is_local : IsLocalNumber declared_in number
   pub has : HasDeclaration w known path offset (Declared declared_in.path number)
-
--- Both workspaces have the same packages, and each has the unit in `x` that it has in `w`.
-pub record KeepEachUnit (w x : Workspace) : Type 0 where
-  pub paths : package_paths w ≡ package_paths x
-  pub units : (q : List ℕ) → KeepsUnitOf w x q
-
--- Where a rename of the identifier at the byte is planned, each package has the unit that it had.
-abbrev pub KeepsUnits : Snapshot → (path : List ℕ) → (offset : ℕ) → Type 0
-KeepsUnits snapshot path offset = (name : List ℕ) (change : Change) → PlansRename snapshot path offset name (Ok change) →
-    KeepEachUnit snapshot.files change.files

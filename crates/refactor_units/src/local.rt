@@ -4,24 +4,21 @@ ghost use Rattle.base_files.specs.Packages.{package_paths};
 ghost use Rattle.base_files.specs.Path.{folder};
 ghost use Rattle.go_scope.specs.Bindings.{IsPackageLevel};
 ghost use Rattle.types_declared.specs.PackageView.{package_of};
-ghost use Rattle.workspace_check.specs.Found.{IsFound};
 ghost use Rattle.refs_binding.specs.Indexed.{IsPackageNumber, IsPackageNumbered};
 ghost use Rattle.refactor_rename.specs.Literals.{IsUnnamedImport};
-ghost use Rattle.refactor_units.specs.LocalNames.{IsLocalNumber, IsLocalOf, IsLocalAt, KeepsUnits};
+ghost use Rattle.refactor_units.specs.LocalNames.{IsLocalNumber, IsLocalOf, IsLocalAt};
 
-use base_files::{Path, Refusal};
+use base_files::Path;
 use go_scope::identifiers::PREDECLARED;
 use go_scope::model::Block;
 use refs_binding::indexed::{Numbered, known_of};
-use refs_binding::{Declaration, FaultlessWorkspace, PackageReader, refuse_faults};
+use refs_binding::{Declaration, FaultlessWorkspace, PackageReader};
 use refs_lookup::declaration_in_package;
 use std::alloc::{AllocError, Global};
 use types_declared::{Index, Package, is_import, literal_of};
-use workspace_check::Found;
-use workspace_snapshot::Snapshot;
 
 /// Whether a declaration is in the package block.
-fn is_package_level(unit: Package<'_>, n: usize) -> bool
+pub(crate) fn is_package_level(unit: Package<'_>, n: usize) -> bool
     requires { n < length unit.table.now.sites }
     ensures { IsTrue result ↔ IsPackageLevel (package_of unit.entry).layout n }
 {
@@ -32,7 +29,7 @@ fn is_package_level(unit: Package<'_>, n: usize) -> bool
 }
 
 /// Whether a declaration is an import without a name.
-fn is_unnamed(unit: Package<'_>, n: usize) -> bool
+pub(crate) fn is_unnamed(unit: Package<'_>, n: usize) -> bool
     requires { n < length unit.table.now.sites }
     ensures { IsTrue result ↔ IsUnnamedImport (package_of unit.entry) n }
 {
@@ -101,7 +98,7 @@ fn names_local_in(
 }
 
 /// Whether the identifier at a byte is bound to a local declaration.
-fn names_local(
+pub(crate) fn names_local(
     alloc: Global,
     workspace: &FaultlessWorkspace<'_>,
     path: &Path,
@@ -112,24 +109,5 @@ fn names_local(
     match workspace.number_of(path.folder()) {
         None => Ok(false),
         Some(number) => names_local_in(alloc, Numbered { workspace, number }, path, offset),
-    }
-}
-
-/// Whether each package keeps its unit over the planned rename of the identifier at a byte, whatever the new name is. Only speed rests on a
-/// no.
-pub fn keeps_units(
-    alloc: Global,
-    snapshot: &Snapshot,
-    found: &Found,
-    path: &str,
-    offset: usize,
-) -> Result<bool, Refusal>
-    requires { IsFound snapshot.now.files found.now }
-    ensures { IfOk result (λ keeps. IsTrue keeps → KeepsUnits snapshot.now path.now offset) }
-{
-    let path = Path::read(alloc, path, 2)?;
-    match refuse_faults(alloc, &snapshot.files, &found.findings) {
-        Err(refusal) => Err(refusal),
-        Ok(workspace) => Ok(names_local(alloc, &workspace, &path, offset)?),
     }
 }

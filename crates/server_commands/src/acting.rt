@@ -1,5 +1,5 @@
 //! Acts on one command. A command about the current state begins with a look, and is planned on the view that the look shows.
-ghost use Rattle.std.specs.Prelude.{◌≡◌, ◌↔◌, ℕ, IfOk, IsTrue, List, Result};
+ghost use Rattle.std.specs.Prelude.{◌≡◌, ◌↔◌, ℕ, IfOk, IfSome, IsTrue, List, Ok, Result};
 ghost use Rattle.base_files.specs.declared.place.Place.{Place};
 ghost use Rattle.base_files.specs.declared.refusal.Refusal.{Refusal as WhyRefused};
 ghost use Rattle.refactor_affected.specs.Moves.{PlansAffectedMove};
@@ -8,6 +8,9 @@ ghost use Rattle.refactor_preserve.specs.Planned.{change_in};
 ghost use Rattle.workspace_check.specs.FaultLists.{ListsFaults};
 ghost use Rattle.workspace_check.specs.Found.{AreFindings, IsFound, KnowsVerdicts};
 ghost use Rattle.refs_binding.specs.Uses.{AnswersUses};
+ghost use Rattle.refactor_units.specs.CarriedNames.{CarriesPlanned};
+ghost use Rattle.build_kept.specs.KnownUnits.{CarriesUnits};
+ghost use Rattle.history_book.specs.CurrentUnits.{AreKnownIn};
 ghost use Rattle.history_book.specs.Questions.{changing_event};
 ghost use Rattle.history_machine.specs.declared.event.Event.TheVariants.{Commit, Log, Redo, Undo};
 ghost use Rattle.workspace_snapshot.specs.Plan.{PlansDel};
@@ -36,11 +39,14 @@ use crate::queries::{cat, found, object};
 use crate::response::{FaultList, Response};
 use crate::working::work;
 use base_files::{FileText, Path, Refusal};
+use build_kept::KnownUnits;
+use build_names::GivenName;
 use history_book::{Changing, Logging};
 use history_machine::View;
 use history_objects::compare_objects;
 use refactor_affected::{plan_move, plan_rename};
 use refactor_preserve::Planned;
+use refactor_units::carried_names;
 use refs_uses::{Places, uses};
 use server_read::{Command, StateCommand, Word};
 use std::alloc::{AllocError, Global};
@@ -123,25 +129,67 @@ pub fn commit<D: Desk>(desk: &mut D, basis: u64, planned: Result<MadeChange, Ref
     }
 }
 
-/// Commits a change. If it is admitted, the desk learns the findings of its files, which are `files`.
+/// What is known of the packages of a change's files: verdicts, and units if some are known.
+#[derive(Drop)]
+struct KnownAfter {
+    known: Known,
+    units: Option<KnownUnits>,
+}
+
+/// Has the desk learn what is known of the packages of files that are current.
+fn learn_after<D: Desk>(desk: &mut D, files: &Graph, after: KnownAfter)
+    requires seen { D.sees desk.old files.now }
+    requires known { KnowsVerdicts files.now after.known }
+    requires units { AreKnownIn files.now after.units }
+    ensures { desk.new ≡ desk.old }
+{
+    let KnownAfter { known, units } = after;
+    desk.learn(files, known);
+    if let Some(units) = units {
+        desk.learn_units(units);
+    }
+}
+
+/// Commits a change. If it is admitted, the desk learns what is known of the packages of its files, which are `files`.
 fn commit_learning<D: Desk>(
     desk: &mut D,
     basis: u64,
     change: MadeChange,
     files: &Graph,
-    known: Known,
+    after: KnownAfter,
 ) -> Response
     requires seen { D.sees desk.old change.base }
     requires files { files.now ≡ change.files }
-    requires known { KnowsVerdicts files.now known }
+    requires known { KnowsVerdicts files.now after.known }
+    requires units { AreKnownIn files.now after.units }
     ensures { Sends D.steps desk.old (Commit basis change) result desk.new }
 {
     match desk.commit(basis, change) {
         Ok(number) => {
-            desk.learn(files, known);
+            learn_after(desk, files, after);
             Response::Done { number }
         }
         Err(refusal) => Response::Refused { refusal },
+    }
+}
+
+/// Commits a planned change. If it is admitted, the desk learns the findings of its files, and what is known of units of its packages. It
+/// learns nothing where memory is wanting to share the files.
+fn commit_carrying<D: Desk>(
+    desk: &mut D,
+    basis: u64,
+    planned: Planned,
+    units: Option<KnownUnits>,
+) -> Response
+    requires seen { D.sees desk.old planned.change.base }
+    requires known { KnowsVerdicts planned.change.files planned.known }
+    requires units { AreKnownIn planned.change.files units }
+    ensures { Sends D.steps desk.old (Commit basis planned.change) result desk.new }
+{
+    let Planned { change, known } = planned;
+    match change.get().files.clone() {
+        Ok(files) => commit_learning(desk, basis, change, &files, KnownAfter { known, units }),
+        Err(_) => send_change(desk, basis, change),
     }
 }
 
@@ -151,11 +199,7 @@ pub fn commit_planned<D: Desk>(desk: &mut D, basis: u64, planned: Planned) -> Re
     requires known { KnowsVerdicts planned.change.files planned.known }
     ensures { Sends D.steps desk.old (Commit basis planned.change) result desk.new }
 {
-    let Planned { change, known } = planned;
-    match change.get().files.clone() {
-        Ok(files) => commit_learning(desk, basis, change, &files, known),
-        Err(_) => send_change(desk, basis, change),
-    }
+    commit_carrying(desk, basis, planned, None)
 }
 
 /// Commits a planned change together with its findings, or answers why there is none.
@@ -217,6 +261,155 @@ fn learn<D: Desk>(desk: &mut D, view: &View, found: Found)
     desk.learn(view.snapshot.files(), known);
 }
 
+/// The path of a file and an offset in it, as a command gives them.
+#[derive(Drop)]
+struct NamedByte<'a> {
+    path: Word<'a>,
+    offset: usize,
+}
+
+/// What is known of units of the packages of other files, which carry them over with these names. Nothing is known for want of memory.
+fn carried(
+    alloc: Global,
+    units: &KnownUnits,
+    files: &Graph,
+    names: &[GivenName],
+) -> Option<KnownUnits>
+    requires { CarriesUnits units.now files.now names.now }
+    ensures { AreKnownIn files.now result }
+{
+    match units.carried(alloc, files, names) {
+        Ok(known) => known,
+        Err(_) => None,
+    }
+}
+
+/// A rename of the identifier at `path:offset` to `name`, asked of a view in whose packages this was found.
+#[derive(Clone, Copy)]
+struct RenameAsked<'a> {
+    view: &'a View,
+    found: &'a Found,
+    path: &'a str,
+    offset: usize,
+    name: &'a str,
+}
+
+/// The names with which units are carried over a planned rename. None are known where it may change other names in objects, and for want
+/// of memory.
+fn names_behind(alloc: Global, asked: RenameAsked<'_>) -> Option<Vec<GivenName>>
+    requires { IsFound asked.view.now.snapshot.files asked.found.now }
+    ensures { IfSome result (λ names. CarriesPlanned asked.entry.view.now.snapshot asked.entry.path.now asked.entry.offset asked.entry.name.now names.items) }
+{
+    match carried_names(
+        alloc,
+        asked.view.snapshot.get(),
+        asked.found,
+        asked.path,
+        asked.offset,
+        asked.name,
+    ) {
+        Ok(names) => names,
+        Err(_) => None,
+    }
+}
+
+/// What is known of units of the packages behind a planned rename, from what was known before it.
+fn units_behind(
+    alloc: Global,
+    asked: RenameAsked<'_>,
+    known: Option<KnownUnits>,
+    planned: &Planned,
+) -> Option<KnownUnits>
+    requires found { IsFound asked.view.now.snapshot.files asked.found.now }
+    requires known { AreKnownIn asked.view.now.snapshot.files known }
+    requires planned { PlansAffectedRename asked.view.now.snapshot asked.path.now asked.offset asked.name.now (Ok planned.now.change) }
+    ensures { AreKnownIn planned.now.change.files result }
+{
+    let Some(units) = known else {
+        return None;
+    };
+    if units.is_empty() {
+        return None;
+    }
+    match names_behind(alloc, asked) {
+        None => None,
+        Some(names) => carried(alloc, &units, &planned.change.get().files, &names),
+    }
+}
+
+/// A planned rename, or why there is none, and what is known of units behind it.
+#[derive(Drop)]
+struct RenamePlan {
+    planned: Result<Planned, Refusal>,
+    units: Option<KnownUnits>,
+}
+
+/// Plans a rename, and carries along what is known of units.
+fn plan_asked(alloc: Global, asked: RenameAsked<'_>, known: Option<KnownUnits>) -> RenamePlan
+    requires found { IsFound asked.view.now.snapshot.files asked.found.now }
+    requires known { AreKnownIn asked.view.now.snapshot.files known }
+    ensures planned { PlansAffectedRename asked.entry.view.now.snapshot asked.entry.path.now asked.entry.offset asked.entry.name.now (change_in result.planned) }
+    ensures known { IfOk result.planned (λ p. KnowsVerdicts p.change.files p.known) }
+    ensures units { IfOk result.planned (λ p. AreKnownIn p.change.files result.units) }
+{
+    match plan_rename(
+        alloc,
+        asked.view.snapshot.get(),
+        asked.found,
+        asked.path,
+        asked.offset,
+        asked.name,
+    ) {
+        Ok(planned) => {
+            let units = units_behind(alloc, asked, known, &planned);
+            RenamePlan {
+                planned: Ok(planned),
+                units,
+            }
+        }
+        Err(refusal) => RenamePlan {
+            planned: Err(refusal),
+            units: None,
+        },
+    }
+}
+
+/// Plans a rename, and carries along what is known of units. The desk learns what was found in the view's packages for it.
+fn carrying_plan<D: Desk>(
+    alloc: Global,
+    desk: &mut D,
+    view: &View,
+    path: &str,
+    offset: usize,
+    name: &str,
+) -> RenamePlan
+    requires { D.sees desk.old view.now.snapshot.files }
+    ensures planned { PlansAffectedRename view.now.snapshot path.now offset name.now (change_in result.planned) }
+    ensures known { IfOk result.planned (λ p. KnowsVerdicts p.change.files p.known) }
+    ensures units { IfOk result.planned (λ p. AreKnownIn p.change.files result.units) }
+    ensures same { desk.new ≡ desk.old }
+{
+    match found(alloc, view) {
+        Err(_) => RenamePlan {
+            planned: Err(Refusal::Memory),
+            units: None,
+        },
+        Ok(found) => {
+            let known = desk.known_units(view.snapshot.files());
+            let asked = RenameAsked {
+                view,
+                found: &found,
+                path,
+                offset,
+                name,
+            };
+            let plan = plan_asked(alloc, asked, known);
+            learn(desk, view, found);
+            plan
+        }
+    }
+}
+
 /// Plans a rename. The desk learns what was found in the view's packages for it.
 pub fn rename_plan<D: Desk>(
     alloc: Global,
@@ -231,17 +424,23 @@ pub fn rename_plan<D: Desk>(
     ensures known { IfOk result (λ p. KnowsVerdicts p.change.files p.known) }
     ensures same { desk.new ≡ desk.old }
 {
-    let found = found(alloc, view)?;
-    let planned = plan_rename(alloc, view.snapshot.get(), &found, path, offset, name);
-    learn(desk, view, found);
+    let RenamePlan { planned, units } = carrying_plan(alloc, desk, view, path, offset, name);
+    drop(units);
     planned
 }
 
-/// The path of a file and an offset in it, as a command gives them.
-#[derive(Drop)]
-struct NamedByte<'a> {
-    path: Word<'a>,
-    offset: usize,
+/// Commits a planned rename together with its findings and with what is known of units, or answers why there is none.
+fn commit_rename<D: Desk>(desk: &mut D, basis: u64, plan: RenamePlan) -> Response
+    requires seen { IfOk plan.planned (λ p. D.sees desk.old p.change.base) }
+    requires known { IfOk plan.planned (λ p. KnowsVerdicts p.change.files p.known) }
+    requires units { IfOk plan.planned (λ p. AreKnownIn p.change.files plan.units) }
+    ensures { Commits D.steps desk.old basis (change_in plan.planned) result desk.new }
+{
+    let RenamePlan { planned, units } = plan;
+    match planned {
+        Ok(planned) => commit_carrying(desk, basis, planned, units),
+        Err(refusal) => Response::Refused { refusal },
+    }
 }
 
 /// Plans and commits a rename.
@@ -256,7 +455,7 @@ fn rename<D: Desk>(
     requires { D.sees desk.old view.now.snapshot.files }
     ensures { (planned : Result PlannedChange WhyRefused) × PlansAffectedRename view.now.snapshot at.entry.path at.entry.offset name.entry planned × Commits D.steps desk.old basis planned result desk.new }
 {
-    let planned = rename_plan(
+    let plan = carrying_plan(
         alloc,
         desk,
         view,
@@ -264,7 +463,7 @@ fn rename<D: Desk>(
         at.offset,
         name.as_str(),
     );
-    commit_known(desk, basis, planned)
+    commit_rename(desk, basis, plan)
 }
 
 /// Plans a move. The desk learns what was found in the view's packages for it.

@@ -9,10 +9,12 @@ ghost use Rattle.history_machine.specs.declared.event.Event.{Event};
 ghost use Rattle.history_machine.specs.declared.event.Event.TheVariants.{Commit, Deliver, Look, Take};
 ghost use Rattle.history_machine.specs.declared.event.Reply.{Reply};
 ghost use Rattle.history_machine.specs.MayReply.{MayReply};
+ghost use Rattle.history_book.specs.CurrentUnits.{AreKnownIn};
 ghost use Rattle.history_book.specs.Handed.{handed};
 ghost use Rattle.workspace_check.specs.Found.{KnowsVerdicts};
 
 use base_files::Refusal;
+use build_kept::KnownUnits;
 use build_unit::{Built, Job};
 use history_book::{Book, Handed, Looking, LookingBack, Question, Taking};
 use history_machine::{HistoryView, View};
@@ -78,6 +80,18 @@ pub trait Desk {
     fn learn(&mut self, files: &Graph, known: Known)
         requires seen { sees self.old files.now }
         requires known { KnowsVerdicts files.now known }
+        ensures { self.new ≡ self.old };
+
+    /// What is known of units of packages of files that a look has shown. Nothing is known for want of memory, and where the files are no
+    /// longer current.
+    fn known_units(&self, files: &Graph) -> Option<KnownUnits>
+        requires { sees self.now files.now }
+        ensures { AreKnownIn files.now result };
+
+    /// Keeps what is known of units of packages of files that a look has shown or a commit has made. It is no event: it affects how long later
+    /// builds take, and the desk stays as it is.
+    fn learn_units(&mut self, units: KnownUnits)
+        requires { sees self.old units }
         ensures { self.new ≡ self.old };
 }
 
@@ -167,5 +181,18 @@ impl Desk for Solo {
     /// They are the current files, so none is compared.
     fn learn(&mut self, _files: &Graph, known: Known) {
         self.book.learn_current(known);
+    }
+
+    /// They are the current files, so none is compared.
+    fn known_units(&self, _files: &Graph) -> Option<KnownUnits> {
+        match self.book.known_units() {
+            Ok(units) => Some(units),
+            Err(_) => None,
+        }
+    }
+
+    /// They are the current files, so none is compared.
+    fn learn_units(&mut self, units: KnownUnits) {
+        self.book.learn_current_units(units);
     }
 }

@@ -13,6 +13,7 @@ use Rattle.history_machine.proofs.Stepped.{full_step, lacking_step, place_for_on
 use Rattle.history_book.specs.CurrentInputs.{HasCurrentInputs}
 use Rattle.history_book.specs.Handed.{handed}
 use Rattle.history_book.proofs.Needed.{place_now, room_is}
+use Rattle.history_book.proofs.BookUnits.{bounds_of, kept_on, kept_still}
 use Rattle.history_book.proofs.OnCurrent.{entered_on}
 use Rattle.history_book.proofs.book.Book.deliver_on_current.Goals as goal
 
@@ -30,8 +31,11 @@ returns-then-not-has_room c =
 
 pub invariant_of-self : goal.invariant_of-self
 invariant_of-self c =
-    holds_still c.self.inside.content c.self.inside.journal.items c.make_room.new.journal.items (vec_capacity c.self.inside.journal)
-    (vec_capacity c.make_room.new.journal) c.make_room.ensures.items c.make_room.ensures.grows c.self.invariant
+    let room = vec_capacity c.self.inside.journal in
+    let more = vec_capacity c.make_room.new.journal in
+    kept_still c.self.inside.content c.self.inside.journal.items c.make_room.new.journal.items room more c.self.invariant
+    (holds_still c.self.inside.content c.self.inside.journal.items c.make_room.new.journal.items room more c.make_room.ensures.items c.make_room.ensures.grows
+    (bounds_of c.self.inside.content c.self.inside.journal.items room c.self.invariant))
 
 pub returns-in-Err : goal.returns-in-Err
 returns-in-Err c =
@@ -61,11 +65,14 @@ invariant_of-self-in-Ok c =
     let m : Machine = with_journal c.self.inside.content c.self.inside.journal.items in
     let tested : IsTrue c.has_room.result ↔ (entries_due m + c.entries_needed.result ≤ m.limits.journal) =
     subst (λ (x : Machine). IsTrue c.has_room.result ↔ (entries_due x + c.entries_needed.result ≤ x.limits.journal)) (sym c.self.view_is) c.has_room.ensures in
+    kept_on c.self.inside.content c.enter_delivery.new.content c.self.inside.journal.items c.enter_delivery.new.journal.items
+    (vec_capacity c.self.inside.journal) (vec_capacity c.enter_delivery.new.journal) (Deliver c.args.job c.args.built)
+    (handed c.enter_delivery.result) c.self.invariant
     (entered_on c.self.inside.content c.self.inside.journal.items (vec_capacity c.self.inside.journal) c.make_room.new.journal.items
     (vec_capacity c.make_room.new.journal) c.asked_of-asked.result c.entries_needed.result (Deliver c.args.job c.args.built)
     c.enter_delivery.new.content c.enter_delivery.new.journal.items (vec_capacity c.enter_delivery.new.journal) (handed c.enter_delivery.result)
     (record {
-      held = c.self.invariant;
+      held = bounds_of c.self.inside.content c.self.inside.journal.items (vec_capacity c.self.inside.journal) c.self.invariant;
       same = c.make_room.ensures.items;
       grown = c.make_room.ensures.grows;
       kind_is = c.asked_of-asked.ensures.kind;
@@ -74,7 +81,7 @@ invariant_of-self-in-Ok c =
       fits = tested.0 c.if-not-has_room.false;
       place = c.in-Ok.ensures.ok;
     })
-    c.enter_delivery.ensures.capacity c.enter_delivery.ensures.keeps).0
+    c.enter_delivery.ensures.capacity c.enter_delivery.ensures.keeps)
 
 -- its facts are those of the goal before: an answer speaks of the values of its own goal
 pub returns-in-Ok : goal.returns-in-Ok
@@ -87,7 +94,7 @@ returns-in-Ok c =
     (vec_capacity c.make_room.new.journal) c.asked_of-asked.result c.entries_needed.result event c.enter_delivery.new.content
     c.enter_delivery.new.journal.items (vec_capacity c.enter_delivery.new.journal) (handed c.enter_delivery.result)
     (record {
-      held = c.self.invariant;
+      held = bounds_of c.self.inside.content c.self.inside.journal.items (vec_capacity c.self.inside.journal) c.self.invariant;
       same = c.make_room.ensures.items;
       grown = c.make_room.ensures.grows;
       kind_is = c.asked_of-asked.ensures.kind;

@@ -7,6 +7,7 @@ use Rattle.history_machine.specs.Step.{HasRoom, entries_due}
 use Rattle.history_machine.specs.declared.entry.Entry.{Entry}
 use Rattle.history_machine.specs.declared.event.Event.{Event}
 use Rattle.history_machine.specs.declared.event.Reply.{Reply}
+use Rattle.history_book.proofs.BookUnits.{bounds_of, kept_on, kept_still}
 use Rattle.history_book.proofs.Needed.{place_now, room_is}
 use Rattle.history_machine.proofs.JournalSteps.{full_kept, lacking_kept, journal_step}
 use Rattle.history_machine.proofs.Legal.{holds_on, holds_still}
@@ -14,9 +15,11 @@ use Rattle.history_book.proofs.book.Book.journal_step.Goals as goal
 
 pub invariant_of-self-in-Err : goal.invariant_of-self-in-Err
 invariant_of-self-in-Err g c =
-    holds_still c.self.inside.content c.self.inside.journal.items c.make_room.new.journal.items (vec_capacity c.self.inside.journal)
-    (vec_capacity c.make_room.new.journal)
-    c.make_room.ensures.items c.make_room.ensures.grows c.self.invariant
+    let room = vec_capacity c.self.inside.journal in
+    let more = vec_capacity c.make_room.new.journal in
+    kept_still c.self.inside.content c.self.inside.journal.items c.make_room.new.journal.items room more c.self.invariant
+    (holds_still c.self.inside.content c.self.inside.journal.items c.make_room.new.journal.items room more c.make_room.ensures.items c.make_room.ensures.grows
+    (bounds_of c.self.inside.content c.self.inside.journal.items room c.self.invariant))
 
 pub answer-requires-clause-place : goal.answer-requires-clause-place
 answer-requires-clause-place g c =
@@ -37,9 +40,11 @@ invariant_of-self g c =
     c.self.inside.content.out event c.asked-asked.result.is_out c.asked-asked.ensures.out c.in-Ok.ensures.ok in
     let on = holds_on c.self.inside.content c.answer.new.content c.self.inside.journal.items c.make_room.new.journal.items c.answer.new.journal.items
     (vec_capacity c.self.inside.journal) (vec_capacity c.make_room.new.journal) (vec_capacity c.answer.new.journal) event
-    (g.Q.Question.reply c.answer.result.0) c.self.invariant c.make_room.ensures.items c.make_room.ensures.grows c.answer.ensures.capacity
+    (g.Q.Question.reply c.answer.result.0) (bounds_of c.self.inside.content c.self.inside.journal.items (vec_capacity c.self.inside.journal) c.self.invariant)
+    c.make_room.ensures.items c.make_room.ensures.grows c.answer.ensures.capacity
     (fits.1 (tested.0 c.if-not-has_room.false)) place c.answer.ensures.keeps in
-    on.0
+    kept_on c.self.inside.content c.answer.new.content c.self.inside.journal.items c.answer.new.journal.items (vec_capacity c.self.inside.journal)
+    (vec_capacity c.answer.new.journal) event (g.Q.Question.reply c.answer.result.0) c.self.invariant on
 
 -- its facts are those of the goal before: an answer speaks of the values of its own goal
 pub returns-in-Ok : goal.returns-in-Ok
@@ -55,7 +60,8 @@ returns-in-Ok g c =
     c.self.inside.content.out event c.asked-asked.result.is_out c.asked-asked.ensures.out c.in-Ok.ensures.ok in
     let on = holds_on c.self.inside.content c.answer.new.content c.self.inside.journal.items c.make_room.new.journal.items c.answer.new.journal.items
     (vec_capacity c.self.inside.journal) (vec_capacity c.make_room.new.journal) (vec_capacity c.answer.new.journal) event
-    (g.Q.Question.reply c.answer.result.0) c.self.invariant c.make_room.ensures.items c.make_room.ensures.grows c.answer.ensures.capacity
+    (g.Q.Question.reply c.answer.result.0) (bounds_of c.self.inside.content c.self.inside.journal.items (vec_capacity c.self.inside.journal) c.self.invariant)
+    c.make_room.ensures.items c.make_room.ensures.grows c.answer.ensures.capacity
     (fits.1 (tested.0 c.if-not-has_room.false)) place c.answer.ensures.keeps in
     subst (λ (x : Machine). JournalStep x event (g.Q.Question.reply c.answer.result.0) c.answer.result.1
     (with_journal c.answer.new.content c.answer.new.journal.items)) c.self.view_is

@@ -1,9 +1,9 @@
 -- The content stays, as contracts see it, so it is still the journal's replay.
 use Rattle.std.proofs.Common.{sym, subst, vec_capacity}
 use Rattle.history_machine.specs.Machine.{Content}
-use Rattle.history_machine.proofs.Legal.{BookInvariant}
+use Rattle.history_book.proofs.BookUnits.{KeptBook}
 use Rattle.history_book.proofs.book.Book.learn.Goals as goal
 
 pub invariant_of-self : goal.invariant_of-self
 invariant_of-self c =
-    subst (λ (x : Content). BookInvariant x c.self.inside.journal.items (vec_capacity c.self.inside.journal)) (sym c.learn.ensures) c.self.invariant
+    subst (λ (x : Content). KeptBook x c.self.inside.journal.items (vec_capacity c.self.inside.journal)) (sym c.learn.ensures) c.self.invariant

@@ -13,7 +13,7 @@ redo-requires c = record {
 }
 
 pub invariant_of-self : goal.invariant_of-self
-invariant_of-self c = (c.redo.ensures.depth ∙ c.self.invariant.0, c.redo.ensures.keeps)
+invariant_of-self c = (c.redo.ensures.depth ∙ c.self.invariant.0, c.redo.ensures.keeps, tt)
 
 pub returns : goal.returns
 returns c =

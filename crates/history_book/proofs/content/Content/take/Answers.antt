@@ -3,6 +3,7 @@ use Rattle.std.proofs.Common.{◌≡◌, ℕ, ◌<◌, List, Some, length, slice
 use Rattle.base_files.specs.Packages.{package_paths}
 use Rattle.base_files.specs.Workspace.{Workspace}
 use Rattle.build_unit.specs.Inputs.{AreInputs}
+use Rattle.build_unit.specs.Units.{IsUnitAt}
 use Rattle.build_unit.specs.Jobs.{JobsOut, label_of, with_job}
 use Rattle.build_unit.specs.declared.job.JobRecord.{JobRecord}
 use Rattle.history_machine.specs.State.{State}
@@ -14,10 +15,11 @@ use Rattle.history_book.proofs.content.Content.take.Goals as goal
 pub returns-in_default : goal.returns-in_default
 returns-in_default c = (subst (λ (m : Content). (p : List ℕ) → WaitsIn m p → ⊥) c.self.view_is c.in_default.ensures, refl)
 
-pub of-requires : goal.of-requires
-of-requires c = record {
+pub with_unit-requires : goal.with_unit-requires
+with_unit-requires c = record {
   number = subst (λ (s : State). c.in-Some.number < length (package_paths s.files)) (sym c.current.view_is) c.in-Some.ensures.0;
   known = c.current.invariant.1;
+  unit = subst (λ (s : State). IsUnitAt s.files c.in-Some.number c.in_ok-unit.unit) (sym c.current.view_is) c.in_ok-unit.ensures;
 }
 
 pub returns : goal.returns

@@ -13,7 +13,7 @@ undo-requires c = record {
 }
 
 pub invariant_of-self : goal.invariant_of-self
-invariant_of-self c = (c.undo.ensures.depth ∙ c.self.invariant.0, c.undo.ensures.keeps)
+invariant_of-self c = (c.undo.ensures.depth ∙ c.self.invariant.0, c.undo.ensures.keeps, tt)
 
 pub returns : goal.returns
 returns c =

@@ -1,0 +1,10 @@
+-- The path of the package is that of its number.
+use Rattle.std.proofs.Common.{◌≡◌, List, ℕ, sym, subst, ◌∙◌}
+use Rattle.std.proofs.lemmas.Option.{same_Some}
+use Rattle.law_kept_units.specs.Legible.{IsLegible}
+use Rattle.refactor_units.proofs.level.has_legible_path.Goals as goal
+
+pub returns : goal.returns
+returns c = λ legible p at.
+    let same : c.as_slice-path.result.now ≡ p = c.as_slice-path.ensures.value ∙ same_Some _ p (sym c.package.ensures.path ∙ at) in
+    subst IsLegible same (sym c.is_legible.ensures ∙ legible)
