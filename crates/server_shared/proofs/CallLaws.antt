@@ -1,26 +1,26 @@
 -- The receipts that a call leaves at its seat.
-use Rattle.std.proofs.Common.{◌≡◌, ℕ, List, [], ◌∷◌, inl, inr, Option, Some, None, Result, Ok, Err, sym, ap, subst, ◌∙◌}
+use Rattle.std.proofs.Common.{◌≡◌, ◌+◌, ◌≤◌, ℕ, List, [], ◌∷◌, ◌++◌, inl, inr, Option, Some, None, Result, Ok, Err, refl, sym, ap, subst, ◌∙◌, arith}
 use Rattle.std.proofs.Common.{⊎_elim}
 use Rattle.std.proofs.lemmas.List.{append-nil}
 use Rattle.std.proofs.lemmas.List.Elements.{All-cons, All-nil}
 use Rattle.std.proofs.lemmas.Option.{none-some}
 use Rattle.base_files.specs.declared.refusal.Refusal.{Refusal}
 use Rattle.base_files.specs.declared.refusal.Refusal.TheVariants.{Memory, JournalFull}
+use Rattle.history_book.specs.WorkLeft.{AreAllFinished, IsStuck}
 use Rattle.history_machine.specs.declared.entry.Entry.{Entry}
 use Rattle.history_machine.specs.declared.entry.Told.{Told}
 use Rattle.history_machine.specs.declared.event.Event.{Event}
-use Rattle.history_machine.specs.declared.event.Event.TheVariants.{Look}
+use Rattle.history_machine.specs.declared.event.Event.TheVariants.{Look, Take}
 use Rattle.history_machine.specs.declared.event.Reply.{Reply}
 use Rattle.history_machine.specs.declared.event.Reply.TheVariants.{Looked, Refused}
 use Rattle.history_machine.specs.declared.view.View.{View}
 use Rattle.history_machine.specs.Journal.{event_kind, told_of}
+use Rattle.history_machine.specs.JournalSteps.{IsTurnedAway}
 use Rattle.history_machine.specs.Machine.{Machine}
-use Rattle.history_machine.specs.Step.{Step, looked}
+use Rattle.history_machine.specs.Step.{HasRoom, Step, entries_due, looked}
 use Rattle.server_shared.specs.declared.receipt.Receipt.{Receipt}
-use Rattle.server_shared.specs.Steps.{IsReceiptOf}
-use Rattle.server_shared.specs.Call.{Calls, Gains, IsLack, IsLook, IsTurnedAwayAt, Looks}
-use Rattle.server_shared.specs.Call.{CallsWith}
-use Rattle.server_shared.proofs.GainsLaws.{gains_more}
+use Rattle.server_shared.specs.Steps.{IsReceiptOf, IsReplayed, ReceiptStep}
+use Rattle.server_shared.specs.Call.{Calls, Gains, IsBuilt, IsWaitLack, LooksBuilt, LooksOnceBuilt}
 
 module _ (most : ℕ) where
   -- the entry of a receipt is of the event's kind
@@ -40,18 +40,9 @@ module _ (most : ℕ) where
   refusal_in reply = Memory
 
   -- a view is not turned away
-  view_stays : (old : List Receipt) (view : View) → IsTurnedAwayAt most old Look (Looked view) → ⊥
-  view_stays old view (inl same) = none-some _ (sym (ap told_of same.0))
-  view_stays old view (inr step) = none-some _ (sym (⊎_elim (λ (e : Looked view ≡ Refused Memory). ap told_of e)
-      (λ (e : Looked view ≡ Refused JournalFull). ap told_of e) step.3.1.1.0))
-
-  shows_view : (old : List Receipt) (view : View) (index : Option ℕ) (new : List Receipt) → Calls most old Look (Looked view) index new →
-      Looks most old (Ok view) new
-  shows_view old view (Some index) new calls = (index, calls)
-  shows_view old view None new calls = absurd (view_stays old view calls.0)
-
-  looked_view : (old : List Receipt) (view : View) (new : List Receipt) → CallsWith most old Look (Looked view) new → Looks most old (Ok view) new
-  looked_view old view new replied = shows_view old view replied.0 new replied.1
+  view_stays : (view : View) → IsTurnedAway Look (Looked view) → ⊥
+  view_stays view away =
+      none-some _ (sym (⊎_elim (λ (e : Looked view ≡ Refused Memory). ap told_of e) (λ (e : Looked view ≡ Refused JournalFull). ap told_of e) away))
 
   look_refused : (old : Machine) (refusal : Refusal) (new : Machine) (told : Told) → Step old Look (Refused refusal) new →
       told_of (Refused refusal) ≡ Some told → ⊥
@@ -59,33 +50,48 @@ module _ (most : ℕ) where
   look_refused old JournalFull new told s is = none-some told is
   look_refused old refusal new told s is = s.1
 
+  -- where a look has no room, a Take has none
+  no_room : (m : Machine) → ¬ (HasRoom m Look) → ¬ (HasRoom m Take)
+  no_room m none room = let two : entries_due m + 2 ≤ m.limits.journal = room in none (omega (arith, two))
+
   -- where a book turns a look away, memory is wanting, or its journal has no room
-  lacks : (old : List Receipt) (refusal : Refusal) → IsTurnedAwayAt most old Look (Refused refusal) → IsLack most refusal
+  lacks : (old : Machine) (refusal : Refusal) (new : Machine) → old.limits.journal ≡ most → ReceiptStep old Look (Refused refusal) None new →
+      IsWaitLack most refusal
   unfolding refusal_in
-  lacks old refusal (inl same) = inl (ap refusal_in same.0)
-  lacks old refusal (inr step) =
-      let full : Refused refusal ≡ Refused JournalFull → IsLack most refusal = λ e.
-      let is : refusal ≡ JournalFull = ap refusal_in e in
-      let kept : Step step.0 Look (Refused JournalFull) step.1 = subst (λ (x : Refusal). Step step.0 Look (Refused x) step.1) is step.3.1.0 in
-      inr (is, (step.0, step.2, step.3.0, kept.1)) in
-      ⊎_elim (λ (e : Refused refusal ≡ Refused Memory). inl (ap refusal_in e)) full step.3.1.1.0
+  lacks old refusal new is step =
+      let full : Refused refusal ≡ Refused JournalFull → IsWaitLack most refusal = λ e.
+      let same : refusal ≡ JournalFull = ap refusal_in e in
+      let kept : Step old Look (Refused JournalFull) new = subst (λ (x : Refusal). Step old Look (Refused x) new) same step.1.0 in
+      inr (same, (old, is, step.0, no_room old kept.1)) in
+      ⊎_elim (λ (e : Refused refusal ≡ Refused Memory). inl (ap refusal_in e)) full step.1.1.0
 
-  turns_away : (old : List Receipt) (refusal : Refusal) (index : Option ℕ) (new : List Receipt) → Calls most old Look (Refused refusal) index new →
-      Looks most old (Err refusal) new
-  turns_away old refusal (Some index) new calls =
-      let step = calls.2.3.2 in
-      absurd (look_refused calls.2.0 refusal calls.2.1 step.1.0.0 step.0 step.1.0.1)
-  turns_away old refusal None new calls = (lacks old refusal calls.0, calls.1)
+  -- the view of a look shows each package finished where it is so in the book
+  shows_built : (old new : Machine) (view : View) → AreAllFinished old.current → Step old Look (Looked view) new → IsBuilt view
+  shows_built old new view all s = subst (λ (v : View). IsBuilt v) (sym s.1.0.0) all
 
-  looked_refusal : (old : List Receipt) (refusal : Refusal) (new : List Receipt) → CallsWith most old Look (Refused refusal) new → Looks most old (Err refusal) new
-  looked_refusal old refusal new replied = turns_away old refusal replied.0 new replied.1
+  -- what a look shows of a book whose packages are finished
+  pub looked_built : (old new : Machine) (answer : Result View Refusal) (kept : Option Receipt) → old.limits.journal ≡ most → AreAllFinished old.current →
+      ReceiptStep old Look (looked answer) kept new
+      → LooksBuilt most answer kept
+  looked_built old new (Ok view) (Some receipt) is all s = ((old, new, is, s), shows_built old new view all s.2.0)
+  looked_built old new (Ok view) None is all s = view_stays view s.1.1.0
+  looked_built old new (Err refusal) (Some receipt) is all s = look_refused old refusal new s.2.1.0.0 s.2.0 s.2.1.0.1
+  looked_built old new (Err refusal) None is all s = lacks old refusal new is s
 
-  -- the answer to a look
-  pub looks_is : (old : List Receipt) (outcome : Result View Refusal) (new : List Receipt) → CallsWith most old Look (looked outcome) new → Looks most old outcome new
-  looks_is old (Ok view) new replied = looked_view old view new replied
-  looks_is old (Err refusal) new replied = looked_refusal old refusal new replied
+  -- what is told of a wait whose packages can't be built
+  pub stuck_lacks : (m : Machine) (refusal : Refusal) → m.limits.journal ≡ most → IsReplayed m → (refusal ≡ JournalFull) × IsStuck m → IsWaitLack most refusal
+  stuck_lacks m refusal is legal stuck = inr (stuck.0, (m, is, legal, stuck.1.1))
 
-  -- one more look
-  pub looks_on : (old mid : List Receipt) (view : View) (new : List Receipt) → Gains IsLook old mid → Looks most mid (Ok view) new → Gains IsLook old new
-  looks_on old mid view new gained look =
-      gains_more IsLook old mid new gained (gains_of IsLook mid Look (Looked view) (Some look.0) new (λ receipt is. is) look.1)
+  -- a wait at a seat, without a receipt and with one
+  pub waited_none : (old : List Receipt) (shown : Result View Refusal) (kept : Option Receipt) (new : List Receipt) → kept ≡ None → new ≡ old →
+      LooksBuilt most shown kept
+      → LooksOnceBuilt most old shown new
+  waited_none old (Ok view) kept new none same looked = absurd (subst (LooksBuilt most (Ok view)) none looked)
+  waited_none old (Err refusal) kept new none same looked = (subst (LooksBuilt most (Err refusal)) none looked, same)
+
+  pub waited_once : (old : List Receipt) (shown : Result View Refusal) (kept : Option Receipt) (receipt : Receipt) (new : List Receipt) → kept ≡ Some receipt →
+      new ≡ old ++ receipt ∷ []
+      → LooksBuilt most shown kept → LooksOnceBuilt most old shown new
+  waited_once old (Ok view) kept receipt new some gained looked =
+      let is = subst (LooksBuilt most (Ok view)) some looked in ((receipt.index, (receipt, refl, is.0, gained)), is.1)
+  waited_once old (Err refusal) kept receipt new some gained looked = absurd (subst (LooksBuilt most (Err refusal)) some looked)

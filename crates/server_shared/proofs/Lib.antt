@@ -2,10 +2,11 @@
 pub mod GainsLaws
 pub mod HeldLaws
 pub mod CallLaws
-pub mod UnitLaws
 pub mod PairLaws
 pub mod ReceiptLaws
 pub mod StepLaws
+pub mod TakeLaws
+pub mod WakeLaws
 pub mod WorkLaws
 pub mod SendsFound
 pub mod SendsTrees

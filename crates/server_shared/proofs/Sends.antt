@@ -25,6 +25,8 @@ use Rattle.workspace_check.specs.contracts.shared_known.SharedKnown.{the_row as 
 use Rattle.build_unit.specs.contracts.unit.Compiled.{the_row as compiled}
 use Rattle.build_unit.specs.contracts.unit.Unit.{the_row as unit}
 use Rattle.build_carry.specs.contracts.finished.Finished.{the_row as finished}
+use Rattle.build_names.specs.contracts.given_name.GivenName.{the_row as given_name}
+use Rattle.build_kept.specs.contracts.known_units.KnownUnits.{the_field as ready_field}
 use Rattle.history_machine.specs.contracts.path_list.PathList.{the_row as path_list}
 use Rattle.history_machine.specs.contracts.state.State.{the_row as state}
 use Rattle.history_machine.specs.contracts.resting.Resting.{the_field as resting_field}
@@ -168,8 +170,15 @@ resting_field_sent = search (owned, path_list_sent, finished_sent, shared_known_
 states_field_sent : IsSend states_field.row
 states_field_sent = search (owned, state_sent, resting_field_sent, Inverses-send) depth 30 fits 50000
 
+given_name_sent : IsSend given_name
+given_name_sent = search owned depth 30 fits 50000
+
+-- what is known of units, as a field
+ready_field_sent : IsSend ready_field.row
+ready_field_sent = search (owned, graph_sent, finished_sent, given_name_sent) depth 30 fits 50000
+
 pub content_sent : IsSend content
-content_sent = search (owned, states_field_sent, Out-send) depth 30 fits 50000
+content_sent = search (owned, states_field_sent, ready_field_sent, Out-send) depth 30 fits 50000
 
 pub book_sent : IsSend book
 book_sent = search (owned, content_sent, Entry-send) depth 30 fits 50000

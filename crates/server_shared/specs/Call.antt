@@ -1,18 +1,16 @@
 -- Calls at a seat, and the receipts that they leave.
-use Rattle.std.specs.Prelude.{◌≡◌, ◌<◌, ℕ, List, [], ◌∷◌, ◌++◌, ◌⊎◌, All, length, slice_get, Option, Some, None, Result, Ok, Err}
+use Rattle.std.specs.Prelude.{◌≡◌, ◌<◌, ℕ, List, [], ◌∷◌, ◌++◌, ◌⊎◌, All, length, Option, Some, None, Result, Ok, Err}
 use Rattle.base_files.specs.declared.refusal.Refusal.{Refusal}
 use Rattle.base_files.specs.declared.refusal.Refusal.TheVariants.{Memory, JournalFull}
 use Rattle.base_files.specs.Packages.{package_paths}
-use Rattle.build_unit.specs.declared.unit.Unit.{Unit as PackageUnit}
-use Rattle.build_carry.specs.Finished.{Table}
-use Rattle.history_machine.specs.declared.entry.EntryKind.TheVariants as kind
 use Rattle.history_machine.specs.declared.event.Event.{Event}
-use Rattle.history_machine.specs.declared.event.Event.TheVariants.{Look}
+use Rattle.history_machine.specs.declared.event.Event.TheVariants.{Look, Take}
 use Rattle.history_machine.specs.declared.event.Reply.{Reply}
 use Rattle.history_machine.specs.declared.event.Reply.TheVariants.{Looked}
 use Rattle.history_machine.specs.declared.view.View.{View}
 use Rattle.history_machine.specs.Machine.{Machine}
 use Rattle.history_machine.specs.Step.{HasRoom, refused}
+use Rattle.history_book.specs.WorkLeft.{IsFinishedAt}
 use Rattle.server_shared.specs.declared.receipt.Receipt.{Receipt}
 use Rattle.server_shared.specs.Held.{MayLackRoom, jobs_in_hand}
 use Rattle.server_shared.specs.Steps.{IsReceiptOf, IsReplayed, TurnsAway}
@@ -38,32 +36,27 @@ CallsWith most old event reply new = (index : Option ℕ) × Calls most old even
 abbrev pub MayFill : ℕ → Event → Type 0
 MayFill most event = (book : Machine) × (book.limits.journal ≡ most) × IsReplayed book × ¬ (HasRoom book event)
 
--- the refusal of a look is for want of memory; or the journal of a book, of at most `most` entries, has no room
-abbrev pub IsLack : ℕ → Refusal → Type 0
-IsLack most refusal = (refusal ≡ Memory) ⊎ ((refusal ≡ JournalFull) × MayFill most Look)
-
--- The seat gains the receipt of a look that shows this view. Or the look is turned away, and the seat gains none.
-abbrev pub Looks : ℕ → List Receipt → Result View Refusal → List Receipt → Type 0
-Looks most old (Ok view) new = (index : ℕ) × Calls most old Look (Looked view) (Some index) new
-Looks most old (Err refusal) new = IsLack most refusal × (new ≡ old)
-
--- the receipt is of a look
-abbrev pub IsLook : Receipt → Type 0
-IsLook receipt = receipt.entry.line.kind ≡ kind.Look
-
--- the package of this number is finished
-unfoldable pub IsFinishedAt : Table → ℕ → Type 0
-IsFinishedAt table number = (unit : PackageUnit) × (slice_get table number ≡ Some (Some unit))
+-- The refusal of a wait is for want of memory. Or the journal of a book, of at most `most` entries, has no room for a Take, so that no
+-- package can be built.
+abbrev pub IsWaitLack : ℕ → Refusal → Type 0
+IsWaitLack most refusal = (refusal ≡ Memory) ⊎ ((refusal ≡ JournalFull) × MayFill most Take)
 
 -- each package of the view's files is finished
 abbrev pub IsBuilt : View → Type 0
 IsBuilt view = (number : ℕ) → number < length (package_paths view.snapshot.files) → IsFinishedAt view.finished number
 
--- The seat gains the receipts of looks. The last shows a view in which each package is finished, or a look is turned away.
-abbrev pub LooksUntilBuilt : ℕ → List Receipt → Result View Refusal → List Receipt → Type 0
-LooksUntilBuilt most old (Ok view) new =
-    (looks : List Receipt) × All IsLook looks × ((index : ℕ) × Calls most (old ++ looks) Look (Looked view) (Some index) new) × IsBuilt view
-LooksUntilBuilt most old (Err refusal) new = (looks : List Receipt) × All IsLook looks × (new ≡ old ++ looks) × IsLack most refusal
+-- What a wait shows, with the receipt of its look: a view in which each package is finished, as some book showed it. A wait that is refused
+-- makes no look.
+abbrev pub LooksBuilt : ℕ → Result View Refusal → Option Receipt → Type 0
+LooksBuilt most (Ok view) (Some receipt) = IsReceiptOf most Look (Looked view) receipt × IsBuilt view
+LooksBuilt most (Err refusal) None = IsWaitLack most refusal
+LooksBuilt most shown kept = ⊥
+
+-- The seat gains the receipt of one look, which shows a view in which each package is finished. Or the wait is refused, and the seat gains
+-- none.
+abbrev pub LooksOnceBuilt : ℕ → List Receipt → Result View Refusal → List Receipt → Type 0
+LooksOnceBuilt most old (Ok view) new = ((index : ℕ) × Calls most old Look (Looked view) (Some index) new) × IsBuilt view
+LooksOnceBuilt most old (Err refusal) new = IsWaitLack most refusal × (new ≡ old)
 
 -- The seat gains receipts, each with the property P.
 abbrev pub Gains : (Receipt → Type 0) → List Receipt → List Receipt → Type 0

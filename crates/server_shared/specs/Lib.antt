@@ -7,3 +7,4 @@ pub mod Steps
 pub mod SettledBook
 pub mod Working
 pub mod Waking
+pub mod LimitNumbers

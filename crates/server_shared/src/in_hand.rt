@@ -1,15 +1,13 @@
-//! A Job in a worker's hand, from its taking to its handing in. Only here is a Job retired, and only where giving it back failed.
-ghost use Rattle.std.specs.Prelude.{◌≡◌, IfOk, MatchOption, MatchResult};
-ghost use Rattle.base_files.specs.declared.refusal.Refusal.{Refusal as WhyRefused};
+//! A Job in a worker's hand, until it is handed in. Only here is a Job retired, and only where giving it back failed.
+ghost use Rattle.std.specs.Prelude.{◌≡◌, IfOk, MatchResult};
 ghost use Rattle.build_unit.specs.Builds.{IsBuiltOf};
-ghost use Rattle.history_machine.specs.declared.event.Event.TheVariants.{Deliver, GiveBack, Take};
+ghost use Rattle.history_machine.specs.declared.event.Event.TheVariants.{Deliver, GiveBack};
 ghost use Rattle.history_machine.specs.declared.event.Reply.{Reply};
-ghost use Rattle.history_machine.specs.declared.event.Reply.TheVariants.{Refused, Taken};
 ghost use Rattle.server_shared.specs.Working.{ComesBack, CallsEvent};
 
 use crate::caller::Caller;
 use build_unit::{Built, Job, build};
-use history_book::{Handed, HandingIn, Taking};
+use history_book::{Handed, HandingIn};
 use std::alloc::{AllocError, Global};
 
 /// A Job that its worker must hand in, by `deliver` or `give_back`.
@@ -18,20 +16,14 @@ pub(crate) struct InHand {
     job: Job,
 }
 
-/// Takes a Job, if there is one.
-pub(crate) fn take<C: Caller>(caller: &mut C) -> Option<InHand>
-    ensures { MatchOption result ((refusal : WhyRefused) × C.steps caller.old Take (Refused refusal) caller.new) (λ hand. C.steps caller.old Take (Taken hand.job) caller.new) }
-{
-    match caller.call(Taking) {
-        Ok(job) => Some(InHand { job }),
-        Err(refusal) => {
-            drop(refusal);
-            None
-        }
-    }
-}
-
 impl InHand {
+    /// A Job that was taken.
+    pub fn new(job: Job) -> InHand
+        ensures { result.job ≡ job }
+    {
+        InHand { job }
+    }
+
     /// The Job's ticket.
     pub fn ticket(&self) -> u64
         ensures { result ≡ self.now.job.ticket }

@@ -1,13 +1,13 @@
 //! A book that threads share: its lock, the seats with their receipts, the workers, and the settling.
 //!
 //! Crates above rely on: `Locked::step` makes one step of the book, whose entry has the index of the receipt. `Shared::call` makes one such
-//! step, and the seat keeps the receipt. `settle` returns Ok exactly where the receipts of the seats are the entries that the journal
-//! gained (`IsSettled`). `worker` makes only the events of its turns, and in each turn hands in the Job that it took (`TakesTurn`).
+//! step, and the seat keeps the receipt. `FreeSeats` has as many seats as `Shared::new` was asked for, and `take` always has one where one
+//! is left. `settle` returns Ok exactly where the receipts of the seats are the entries that the journal gained (`IsSettled`). `worker` makes only the events of its turns, and in each turn hands in the Job that it took (`TakesTurn`).
 #![tactic(auto)]
 
-mod built;
 mod caller;
 mod comparing;
+mod free_seats;
 mod gate;
 mod in_hand;
 mod locked;
@@ -16,15 +16,18 @@ mod receipt;
 mod seat;
 mod settling;
 mod shared;
+mod work_turn;
 mod working;
 
 pub use caller::{AtSeat, Caller};
 pub use comparing::{are_counted, merged, seats_apart, seats_in_journal, seats_rise};
+pub use free_seats::FreeSeats;
 pub use gate::{Gate, OpenGate};
-pub use locked::{Locked, may_wake, turn_away};
+pub use locked::{Locked, is_news, may_wake, no_wake_is_missed, turn_away};
 pub use opening::Opening;
 pub use receipt::Receipt;
 pub use seat::{Seat, jobs_after, reserve};
 pub use settling::Unsettled;
 pub use shared::Shared;
+pub use work_turn::WorkTurn;
 pub use working::{turn, worker};

@@ -1,24 +1,33 @@
 //! The state under the lock of a shared book.
-ghost use Rattle.std.specs.Prelude.{◌≡◌, ◌+◌, ◌<◌, ◌≤◌, ◌↔◌, [], length, vec_len, is_some, IfSome, IsOk, IsTrue, MatchOption, if◌then◌else◌};
+ghost use Rattle.std.specs.Prelude.{◌≡◌, ◌+◌, ◌<◌, ◌≤◌, ◌↔◌, length, vec_len, is_some, IfSome, IsOk, IsTrue, MatchOption, None, false, if◌then◌else◌};
 ghost use Rattle.workspace_check.specs.Found.{KnowsVerdicts};
+ghost use Rattle.history_book.specs.WorkLeft.{HasJob, IsWaitEnd};
 ghost use Rattle.base_files.specs.declared.refusal.Refusal.TheVariants.{Memory};
 ghost use Rattle.history_machine.specs.JournalSteps.{JournalStep};
 ghost use Rattle.history_machine.specs.MayReply.{MayReply};
-ghost use Rattle.history_machine.specs.Step.{refused};
+ghost use Rattle.history_machine.specs.Step.{refused, taken};
+ghost use Rattle.history_machine.specs.declared.event.Event.TheVariants.{Take};
+ghost use Rattle.history_book.specs.CurrentUnits.{AreKnownIn};
 ghost use Rattle.server_shared.specs.Steps.{IsReplayed, IsReceiptOrNone, ReceiptStep};
-ghost use Rattle.server_shared.specs.Waking.{CountsDone, MayWake};
+ghost use Rattle.server_shared.specs.Waking.{CountsNews, HasWork, IsNews, MayWake, NoWakeMissed};
+ghost use Rattle.server_shared.specs.Call.{LooksBuilt};
+ghost use Rattle.server_shared.specs.Working.{TakesJob};
 ghost use Rattle.server_shared.specs.SettledBook.{book_in};
 ghost use Rattle.server_shared.specs.Settled.{IsSettled, receipt_count};
+ghost use Rattle.server_shared.specs.LimitNumbers.{limit_numbers};
 
 use crate::comparing::merged;
+use crate::free_seats::FreeSeats;
 use crate::opening::Opening;
 use crate::receipt::Receipt;
 use crate::seat::Seat;
 use crate::settling::{Unsettled, is_settled};
 use base_files::Refusal;
-use history_book::{Book, Question};
-use history_machine::{Entry, EntryKind, Line, Told};
-use std::alloc::{AllocError, Global};
+use build_kept::KnownUnits;
+use build_unit::Job;
+use history_book::{Book, Looking, Question, Taking};
+use history_machine::{Entry, EntryKind, Line, Told, View};
+use std::alloc::AllocError;
 use std::sync::ledger::{self, Share};
 use workspace_check::Known;
 use workspace_graph::Graph;
@@ -27,20 +36,15 @@ use workspace_graph::Graph;
 pub struct Locked<L: Opening> {
     pub book: Book,
     pub count: ledger::Book<L>,
-    /// The ledger's parts for seats that were not taken.
-    pub rest: Share<L>,
-    /// How many seats were not taken.
-    pub free: u64,
     /// The length of the journal when the book was shared.
     pub from: u64,
     pub is_stopped: bool,
-    /// How many events that may give others something to do were answered `Done` (`may_wake`).
-    pub done: u64,
+    /// How many events changed the workspace or delivered a Job (`is_news`).
+    pub news: u64,
     ghost counted: { length book.journal ≡ from + count.total },
-    ghost one_each: { rest.parts ≡ free },
-    ghost none_yet: { rest.amount ≡ 0 },
     ghost from_is: { from ≡ L.from },
     ghost most_is: { book.limits.journal ≡ L.most },
+    ghost limits_are: { limit_numbers book.limits ≡ L.limits },
 }
 
 /// Makes one step of a book, and returns a copy of the entry that it adds.
@@ -48,8 +52,20 @@ fn step_book<Q: Question>(book: &mut Book, question: Q) -> (Q::Answer, Option<En
     ensures step { JournalStep book.old (Q.event question) (Q.reply result.0) result.1 book.new }
     ensures kind { MayReply (Q.event question) (Q.reply result.0) }
     ensures most { book.new.limits.journal ≡ book.old.limits.journal }
+    ensures limits { limit_numbers book.new.limits ≡ limit_numbers book.old.limits }
 {
     book.journal_step(question)
+}
+
+/// What is known of units, if it is of packages of these files.
+fn of_files(units: KnownUnits, files: &Graph) -> Option<KnownUnits>
+    ensures { AreKnownIn files.now result }
+{
+    if units.is_of(files) {
+        Some(units)
+    } else {
+        None
+    }
 }
 
 /// The answer to an event that is turned away for want of memory for its receipt.
@@ -60,30 +76,38 @@ pub fn turn_away<Q: Question>(question: Q, error: AllocError) -> Q::Answer
     question.refuse(Refusal::from(error))
 }
 
-/// Whether an entry's event may give others something to do: it was answered `Done`, and changed the workspace or handed a Job in.
+/// Whether an entry's event may make a package wait: a change, an undo, a redo or a Job that is given back, which was done, or a delivery that
+/// was refused. A delivery that is done makes none wait.
 pub fn may_wake(line: &Line) -> bool
-    ensures { IsTrue result ↔ MayWake line.now }
+    ensures { IsTrue result ↔ MayWake line.now.kind line.now.out }
 {
     match (line.kind, line.out) {
         (EntryKind::Look | EntryKind::Log | EntryKind::Take, _) => false,
+        (EntryKind::Deliver, Told::Done(_)) => false,
+        (EntryKind::Deliver, Told::Refused(_)) => true,
+        (_, Told::Done(_)) => true,
+        (_, Told::Refused(_)) => false,
+    }
+}
+
+/// An event that makes a Take have a Job is one by which a worker is woken.
+pub fn no_wake_is_missed()
+    ensures { NoWakeMissed }
+{}
+
+/// Whether an entry's event was answered `Done`, and changed the workspace or delivered a Job. A worker for which memory was wanting waits for
+/// such an event: Jobs that others give back for the same want would have all of them try again for ever.
+pub fn is_news(line: &Line) -> bool
+    ensures { IsTrue result ↔ IsNews line.now }
+{
+    match (line.kind, line.out) {
+        (EntryKind::Look | EntryKind::Log | EntryKind::Take | EntryKind::GiveBack, _) => false,
         (_, Told::Done(_)) => true,
         (_, Told::Refused(_)) => false,
     }
 }
 
 impl<L: Opening> Locked<L> {
-    /// Takes a seat with no receipts, or returns `None` where none is left.
-    pub fn seat(&mut self, alloc: Global) -> Option<Seat<L>>
-        ensures { IfSome result (λ seat. seat ≡ []) }
-    {
-        if self.free == 0 {
-            return None;
-        }
-        let Locked { rest, free, .. } = self;
-        *free -= 1;
-        Some(Seat::new(alloc, rest.split_off(1, 0)))
-    }
-
     /// Makes one step of the book, and returns a receipt of the entry that it adds. The share counts the entry.
     pub fn step<Q: Question>(
         &mut self,
@@ -93,7 +117,7 @@ impl<L: Opening> Locked<L> {
         requires { 0 < share.old.parts }
         ensures step { ReceiptStep self.old.book (Q.event question) (Q.reply result.0) result.1 self.new.book }
         ensures stopped { self.new.is_stopped ≡ self.old.is_stopped }
-        ensures done { MatchOption result.1 (self.new.done ≡ self.old.done) (λ receipt. CountsDone receipt.entry.line self.old.done self.new.done) }
+        ensures news { MatchOption result.1 (self.new.news ≡ self.old.news) (λ receipt. CountsNews receipt.entry.line self.old.news self.new.news) }
         ensures kind { MayReply (Q.event question) (Q.reply result.0) }
         ensures amount { share.new.amount ≡ share.old.amount + (if is_some result.1 then 1 else 0) }
         ensures parts { share.new.parts ≡ share.old.parts }
@@ -102,15 +126,15 @@ impl<L: Opening> Locked<L> {
         let Locked {
             book,
             count,
-            done,
+            news,
             ..
         } = self;
         let (answer, kept) = step_book(book, question);
         match kept {
             None => (answer, None),
             Some(entry) => {
-                if may_wake(&entry.line) {
-                    *done = done.wrapping_add(1);
+                if is_news(&entry.line) {
+                    *news = news.wrapping_add(1);
                 }
                 count.add(share, 1);
                 (answer, Some(Receipt { index, entry }))
@@ -133,30 +157,107 @@ impl<L: Opening> Locked<L> {
         self.step(share, question)
     }
 
+    /// Whether a worker may take a Job: the workers were not stopped, and a Take has one.
+    pub fn has_work(&self) -> bool
+        ensures { IsTrue result ↔ HasWork self.now.is_stopped self.now.book }
+    {
+        if self.is_stopped {
+            return false;
+        }
+        self.book.has_job()
+    }
+
+    /// Whether a worker is to wait: the workers were not stopped, and a Take has no Job.
+    pub fn is_idle(&self) -> bool
+        ensures { IsTrue result ↔ ((self.now.is_stopped ≡ false) × ¬ (HasJob self.now.book)) }
+    {
+        if self.is_stopped {
+            return false;
+        }
+        !self.book.has_job()
+    }
+
+    /// Takes a Job for a worker. Where it may take none it makes no event, and returns `None`. So a Take is refused only for want of memory.
+    pub fn take_job(
+        &mut self,
+        share: &mut Share<L>,
+    ) -> Option<(Result<Job, Refusal>, Option<Receipt>)>
+        requires { 0 < share.old.parts }
+        ensures taken { TakesJob self.old.is_stopped self.old.book result self.new.book }
+        ensures called { IfSome result (λ took. IsReceiptOrNone L.most Take (taken took.0) took.1) }
+        ensures stopped { self.new.is_stopped ≡ self.old.is_stopped }
+        ensures amount { MatchOption result (share.new.amount ≡ share.old.amount) (λ took. share.new.amount ≡ share.old.amount + (if is_some took.1 then 1 else 0)) }
+        ensures parts { share.new.parts ≡ share.old.parts }
+    {
+        if !self.has_work() {
+            return None;
+        }
+        Some(self.step(share, Taking))
+    }
+
+    /// Looks at the current state, once each package is finished. Where the wait goes on it makes no event, and returns `None`. Where none can
+    /// be built any more, the wait is refused, with no event.
+    pub fn look_built(
+        &mut self,
+        share: &mut Share<L>,
+    ) -> Option<(Result<View, Refusal>, Option<Receipt>)>
+        requires { 0 < share.old.parts }
+        ensures looked { MatchOption result (IsWaitEnd self.old.book None × (self.new.book ≡ self.old.book)) (λ shown. LooksBuilt L.most shown.0 shown.1) }
+        ensures stopped { self.new.is_stopped ≡ self.old.is_stopped }
+        ensures amount { MatchOption result (share.new.amount ≡ share.old.amount) (λ shown. share.new.amount ≡ share.old.amount + (if is_some shown.1 then 1 else 0)) }
+        ensures parts { share.new.parts ≡ share.old.parts }
+    {
+        match self.book.wait_end() {
+            None => None,
+            Some(Ok(())) => Some(self.step(share, Looking)),
+            Some(Err(refusal)) => Some((Err(refusal), None)),
+        }
+    }
+
     /// Has the book keep the findings of the packages of `files` whose closures have the same texts in the current files. It is no event.
     pub fn learn(&mut self, files: &Graph, known: Known)
         requires { KnowsVerdicts files.now known }
         ensures book { self.new.book ≡ self.old.book }
         ensures stopped { self.new.is_stopped ≡ self.old.is_stopped }
-        ensures done { self.new.done ≡ self.old.done }
+        ensures news { self.new.news ≡ self.old.news }
     {
         self.book.learn(files, known);
+    }
+
+    /// What is known of units of packages of `files`, if these are the current files. It is no event.
+    pub fn known_units(&self, files: &Graph) -> Option<KnownUnits>
+        ensures { AreKnownIn files.now result }
+    {
+        match self.book.known_units() {
+            Ok(units) => of_files(units, files),
+            Err(_) => None,
+        }
+    }
+
+    /// Has the book keep what is known of units of packages, if their files are the current ones. It is no event.
+    pub fn learn_units(&mut self, units: KnownUnits)
+        ensures book { self.new.book ≡ self.old.book }
+        ensures stopped { self.new.is_stopped ≡ self.old.is_stopped }
+        ensures news { self.new.news ≡ self.old.news }
+    {
+        self.book.learn_units(units);
     }
 
     /// Stops the workers.
     pub fn stop(&mut self)
         ensures stopped { IsTrue self.new.is_stopped }
         ensures book { self.new.book ≡ self.old.book }
-        ensures done { self.new.done ≡ self.old.done }
+        ensures news { self.new.news ≡ self.old.news }
     {
         self.is_stopped = true;
     }
 
     /// Ends the sharing, and returns the book. It is settled if its new entries are exactly those of the seats' receipts. It takes no
     /// memory.
-    pub fn settle(self, seats: Vec<Seat<L>>) -> Result<Book, Unsettled>
+    pub fn settle(self, free: FreeSeats<L>, seats: Vec<Seat<L>>) -> Result<Book, Unsettled>
         ensures book { book_in result ≡ self.book }
         ensures legal { IsReplayed self.book }
+        ensures limits { limit_numbers self.book.limits ≡ L.limits }
         ensures from { self.from ≡ L.from }
         ensures exact { IsOk result ↔ IsSettled self.from self.book.journal seats.items }
         ensures count { length self.book.journal ≡ self.from + self.count.total }
@@ -166,14 +267,13 @@ impl<L: Opening> Locked<L> {
         let Locked {
             book,
             mut count,
-            rest,
-            free: _,
             from,
             is_stopped: _,
-            done: _,
+            news: _,
         } = self;
         let settled = is_settled(from, book.journal(), seats.as_slice());
-        let mut all = merged(rest, seats);
+        let FreeSeats { share, left: _ } = free;
+        let mut all = merged(share, seats);
         count.audit(&mut all);
         drop(all);
         drop(count);

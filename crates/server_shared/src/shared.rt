@@ -1,22 +1,28 @@
 //! A book that threads share.
-ghost use Rattle.std.specs.Prelude.{◌≡◌, ◌+◌, ◌<◌, ◌≤◌, ◌↔◌, [], if◌then◌else◌, length, vec_len, is_some, IfSome, IsOk};
+ghost use Rattle.std.specs.Prelude.{◌≡◌, ◌+◌, ◌<◌, ◌≤◌, ◌↔◌, if◌then◌else◌, length, vec_len, is_some, IfSome, IsOk, MatchOption};
 ghost use Rattle.workspace_check.specs.Found.{KnowsVerdicts};
 ghost use Rattle.history_machine.specs.MayReply.{MayReply};
+ghost use Rattle.history_machine.specs.Step.{taken};
+ghost use Rattle.history_machine.specs.declared.event.Event.TheVariants.{Take};
+ghost use Rattle.history_book.specs.CurrentUnits.{AreKnownIn};
 ghost use Rattle.server_shared.specs.SettledBook.{book_in};
 ghost use Rattle.server_shared.specs.Steps.{IsReplayed, IsReceiptOrNone};
-ghost use Rattle.server_shared.specs.Call.{Calls, Looks, LooksUntilBuilt, CallsWith};
+ghost use Rattle.server_shared.specs.Call.{Calls, CallsWith, LooksBuilt, LooksOnceBuilt};
 ghost use Rattle.server_shared.specs.Settled.{IsSettled, receipt_count};
+ghost use Rattle.server_shared.specs.Working.{LacksOnly};
+ghost use Rattle.server_shared.specs.LimitNumbers.{limit_numbers};
 
-use crate::built::is_built;
-use crate::locked::{Locked, may_wake, turn_away};
+use crate::free_seats::FreeSeats;
+use crate::locked::{Locked, is_news, may_wake, turn_away};
 use crate::opening::Opening;
 use crate::receipt::Receipt;
 use crate::seat::{Seat, jobs_after, reserve};
 use crate::settling::Unsettled;
 use base_files::Refusal;
-use history_book::{Book, Looking, Question};
-use history_machine::{Line, View};
-use std::alloc::Global;
+use build_kept::KnownUnits;
+use build_unit::Job;
+use history_book::{Book, Question};
+use history_machine::{EntryKind, Line, View};
 use std::sync::ledger::{Blank, Share};
 use std::sync::{Condvar, Mutex, Wait};
 use workspace_check::Known;
@@ -26,45 +32,45 @@ use workspace_graph::Graph;
 #[must_use]
 pub struct Shared<L: Opening> {
     locked: Mutex<Locked<L>>,
-    changed: Condvar,
-    alloc: Global,
+    /// Where workers wait for a package to build.
+    work: Condvar,
+    /// Where workers wait for which memory was wanting.
+    news: Condvar,
+    /// Where waits for all packages sleep.
+    built: Condvar,
     pub from: u64,
     ghost from_is: { from ≡ L.from },
 }
 
 impl<L: Opening> Shared<L> {
-    /// Shares a book, with `seats` seats.
-    pub fn new(alloc: Global, blank: Blank, book: Book, seats: u64) -> Shared<L>
+    /// Shares a book, with `seats` seats, of which none is taken yet.
+    pub fn new(blank: Blank, book: Book, seats: u64) -> (Shared<L>, FreeSeats<L>)
         requires name { blank.name ≡ L.name }
         requires parts { blank.parts ≡ L.parts }
         requires seats { blank.parts ≡ seats }
         requires from { length book.journal ≡ L.from }
         requires most { book.limits.journal ≡ L.most }
-        ensures { result.from ≡ length book.journal }
+        requires limits { limit_numbers book.limits ≡ L.limits }
+        ensures from { result.0.from ≡ length book.journal }
+        ensures seats { result.1.left ≡ seats }
     {
         let from = book.journal().len() as u64;
-        let (count, rest) = blank.open::<L>();
-        Shared {
+        let (count, share) = blank.open::<L>();
+        let free = FreeSeats { share, left: seats };
+        let shared = Shared {
             locked: Mutex::new(Locked {
                 book,
                 count,
-                rest,
-                free: seats,
                 from,
                 is_stopped: false,
-                done: 0,
+                news: 0,
             }),
-            changed: Condvar::new(),
-            alloc,
+            work: Condvar::new(),
+            news: Condvar::new(),
+            built: Condvar::new(),
             from,
-        }
-    }
-
-    /// Takes a seat with no receipts, or returns `None` where none is left.
-    pub fn seat(&mut self) -> Option<Seat<L>>
-        ensures { IfSome result (λ seat. seat ≡ []) }
-    {
-        self.locked.get_mut().seat(self.alloc)
+        };
+        (shared, free)
     }
 
     /// Makes one event of the book at a seat. Returns the answer, and the index of the event's entry, if the journal gains one.
@@ -91,7 +97,7 @@ impl<L: Opening> Shared<L> {
         (answer, Some(index))
     }
 
-    /// Makes one event under the lock, and wakes all waiting threads if it may give them something to do.
+    /// Makes one event under the lock, and wakes those whom it concerns.
     fn step<R: Wait, Q: Question>(
         &self,
         rt: &R,
@@ -104,18 +110,69 @@ impl<L: Opening> Shared<L> {
         ensures amount { share.new.amount ≡ share.old.amount + (if is_some result.1 then 1 else 0) }
         ensures parts { share.new.parts ≡ share.old.parts }
     {
-        let (answer, kept) = self.locked.lock(rt).call(share, question);
+        let mut locked = self.locked.lock(rt);
+        let (answer, kept) = locked.call(share, question);
+        let is_over = locked.book.wait_end().is_some();
+        drop(locked);
         if let Some(receipt) = &kept {
-            self.wake(&receipt.entry.line);
+            self.wake(&receipt.entry.line, is_over);
         }
         (answer, kept)
     }
 
-    /// Wakes all waiting threads, if the event of an entry may give them something to do.
-    fn wake(&self, line: &Line) {
+    /// Wakes those whom the event of an entry concerns: one worker, if it may make a package wait; the workers for which memory was wanting, if
+    /// it is news; and the waits for all packages, if they are over.
+    fn wake(&self, line: &Line, is_over: bool) {
         if may_wake(line) {
-            self.changed.notify_all();
+            self.work.notify_one();
         }
+        if is_news(line) {
+            self.news.notify_all();
+        }
+        if is_over {
+            self.built.notify_all();
+        }
+    }
+
+    /// Waits until a package waits to be built, and takes a Job of it at a seat. The Take is refused only for want of memory. After the book
+    /// was stopped it makes no event, and returns `None`.
+    pub fn take<R: Wait>(&self, rt: &R, seat: &mut Seat<L>) -> Option<Result<Job, Refusal>>
+        ensures { MatchOption result (seat.new ≡ seat.old) (λ answer. CallsWith L.most seat.old Take (taken answer) seat.new × LacksOnly answer) }
+    {
+        let needed = match reserve(&mut seat.receipts, seat.jobs, EntryKind::Take) {
+            Err(error) => return Some(Err(Refusal::from(error))),
+            Ok(needed) => needed,
+        };
+        let (answer, kept) = self.take_waiting(rt, &mut seat.share)?;
+        let Some(gained) = kept else {
+            return Some(answer);
+        };
+        seat.jobs = jobs_after(seat.jobs, needed, &gained.entry.line);
+        seat.receipts.push_reserved(gained);
+        Some(answer)
+    }
+
+    /// Waits until a package waits to be built, and takes a Job of it under the same lock. Wakes one worker more, if another package waits.
+    fn take_waiting<R: Wait>(
+        &self,
+        rt: &R,
+        share: &mut Share<L>,
+    ) -> Option<(Result<Job, Refusal>, Option<Receipt>)>
+        requires { 0 < share.old.parts }
+        ensures step { IfSome result (λ took. IsReceiptOrNone L.most Take (taken took.0) took.1 × LacksOnly took.0) }
+        ensures amount { MatchOption result (share.new.amount ≡ share.old.amount) (λ took. share.new.amount ≡ share.old.amount + (if is_some took.1 then 1 else 0)) }
+        ensures parts { share.new.parts ≡ share.old.parts }
+    {
+        let mut locked = self
+            .work
+            .wait_while(rt, self.locked.lock(rt), |locked| locked.is_idle());
+        let taken = locked.take_job(share);
+        let is_more = locked.has_work();
+        drop(locked);
+        if is_more {
+            self.work.notify_one();
+        }
+        taken
     }
 
     /// Makes one event of the book at a seat, and returns the answer.
@@ -135,38 +192,55 @@ impl<L: Opening> Shared<L> {
         self.locked.lock(rt).learn(files, known);
     }
 
+    /// What is known of units of packages of `files`, if these are the current files. It is no event, and no seat gains a receipt.
+    pub fn known_units<R: Wait>(&self, rt: &R, files: &Graph) -> Option<KnownUnits>
+        ensures { AreKnownIn files.now result }
+    {
+        self.locked.lock(rt).known_units(files)
+    }
+
+    /// Has the book keep what is known of units of packages, if their files are the current ones. It is no event, and no seat gains a
+    /// receipt.
+    pub fn learn_units<R: Wait>(&self, rt: &R, units: KnownUnits) {
+        self.locked.lock(rt).learn_units(units);
+    }
+
     /// Ends the sharing, and returns the book. It is settled if its new entries are exactly those of the seats' receipts. It takes no
     /// memory.
-    pub fn settle(self, seats: Vec<Seat<L>>) -> Result<Book, Unsettled>
+    pub fn settle(self, free: FreeSeats<L>, seats: Vec<Seat<L>>) -> Result<Book, Unsettled>
         ensures exact { IsOk result ↔ IsSettled self.from (book_in result).journal seats.items }
         ensures legal { IsReplayed (book_in result) }
+        ensures limits { limit_numbers (book_in result).limits ≡ L.limits }
         ensures bound { self.from + receipt_count seats.items ≤ length (book_in result).journal }
         ensures whole { vec_len seats ≡ L.parts → length (book_in result).journal ≡ self.from + receipt_count seats.items }
     {
         let Shared {
             locked,
-            changed,
-            alloc: _,
+            work,
+            news,
+            built,
             from: _,
         } = self;
-        drop(changed);
-        locked.into_inner().settle(seats)
+        drop(work);
+        drop(news);
+        drop(built);
+        locked.into_inner().settle(free, seats)
     }
 
-    /// How many events that may give others something to do were answered `Done`, or `None` after the book was stopped.
-    pub fn done_unless_stopped<R: Wait>(&self, rt: &R) -> Option<u64> {
+    /// How many events changed the workspace or delivered a Job, or `None` after the book was stopped.
+    pub fn news_unless_stopped<R: Wait>(&self, rt: &R) -> Option<u64> {
         let locked = self.locked.lock(rt);
         if locked.is_stopped {
             None
         } else {
-            Some(locked.done)
+            Some(locked.news)
         }
     }
 
-    /// Waits until more such events were answered `Done` than `seen`, or the book is stopped.
-    pub fn wait_past<R: Wait>(&self, rt: &R, seen: u64) {
-        let locked = self.changed.wait_while(rt, self.locked.lock(rt), |locked| {
-            locked.done == seen && !locked.is_stopped
+    /// Waits until there is more news than `seen`, or the book is stopped.
+    pub fn wait_for_news<R: Wait>(&self, rt: &R, seen: u64) {
+        let locked = self.news.wait_while(rt, self.locked.lock(rt), |locked| {
+            locked.news == seen && !locked.is_stopped
         });
         drop(locked);
     }
@@ -174,34 +248,46 @@ impl<L: Opening> Shared<L> {
     /// Stops the workers.
     pub fn stop<R: Wait>(&self, rt: &R) {
         self.locked.lock(rt).stop();
-        self.changed.notify_all();
+        self.work.notify_all();
+        self.news.notify_all();
     }
 
-    /// Looks at the current state, again and again, until a view shows that every package is finished. Between two looks it waits for an
-    /// event that is answered `Done`.
+    /// Waits until every package is finished, and looks at the current state under the same lock. The wait is refused with no event where no
+    /// package can be built any more, since the journal is full.
     pub fn wait_built<R: Wait>(&self, rt: &R, seat: &mut Seat<L>) -> Result<View, Refusal>
-        ensures { LooksUntilBuilt L.most seat.old result seat.new }
+        ensures { LooksOnceBuilt L.most seat.old result seat.new }
+    {
+        let needed = match reserve(&mut seat.receipts, seat.jobs, EntryKind::Look) {
+            Err(error) => return Err(Refusal::from(error)),
+            Ok(needed) => needed,
+        };
+        let (shown, kept) = self.look_built(rt, &mut seat.share);
+        let Some(looked) = kept else {
+            return shown;
+        };
+        seat.jobs = jobs_after(seat.jobs, needed, &looked.entry.line);
+        seat.receipts.push_reserved(looked);
+        shown
+    }
+
+    /// Waits until a wait for all packages ends, and looks at the current state under the same lock.
+    fn look_built<R: Wait>(
+        &self,
+        rt: &R,
+        share: &mut Share<L>,
+    ) -> (Result<View, Refusal>, Option<Receipt>)
+        requires { 0 < share.old.parts }
+        ensures looked { LooksBuilt L.most result.0 result.1 }
+        ensures amount { share.new.amount ≡ share.old.amount + (if is_some result.1 then 1 else 0) }
+        ensures parts { share.new.parts ≡ share.old.parts }
     {
         for _ in rt.forever() {
-            let seen = self.done_count(rt);
-            let view = self.look(rt, seat)?;
-            if is_built(&view) {
-                return Ok(view);
+            let mut locked = self.locked.lock(rt);
+            if let Some(shown) = locked.look_built(share) {
+                return shown;
             }
-            self.wait_past(rt, seen);
+            drop(self.built.wait(rt, locked));
         }
         unreachable!()
-    }
-
-    /// Looks at the current state.
-    pub(crate) fn look<R: Wait>(&self, rt: &R, seat: &mut Seat<L>) -> Result<View, Refusal>
-        ensures { Looks L.most seat.old result seat.new }
-    {
-        self.send(rt, seat, Looking)
-    }
-
-    /// How many events that may give others something to do were answered `Done`, stopped or not.
-    fn done_count<R: Wait>(&self, rt: &R) -> u64 {
-        self.locked.lock(rt).done
     }
 }

@@ -1,20 +1,22 @@
 //! The workers, which build packages.
-ghost use Rattle.std.specs.Prelude.{ℕ};
+ghost use Rattle.std.specs.Prelude.{◌≡◌, ℕ, MatchOption};
 ghost use Rattle.server_shared.specs.Call.{CallsWith, Gains};
 ghost use Rattle.build_unit.specs.Builds.{IsBuiltOf};
-ghost use Rattle.server_shared.specs.Working.{DeliversBuilt, HandsIn, IsWork, TakesTurn, TakesTurns};
+ghost use Rattle.server_shared.specs.Working.{HandsIn, IsWork, TakesTurn, TakesTurns};
 
 use crate::caller::{AtSeat, Caller};
 use crate::gate::Gate;
-use crate::in_hand::{InHand, take};
+use crate::in_hand::InHand;
 use crate::opening::Opening;
 use crate::seat::Seat;
 use crate::shared::Shared;
+use crate::work_turn::{WorkTurn, wait_for_memory};
 use build_unit::Built;
 use std::alloc::Global;
 use std::sync::Wait;
 
-/// Takes, builds and delivers Jobs until the shared book is stopped.
+/// Takes, builds and delivers Jobs until the shared book is stopped. Where nothing is to be built it sleeps, and makes no event. Where memory
+/// is wanting it takes a few turns more. Then it waits for a change or a delivery, so that its turns don't fill the journal.
 pub fn worker<L: Opening, R: Wait, G: Gate>(
     rt: &R,
     alloc: Global,
@@ -25,46 +27,47 @@ pub fn worker<L: Opening, R: Wait, G: Gate>(
     ensures works { (turns : ℕ) × TakesTurns (CallsWith L.most) turns seat.old seat.new }
     ensures gains { Gains IsWork seat.old seat.new }
 {
+    let mut lacks = 0;
     for _ in rt.forever() {
-        let Some(seen) = shared.done_unless_stopped(rt) else {
+        let Some(news) = shared.news_unless_stopped(rt) else {
             return;
         };
-        if !turn_at_seat(rt, alloc, shared, seat, gate) {
-            shared.wait_past(rt, seen);
+        match turn_at_seat(rt, alloc, shared, seat, gate) {
+            None => return,
+            Some(WorkTurn::HandedIn) => lacks = 0,
+            Some(WorkTurn::Lacking) => lacks = wait_for_memory(rt, shared, news, lacks),
         }
     }
 }
 
-/// Takes a turn at a seat. Returns false where there was no Job.
+/// Takes a turn at a seat, or finds that no more is to be built.
 fn turn_at_seat<L: Opening, R: Wait, G: Gate>(
     rt: &R,
     alloc: Global,
     shared: &Shared<L>,
     seat: &mut Seat<L>,
     gate: &G,
-) -> bool
-    ensures { TakesTurn (CallsWith L.most) seat.old result seat.new }
+) -> Option<WorkTurn>
+    ensures { MatchOption result (seat.new ≡ seat.old) (λ turn. TakesTurn (CallsWith L.most) seat.old turn seat.new) }
 {
     let mut caller = AtSeat { rt, shared, seat };
     turn(alloc, &mut caller, gate)
 }
 
-/// Takes a Job and hands it in. Returns false where there was no Job.
-pub fn turn<C: Caller, G: Gate>(alloc: Global, caller: &mut C, gate: &G) -> bool
-    ensures { TakesTurn C.steps caller.old result caller.new }
+/// Takes a Job and hands it in, or finds that no more is to be built.
+pub fn turn<C: Caller, G: Gate>(alloc: Global, caller: &mut C, gate: &G) -> Option<WorkTurn>
+    ensures { MatchOption result (C.rests caller.old caller.new) (λ turn. TakesTurn C.steps caller.old turn caller.new) }
 {
-    match take(caller) {
-        Some(hand) => {
-            hand_in(alloc, caller, gate, hand);
-            true
-        }
-        None => false,
+    match caller.take() {
+        None => None,
+        Some(Ok(job)) => Some(hand_in(alloc, caller, gate, InHand::new(job))),
+        Some(Err(_)) => Some(WorkTurn::Lacking),
     }
 }
 
 /// Builds a Job with no lock held, and delivers it. For want of memory the Job is given back.
-fn hand_in<C: Caller, G: Gate>(alloc: Global, caller: &mut C, gate: &G, hand: InHand)
-    ensures { HandsIn C.steps caller.old hand.job caller.new }
+fn hand_in<C: Caller, G: Gate>(alloc: Global, caller: &mut C, gate: &G, hand: InHand) -> WorkTurn
+    ensures { HandsIn C.steps caller.old hand.job result caller.new }
 {
     gate.taken(hand.ticket());
     match hand.build(alloc) {
@@ -72,17 +75,23 @@ fn hand_in<C: Caller, G: Gate>(alloc: Global, caller: &mut C, gate: &G, hand: In
             gate.built(hand.ticket());
             deliver(caller, hand, built)
         }
-        Err(_) => hand.give_back(caller),
+        Err(_) => {
+            hand.give_back(caller);
+            WorkTurn::Lacking
+        }
     }
 }
 
 /// Delivers what was built for a Job. A Job that the book doesn't take is given back.
-fn deliver<C: Caller>(caller: &mut C, hand: InHand, built: Built)
+fn deliver<C: Caller>(caller: &mut C, hand: InHand, built: Built) -> WorkTurn
     requires { IsBuiltOf hand.job built }
-    ensures { DeliversBuilt C.steps caller.old hand.job caller.new }
+    ensures { HandsIn C.steps caller.old hand.job result caller.new }
 {
     match hand.deliver(caller, built) {
-        Ok(()) => {}
-        Err(back) => back.give_back(caller),
+        Ok(()) => WorkTurn::HandedIn,
+        Err(back) => {
+            back.give_back(caller);
+            WorkTurn::Lacking
+        }
     }
 }

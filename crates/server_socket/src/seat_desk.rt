@@ -1,5 +1,6 @@
 //! A desk at a seat of a shared book.
 use base_files::Refusal;
+use build_kept::KnownUnits;
 use build_unit::{Built, Job};
 use history_book::{Changing, Handed, HandingIn, Looking, LookingBack, Question, Taking};
 use history_machine::{HistoryView, View};
@@ -69,5 +70,15 @@ impl<'a, L: Opening, R: Wait> Desk for SeatDesk<'a, L, R> {
     /// It is no event, so the seat gains no receipt.
     fn learn(&mut self, files: &Graph, known: Known) {
         self.shared.learn(self.rt, files, known);
+    }
+
+    /// It is no event, so the seat gains no receipt.
+    fn known_units(&self, files: &Graph) -> Option<KnownUnits> {
+        self.shared.known_units(self.rt, files)
+    }
+
+    /// It is no event, so the seat gains no receipt.
+    fn learn_units(&mut self, units: KnownUnits) {
+        self.shared.learn_units(self.rt, units);
     }
 }

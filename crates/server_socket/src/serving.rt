@@ -1,5 +1,6 @@
 //! Runs the server, from making its socket to settling its book.
-ghost use Rattle.std.specs.Prelude.{◌≡◌, ◌≢◌, ◌+◌, IfErr, IfOk, IsErr, IsOk, IsTrue, length, vec_len};
+ghost use Rattle.std.specs.Prelude.{◌≡◌, ◌≢◌, ◌+◌, ◌≤◌, [], IfErr, IfOk, IsErr, IsOk, IsTrue, OnOk, length, vec_capacity, vec_len};
+ghost use Rattle.server_shared.specs.LimitNumbers.{full_limits};
 ghost use Rattle.server_shared.specs.SettledBook.{book_in};
 ghost use Rattle.server_socket.specs.Returned.{AreReturned};
 ghost use Rattle.server_socket.specs.Served.{Serves, Settles};
@@ -12,7 +13,7 @@ use crate::threads::{Running, run};
 use crate::turns::Turns;
 use base_files::Limits;
 use history_book::Book;
-use server_shared::{Gate, Opening, Seat, Shared, Unsettled};
+use server_shared::{FreeSeats, Gate, Opening, Seat, Shared, Unsettled};
 use server_words::ServeOptions;
 use std::alloc::{AllocError, Global};
 use std::marker::Brand;
@@ -29,32 +30,38 @@ fn threads_of(words: &ServeOptions<'_>) -> u64
     u64::from(words.workers) + u64::from(words.sessions)
 }
 
-/// Takes seats of the shared book for workers, or as many as are left.
+/// Takes seats of the shared book for workers.
 fn worker_seats<L: Opening>(
     alloc: Global,
-    shared: &mut Shared<L>,
+    free: &mut FreeSeats<L>,
     count: u32,
-) -> Result<Vec<WorkerSeat<L>>, AllocError> {
+) -> Result<Vec<WorkerSeat<L>>, AllocError>
+    requires { count ≤ free.old.left }
+    ensures all { IfOk result (λ seats. vec_len seats ≡ count) }
+    ensures left { OnOk result (free.new.left + count ≡ free.old.left) }
+{
     let mut seats = Vec::new(alloc);
-    for _ in 0..count {
-        if let Some(seat) = shared.seat() {
-            seats.push(WorkerSeat::new(seat))?;
-        }
+    for _number in 0..count {
+        let seat = free.take(alloc);
+        seats.push(WorkerSeat::new(seat))?;
     }
     Ok(seats)
 }
 
-/// Takes seats of the shared book for threads of sessions, or as many as are left.
+/// Takes seats of the shared book for threads of sessions.
 fn session_seats<L: Opening>(
     alloc: Global,
-    shared: &mut Shared<L>,
+    free: &mut FreeSeats<L>,
     count: u32,
-) -> Result<Vec<SessionSeat<L>>, AllocError> {
+) -> Result<Vec<SessionSeat<L>>, AllocError>
+    requires { count ≤ free.old.left }
+    ensures all { IfOk result (λ seats. vec_len seats ≡ count) }
+    ensures left { OnOk result (free.new.left + count ≡ free.old.left) }
+{
     let mut seats = Vec::new(alloc);
-    for _ in 0..count {
-        if let Some(seat) = shared.seat() {
-            seats.push(SessionSeat::new(seat))?;
-        }
+    for _number in 0..count {
+        let seat = free.take(alloc);
+        seats.push(SessionSeat::new(seat))?;
     }
     Ok(seats)
 }
@@ -62,11 +69,15 @@ fn session_seats<L: Opening>(
 /// Takes the seats of all threads.
 fn seats_of<L: Opening>(
     alloc: Global,
-    shared: &mut Shared<L>,
+    free: &mut FreeSeats<L>,
     words: &ServeOptions<'_>,
-) -> Result<Seats<L>, AllocError> {
-    let workers = worker_seats(alloc, shared, words.workers)?;
-    let sessions = session_seats(alloc, shared, words.sessions)?;
+) -> Result<Seats<L>, AllocError>
+    requires { words.now.workers + words.now.sessions ≤ free.old.left }
+    ensures workers { IfOk result (λ seats. vec_len seats.workers ≡ words.now.workers) }
+    ensures sessions { IfOk result (λ seats. vec_len seats.sessions ≡ words.now.sessions) }
+{
+    let workers = worker_seats(alloc, free, words.workers)?;
+    let sessions = session_seats(alloc, free, words.sessions)?;
     Ok(Seats { workers, sessions })
 }
 
@@ -89,11 +100,15 @@ fn length_of(settled: Result<Book, Unsettled>) -> Result<u64, ServeFault>
 }
 
 /// Settles the shared book with these seats, and returns the length of its journal.
-fn settle<L: Opening>(shared: Shared<L>, seats: Vec<Seat<L>>) -> Result<u64, ServeFault>
+fn settle<L: Opening>(
+    shared: Shared<L>,
+    free: FreeSeats<L>,
+    seats: Vec<Seat<L>>,
+) -> Result<u64, ServeFault>
     requires { shared.from ≡ 0 }
-    ensures { Settles L.parts seats.items result }
+    ensures { Settles L.parts L.limits seats.items result }
 {
-    length_of(shared.settle(seats))
+    length_of(shared.settle(free, seats))
 }
 
 /// Whether these are the seats of all threads.
@@ -105,12 +120,14 @@ fn are_all<L: Opening>(seats: &Seats<L>, words: &ServeOptions<'_>) -> bool
         && seats.sessions.len() as u64 == u64::from(words.sessions)
 }
 
-/// All seats in one list, if these are the seats of all threads. Else a thread could not be made.
+/// All seats in the list, which has room for them, if these are the seats of all threads. Else a thread could not be made.
 fn all_seats<L: Opening>(
-    alloc: Global,
+    list: Vec<Seat<L>>,
     seats: Seats<L>,
     words: &ServeOptions<'_>,
 ) -> Result<Vec<Seat<L>>, ServeFault>
+    requires none { list.items ≡ [] }
+    requires room { words.now.workers + words.now.sessions ≤ vec_capacity list }
     ensures all { IfOk result (λ all. AreReturned L.most words.now.workers words.now.sessions all.items) }
     ensures err { IfErr result (λ fault. fault ≢ ServeFault.Unsettled) }
 {
@@ -118,43 +135,45 @@ fn all_seats<L: Opening>(
     if !are_made {
         return Err(ServeFault::Memory);
     }
-    Ok(seats.all(alloc)?)
+    Ok(seats.all(list))
 }
 
-/// Runs the threads of a server to their end. Returns the seats of all threads, with what was called at them.
+/// Runs the threads of a server to their end. Returns the seats of those that were made.
 fn serve_by<L: Opening + Send + Sync, R: Threads + Wait + Sync, G: Gate + Sync>(
     rt: &R,
     alloc: Global,
     shared: &Shared<L>,
     seats: Seats<L>,
-    words: &ServeOptions<'_>,
     running: Running<'_, G>,
-) -> Result<Vec<Seat<L>>, ServeFault>
-    ensures all { IfOk result (λ all. AreReturned L.most words.now.workers words.now.sessions all.items) }
-    ensures err { IfErr result (λ fault. fault ≢ ServeFault.Unsettled) }
+) -> Result<Seats<L>, ServeFault>
+    ensures { IfErr result (λ fault. fault ≢ ServeFault.Unsettled) }
 {
     let back = run(rt, alloc, shared, seats, &running);
     let Running { gate: _, turns } = running;
     if turns.has_failed() {
         return Err(ServeFault::Socket);
     }
-    all_seats(alloc, back?, words)
+    Ok(back?)
 }
 
-/// Serves sessions over a shared book to their end. Returns the seats of all threads, with what was called at them.
+/// Serves sessions over a shared book to their end. Returns the seats of all threads, with what was called at them. The list of these seats
+/// is made before the first thread is.
 fn serve_over<L: Opening + Send + Sync, R: Threads + Wait + Sync, G: Gate + Sync>(
     rt: &R,
     alloc: Global,
-    shared: &mut Shared<L>,
+    shared: &Shared<L>,
+    free: &mut FreeSeats<L>,
     words: &ServeOptions<'_>,
     running: Running<'_, G>,
 ) -> Result<Vec<Seat<L>>, ServeFault>
-    ensures from { shared.new.from ≡ shared.old.from }
+    requires { words.now.workers + words.now.sessions ≤ free.old.left }
     ensures all { IfOk result (λ all. AreReturned L.most words.now.workers words.now.sessions all.items) }
     ensures err { IfErr result (λ fault. fault ≢ ServeFault.Unsettled) }
 {
-    let seats = seats_of(alloc, shared, words)?;
-    serve_by(rt, alloc, &*shared, seats, words, running)
+    let seats = seats_of(alloc, free, words)?;
+    let list = Vec::with_capacity(alloc, threads_of(words) as usize)?;
+    let back = serve_by(rt, alloc, shared, seats, running)?;
+    all_seats(list, back, words)
 }
 
 /// Serves sessions over a new book with this ledger.
@@ -171,15 +190,16 @@ fn serve_in<L: Opening + Send + Sync, R: Threads + Wait + Sync, G: Gate + Sync>(
     requires seats { blank.parts ≡ words.now.workers + words.now.sessions }
     requires from { L.from ≡ 0 }
     requires most { L.most ≡ 1000000 }
+    requires limits { L.limits ≡ full_limits }
     ensures { Serves words.now.workers words.now.sessions result }
 {
     let book = Book::new(alloc, Limits::FULL)?;
-    let mut shared = Shared::<L>::new(alloc, blank, book, threads_of(words));
+    let (shared, mut free) = Shared::<L>::new(blank, book, threads_of(words));
     let running = Running { gate, turns };
-    match serve_over(rt, alloc, &mut shared, words, running) {
-        Ok(seats) => settle(shared, seats),
+    match serve_over(rt, alloc, &shared, &mut free, words, running) {
+        Ok(seats) => settle(shared, free, seats),
         Err(fault) => {
-            let _ended = settle(shared, Vec::new(alloc));
+            let _ended = settle(shared, free, Vec::new(alloc));
             Err(fault)
         }
     }

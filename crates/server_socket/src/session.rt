@@ -1,5 +1,5 @@
 //! A session at a seat.
-ghost use Rattle.server_socket.specs.Session.{ConversesAtSeat};
+ghost use Rattle.server_socket.specs.Session.{ConversesAtSeat, HoldsSessionWithin};
 
 use crate::seat_desk::SeatDesk;
 use base_files::Limits;
@@ -25,7 +25,8 @@ pub fn session_at_seat<L: Opening, W: Wait, I: Read + Drop, O: Write>(
     connection: Connection<I, O>,
     limits: Limits,
 ) -> (Result<(), SessionFault>, O)
-    ensures { ConversesAtSeat L.most limits (I.remaining connection.input) (O.contents connection.output) (O.contents result.1) seat.old seat.new result.0 }
+    ensures converses { ConversesAtSeat L.most limits (I.remaining connection.input) (O.contents connection.output) (O.contents result.1) seat.old seat.new result.0 }
+    ensures holds { HoldsSessionWithin L.most limits seat.old seat.new }
 {
     let Connection { input, output } = connection;
     let mut held = SeatDesk { rt, shared, seat };

@@ -21,9 +21,16 @@ fn link<R: Files>(rt: &R, made: &str, path: &str) -> io::Result<()> {
     fs::hard_link(rt, made, path)
 }
 
-/// Makes a socket at `made`, links it to `path`, and removes `made`.
+/// Makes a socket at `made`, links it to `path`, and removes `made`, whether that succeeds or not.
 fn listen_at<R: Files + Net>(rt: &R, made: &str, path: &str) -> io::Result<UnixListener> {
-    let listener = UnixListener::bind(rt, made)?;
+    let listener = match UnixListener::bind(rt, made) {
+        Ok(listener) => listener,
+        Err(fault) => {
+            // the socket may have been made, though no one can connect to it
+            let _ = fs::remove_file(rt, made);
+            return Err(fault);
+        }
+    };
     let linked = link(rt, made, path);
     fs::remove_file(rt, made)?;
     linked?;

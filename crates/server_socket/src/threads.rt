@@ -1,12 +1,12 @@
 //! The threads of a server. Each owns its seat, and returns it at its end.
-ghost use Rattle.std.specs.Prelude.{◌≡◌, ℕ, MatchResult};
+ghost use Rattle.std.specs.Prelude.{◌≡◌, ◌+◌, ◌≤◌, ℕ, IsOk, MatchResult, vec_capacity, vec_len};
 ghost use Rattle.server_socket.specs.Session.{HoldsSession, HoldsSessions};
 
 use crate::held_seats::{SessionSeat, WorkerSeat};
 use crate::returned::Seats;
 use crate::session::{Connection, session_at_seat};
 use crate::turns::Turns;
-use base_files::Limits;
+use base_files::{Limits, list_as_long};
 use server_session::SessionFault;
 use server_shared::{Gate, Opening, Seat, Shared, worker};
 use std::alloc::{AllocError, Global};
@@ -91,13 +91,15 @@ fn work_at<L: Opening, R: Wait, G: Gate>(
     WorkerSeat { seat }
 }
 
-/// Waits for the end of each thread, and returns what they returned.
+/// Waits for the end of each thread, and adds what it returned to `back`.
 fn all_joined<R: Threads, T: Drop>(
     rt: &R,
-    alloc: Global,
     threads: Vec<JoinHandle<T>>,
-) -> Result<Vec<T>, AllocError> {
-    let mut back = Vec::new(alloc);
+    back: Vec<T>,
+) -> Result<Vec<T>, AllocError>
+    ensures { vec_len back + vec_len threads ≤ vec_capacity back → IsOk result }
+{
+    let mut back = back;
     for child in threads {
         back.push(child.join(rt))?;
     }
@@ -105,7 +107,7 @@ fn all_joined<R: Threads, T: Drop>(
 }
 
 /// Serves sessions in one thread for each seat, until no more are accepted, and returns the seats. No thread accepts before all are made.
-/// Where a thread could not be made, none accepts.
+/// Where a thread could not be made, none accepts. The list that is returned is made before the first thread is.
 fn serve_sessions<L: Opening + Send + Sync, R: Threads + Wait + Sync>(
     rt: &R,
     alloc: Global,
@@ -115,6 +117,7 @@ fn serve_sessions<L: Opening + Send + Sync, R: Threads + Wait + Sync>(
     were_made: bool,
 ) -> Result<Vec<SessionSeat<L>>, AllocError> {
     thread::scope(thread::scope_env(), rt, move |scope| {
+        let back = list_as_long(alloc, &seats)?;
         let mut are_made = were_made;
         let mut turn = turns.turn.lock(rt);
         let mut threads = Vec::new(alloc);
@@ -128,7 +131,7 @@ fn serve_sessions<L: Opening + Send + Sync, R: Threads + Wait + Sync>(
             turn.end();
         }
         drop(turn);
-        all_joined(rt, alloc, threads)
+        all_joined(rt, threads, back)
     })
 }
 
@@ -152,7 +155,8 @@ pub(crate) fn run<L: Opening + Send + Sync, R: Threads + Wait + Sync, G: Gate + 
     let gate = running.gate;
     let turns = &running.turns;
     let Seats { workers, sessions } = seats;
-    let (workers, sessions) = thread::scope(thread::scope_env(), rt, move |scope| {
+    thread::scope(thread::scope_env(), rt, move |scope| {
+        let back = list_as_long(alloc, &workers)?;
         let mut are_made = true;
         let mut threads = Vec::new(alloc);
         for seat in workers {
@@ -161,11 +165,10 @@ pub(crate) fn run<L: Opening + Send + Sync, R: Threads + Wait + Sync, G: Gate + 
                 Err(_) => are_made = false,
             }
         }
-        let served = serve_sessions(rt, alloc, shared, sessions, turns, are_made);
+        let sessions = serve_sessions(rt, alloc, shared, sessions, turns, are_made);
         shared.stop(rt);
-        (all_joined(rt, alloc, threads), served)
-    });
-    let workers = workers?;
-    let sessions = sessions?;
-    Ok(Seats { workers, sessions })
+        let workers = all_joined(rt, threads, back)?;
+        let sessions = sessions?;
+        Ok(Seats { workers, sessions })
+    })
 }

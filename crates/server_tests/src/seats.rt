@@ -1,5 +1,6 @@
 //! Tests the settling of a shared book.
 ghost use Rattle.std.specs.Prelude.{◌≡◌};
+ghost use Rattle.server_shared.specs.LimitNumbers.{full_limits};
 
 use crate::assertion::holds;
 use base_files::{Limits, Refusal};
@@ -34,18 +35,17 @@ fn settled<L: Opening, R: Wait>(
     requires seats { blank.parts ≡ 2 }
     requires from { L.from ≡ 0 }
     requires most { L.most ≡ 1000000 }
+    requires limits { L.limits ≡ full_limits }
 {
     let book = Book::new(alloc, Limits::FULL)?;
-    let mut shared = Shared::<L>::new(alloc, blank, book, 2);
+    let (shared, mut free) = Shared::<L>::new(blank, book, 2);
     let mut seats = Vec::new(alloc);
-    let mut are_made = false;
-    if let Some(mut one) = shared.seat() {
-        if let Some(mut other) = shared.seat() {
-            are_made = look_twice(rt, &shared, &mut one, &mut other) && seats.push(one).is_ok();
-            are_made = are_made && (is_left_out || seats.push(other).is_ok());
-        }
-    }
-    let (is_settled, book) = match shared.settle(seats) {
+    let mut one = free.take(alloc);
+    let mut other = free.take(alloc);
+    let looked = look_twice(rt, &shared, &mut one, &mut other);
+    let mut are_made = looked && seats.push(one).is_ok();
+    are_made = are_made && (is_left_out || seats.push(other).is_ok());
+    let (is_settled, book) = match shared.settle(free, seats) {
         Ok(book) => (true, book),
         Err(Unsettled { book }) => (false, book),
     };

@@ -1,6 +1,9 @@
--- A step gives a reply that its event may get, and keeps the limit of the journal.
+-- A step gives a reply that its event may get, and keeps the limits.
+use Rattle.std.proofs.Common.{ap}
+use Rattle.base_files.specs.declared.limits.Limits.{Limits}
+use Rattle.server_shared.specs.LimitNumbers.{limit_numbers}
 use Rattle.history_machine.proofs.Replies.{may_reply}
-use Rattle.server_shared.proofs.StepLaws.{keeps_most}
+use Rattle.server_shared.proofs.StepLaws.{keeps_limits}
 use Rattle.server_shared.proofs.locked.step_book.Goals as goal
 
 pub returns-clause-kind : goal.returns-clause-kind
@@ -9,5 +12,12 @@ returns-clause-kind g c =
 
 pub returns-clause-most : goal.returns-clause-most
 returns-clause-most g c =
-    keeps_most c.args.book.now (g.Q.Question.event c.args.question) (g.Q.Question.reply c.journal_step.result.0) c.journal_step.new.self
-    c.journal_step.ensures.0
+    ap (λ (l : Limits). l.journal)
+    (keeps_limits c.args.book.now (g.Q.Question.event c.args.question) (g.Q.Question.reply c.journal_step.result.0) c.journal_step.new.self
+    c.journal_step.ensures.0)
+
+pub returns-clause-limits : goal.returns-clause-limits
+returns-clause-limits g c =
+    ap limit_numbers
+    (keeps_limits c.args.book.now (g.Q.Question.event c.args.question) (g.Q.Question.reply c.journal_step.result.0) c.journal_step.new.self
+    c.journal_step.ensures.0)

@@ -1,5 +1,5 @@
 -- What was settled with the seats of all threads.
-use Rattle.std.proofs.Common.{◌∙◌, ℕ, sym, subst}
+use Rattle.std.proofs.Common.{◌∙◌, ◌+◌, ℕ, List, sym, subst}
 use Rattle.server_socket.specs.Returned.{AreReturned}
 use Rattle.server_socket.specs.Served.{Settles}
 use Rattle.server_socket.proofs.ServedLaws.{served, not_served}
@@ -12,7 +12,8 @@ returns-in-Ok g c =
     let seats = c.in-Ok.seats in
     served workers sessions seats.items c.settle.result
     (subst (λ (most : ℕ). AreReturned most workers sessions seats.items) c.requires.most c.in-Ok.ensures.all)
-    (subst (λ (n : ℕ). Settles n seats.items c.settle.result) (sym c.requires.parts ∙ c.requires.seats) c.settle.ensures)
+    (subst (λ (numbers : List ℕ). Settles (workers + sessions) numbers seats.items c.settle.result) c.requires.limits
+    (subst (λ (n : ℕ). Settles n g.L.Opening.limits seats.items c.settle.result) (sym c.requires.parts ∙ c.requires.seats) c.settle.ensures))
 
 pub returns-in-Err : goal.returns-in-Err
 returns-in-Err g c = not_served c.args.words.now.workers c.args.words.now.sessions c.in-Err.fault c.in-Err.ensures.err

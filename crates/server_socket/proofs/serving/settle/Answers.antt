@@ -7,5 +7,5 @@ pub returns : goal.returns
 returns g c =
     let s = c.settle.ensures in
     let told = c.length_of.ensures in
-    settles _ c.args.shared.from c.args.seats.items c.settle.result c.length_of.result c.requires told.ok told.err s.exact s.legal s.bound
+    settles _ c.args.shared.from _ c.args.seats.items c.settle.result c.length_of.result c.requires told.ok told.err s.exact s.legal s.limits s.bound
     (λ all. s.whole (c.args.seats.ok.0 ∙ all))

@@ -9,7 +9,6 @@ pub returns : goal.returns
 returns g c =
     let most = g.L.Opening.most in
     let some = c.add_workers.new.all.items in
-    let work = subst (λ (x : List (List Receipt)). Adds (HasWorked most) (vec_len c.args.self.workers) x some) c.new-all.ensures.items
-    c.in_ok-add_workers.ensures in
+    let work = subst (λ (x : List (List Receipt)). Adds (HasWorked most) (vec_len c.args.self.workers) x some) c.requires.none c.add_workers.ensures.added in
     returned most (vec_len c.args.self.workers) (vec_len c.args.self.sessions)
-    c.add_sessions.new.all.items some work c.in_ok-add_sessions.ensures
+    c.add_sessions.new.all.items some work c.add_sessions.ensures

@@ -8,12 +8,12 @@ use Rattle.server_socket.proofs.Captures.{five_sent}
 use Rattle.server_socket.proofs.SeatsSent.{session_seat_sent}
 use Rattle.server_shared.proofs.Sends.{shared_shared}
 use Rattle.server_socket.proofs.turns.Turns.TheSendSync.{the_sync as turns-sync}
-use Rattle.server_socket.proofs.threads.fn.serve_sessions.scope.Lts.{arg-5-1}
+use Rattle.server_socket.proofs.threads.fn.serve_sessions.scope.Lts.{arg-10-1}
 use Rattle.server_socket.proofs.threads.fn.serve_sessions.scope.Goals as goal
 
 pub spawn_scoped-requires-send-F : goal.spawn_scoped-requires-send-F
 spawn_scoped-requires-send-F g c = λ κs outlived. param_send 1
-    (arg-5-1 g.row.L g.row.R g.L.laws g.R.laws g.L.Opening g.L.Opening-dict g.L.Ledger g.L.Ledger-dict
+    (arg-10-1 g.row.L g.row.R g.L.laws g.R.laws g.L.Opening g.L.Opening-dict g.L.Ledger g.L.Ledger-dict
     g.R.Threads g.R.Threads-dict g.R.Wait g.R.Wait-dict κs)
     (arg_send _ no _ (five_sent _ _ _ _ _ _
     (shr_send (named 5) κs.1.1.1.1.1.0 (param 1 g.row.R) (search sendable))
