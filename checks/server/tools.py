@@ -280,6 +280,46 @@ def left_out():
         same(folder.texts(), dict(sorted((RENAMED | others).items())))
 
 
+def build_constraints():
+    """A build constraint stands before the package clause and outside block comments. A comment `+build` has an empty line behind it too."""
+    left = (
+        "/*\npackage x\n*/\n\n//go:build ignore\n\npackage main\n",
+        "/* x */\n//go:build ignore\npackage main\n",
+        "//go:build ignore\npackage main\n",
+        "/* a */ /* b\n*/ /*/ c */\n//go:build ignore\npackage main\n",
+        "/**/\n//go:build ignore\npackage main\n",
+        "// /*\n//go:build ignore\npackage main\n",
+        "/* a */ // /* x\n//go:build ignore\npackage main\n",
+        "//go:build ignore\r\n\r\npackage main\r\n",
+        "// +build ignore\n\npackage main\n",
+        "//+build ignore\n\npackage main\n",
+        "// +build ignore\n// more\n\n// doc\npackage main\n",
+        "\n\n// a\n\n// +build ignore\n\n// b\n\npackage main\n",
+    )
+    kept = (
+        "/* //go:build ignore */\npackage tax\n",
+        "/*\n//go:build ignore\n*/\npackage tax\n",
+        "/* x */ //go:build ignore\n\npackage tax\n",
+        "/* x\n*/ package tax\n//go:build ignore\n",
+        "/* a\n*/ //go:build ignore\npackage tax\n",
+        "/*/\n//go:build ignore\n*/\npackage tax\n",
+        "/* a */ package tax //go:build ignore\n",
+        "//go:buildx ignore\npackage tax\n",
+        "// +build ignore\npackage tax\n",
+        "// +build ignore\n/* x */\n\npackage tax\n",
+        "/* x */\n// +build ignore\n\npackage tax\n",
+    )
+    files = {f"tax/left{n:02}.go": text for n, text in enumerate(left)} | {f"tax/kept{n:02}.go": text for n, text in enumerate(kept)}
+    notes = "".join(f"tax/left{n:02}.go: left out: it has a build constraint\n" for n in range(len(left)))
+    with Folder(FILES | files) as folder:
+        same(folder.told("faults"), (0, "", notes))
+    if shutil.which("go"):
+        words = ["go", "list", "-f", '{{join .IgnoredGoFiles " "}}', "./tax"]
+        with Folder(FILES | files) as folder:
+            ran = subprocess.run(words, cwd=folder.top, env=dict(os.environ, GO111MODULE="on", GOFLAGS="", HOME=str(folder.top)), stdout=subprocess.PIPE)
+            same(ran.stdout.decode().split(), [f"left{n:02}.go" for n in range(len(left))])
+
+
 def no_module():
     """Without a go.mod the path of a package is that of its folder from the root."""
     user = 'package c\n\nimport "a"\n\nfunc F() int {\n\treturn a.X\n}\n'
@@ -375,16 +415,26 @@ def moves_shown():
                 same(shown, other.texts())
 
 
+MARK = "64768-1234-1795000000-5"
+
+
+def beside(path, mark=MARK):
+    """The path of the new text that the run with this mark writes beside a file."""
+    folder, _, name = path.rpartition("/")
+    return f"{folder}/.{name}.{mark}.gorefd".lstrip("/")
+
+
 def taken_back():
     """A run that was cut off while it wrote beside the files is taken back by the next. Commands that write nothing only tell of it."""
     told = ".gorefd-prepare: a run was cut off here, or is at work: `gorefd rename` and `gorefd move` finish it or take it back\n"
     old = ": old: a run that was cut off is taken back\n"
-    journal = "shop.go\ntax/tax.go\n\n\n"
+    journal = f"shop.go\ntax/tax.go\n\n\n{MARK}\n"
+    told_old = f"shop.go{old}tax/tax.go{old}"
     rows = [
-        *(({".gorefd-prepare": journal[:end]}, "") for end in (0, 5, 8, 12, 19, 20)),
-        ({".gorefd-prepare": journal}, f"shop.go{old}tax/tax.go{old}"),
-        ({".gorefd-prepare": journal, ".shop.go.gorefd": "pack"}, f"shop.go{old}tax/tax.go{old}"),
-        ({".gorefd-prepare": journal, ".shop.go.gorefd": "x", "tax/.tax.go.gorefd": "y"}, f"shop.go{old}tax/tax.go{old}"),
+        *(({".gorefd-prepare": journal[:end]}, "") for end in range(len(journal))),
+        ({".gorefd-prepare": journal}, told_old),
+        ({".gorefd-prepare": journal, beside("shop.go"): "pack"}, told_old),
+        ({".gorefd-prepare": journal, beside("shop.go"): "x", beside("tax/tax.go"): "y"}, told_old),
     ]
     for left, notes in rows:
         with Folder(FILES | left) as folder:
@@ -400,11 +450,10 @@ def finished():
     new = ": new: a run that was cut off is finished\n"
     notes = f"shop.go{new}tax/tax.go{new}"
     so = "tax/tax.go:4:5: this is so already\nvar Share int = 2\n    ^\n"
-    journal = {".gorefd-commit": "shop.go\ntax/tax.go\n\n\n"}
-    beside = {".shop.go.gorefd": RENAMED["shop.go"], "tax/.tax.go.gorefd": RENAMED["tax/tax.go"]}
+    journal = {".gorefd-commit": f"shop.go\ntax/tax.go\n\n\n{MARK}\n"}
     rows = [
-        FILES | beside,
-        FILES | {"shop.go": RENAMED["shop.go"], "tax/.tax.go.gorefd": RENAMED["tax/tax.go"]},
+        FILES | {beside(path): RENAMED[path] for path in ("shop.go", "tax/tax.go")},
+        FILES | {"shop.go": RENAMED["shop.go"], beside("tax/tax.go"): RENAMED["tax/tax.go"]},
         RENAMED,
     ]
     for left in rows:
@@ -417,14 +466,14 @@ def finished():
 
 def moves_finished():
     """A move that was cut off is finished by the next run, before and after its folder was renamed."""
-    journal = {".gorefd-commit": "shop.go\ntax/tax.go\ntax\nmoney/vat\n"}
+    journal = {".gorefd-commit": f"shop.go\ntax/tax.go\ntax\nmoney/vat\n{MARK}\n"}
     new = ": new: a run that was cut off is finished\n"
     notes = f"shop.go{new}tax/tax.go{new}"
     shop = SHOP.replace("shop/tax", "shop/money/vat").replace("tax.", "vat.")
     vat = TAX.replace("package tax", "package vat")
     after = {"go.mod": GO_MOD, "shop.go": shop, "money/vat/tax.go": vat}
     rows = [
-        FILES | {".shop.go.gorefd": shop, "tax/.tax.go.gorefd": vat},
+        FILES | {beside("shop.go"): shop, beside("tax/tax.go"): vat},
         FILES | {"shop.go": shop, "tax/tax.go": vat},
         after,
     ]
@@ -437,13 +486,13 @@ def moves_finished():
 
 def changed_after_cut_off():
     """A file that was changed after a run was cut off stays as it is. The next run names the new text that has to be removed first."""
-    beside = {".shop.go.gorefd": RENAMED["shop.go"], "tax/.tax.go.gorefd": RENAMED["tax/tax.go"]}
-    left = FILES | beside | {".gorefd-commit": "shop.go\ntax/tax.go\n\n\n"}
+    new_texts = {beside(path): RENAMED[path] for path in ("shop.go", "tax/tax.go")}
+    left = FILES | new_texts | {".gorefd-commit": f"shop.go\ntax/tax.go\n\n\n{MARK}\n"}
     mine = TAX + "\n// mine\n"
     with Folder(left) as folder:
         time.sleep(0.05)
         (folder.top / "tax/tax.go").write_text(mine)
-        name = os.path.realpath(folder.top / "tax/.tax.go.gorefd")
+        name = os.path.realpath(folder.top / beside("tax/tax.go"))
         why = "the file whose new text this is has changed since: remove this, and that file stays"
         for _ in range(2):
             same(folder.told("rename", "tax/tax.go:6:6", "Gross"), (1, "", f"gorefd: {name}: {why}\n"))
@@ -457,11 +506,42 @@ def changed_after_cut_off():
 
 def strange_journals():
     """A journal that no run has written is told, and nothing is done that it asks for."""
-    for text in ("", "x", "/etc\nx\n", "../x\n\n\n", "/tmp/x\n\n\n", "a\n\n", "x\n\n\nx"):
+    whole = ("", "x", "/etc\nx\n", f"../x\n\n\n{MARK}\n", f"/tmp/x\n\n\n{MARK}\n", f"a\n\n{MARK}\n", f"x\n\n\n{MARK}", "x\n\n\n")
+    for text in (*whole, "x\n\n\n\n", "x\n\n\n../1\n", "x\n\n\n1/2\n", f"x\n\n../y\n{MARK}\n"):
         with Folder(FILES | {".gorefd-commit": text}) as folder:
             told = "gorefd: .gorefd-commit: this is no journal of a run: remove it\n"
             same(folder.told("rename", "tax/tax.go:4:5", "Share"), (1, "", told))
             same(folder.texts(), dict(sorted((FILES | {".gorefd-commit": text}).items())))
+
+
+LOW = "package a\n\nvar Rate int = 2\n\nfunc Net(n int) int {\n\treturn n + Rate\n}\n"
+LOW_NET = LOW.replace("Net", "Gross")
+ABOVE = {"low/a/a.go": LOW, beside("low/a/a.go"): LOW.replace("Rate", "Share")}
+ABOVE_JOURNAL = f"low/a/a.go\n\n\n{MARK}\n"
+
+
+def cut_off_above():
+    """A run in a folder below leaves what a run that was cut off above has left, also where it fails. Then the run above is taken back, or it
+    is told which new text is to be removed."""
+    words = ("rename", "--root", "low", "a/a.go:5:6", "Gross")
+    again = ("rename", "low/a/a.go:3:5", "Part")
+    for name in (".gorefd-prepare", ".gorefd-commit"):
+        left = ABOVE | {name: ABOVE_JOURNAL}
+        with Folder(left) as folder:
+            low = [*words[:2], str(folder.top / "low"), *words[3:]]
+            status, out, err = run(low, limits=[(resource.RLIMIT_FSIZE, 40)])
+            same((status, out, folder.texts()), (1, b"", dict(sorted(left.items()))))
+            same(folder.told(*words), (0, "a/a.go\n", ""))
+            same(folder.texts(), dict(sorted((left | {"low/a/a.go": LOW_NET}).items())))
+            if name == ".gorefd-prepare":
+                notes = "low/a/a.go: old: a run that was cut off is taken back\n"
+                same(folder.told(*again), (0, "low/a/a.go\n", notes))
+                same(folder.texts(), {"low/a/a.go": LOW_NET.replace("Rate", "Part")})
+                continue
+            place = os.path.realpath(folder.top / beside("low/a/a.go"))
+            why = "the file whose new text this is has changed since: remove this, and that file stays"
+            same(folder.told(*again), (1, "", f"gorefd: {place}: {why}\n"))
+            same(folder.texts(), dict(sorted((left | {"low/a/a.go": LOW_NET}).items())))
 
 
 MANY = 120
@@ -494,7 +574,7 @@ def changed_meanwhile():
     for _ in range(20):
         with Folder(MANY_OLD) as folder:
             process, seen = folder.cut(".gorefd-prepare", signal.SIGSTOP, "rename", "tax/tax.go:4:5", "Share")
-            in_time = seen and not (folder.top / last).with_name(".u.go.gorefd").exists()
+            in_time = seen and not [*(folder.top / last).parent.glob(".u.go.*.gorefd")]
             (folder.top / last).write_text(MANY_OLD[last] + "\n// mine\n")
             process.send_signal(signal.SIGCONT)
             out, err = process.communicate()
@@ -595,6 +675,7 @@ CHECKS = (
     unsupported,
     uses,
     left_out,
+    build_constraints,
     no_module,
     kept_modes,
     kept_owners,
@@ -606,6 +687,7 @@ CHECKS = (
     moves_finished,
     changed_after_cut_off,
     strange_journals,
+    cut_off_above,
     killed,
     changed_meanwhile,
     held,

@@ -2,20 +2,23 @@
 //! does a command over a folder of Go files.
 #![tactic(auto)]
 
-ghost use Rattle.std.specs.Prelude.{◌≡◌, ◌≤◌, IfErr, false};
+ghost use Rattle.std.specs.Io.KnownBytes.{Appends};
+ghost use Rattle.std.specs.Prelude.{◌≡◌, ◌≤◌, ◌&&◌, IfErr, IfOk, OnOk, false, if◌then◌else◌};
 ghost use Rattle.std.specs.Process.{exit_status};
 ghost use Rattle.gorefd.specs.Statuses.{IsStatusOf, IsUnread};
+ghost use Rattle.gorefd.specs.OneSession.{ServesOne};
 
 mod fault;
 
 use base_files::Limits;
 use fault::ProgramFault;
-use server_session::session_alone;
+use server_session::{SessionFault, session_alone};
 use server_shared::OpenGate;
 use server_socket::serve;
 use server_words::{RequestFault, Words, read_request};
 use std::env::Env;
 use std::fmt::Display;
+use std::io;
 use std::io::{BufReader, BufWriter, ErrorKind, Write};
 use std::process::ExitCode;
 use tool_commands::{list_faults, list_uses, move_package, rename};
@@ -26,12 +29,22 @@ use tool_told::CommandOutcome;
 const NOT_UTF8: &str =
     "error: a word is not UTF-8\n\nUsage: gorefd <COMMAND>\n\nFor more information, try '--help'.\n";
 
-/// Serves one session from standard input to standard output.
-fn run(rt: &(impl Input + Print + AllocGlobal)) -> Result<(), ProgramFault> {
+/// Serves one session from standard input to standard output. Returns how it ended, if there was memory to begin it.
+fn serve_one(
+    rt: &(impl Input + Print + AllocGlobal),
+) -> Result<Result<(), SessionFault>, ProgramFault>
+    ensures { IfOk result ServesOne }
+{
     let alloc = rt.alloc();
     let input = BufReader::new(alloc, rt.reader()).map_err(|_| ProgramFault::Memory)?;
     let output = BufWriter::new(alloc, std::io::writer(rt)).map_err(|_| ProgramFault::Memory)?;
     let (ended, _output) = session_alone(alloc, input, output, Limits::FULL);
+    Ok(ended)
+}
+
+/// Serves one session from standard input to standard output.
+fn run(rt: &(impl Input + Print + AllocGlobal)) -> Result<(), ProgramFault> {
+    let ended = serve_one(rt)?;
     ended?;
     Ok(())
 }
@@ -71,17 +84,43 @@ fn print_fault<R: Print + Eprint>(rt: &R, fault: &RequestFault) -> ExitCode
     }
 }
 
-/// Prints what a command over a folder has to print, and returns the exit status: 0 where it was done, else 1.
+/// Writes the output and the notes of a command over a folder. It tells what came of the output, and of the notes.
+fn write_outcome<O: Write, N: Write>(
+    output: &mut O,
+    notes: &mut N,
+    outcome: &CommandOutcome,
+) -> (io::Result<()>, io::Result<()>)
+    ensures output { OnOk result.0 (Appends (O.contents output.old) (O.contents output.new) outcome.now.output.items) }
+    ensures notes { OnOk result.1 (Appends (N.contents notes.old) (N.contents notes.new) outcome.now.notes.items) }
+{
+    let noted = notes.write_all(outcome.notes.as_slice());
+    let printed = output.write_all(outcome.output.as_slice());
+    (printed, noted)
+}
+
+/// The exit status of a command over a folder: 0 where it was done and its output is written, else 1.
+fn outcome_status(is_done: bool, is_written: bool) -> ExitCode
+    ensures { exit_status result ≡ (if is_done && is_written then 0 else 1) }
+{
+    if is_done && is_written {
+        ExitCode::SUCCESS
+    } else {
+        ExitCode::from(1)
+    }
+}
+
+/// Prints what a command over a folder has to print, and returns the exit status: 0 where it was done and its output is written, else 1.
 fn print_outcome(rt: &HostRuntime, outcome: &CommandOutcome) -> ExitCode
     ensures within { exit_status result ≤ 1 }
     ensures refused { outcome.now.is_done ≡ false → exit_status result ≡ 1 }
 {
-    let _ = rt.stderr().write_all(outcome.notes.as_slice());
-    match std::io::writer(rt).write_all(outcome.output.as_slice()) {
-        Ok(()) if outcome.is_done => ExitCode::SUCCESS,
-        Ok(()) => ExitCode::from(1),
-        Err(_) => ended(rt, ProgramFault::Write),
+    let mut output = std::io::writer(rt);
+    let mut notes = rt.stderr();
+    let (printed, _noted) = write_outcome(&mut output, &mut notes, outcome);
+    if printed.is_err() {
+        let _ = eprintln!(rt; "gorefd: {}", ProgramFault::Write);
     }
+    outcome_status(outcome.is_done, printed.is_ok())
 }
 
 /// Prints what came of a command over a folder, and returns the exit status.

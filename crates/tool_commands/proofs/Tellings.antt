@@ -18,11 +18,11 @@ use Rattle.workspace_check.specs.declared.fault.FileFault.{FileFault}
 use Rattle.workspace_snapshot.specs.declared.change.Change.{Change}
 use Rattle.tool_told.specs.Asked.{FindsText, path_below}
 use Rattle.tool_told.specs.Outcomes.{Prints, Shows}
-use Rattle.tool_told.specs.Telling.{faults_text, new_paths_text, places_text, refusal_text, rewrite_parts, rewrites_of}
+use Rattle.tool_told.specs.Telling.{faults_text, places_text, refusal_text, rewrite_parts, rewrites_of}
 use Rattle.tool_told.specs.declared.outcome.CommandOutcome.{CommandOutcome}
 use Rattle.tool_told.specs.declared.rewriting.Rewrite.{Rewrite}
 use Rattle.tool_told.specs.declared.telling.Naming.{Naming}
-use Rattle.tool_commands.specs.Told.{IsAskedPlace, IsNamingOf, TellsChange, TellsFaults, TellsMove, TellsRefusal, TellsSome, TellsUses}
+use Rattle.tool_commands.specs.Told.{IsAskedPlace, IsNamingOf, TellsChange, TellsFaults, TellsMove, TellsRefusal, TellsSome, TellsUses, TellsWriting}
 use Rattle.tool_commands.specs.declared.opened.Opened.{Opened}
 
 -- the place of a byte whose file was read
@@ -70,17 +70,16 @@ module _ {E : Type 0} (opened : Opened) (naming : Naming) (is_naming : IsNamingO
   -- a change that is made
   pub tells_written : (after : Workspace) (changes : List FileChange) (change : Change) (rewrites slice : List Rewrite)
       → after ≡ change.files → changes ≡ change.edits.changed → slice ≡ rewrites → rewrite_parts rewrites ≡ rewrites_of naming after changes
-      → IfOk r (λ outcome. outcome.is_done ≡ true → Prints (new_paths_text slice) opened.notes.items true outcome)
-      → IfOk r (TellsChange opened false change)
+      → IfOk r (TellsWriting slice opened.notes.items) → IfOk r (TellsChange opened false change)
   tells_written after changes change rewrites slice is_after is_changes is_slice parts =
       let at_files = subst (λ w. rewrite_parts rewrites ≡ rewrites_of naming w changes) is_after parts in
       let at_changes = subst (λ l. rewrite_parts rewrites ≡ rewrites_of naming change.files l) is_changes at_files in
-      ok_map r (λ outcome prints is_done. (
+      ok_map r (λ outcome tells. (
         naming,
         rewrites,
         is_naming,
         at_changes,
-        subst (λ l. Prints (new_paths_text l) opened.notes.items true outcome) is_slice (prints is_done),
+        subst (λ l. TellsWriting l opened.notes.items outcome) is_slice tells,
       ))
 
   -- uses

@@ -1,6 +1,7 @@
 -- What the commands over a folder tell of the files that were read.
 use Rattle.std.specs.Prelude.{◌≡◌, ◌⊎◌, ◌++◌, ℕ, ⊤, Bool, true, false, List, [], Option, None, Result, Ok, Err, codes, length, nat_eq}
-use Rattle.std.specs.Prelude.{option_map, string_bytes}
+use Rattle.std.specs.Prelude.{◌∷◌, map, option_map, string_bytes, take}
+use Rattle.std.specs.List.{flat_map}
 use Rattle.base_files.specs.Path.{IsPath}
 use Rattle.base_files.specs.Workspace.{Workspace}
 use Rattle.base_files.specs.declared.place.Place.{Place}
@@ -15,8 +16,8 @@ use Rattle.workspace_snapshot.specs.declared.change.Change.{Change}
 use Rattle.server_words.specs.declared.tools.MoveOptions.{MoveOptions}
 use Rattle.server_words.specs.declared.tools.RenameOptions.{RenameOptions}
 use Rattle.tool_told.specs.Asked.{FindsText, NamesPlace, path_below}
-use Rattle.tool_told.specs.Outcomes.{Prints, Shows, word_text}
-use Rattle.tool_told.specs.Telling.{faults_text, new_paths_text, places_text, refusal_text, rewrite_parts, rewrites_of}
+use Rattle.tool_told.specs.Outcomes.{Prints, Shows, cut_off_text, word_text}
+use Rattle.tool_told.specs.Telling.{faults_text, new_paths_text, places_text, refusal_text, rewrite_parts, rewrites_of, shown}
 use Rattle.tool_told.specs.declared.asked.NamedPlace.{NamedPlace}
 use Rattle.tool_told.specs.declared.asked.NamedPlace.TheVariants.{NoPlace, NoPosition, Byte}
 use Rattle.tool_told.specs.declared.outcome.CommandOutcome.{CommandOutcome}
@@ -48,12 +49,30 @@ abbrev pub TellsRefusalAt : Opened → (word path : List ℕ) → (offset : ℕ)
 TellsRefusalAt opened word path offset refusal outcome =
     (place : Option Place) × IsAskedPlace opened.folder.files path offset place × TellsRefusal opened word place refusal outcome
 
--- A planned change is told. In a dry run its diffs are shown. Else, where the files are written, the paths of those with new texts are told.
+-- The path and the new text of each rewritten file.
+abbrev pub text_parts : List Rewrite → List (List ℕ × List ℕ)
+text_parts = map (λ (rewrite : Rewrite). (rewrite.path.now, rewrite.text.now))
+
+-- The paths of rewritten files before the change, each on a line.
+abbrev pub old_paths_text : List Rewrite → List ℕ
+old_paths_text = flat_map (λ (rewrite : Rewrite). rewrite.path.now ++ 10 ∷ [])
+
+-- The paths as they are told, and the texts, of files.
+abbrev pub shown_texts : (prefix : List ℕ) → List (List ℕ × List ℕ) → List (List ℕ × List ℕ)
+shown_texts prefix = map (λ (file : List ℕ × List ℕ). (shown prefix file.0, file.1))
+
+-- What is told where files are written. Where all is done it is the paths of the rewritten files behind the change. Else it is why no more
+-- is done, and the paths before the change of those whose new texts are in place: the first so many.
+abbrev pub TellsWriting : List Rewrite → (notes : List ℕ) → CommandOutcome → Type 0
+TellsWriting rewrites notes outcome = Prints (new_paths_text rewrites) notes true outcome
+    ⊎ ((number : ℕ) × (why : List ℕ) × Prints (old_paths_text (take number rewrites)) (notes ++ cut_off_text why) false outcome)
+
+-- A planned change is told. In a dry run its diffs are shown. Else its files are written, and that is told.
 abbrev pub TellsChange : Opened → (dry_run : Bool) → Change → CommandOutcome → Type 0
 TellsChange opened true change outcome =
     (naming : Naming) × IsNamingOf opened naming × Shows naming change.files change.edits.changed opened.notes.items outcome
-TellsChange opened false change outcome = outcome.is_done ≡ true → (naming : Naming) × (rewrites : List Rewrite) × IsNamingOf opened naming
-    × (rewrite_parts rewrites ≡ rewrites_of naming change.files change.edits.changed) × Prints (new_paths_text rewrites) opened.notes.items true outcome
+TellsChange opened false change outcome = (naming : Naming) × (rewrites : List Rewrite) × IsNamingOf opened naming
+    × (rewrite_parts rewrites ≡ rewrites_of naming change.files change.edits.changed) × TellsWriting rewrites opened.notes.items outcome
 
 -- What came of the plan of a rename is told.
 abbrev pub TellsRenamed : Opened → (word path : List ℕ) → (offset : ℕ) → (dry_run : Bool) → Result Change Refusal → CommandOutcome → Type 0

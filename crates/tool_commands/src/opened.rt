@@ -1,10 +1,20 @@
 //! A folder that was read, and what commands tell of it.
+ghost use Rattle.std.specs.FinMap as map;
 ghost use Rattle.std.specs.Prelude.{◌≡◌, IfOk, codes, false, string_bytes, true};
 ghost use Rattle.std.specs.Option.{option_copied};
+ghost use Rattle.tool_disk.specs.Writes.{file_parts};
 ghost use Rattle.tool_told.specs.Asked.{NamesPlace};
-ghost use Rattle.tool_told.specs.Outcomes.{Prints};
-ghost use Rattle.tool_told.specs.Telling.{new_paths_text};
-ghost use Rattle.tool_commands.specs.Told.{IsAskedPlace, IsNamingOf, TellsChange, TellsRefusal, TellsRefusalAt, TellsWord};
+ghost use Rattle.tool_commands.specs.Told.{
+  IsAskedPlace,
+  IsNamingOf,
+  TellsChange,
+  TellsRefusal,
+  TellsRefusalAt,
+  TellsWord,
+  TellsWriting,
+  shown_texts,
+  text_parts,
+};
 
 use base_files::{Place, Refusal};
 use refactor_preserve::Planned;
@@ -168,7 +178,9 @@ impl Opened {
     }
 
     /// All files that were read, by their paths below the folder.
-    fn all_read(&self, alloc: Global) -> Result<Vec<FileOf<'_>>, AllocError> {
+    fn all_read(&self, alloc: Global) -> Result<Vec<FileOf<'_>>, AllocError>
+        ensures { IfOk result (λ read. file_parts read.items ≡ shown_texts (string_bytes self.now.prefix) (map.entries self.now.folder.files)) }
+    {
         let mut read = Vec::new(alloc);
         for (path, text) in self.folder.files().iter() {
             let path = shown_path(self.prefix.as_str(), path);
@@ -226,7 +238,8 @@ impl Opened {
         writing: FolderWriting<'_>,
         rewrites: &[Rewrite<'_>],
     ) -> Result<CommandOutcome, ToolFault>
-        ensures { IfOk result (λ outcome. outcome.is_done ≡ true → Prints (new_paths_text rewrites.now) self.now.notes.items true outcome) }
+        requires { file_parts writing.new.now ≡ text_parts rewrites.now }
+        ensures { IfOk result (TellsWriting rewrites.now self.now.notes.items) }
     {
         let alloc = rt.alloc();
         let notes = self.notes.as_slice();
@@ -240,7 +253,9 @@ impl Opened {
 }
 
 /// The new texts of files, by their paths before the change.
-fn new_texts<'a>(alloc: Global, rewrites: &[Rewrite<'a>]) -> Result<Vec<FileOf<'a>>, AllocError> {
+fn new_texts<'a>(alloc: Global, rewrites: &[Rewrite<'a>]) -> Result<Vec<FileOf<'a>>, AllocError>
+    ensures { IfOk result (λ new. file_parts new.items ≡ text_parts rewrites.now) }
+{
     let mut new = Vec::new(alloc);
     for rewrite in rewrites {
         let path = rewrite.path;

@@ -1,4 +1,6 @@
 //! Why a command over a folder ended.
+ghost use Rattle.std.specs.Prelude.{◌≡◌};
+
 use std::alloc::{AllocError, AllocFailed, Global};
 use std::fmt::Display;
 use std::io;
@@ -15,12 +17,20 @@ pub enum ToolFault {
 }
 
 impl From<AllocError> for ToolFault {
+    ghost use Rattle.tool_disk.specs.declared.fault.ToolFault.TheVariants.{Memory};
+
+    ghost from_gives = { λ _ fault. fault ≡ Memory };
+
     fn from(_: AllocError) -> ToolFault {
         ToolFault::Memory
     }
 }
 
 impl<T: Drop> From<AllocFailed<T>> for ToolFault {
+    ghost use Rattle.tool_disk.specs.declared.fault.ToolFault.TheVariants.{Memory};
+
+    ghost from_gives = { λ _ fault. fault ≡ Memory };
+
     fn from(_: AllocFailed<T>) -> ToolFault {
         ToolFault::Memory
     }

@@ -20,8 +20,17 @@ pub(crate) fn folder_and_name(path: &str) -> (&str, &str) {
     }
 }
 
-/// The path of the file that is written before it takes the place of the file at a path.
-pub(crate) fn beside(alloc: Global, path: &str) -> Result<String, AllocError> {
+/// The path of the file that is written before it takes the place of the file at a path. Its name has the mark of the run that writes it.
+pub(crate) fn beside(alloc: Global, path: &str, mark: &str) -> Result<String, AllocError> {
     let (folder, name) = folder_and_name(path);
-    format!(in alloc; "{folder}/.{name}.gorefd")
+    format!(in alloc; "{folder}/.{name}.{mark}.gorefd")
+}
+
+/// Whether a text can be the mark of a run. It names no other folder.
+pub(crate) fn is_mark(text: &str) -> bool {
+    !text.is_empty()
+        && text
+            .as_bytes()
+            .iter()
+            .all(|byte| byte.is_ascii_digit() || *byte == b'-')
 }

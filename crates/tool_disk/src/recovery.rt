@@ -1,6 +1,7 @@
 //! Finishes or takes back a run that was cut off. While new texts are written beside their files, its journal lies at one path, and while they
 //! are put in place at another. In the second case the run is finished, and in the first taken back.
 use crate::fault::{ToolFault, told};
+use crate::paths::is_mark;
 use crate::steps::{COMMIT, PREPARE, journal_there, remove_journal};
 use crate::writing::{DiskRun, finish, remove_all_beside};
 use base_files::{Path, Refusal};
@@ -17,6 +18,15 @@ fn is_below(alloc: Global, path: &str) -> Result<bool, ToolFault> {
     }
 }
 
+/// Whether a run moves no folder, or one below the folder to a path below it.
+fn moves_below(alloc: Global, run: &DiskRun<'_>) -> Result<bool, ToolFault> {
+    if run.from.is_empty() {
+        Ok(run.to.is_empty())
+    } else {
+        Ok(is_below(alloc, run.from)? && is_below(alloc, run.to)?)
+    }
+}
+
 /// Whether all paths of a run lie below the folder.
 fn are_below(alloc: Global, run: &DiskRun<'_>) -> Result<bool, ToolFault> {
     for path in &run.paths {
@@ -24,7 +34,7 @@ fn are_below(alloc: Global, run: &DiskRun<'_>) -> Result<bool, ToolFault> {
             return Ok(false);
         }
     }
-    Ok(run.from.is_empty() || (is_below(alloc, run.from)? && is_below(alloc, run.to)?))
+    moves_below(alloc, run)
 }
 
 /// The texts of lines, or `None` where one is not UTF-8.
@@ -48,14 +58,22 @@ fn read_run<'a>(alloc: Global, text: &'a [u8]) -> Result<Option<DiskRun<'a>>, Al
     let Some(behind) = paths.pop() else {
         return Ok(None);
     };
+    let Some(mark) = paths.pop() else {
+        return Ok(None);
+    };
     let Some(to) = paths.pop() else {
         return Ok(None);
     };
     let Some(from) = paths.pop() else {
         return Ok(None);
     };
-    if behind.is_empty() {
-        Ok(Some(DiskRun { from, to, paths }))
+    if behind.is_empty() && is_mark(mark) {
+        Ok(Some(DiskRun {
+            from,
+            to,
+            mark,
+            paths,
+        }))
     } else {
         Ok(None)
     }
@@ -95,8 +113,7 @@ fn finish_run<R: Files + AllocGlobal>(
     let Some(run) = run_below(alloc, text)? else {
         return Err(told(alloc, COMMIT, "this is no journal of a run: remove it"));
     };
-    let mut done = Vec::new(alloc);
-    finish(rt, root, &run, &mut done)?;
+    finish(rt, root, &run)?;
     let what = ": new: a run that was cut off is finished\n";
     note_all(notes, run.paths.as_slice(), what)
 }
@@ -110,7 +127,7 @@ fn take_back_run<R: Files + AllocGlobal>(
     notes: &mut Vec<u8>,
 ) -> Result<(), ToolFault> {
     if let Some(run) = run_below(rt.alloc(), text)? {
-        remove_all_beside(rt, root, run.paths.as_slice())?;
+        remove_all_beside(rt, root, &run)?;
         let what = ": old: a run that was cut off is taken back\n";
         note_all(notes, run.paths.as_slice(), what)?;
     }

@@ -43,7 +43,7 @@ fn give_same<R: Files, F: OpenFile>(
     file.set_permissions(like.permissions())
 }
 
-/// Writes bytes to a new file, which others may read as far as they may read another one, and flushes it.
+/// Writes bytes to a new file, which others may read as far as they may read another one.
 fn fill<R: Files, F: Write + OpenFile>(
     rt: &R,
     path: &str,
@@ -52,14 +52,14 @@ fn fill<R: Files, F: Write + OpenFile>(
     like: Option<&Metadata>,
 ) -> io::Result<()> {
     file.write_all(bytes)?;
-    if let Some(like) = like {
-        give_same(rt, path, file, like)?;
+    match like {
+        Some(like) => give_same(rt, path, file, like),
+        None => Ok(()),
     }
-    file.sync_all()
 }
 
-/// Writes a new file, and flushes it. It is as open to others as the file that it is like, if there is one, and never more. Where that fails,
-/// no file is left.
+/// Writes a new file. It is as open to others as the file that it is like, if there is one, and never more. Where that fails, no file is left.
+/// It is not flushed.
 pub(crate) fn write_new<R: Files>(
     rt: &R,
     path: &str,
@@ -79,16 +79,43 @@ pub(crate) fn write_new<R: Files>(
     filled
 }
 
-/// Flushes a folder, so that the names in it stay.
-pub(crate) fn sync<R: Files>(rt: &R, folder: &str) -> io::Result<()> {
-    let folder = File::open(rt, folder)?;
-    folder.sync_all()
+/// Flushes a file, so that its text stays, or a folder, so that the names in it stay.
+pub(crate) fn sync<R: Files>(rt: &R, path: &str) -> io::Result<()> {
+    let file = File::open(rt, path)?;
+    file.sync_all()
 }
 
 /// Flushes the folder of a path, so that the names in it stay.
 pub(crate) fn sync_folder<R: Files>(rt: &R, path: &str) -> io::Result<()> {
     let (folder, _) = folder_and_name(path);
     sync(rt, folder)
+}
+
+/// Flushes all folders above a path, from the root down, so that the path stays.
+pub(crate) fn sync_above<R: Files + AllocGlobal>(
+    rt: &R,
+    root: &str,
+    path: &str,
+) -> Result<(), ToolFault> {
+    let alloc = rt.alloc();
+    let mut folder = below(alloc, root, "")?;
+    for name in path.split('/') {
+        at(alloc, path, sync(rt, folder.as_str()))?;
+        folder = below(alloc, folder.as_str(), name)?;
+    }
+    Ok(())
+}
+
+/// The mark of the next run in a folder: the device and the number of the folder, and when it last changed. Each run changes the folder, and
+/// no other folder has the same device and number. So no two runs have the same mark.
+pub(crate) fn next_mark<R: Files + AllocGlobal>(rt: &R, root: &str) -> Result<String, ToolFault> {
+    let alloc = rt.alloc();
+    let path = below(alloc, root, "")?;
+    let data = at(alloc, root, fs::metadata(rt, path.as_str()))?;
+    let (device, number) = (data.dev(), data.ino());
+    let (seconds, parts) = changed_at(&data);
+    let mark = format!(in alloc; "{device}-{number}-{seconds}-{parts}")?;
+    Ok(mark)
 }
 
 /// When the text, the name or the permissions of a file last changed: seconds, and billionths of one.

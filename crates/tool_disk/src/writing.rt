@@ -1,10 +1,17 @@
-//! Writes changed files so that each is old or new whatever happens. First a journal names the files. Then each new text is written to a file
-//! beside the old one, and flushed. When all are written and no file that was read has changed, the journal takes the name that says so. Then
-//! each new text takes the place of its file, the folder that moves is renamed, and the journal is removed.
+//! Writes changed files so that each is old or new whatever happens. First a journal names the files. Then all new texts are written to files
+//! beside the old ones, and flushed. When no file that was read has changed, the journal takes the name that says that all are written. Then
+//! each new text takes the place of its file, and the folder that moves is renamed. When all this is flushed, the journal is removed.
+//!
+//! The names of the new texts have the mark of the run, which the journal names too. So a run finds its own new texts, and never those of
+//! another run, also where that was cut off in a folder above.
+ghost use Rattle.std.specs.Prelude.{◌≡◌, ◌++◌, ◌∷◌, [], IfOk, OnOk};
+ghost use Rattle.tool_disk.specs.Writes.{NotesOne, NotesPlaced, paths_of};
+
 use crate::fault::{ToolFault, at, told};
 use crate::paths::{below, beside, folder_and_name};
 use crate::steps::{
-    COMMIT, PREPARE, is_later, real_path, remove_journal, sync, sync_folder, write_new,
+    COMMIT, PREPARE, is_later, next_mark, real_path, remove_journal, sync, sync_above, sync_folder,
+    write_new,
 };
 use std::alloc::{AllocError, Global};
 use std::fs;
@@ -30,17 +37,25 @@ pub struct FolderWriting<'a> {
     pub read: &'a [FileOf<'a>],
 }
 
-/// What a run puts in place: the folder that moves and its new path, or two empty texts, and the paths of the files with new texts.
+/// What a run puts in place: the folder that moves and its new path, or two empty texts, and the paths of the files with new texts. Its mark is
+/// in the names of the new texts.
 #[derive(Drop)]
 pub(crate) struct DiskRun<'a> {
     pub from: &'a str,
     pub to: &'a str,
+    pub mark: &'a str,
     pub paths: Vec<&'a str>,
 }
 
 /// The paths of files.
-fn paths<'a>(alloc: Global, files: &[FileOf<'a>]) -> Result<Vec<&'a str>, AllocError> {
-    files.iter().map(|file| file.path).collect(alloc)
+fn paths<'a>(alloc: Global, files: &[FileOf<'a>]) -> Result<Vec<&'a str>, AllocError>
+    ensures { IfOk result (λ paths. paths.items ≡ paths_of files.now) }
+{
+    let mut paths = Vec::new(alloc);
+    for file in files {
+        paths.push(file.path)?;
+    }
+    Ok(paths)
 }
 
 /// Whether the path of each file can stand in a journal.
@@ -48,11 +63,12 @@ fn all_lines(files: &[FileOf<'_>]) -> bool {
     files.iter().all(|file| is_line(file.path))
 }
 
-/// The lines of the journal of a run: the paths of the files, the folder that moves, and its new path.
+/// The lines of the journal of a run: the paths of the files, the folder that moves, its new path, and the mark.
 fn lines_of<'a>(alloc: Global, run: &DiskRun<'a>) -> Result<Vec<&'a str>, AllocError> {
     let mut lines = Vec::from_slice(alloc, run.paths.as_slice())?;
     lines.push(run.from)?;
     lines.push(run.to)?;
+    lines.push(run.mark)?;
     Ok(lines)
 }
 
@@ -69,64 +85,75 @@ fn write_journal<R: Files + AllocGlobal>(
     let path = below(alloc, root, PREPARE)?;
     let written = write_new(rt, path.as_str(), text.as_slice(), None);
     at(alloc, PREPARE, written)?;
+    at(alloc, PREPARE, sync(rt, path.as_str()))?;
     at(alloc, PREPARE, sync_folder(rt, path.as_str()))
 }
 
-/// Writes the new text of a file beside it, with its owner, group and permissions.
+/// Writes the new text of a file beside it, with its owner, group and permissions, and returns its real path.
 fn write_beside<R: Files + AllocGlobal>(
     rt: &R,
     root: &str,
+    run: &DiskRun<'_>,
     file: FileOf<'_>,
-) -> Result<(), ToolFault> {
+) -> Result<String, ToolFault> {
     let alloc = rt.alloc();
     let place = real_path(rt, root, file.path)?;
     let data = at(alloc, file.path, fs::metadata(rt, place.as_str()))?;
-    let path = beside(alloc, place.as_str())?;
+    let path = beside(alloc, place.as_str(), run.mark)?;
     let written = write_new(rt, path.as_str(), file.text, Some(&data));
-    at(alloc, path.as_str(), written)
+    at(alloc, path.as_str(), written)?;
+    Ok(path)
 }
 
-/// Flushes the folders of files, so that the names in them stay. One is flushed once for files that follow one another.
-fn sync_folders<R: Files + AllocGlobal>(
-    rt: &R,
-    root: &str,
-    paths: &[&str],
-) -> Result<(), ToolFault> {
-    let alloc = rt.alloc();
-    let mut last = String::new(alloc);
+/// Flushes files by their real paths.
+fn sync_files<R: Files + AllocGlobal>(rt: &R, paths: &[String]) -> Result<(), ToolFault> {
     for path in paths {
-        let place = real_path(rt, root, *path)?;
-        let (folder, _) = folder_and_name(place.as_str());
-        if last.as_str() != folder {
-            at(alloc, *path, sync(rt, folder))?;
-            last = String::from_str(alloc, folder)?;
+        at(rt.alloc(), path.as_str(), sync(rt, path.as_str()))?;
+    }
+    Ok(())
+}
+
+/// Flushes the folders of files by their real paths, so that the names in them stay. One is flushed once for files that follow one another.
+fn sync_folders<R: Files + AllocGlobal>(rt: &R, paths: &[String]) -> Result<(), ToolFault> {
+    let mut last = "";
+    for path in paths {
+        let (folder, _) = folder_and_name(path.as_str());
+        if last != folder {
+            at(rt.alloc(), folder, sync(rt, folder))?;
+            last = folder;
         }
     }
     Ok(())
 }
 
-/// Removes the file that was written beside another one, if there is one.
-fn remove_beside<R: Files + AllocGlobal>(rt: &R, root: &str, path: &str) -> Result<(), ToolFault> {
+/// Removes the new text of a file, if the run has written it, and returns its real path.
+fn remove_beside<R: Files + AllocGlobal>(
+    rt: &R,
+    root: &str,
+    run: &DiskRun<'_>,
+    path: &str,
+) -> Result<String, ToolFault> {
     let alloc = rt.alloc();
     let place = real_path(rt, root, path)?;
-    let path = beside(alloc, place.as_str())?;
+    let path = beside(alloc, place.as_str(), run.mark)?;
     match fs::remove_file(rt, path.as_str()) {
-        Err(error) if error.kind() == ErrorKind::NotFound => Ok(()),
+        Err(error) if error.kind() == ErrorKind::NotFound => Ok(path),
         Err(error) => at(alloc, path.as_str(), Err(error)),
-        Ok(()) => Ok(()),
+        Ok(()) => Ok(path),
     }
 }
 
-/// Removes all files that were written beside others.
+/// Removes all new texts that a run has written, and that are not in place.
 pub(crate) fn remove_all_beside<R: Files + AllocGlobal>(
     rt: &R,
     root: &str,
-    paths: &[&str],
+    run: &DiskRun<'_>,
 ) -> Result<(), ToolFault> {
-    for path in paths {
-        remove_beside(rt, root, *path)?;
+    let mut removed = Vec::new(rt.alloc());
+    for path in &run.paths {
+        removed.push(remove_beside(rt, root, run, *path)?)?;
     }
-    sync_folders(rt, root, paths)
+    sync_folders(rt, removed.as_slice())
 }
 
 /// The fault of a file that changed since it was read.
@@ -167,10 +194,15 @@ fn has_changed<R: Files + AllocGlobal>(
 }
 
 /// Refuses a file that changed after its new text was written beside it, by its path below the folder.
-fn refuse_touched<R: Files + AllocGlobal>(rt: &R, root: &str, path: &str) -> Result<(), ToolFault> {
+fn refuse_touched<R: Files + AllocGlobal>(
+    rt: &R,
+    root: &str,
+    run: &DiskRun<'_>,
+    path: &str,
+) -> Result<(), ToolFault> {
     let alloc = rt.alloc();
     let place = real_path(rt, root, path)?;
-    let new = beside(alloc, place.as_str())?;
+    let new = beside(alloc, place.as_str(), run.mark)?;
     if has_changed(rt, path, place.as_str(), new.as_str())? {
         Err(changed_since(alloc, path))
     } else {
@@ -236,16 +268,18 @@ fn refuse_link<R: Files + AllocGlobal>(
     }
 }
 
-/// Writes all new texts beside their files.
+/// Writes all new texts beside their files. Then flushes them, and their folders.
 fn write_all_beside<R: Files + AllocGlobal>(
     rt: &R,
     writing: FolderWriting<'_>,
     run: &DiskRun<'_>,
 ) -> Result<(), ToolFault> {
+    let mut written = Vec::new(rt.alloc());
     for file in writing.new {
-        write_beside(rt, writing.root, *file)?;
+        written.push(write_beside(rt, writing.root, run, *file)?)?;
     }
-    sync_folders(rt, writing.root, run.paths.as_slice())
+    sync_files(rt, written.as_slice())?;
+    sync_folders(rt, written.as_slice())
 }
 
 /// Writes all new texts beside their files, and refuses all where a file that was read has changed.
@@ -263,7 +297,7 @@ fn prepare<R: Files + AllocGlobal>(
         refuse_changed(rt, writing.root, *file)?;
     }
     for path in &run.paths {
-        refuse_touched(rt, writing.root, *path)?;
+        refuse_touched(rt, writing.root, run, *path)?;
     }
     Ok(())
 }
@@ -276,36 +310,43 @@ fn commit<R: Files + AllocGlobal>(rt: &R, root: &str) -> Result<(), ToolFault> {
     at(alloc, PREPARE, fs::rename(rt, old.as_str(), new.as_str()))
 }
 
-/// Has a new text take the place of its file, if it has not yet.
-fn put_in_place<R: Files + AllocGlobal>(rt: &R, root: &str, path: &str) -> Result<(), ToolFault> {
+/// Has a new text take the place of its file, if it has not yet, and returns the real path of the file.
+fn put_in_place<R: Files + AllocGlobal>(
+    rt: &R,
+    root: &str,
+    run: &DiskRun<'_>,
+    path: &str,
+) -> Result<String, ToolFault> {
     let alloc = rt.alloc();
     let place = real_path(rt, root, path)?;
-    let new = beside(alloc, place.as_str())?;
+    let new = beside(alloc, place.as_str(), run.mark)?;
     refuse_later(rt, path, place.as_str(), new.as_str())?;
     match fs::rename(rt, new.as_str(), place.as_str()) {
-        Err(error) if error.kind() == ErrorKind::NotFound => Ok(()),
-        came => at(alloc, path, came),
+        Err(error) if error.kind() == ErrorKind::NotFound => Ok(place),
+        Err(error) => at(alloc, path, Err(error)),
+        Ok(()) => Ok(place),
     }
 }
 
-/// Gives a folder its new path, if it has not yet.
+/// Gives the folder that moves its new path, if there is one.
 fn move_folder<R: Files + AllocGlobal>(
     rt: &R,
     root: &str,
-    from: &str,
-    to: &str,
+    run: &DiskRun<'_>,
 ) -> Result<(), ToolFault> {
+    if run.from.is_empty() {
+        return Ok(());
+    }
     let alloc = rt.alloc();
-    let old = below(alloc, root, from)?;
-    let new = below(alloc, root, to)?;
+    let old = below(alloc, root, run.from)?;
+    let new = below(alloc, root, run.to)?;
     let (parent, _) = folder_and_name(new.as_str());
-    at(alloc, to, fs::create_dir_all(rt, parent))?;
-    at(alloc, from, fs::rename(rt, old.as_str(), new.as_str()))?;
-    at(alloc, to, sync_folder(rt, new.as_str()))?;
-    at(alloc, from, sync_folder(rt, old.as_str()))
+    at(alloc, run.to, fs::create_dir_all(rt, parent))?;
+    sync_above(rt, root, run.to)?;
+    at(alloc, run.from, fs::rename(rt, old.as_str(), new.as_str()))
 }
 
-/// Whether the folder that moves has its new path.
+/// Whether the folder that moves has its new path, and the old one no longer.
 fn has_moved<R: Files + AllocGlobal>(
     rt: &R,
     root: &str,
@@ -316,43 +357,89 @@ fn has_moved<R: Files + AllocGlobal>(
     }
     let alloc = rt.alloc();
     let from = below(alloc, root, run.from)?;
-    Ok(!at(alloc, run.from, fs::exists(rt, from.as_str()))?)
+    let to = below(alloc, root, run.to)?;
+    let is_old = at(alloc, run.from, fs::exists(rt, from.as_str()))?;
+    Ok(!is_old && at(alloc, run.to, fs::exists(rt, to.as_str()))?)
 }
 
-/// Puts all new texts in place, and notes the path of each.
-fn put_all_in_place<R: Files + AllocGlobal>(
+/// Notes a path on a line.
+fn note_path(done: &mut Vec<u8>, path: &str) -> Result<(), AllocError>
+    ensures { OnOk result (done.new.items ≡ done.old.items ++ (path.now ++ 10 ∷ [])) }
+{
+    done.extend_from_slice(path.as_bytes())?;
+    done.push(b'\n')?;
+    Ok(())
+}
+
+/// Has a new text take the place of its file, notes the path, and returns the real one.
+fn put_and_note<R: Files + AllocGlobal>(
     rt: &R,
     root: &str,
-    paths: &[&str],
-    output: &mut Vec<u8>,
-) -> Result<(), ToolFault> {
-    for path in paths {
-        put_in_place(rt, root, *path)?;
-        output.extend_from_slice(path.as_bytes())?;
-        output.push(b'\n')?;
-    }
-    sync_folders(rt, root, paths)
+    place: (&DiskRun<'_>, &str),
+    done: &mut Vec<u8>,
+) -> Result<String, ToolFault>
+    ensures { NotesOne place.entry.1.now done.old.items done.new.items result }
+{
+    let (run, path) = place;
+    let real = put_in_place(rt, root, run, path)?;
+    note_path(done, path)?;
+    Ok(real)
 }
 
-/// Puts in place what a run has written, moves the folder that moves, and removes the journal.
-pub(crate) fn finish<R: Files + AllocGlobal>(
+/// Puts all new texts in place, and notes the path of each. Then flushes their folders.
+fn put_all_in_place<R: Files + AllocGlobal>(
     rt: &R,
     root: &str,
     run: &DiskRun<'_>,
     done: &mut Vec<u8>,
-) -> Result<(), ToolFault> {
-    if !has_moved(rt, root, run)? {
-        put_all_in_place(rt, root, run.paths.as_slice(), done)?;
-        if !run.from.is_empty() {
-            move_folder(rt, root, run.from, run.to)?;
-        }
+) -> Result<(), ToolFault>
+    ensures { NotesPlaced run.now.paths.items done.old.items done.new.items result }
+{
+    let mut places = Vec::new(rt.alloc());
+    for path in &run.paths {
+        places.push(put_and_note(rt, root, (run, *path), done)?)?;
+    }
+    sync_folders(rt, places.as_slice())
+}
+
+/// Puts all new texts in place, notes the path of each, and moves the folder that moves.
+fn put_and_move<R: Files + AllocGlobal>(
+    rt: &R,
+    root: &str,
+    run: &DiskRun<'_>,
+    done: &mut Vec<u8>,
+) -> Result<(), ToolFault>
+    ensures { NotesPlaced run.now.paths.items done.old.items done.new.items result }
+{
+    put_all_in_place(rt, root, run, done)?;
+    move_folder(rt, root, run)
+}
+
+/// Flushes the folders above both paths of the folder that has moved. Then the journal is removed.
+fn settle<R: Files + AllocGlobal>(rt: &R, root: &str, run: &DiskRun<'_>) -> Result<(), ToolFault> {
+    if !run.from.is_empty() {
+        sync_above(rt, root, run.from)?;
+        sync_above(rt, root, run.to)?;
     }
     remove_journal(rt, root, COMMIT)
 }
 
+/// Finishes a run that was cut off after all of its new texts were written.
+pub(crate) fn finish<R: Files + AllocGlobal>(
+    rt: &R,
+    root: &str,
+    run: &DiskRun<'_>,
+) -> Result<(), ToolFault> {
+    if !has_moved(rt, root, run)? {
+        let mut done = Vec::new(rt.alloc());
+        put_and_move(rt, root, run, &mut done)?;
+    }
+    settle(rt, root, run)
+}
+
 /// Takes back what was prepared. What cannot be removed is left to the next run.
-fn take_back<R: Files + AllocGlobal>(rt: &R, root: &str, paths: &[&str]) {
-    if remove_all_beside(rt, root, paths).is_ok() {
+fn take_back<R: Files + AllocGlobal>(rt: &R, root: &str, run: &DiskRun<'_>) {
+    if remove_all_beside(rt, root, run).is_ok() {
         let _ = remove_journal(rt, root, PREPARE);
     }
 }
@@ -369,7 +456,7 @@ fn prepare_or_take_back<R: Files + AllocGlobal>(
         Err(fault) => Err(fault),
     };
     if prepared.is_err() {
-        take_back(rt, writing.root, run.paths.as_slice());
+        take_back(rt, writing.root, run);
     }
     prepared
 }
@@ -390,21 +477,46 @@ fn refuse_paths(alloc: Global, writing: FolderWriting<'_>) -> Result<(), ToolFau
     }
 }
 
+/// Prepares a run, and makes it one that is finished whatever happens.
+fn prepare_whole<R: Files + AllocGlobal>(
+    rt: &R,
+    writing: FolderWriting<'_>,
+    run: &DiskRun<'_>,
+) -> Result<(), ToolFault> {
+    refuse_paths(rt.alloc(), writing)?;
+    prepare_or_take_back(rt, writing, run)?;
+    sync_commit(rt, writing.root)
+}
+
+/// Writes new texts with this mark, moves the folder that is to move, and notes the path of each file that has its new text.
+fn write_marked<R: Files + AllocGlobal>(
+    rt: &R,
+    writing: FolderWriting<'_>,
+    mark: &str,
+    done: &mut Vec<u8>,
+) -> Result<(), ToolFault>
+    ensures { NotesPlaced (paths_of writing.entry.new.now) done.old.items done.new.items result }
+{
+    let run = DiskRun {
+        from: writing.from,
+        to: writing.to,
+        mark,
+        paths: paths(rt.alloc(), writing.new)?,
+    };
+    prepare_whole(rt, writing, &run)?;
+    put_and_move(rt, writing.root, &run, done)?;
+    settle(rt, writing.root, &run)
+}
+
 /// Writes new texts, moves the folder that is to move, and notes the path of each file that has its new text. Where it fails before all new
 /// texts are written, all files are as they were. Where it fails later, the next run finishes it.
 pub fn write_all<R: Files + AllocGlobal>(
     rt: &R,
     writing: FolderWriting<'_>,
     done: &mut Vec<u8>,
-) -> Result<(), ToolFault> {
-    let alloc = rt.alloc();
-    refuse_paths(alloc, writing)?;
-    let run = DiskRun {
-        from: writing.from,
-        to: writing.to,
-        paths: paths(alloc, writing.new)?,
-    };
-    prepare_or_take_back(rt, writing, &run)?;
-    sync_commit(rt, writing.root)?;
-    finish(rt, writing.root, &run, done)
+) -> Result<(), ToolFault>
+    ensures { NotesPlaced (paths_of writing.entry.new.now) done.old.items done.new.items result }
+{
+    let mark = next_mark(rt, writing.root)?;
+    write_marked(rt, writing, mark.as_str(), done)
 }

@@ -8,3 +8,4 @@ pub mod Colons
 pub mod Lines
 pub mod Journals
 pub mod Ends
+pub mod Comments

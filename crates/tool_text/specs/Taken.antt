@@ -1,5 +1,5 @@
 -- Which folders and files Go takes, and which files have build constraints.
-use Rattle.std.specs.Prelude.{◌==◌, ◌||◌, ◌&&◌, ℕ, Bool, true, false, List, [], ◌∷◌, codes, drop, if◌then◌else◌, length, nat_eq, not}
+use Rattle.std.specs.Prelude.{◌==◌, ◌||◌, ◌&&◌, ℕ, Bool, true, false, List, [], ◌∷◌, Option, None, Some, codes, drop, if◌then◌else◌, length, nat_eq, not}
 use Rattle.std.specs.List.{before_first, ends_with, list_any, slice_index_or, starts_with}
 use Rattle.std.specs.Cmp.Lexicographic.{pointwise}
 use Rattle.tool_text.specs.GoMod.{is_padding, trimmed}
@@ -29,19 +29,49 @@ begins_with_word text word = if starts_with nat_eq text word then ends_word (dro
 abbrev pub is_build_comment : List ℕ → Bool
 is_build_comment text = if starts_with nat_eq text (codes "//") then begins_with_word (trimmed (drop 2 text)) (codes "+build") else false
 
--- Whether a line is a build constraint: `//go:build`, or a comment that begins with `+build`.
-abbrev pub is_build_line : List ℕ → Bool
-is_build_line line = begins_with_word (trimmed line) (codes "//go:build") || is_build_comment (trimmed line)
+-- Whether a line is a build constraint `//go:build`.
+abbrev pub is_go_build : List ℕ → Bool
+is_go_build line = begins_with_word (trimmed line) (codes "//go:build")
 
--- Whether one of these lines before the first that begins with `package` is a build constraint.
-abbrev pub has_build_line_in : List (List ℕ) → Bool
-has_build_line_in [] = false
-has_build_line_in (line ∷ lines) =
-    if starts_with nat_eq line (codes "package") then false else (if is_build_line line then true else has_build_line_in lines)
+-- The mark that ends the block comment in which a byte stands, or that begins one where it stands in none.
+abbrev pub comment_mark : (inside : Bool) → List ℕ
+comment_mark true = codes "*/"
+comment_mark false = codes "/*"
 
--- Whether a line before the first that begins with `package` is a build constraint.
+-- Whether a line that begins inside or outside a block comment ends inside one. There is no answer where it has text that is no comment.
+-- `mark_left` says that the first byte still belongs to the mark that begins or ends a block comment.
+abbrev pub ends_inside_from : (mark_left inside : Bool) → List ℕ → Option Bool
+ends_inside_from mark_left inside [] = Some inside
+ends_inside_from true inside (byte ∷ line) = ends_inside_from false inside line
+ends_inside_from false inside (byte ∷ line) =
+    if starts_with nat_eq (byte ∷ line) (comment_mark inside) then ends_inside_from true (not inside) line
+    else (if inside || is_padding byte then ends_inside_from false inside line
+    else (if starts_with nat_eq (byte ∷ line) (codes "//") then Some false else None))
+
+-- Whether a line that begins inside or outside a block comment ends inside one. There is no answer where it has text that is no comment.
+abbrev pub ends_inside : (inside : Bool) → List ℕ → Option Bool
+ends_inside = ends_inside_from false
+
+-- Whether one of these lines is a build constraint `//go:build`: it stands outside block comments, and no text that is no comment stands
+-- before it. The first argument says whether the first line begins inside a block comment; none where such text stands before the lines.
+abbrev pub has_go_build : (inside : Option Bool) → List (List ℕ) → Bool
+has_go_build None lines = false
+has_go_build (Some inside) [] = false
+has_go_build (Some inside) (line ∷ lines) =
+    if not inside && is_go_build line then true else has_go_build (ends_inside inside line) lines
+
+-- Whether a comment `+build` among these lines is a build constraint: only comments `//` and empty lines stand before it, and an empty line
+-- is one of those that follow. `seen` says that one stands before these lines already.
+abbrev pub has_plus_build : (seen : Bool) → List (List ℕ) → Bool
+has_plus_build seen [] = false
+has_plus_build seen (line ∷ lines) =
+    if length (trimmed line) == 0 && seen then true
+    else (if not (length (trimmed line) == 0) && not (starts_with nat_eq (trimmed line) (codes "//")) then false
+    else has_plus_build (seen || is_build_comment (trimmed line)) lines)
+
+-- Whether a Go file has a build constraint.
 abbrev pub has_build_line : List ℕ → Bool
-has_build_line text = has_build_line_in (parts 10 text)
+has_build_line text = has_go_build (Some false) (parts 10 text) || has_plus_build false (parts 10 text)
 
 -- Whether the word is one of the words between blanks.
 abbrev pub is_among : List ℕ → List ℕ → Bool

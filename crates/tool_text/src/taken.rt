@@ -1,6 +1,24 @@
 //! Which folders and files Go takes, and which files have build constraints.
-ghost use Rattle.std.specs.Prelude.{◌≡◌};
-ghost use Rattle.tool_text.specs.Taken.{begins_with_word, ends_word, has_build_line, is_among, is_build_comment, is_build_line, is_hidden, is_platform, names_platform, takes_file, takes_folder};
+ghost use Rattle.std.specs.Prelude.{◌≡◌, ◌||◌, Some, false};
+ghost use Rattle.tool_text.specs.GoMod.{is_padding};
+ghost use Rattle.tool_text.specs.Parts.{parts};
+ghost use Rattle.tool_text.specs.Taken.{
+  begins_with_word,
+  comment_mark,
+  ends_inside,
+  ends_word,
+  has_build_line,
+  has_go_build,
+  has_plus_build,
+  is_among,
+  is_build_comment,
+  is_go_build,
+  is_hidden,
+  is_platform,
+  names_platform,
+  takes_file,
+  takes_folder,
+};
 
 use crate::go_mod::{is_padding, trimmed};
 use crate::parts::split_part;
@@ -53,30 +71,96 @@ fn is_build_comment(text: &[u8]) -> bool
     }
 }
 
-/// Whether a line is a build constraint.
-fn is_build_line(line: &[u8]) -> bool
-    ensures { result ≡ is_build_line line.now }
+/// Whether a line is a build constraint `//go:build`.
+fn is_go_build(line: &[u8]) -> bool
+    ensures { result ≡ is_go_build line.now }
 {
-    let code = trimmed(line);
-    begins_with_word(code, b"//go:build") || is_build_comment(code)
+    begins_with_word(trimmed(line), b"//go:build")
 }
 
-/// Whether a line before the first that begins with `package` is a build constraint.
-pub fn has_build_line(text: &[u8]) -> bool
-    ensures { result ≡ has_build_line text.now }
+/// The mark that ends the block comment in which a byte stands, or that begins one where it stands in none.
+fn comment_mark(inside: bool) -> &'static [u8]
+    ensures { result.now ≡ comment_mark inside }
+{
+    if inside { b"*/" } else { b"/*" }
+}
+
+/// Whether a byte that begins no mark is no text: it stands in a block comment, or is a blank.
+fn is_no_text(byte: u8, inside: bool) -> bool
+    ensures { result ≡ (inside || is_padding byte) }
+{
+    inside || is_padding(byte)
+}
+
+/// Whether a line that begins inside or outside a block comment ends inside one, or `None` where it has text that is no comment.
+fn ends_inside(line: &[u8], inside: bool) -> Option<bool>
+    ensures { result ≡ ends_inside inside line.now }
+{
+    let mut inside = inside;
+    let mut at = 0;
+    'bytes: while at < line.len() {
+        let rest = &line[at..];
+        if rest.starts_with(comment_mark(inside)) {
+            inside = !inside;
+            at += 2;
+        } else if is_no_text(line[at], inside) {
+            at += 1;
+        } else if rest.starts_with(b"//") {
+            return Some(false);
+        } else {
+            return None;
+        }
+    }
+    Some(inside)
+}
+
+/// Whether a line before the package clause is a build constraint `//go:build`. It stands outside block comments.
+fn has_go_build(text: &[u8]) -> bool
+    ensures { result ≡ has_go_build (Some false) (parts 10 text.now) }
 {
     let mut rest = Some(text);
+    let mut inside = false;
     'lines: while let Some(lines) = rest {
         let (line, left) = split_part(lines, b'\n');
-        if line.starts_with(b"package") {
-            return false;
-        }
-        if is_build_line(line) {
+        if !inside && is_go_build(line) {
             return true;
+        }
+        match ends_inside(line, inside) {
+            Some(is_inside) => inside = is_inside,
+            None => return false,
         }
         rest = left;
     }
     false
+}
+
+/// Whether a comment `+build` is a build constraint. Only comments `//` and empty lines stand before it, and an empty line is one of those
+/// that follow.
+fn has_plus_build(text: &[u8]) -> bool
+    ensures { result ≡ has_plus_build false (parts 10 text.now) }
+{
+    let mut rest = Some(text);
+    let mut seen = false;
+    'lines: while let Some(lines) = rest {
+        let (line, left) = split_part(lines, b'\n');
+        let code = trimmed(line);
+        if code.is_empty() && seen {
+            return true;
+        }
+        if !code.is_empty() && !code.starts_with(b"//") {
+            return false;
+        }
+        seen = seen || is_build_comment(code);
+        rest = left;
+    }
+    false
+}
+
+/// Whether a Go file has a build constraint.
+pub fn has_build_line(text: &[u8]) -> bool
+    ensures { result ≡ has_build_line text.now }
+{
+    has_go_build(text) || has_plus_build(text)
 }
 
 /// The names of operating systems and architectures that Go knows in names of files.
