@@ -1,0 +1,4 @@
+-- The lemmas of this crate.
+pub mod Following
+pub mod Naming
+pub mod Putting
