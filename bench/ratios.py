@@ -3,13 +3,17 @@
 Each row divides the instructions of one step by those of another step of the same program, as valgrind counts them. So neither the machine
 nor other programs change it. A row is red where its ratio is over the bound beside it, and the exit status is then 1.
 
-The bounds are 1.5 times the ratios of 2026-11-29; those of `again` and `undone`, which were below 0.001, are 0.01. Each row has a change of a few words
-of the code: what is kept is then not used, though every answer stays right. The row is there to find such a change. No program with one
-of these changes was built, so no row was seen to be red.
+The bounds are 1.5 times the ratios of 2026-11-29 and 2026-11-30; those of `again`, `undone`, `moved` and `worked`, which were about 0.001
+or below, are 0.01. Each row has a change of a few words of the code: what is kept is then not used, though every answer stays right. The
+row is there to find such a change. No program with one of these changes was built, so no row was seen to be red.
 
     again     server_commands/src/acting.rt: `find_faults` teaches the desk nothing
     renamed   refactor_plan/src/kept_known.rt, `kept_known`: `known_but(alloc, known, number, 0)`
     undone    history_machine/src/resting.rt, `known_awake`: it answers `SharedKnown::new(alloc, Known::new(alloc))`
+    moved     refactor_plan/src/decided_moves.rt, `plan_kept`: `Known::new(alloc)` in place of `known_after(..)?`
+    followed  refactor_follow/src/plain.rt, `plain_uses`: `Some(first) if false =>` and `_ => Ok(None)` in place of its arms
+    beside    refactor_part/src/part.rt, `known_beside`: `own.copy(alloc, files.len())` in place of `with_kept(..)`
+    worked    build_carry/src/learning.rt, `learned`: `if found.is_empty()` becomes `if true`
     leaf      build_carry/src/carried_known.rt, `kept_verdicts`: `if known.is_empty()` becomes `if true`
     hub       workspace_check/src/reuse.rt, `keeps_export_data`: `&& false` behind `are_alike(..)`
     kinds     go_parser/src/file_tree.rt, `parse_file_sharing`: `if false &&` in place of the `if` before `shared`
@@ -78,10 +82,10 @@ class Rows:
         begun.taken([put(path, text) for path, text in files.items()])
         return begun
 
-    def judged(self):
-        """A session that has asked for the faults of the star, and what that took."""
-        begun = self.session(star())
-        return begun, begun.taken([("faults", b"")])
+    def judged(self, more=None):
+        """A session that has asked for the faults of the star and of more files, and what that took. There are none without more files."""
+        begun = self.session(star() | (more or {}))
+        return begun, begun.taken([("faults => faults" if more else "faults", b"")])
 
     def behind(self, path):
         """The faults behind a put inside a function of the file, by the first faults."""
@@ -110,6 +114,40 @@ class Rows:
 
     def undone(self):
         return self.renamed("undo")
+
+    def moved(self):
+        """The faults behind a move of what all use, by the first faults."""
+        asked, first = self.judged()
+        asked.taken([("move gen/hub gen/base", b"")])
+        again = asked.taken([("faults", b"")])
+        asked.end()
+        return again / first
+
+    def followed(self):
+        """A move of what all use, by the first faults."""
+        asked, first = self.judged()
+        move = asked.taken([("move gen/hub gen/base", b"")])
+        asked.end()
+        return move / first
+
+    def beside(self):
+        """The faults behind a rename of what all use, beside a package with faults, by the first faults."""
+        asked, first = self.judged({"gen/wrong/f.go": b"package wrong\n\nfunc F() {\n\tmissing()\n}\n"})
+        path = "gen/hub/f.go"
+        asked.taken([(f"rename {path}:#{star()[path].index(b'Sum0')} Added0", b"")])
+        again = asked.taken([("faults => faults", b"")])
+        asked.end()
+        return again / first
+
+    def worked(self):
+        """The faults behind builds of all packages, by the first faults."""
+        asked, first = self.judged()
+        asked.end()
+        built = self.session(star())
+        built.taken([("work", b"")] * (PACKAGES + 1))
+        again = built.taken([("faults", b"")])
+        built.end()
+        return again / first
 
     def leaf(self):
         return self.behind("gen/p07/f.go")
@@ -147,6 +185,10 @@ BOUNDS = {
     "again": ("faults again, by the first faults", 0.01),
     "renamed": ("faults behind a rename of what all use, by the first faults", 0.036),
     "undone": ("faults behind its undo, by the first faults", 0.01),
+    "moved": ("faults behind a move of what all use, by the first faults", 0.01),
+    "followed": ("a move of what all use, by the first faults", 0.35),
+    "beside": ("faults behind a rename beside a package with faults, by the first faults", 0.036),
+    "worked": ("faults behind builds of all packages, by the first faults", 0.01),
     "leaf": ("faults behind a put in a package that none imports, by the first faults", 0.05),
     "hub": ("faults behind a put in a package that all import, by the first faults", 0.05),
     "kinds": ("a put of other literals, by a put of one token more in each function", 0.54),

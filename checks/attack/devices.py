@@ -46,12 +46,16 @@ def input_at(name, sent, cut):
 
 
 def output_at(name, sent, wanted, most):
-    """The output takes so many bytes, a last write in part, and then fails."""
+    """The output takes so many bytes, a last write in part, and then fails. (A write over the limit of a file ends no program here.)"""
     ended = WELL if most >= len(wanted) else WRITE_FAULT
     with tempfile.TemporaryFile() as output:
-        status, _, err = run(["run"], [(resource.RLIMIT_FSIZE, most)], input=sent, stdout=output)
+        streams = {"stdin": subprocess.PIPE, "stdout": output, "stderr": subprocess.PIPE}
+        with subprocess.Popen([*serving.PROGRAM, "run"], restore_signals=False, **streams) as process:
+            # it writes nothing before it is sent something
+            resource.prlimit(process.pid, resource.RLIMIT_FSIZE, (most, most))
+            _, err = process.communicate(sent, timeout=serving.DEADLINE)
         output.seek(0)
-        same((name, most, output.read(), status, err), (name, most, wanted[:most], *ended))
+        same((name, most, output.read(), process.returncode, err), (name, most, wanted[:most], *ended))
 
 
 def at_each(points):

@@ -15,6 +15,7 @@ Each reply has to be the model's, and the program has to end with status 0. It n
 
 import collections
 import functools
+import itertools
 import multiprocessing
 import os
 import random
@@ -28,10 +29,12 @@ from checks.attack.memory import commands_of
 from checks.gate.replay import stored
 from checks.generate import changes, programs
 from checks.model import lexer
-from checks.model.history import VERBS, History, replies, reply
+from checks.model.history import VERBS, History, replies, reply, size_of
 
 SECONDS = 60
 PART = 20
+# Behind so many commands it tells how far it is.
+TOLD = 100_000
 NUMBERS = "0 00 01 1 2 7 99 100 101 255 256 1023 1024 65535 65536 1048576 1048577 4294967295 4294967296 -1 +1 1e3 0x1 1_0 ٣".split()
 NUMBERS += ["18446744073709551615", "18446744073709551616", "9" * 40, "１"]
 WORDS = "a b a/a.go a/b.go /a a/ a//b . .. a/. a/../b é/a.go a.go a/b/c/d.go x y _ len int func main init k/p A ~/+ c-d".split()
@@ -117,14 +120,16 @@ def of_bytes(generator):
     text = generator.choice(known())
     if generator.random() < 0.4:
         text += generator.choice(known())
-    return broken(generator, text, known())
+    sent = broken(generator, text, known())
+    return sent, replies(sent)
 
 
 class Told:
-    """A session that is sent for the current state, as the model has it."""
+    """A session that is sent for the current state, as the model has it. Its replies are known too, unless a body is read as lines."""
 
     def __init__(self, generator):
         self.generator, self.history, self.sent, self.told = generator, History(), [], []
+        self.is_told = True
 
     def number(self):
         return self.history.current.number + (self.generator.random() < 0.02)
@@ -134,6 +139,12 @@ class Told:
             return
         self.sent.append(line + b"\n" + body)
         self.told.append(reply(self.history, line, body))
+        self.is_told &= size_of(line) == len(body)
+
+    def session(self):
+        """What is sent, and what the model answers."""
+        sent = b"".join(self.sent)
+        return sent, b"".join(self.told) if self.is_told else replies(sent)
 
     def put(self, path, text):
         self.send(b"put %d %s %d" % (self.number(), path, len(text)), text)
@@ -201,7 +212,7 @@ def of_lines(generator):
         told.send(b" ".join(words), body)
         if generator.random() < 0.2:
             told.ask()
-    return b"".join(told.sent)
+    return told.session()
 
 
 def with_tokens(generator, text):
@@ -232,7 +243,7 @@ def of_texts(generator):
             told.send(b"undo %d" % told.number())
         for _ in range(generator.randrange(2)):
             told.ask()
-    return b"".join(told.sent)
+    return told.session()
 
 
 @functools.cache
@@ -255,17 +266,17 @@ def of_signs(generator):
             told.ask()
         if generator.random() < 0.3:
             told.send(b"".join(a_sign(generator).encode() for _ in range(generator.randrange(30))))
-    return b"".join(told.sent)
+    return told.session()
 
 
 KINDS = {"bytes": of_bytes, "lines": of_lines, "texts": of_texts, "signs": of_signs}
 
 
 def made(seed, number):
-    """The session of a number: its kind, and what it sends."""
+    """The session of a number: its kind, what it sends, and what the model answers."""
     generator = random.Random(f"{seed}/{number}")
     kind = generator.choice(list(KINDS))
-    return kind, KINDS[kind](generator)
+    return kind, *KINDS[kind](generator)
 
 
 def heads_of(text):
@@ -282,8 +293,7 @@ def compared(program, seed, number):
     """Runs one session. Its kind, how many commands it has and how many were refused, by the model, and what is wrong with it."""
     kind, sent, wanted = "made", b"", b""
     try:
-        kind, sent = made(seed, number)
-        wanted = replies(sent)
+        kind, sent, wanted = made(seed, number)
         ran = subprocess.run([program, "run"], input=sent, stdout=subprocess.PIPE, stderr=subprocess.PIPE, timeout=SECONDS)
         is_right = (ran.stdout, ran.returncode, ran.stderr) == (wanted, 0, b"")
         wrong = None if is_right else f"status {ran.returncode}, {ran.stderr[:200]!r}, {len(ran.stdout)} bytes for {len(wanted)}"
@@ -314,8 +324,8 @@ def main():
     with multiprocessing.get_context("fork").Pool(processes, maxtasksperchild=50) as pool:
         works = ((program, seed, first) for first in range(0, 10**9, PART))
         while sum(counts.values()) < commands:
-            batch = [work for work, _ in zip(works, range(processes * 8))]
-            for told in pool.imap(part, batch):
+            before = sum(counts.values())
+            for told in pool.imap(part, list(itertools.islice(works, processes * 8))):
                 for kind, number, no, line in told:
                     counts[kind] += number
                     refused += no
@@ -323,6 +333,8 @@ def main():
                     if line:
                         wrong += 1
                         print(line, flush=True)
+            if sum(counts.values()) // TOLD > before // TOLD:
+                print(f"{sum(counts.values())} commands, {refused} refused, {wrong} sessions go otherwise", flush=True)
     kinds = ", ".join(f"{count} of {kind}" for kind, count in sorted(counts.items()))
     print(f"seed {seed}: {sessions} sessions, {sum(counts.values())} commands ({kinds}), {refused} refused, {wrong} sessions go otherwise")
     raise SystemExit(1 if wrong else 0)

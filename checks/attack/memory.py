@@ -16,6 +16,7 @@ change that is answered though an allocation was refused is done: the session is
 """
 
 import copy
+import functools
 import itertools
 import os
 import subprocess
@@ -33,7 +34,8 @@ CUT_SHORT = b"no 24 0\n"
 ENDED = (1, b"gorefd: memory fault\n")
 KINDS = ("refused", "ended", "answered")
 CHANGES = (b"put", b"del", b"rename", b"move", b"undo", b"redo", b"work", b"log")
-SECONDS = 60
+# (a row takes seconds on an idle machine)
+SECONDS = 600
 
 
 class Asked:
@@ -238,13 +240,15 @@ class Fresh:
         told, _ = self.told(number)
         return told if told in KINDS else f"call {number} refused: {told}"
 
-    def points(self, pool):
-        """How each call went that is made for the session's commands where none is refused. Those of the walk are not counted."""
+    def jobs(self):
+        """One for each call that is made for the session's commands where none is refused. Those of the walk are not counted. A job tells how its
+        points went."""
         told, made = self.told(0)
         if told != "answered":
-            return [f"none refused: {told}"]
+            return [lambda: [f"none refused: {told}"]]
         # what is left behind the last command is read at the end of the input
-        return list(pool.map(self.point, range(1, made + 1 + 20 * bool(self.session.part))))
+        numbers = range(1, made + 1 + 20 * bool(self.session.part))
+        return [functools.partial(lambda number: [self.point(number)], number) for number in numbers]
 
 
 class Wrong(Exception):
@@ -284,7 +288,7 @@ class Climb:
         number = history.current.number
         history.entries += [f"log {number} ok {number}\n"] * asks
 
-    def point(self, running, history, command, ahead):
+    def point(self, running, history, command, ahead, allowed):
         """Refuses one call of a command. Whether a call was refused, and whether the command was."""
         running.page.refuse(ahead)
         told, _ = running.ask(command)
@@ -293,7 +297,7 @@ class Climb:
             return was_hit, False, told
         if not was_hit:
             raise Wrong(f"{command!r} is refused, and no memory was")
-        self.left(running, history, list(Asked(forked_whole(history), command).left_if_refused()))
+        self.left(running, history, allowed)
         for asked in questions(history, ("look", "list", "cat")):
             self.ask(running, history, asked.sent)
         return True, True, told
@@ -301,8 +305,9 @@ class Climb:
     def climb(self, running, history, command, begin):
         """Refuses each call of a command from one on. It answers how many were refused where one was refused though the command was done."""
         is_change = command.split(b" ")[0].strip() in CHANGES
+        allowed = list(Asked(forked_whole(history), command).left_if_refused())
         for ahead in itertools.count(begin):
-            was_hit, was_refused, told = self.point(running, history, command, ahead)
+            was_hit, was_refused, told = self.point(running, history, command, ahead, allowed)
             if was_refused:
                 self.counts["refused"] += 1
                 continue
@@ -348,7 +353,11 @@ class Climb:
         if (out, ended) != (self.session.last, (0, b"")):
             raise Wrong(f"the end is {out!r}, {ended!r}")
 
-    def points(self, _pool):
+    def jobs(self):
+        """One, since each point is tried behind the one before it."""
+        return [self.points]
+
+    def points(self):
         try:
             self.run()
         except Wrong as wrong:
@@ -370,9 +379,10 @@ WAYS = {"fresh": Fresh, "climbing": Climb}
 
 def tried(words, way, sessions, library, pool):
     """How the points of these sessions went: lines of what is wrong, and how many of each kind there were. The words are the program's."""
+    runs = {name: WAYS[way]([*words, "run"], library, Session(*pair)) for name, pair in sessions.items()}
+    jobs = [(name, job) for name, run in runs.items() for job in run.jobs()]
     wrong, counts = [], dict.fromkeys(KINDS, 0)
-    for name, (sent, wanted) in sessions.items():
-        told = WAYS[way]([*words, "run"], library, Session(sent, wanted)).points(pool)
+    for (name, _), told in zip(jobs, pool.map(lambda pair: pair[1](), jobs)):
         wrong += [f"{name}: {line}" for line in told if line not in KINDS]
         for kind in KINDS:
             counts[kind] += told.count(kind)

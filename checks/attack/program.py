@@ -1,4 +1,4 @@
-"""Attacks that take minutes, by hand: python3 -m checks.attack.program PROGRAM
+"""Attacks that the gate makes on each build of the program: python3 -m checks.attack.program PROGRAM
 
 Each point of the worked rows: each allocation that is refused in a session, and each byte behind which an input or an output fails. Each allocation
 from the start on, under `run` and under `serve`, of a few of them. And the attacks on a server that take seconds. It needs `cc`. The other
@@ -55,11 +55,19 @@ def each_allocation_of_servers():
 
 
 def wants():
-    """What workers do where memory is wanting once, or for a while. It fails today (docs/ATTACKS.md), so it stands in no list yet."""
-    return on_processors(lambda library, pool: f"{serving.want_that_passes(library)} calls, {serving.want_that_lasts(library)} tries")
+    """What workers do where memory is wanting once, or for a while."""
+    return on_processors(lambda library, pool: f"{serving.want_that_passes(library, pool)} calls, {serving.want_that_lasts(library)} tries")
 
 
-CHECKS = (each_allocation, each_allocation_in_turn, each_start, each_allocation_of_servers, *devices.CHECKS, *clients.CHECKS)
+CHECKS = (
+    each_allocation,
+    each_allocation_in_turn,
+    each_start,
+    each_allocation_of_servers,
+    wants,
+    *devices.CHECKS,
+    *clients.CHECKS,
+)
 
 if __name__ == "__main__":
     check_program(CHECKS, __doc__)

@@ -106,39 +106,43 @@ MOST_TRIES = 200
 
 
 def is_answered(client, server):
-    """Whether a `wait` is answered in time. Where it is not, the server is of no more use."""
-    client.send(WAIT)
+    """Whether a `wait` is answered in time; it may itself be refused memory once. Where it is not, the server is of no more use."""
     client.socket.settimeout(PATIENCE)
     try:
-        return client.reply()[0].startswith(b"ok ")
+        told = ask(client, WAIT)
+        return (ask(client, WAIT) if told == NO_MEMORY else told).startswith(b"ok ")
     except TimeoutError:
         server.process.kill()
         return False
 
 
-def want_that_passes(library, most=400):
-    """A worker that was refused memory once builds all the same, with no help by a session and no further change. At how many calls."""
-    hits = 0
-    for ahead in range(1, most):
-        page = library.page()
-        with contextlib.closing(page), Server(1, 2, 2, environment=page.environment) as server:
-            keeper, client = server.connect(), server.connect()
-            for first in keeper, client:
-                same(ask(first, WAIT), b"ok 0 0\n")
-            page.refuse(ahead)
-            told = ask(client, put(0, "a/a.go", A))
-            if told == NO_MEMORY:
-                page.was_hit()
-                continue
+def passes(library, ahead):
+    """A worker is refused this call, of those that a put and its build make. It builds all the same, with no help by a session and no further
+    change. True where a call was refused behind the put; None where none was at all."""
+    page = library.page()
+    with contextlib.closing(page), Server(1, 2, 2, environment=page.environment) as server:
+        keeper, client = server.connect(), server.connect()
+        for first in keeper, client:
+            same(ask(first, WAIT), b"ok 0 0\n")
+        page.refuse(ahead)
+        is_refused = ask(client, put(0, "a/a.go", A)) == NO_MEMORY
+        if not is_refused:
             same((ahead, is_answered(client, server)), (ahead, True))
-            if not page.was_hit():
-                return hits
-            hits += 1
+        was_hit = page.was_hit()
+        if was_hit and not is_refused:
             same(ask(client, b"object a\n")[:5], b"ok 1 ")
-            keeper.end()
-            client.end()
-            settles(server)
-    raise AssertionError("calls have no end")
+        keeper.end()
+        client.end()
+        settles(server)
+    return not is_refused if was_hit else None
+
+
+def want_that_passes(library, pool):
+    """A worker that was refused memory once builds all the same. At how many calls."""
+    numbers, told = itertools.count(1), []
+    while None not in told:
+        told += pool.map(lambda ahead: passes(library, ahead), itertools.islice(numbers, 32))
+    return told.count(True)
 
 
 def quiet(page, seconds=2):
@@ -204,7 +208,7 @@ def looked(server):
 
 def started(library, number):
     """Runs a server of two short sessions with this call refused. How it went: the server did not begin, and told why; one of the sessions ended
-    alone, or was refused its command; the server could not tell its end; all was answered; or None where no call was refused."""
+    alone, or was refused its command; all was answered; or None where no call was refused."""
     page = library.page(number)
     try:
         with Server(1, 1, 2, environment=page.environment) as server:
@@ -213,8 +217,8 @@ def started(library, number):
                 second = looked(server)
             ended = server.ended()
             if ended == NO_START:
-                same((first is None, second is None, os.path.exists(server.path + ".new")), (first is None,) * 2 + (False,))
-                return "not begun" if first is None else "not told its end"
+                same((first, second, os.path.exists(server.path + ".new")), (None, None, False))
+                return "not begun"
             same((ended[0], ended[1][:8], ended[2]), (0, b"settled ", b""))
             same((LOOKED in (first, second), {first, second} <= {None, NO_MEMORY, LOOKED}), (True, True))
             if first == second == LOOKED:

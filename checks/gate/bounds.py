@@ -5,6 +5,7 @@
 - A number over 65,536 stands in the code only where `GREAT` says: as a literal in any notation, the MAX of a type, a shift, a power, or a
   product with a literal of three digits. No loop ends at a constant over it. Such a loop would be proved to end only after as many steps.
   The end of a range that a loop goes through is made as the numbers below are. No condition of a loop names a limit, or a number made of one.
+  No loop to a literal or a constant stands in another one.
 - The number that `with_capacity`, `reserve`, `resize`, `from_elem` (and calls like these) or `vec![in alloc; value; number]` is given is
   made of literals, constants, lengths, parameters and results of functions whose contracts bound them (`result`, and `≤`, `≡` or `OkIff`), by `+`,
   `-`, `/`, `max`, `min` and `saturating_add` alone. Of fields only those named in `FIELDS` stand in it, so no limit does. So is what a
@@ -26,6 +27,7 @@ GREAT = {
     "go_respelled/src/moved.rt": {"None => usize::MAX,"},
     "go_scanner/src/integers.rt": {"if sum < 1 << 63 { Some(sum) } else { None }"},
     "go_scanner/src/strings.rt": {"Some(number) => number < 0xD800 || (0xDFFF < number && number < 0x110000),"},
+    "lsp_frames/src/frames.rt": {"pub(crate) const LARGEST_BODY: usize = 8_388_608;"},
     "server_socket/src/threads.rt": {"const STACK_BYTES: usize = 8_388_608;"},
     "server_words/src/command_line.rt": {'number_option(alloc, "stop-after", "K", 1_000_000).help('},
     "server_words/src/requests.rt": {'Some(_) => Some(Some(number(matches, "stop-after", 1_000_000)?)),'},
@@ -203,6 +205,19 @@ def far_loops(function, bounded, constants):
             yield function.code.count("\n", 0, found.start(1))
 
 
+def fixed_loops(function):
+    """The lines of a function on which a loop to a fixed number begins inside another one: they take the product of their numbers."""
+    outer = []
+    for number, line in enumerate(function.code.split("\n")):
+        depth = len(line) - len(line.lstrip())
+        outer = [one for one in outer if one < depth] if line.strip() else outer
+        end = RANGE.match(line)
+        if end and not names_in(end[1]) and not LENGTH.search(end[1]) and "(" not in end[1]:
+            if outer:
+                yield number
+            outer.append(depth)
+
+
 def is_great(line):
     """Whether a great number stands on the line."""
     bare = TEXT.sub("", line)
@@ -242,6 +257,7 @@ def main():
         wrong |= {number: "a loop up to a great number" for number, line in enumerate(code) if is_endless(line, constants)}
         for begin, function in parts[path]:
             wrong |= {begin + line: "a loop without a bound" for line in far_loops(function, bounded[crate], constants)}
+            wrong |= {begin + line: "a loop to a fixed number inside another" for line in fixed_loops(function)}
             wrong |= {begin + line: "room without a bound" for line in unbounded(function, makers, bounded[crate], constants)}
         for number, what in sorted(wrong.items()):
             found += 1

@@ -16,8 +16,8 @@ Layout: rt ci refuses a crate with a file that rt fmt lays out otherwise, before
 proof, while rt reads them.
 
 The program: where rt runs a build of gorefd, that build also runs all of crates/gorefd/sessions (replay.py) and the checks of
-checks/server/program.py. A different answer fails the run of the program, so the gate fails, and its last line says so. Before rt begins,
-each stored session has to have its two files. checks/gate.sh runs this script.
+checks/server/program.py and checks/attack/program.py. A different answer fails the run of the program, so the gate fails, and its last line
+says so. Before rt begins, each stored session has to have its two files. checks/gate.sh runs this script.
 """
 import functools
 import importlib.machinery
@@ -45,7 +45,7 @@ LONG = 0.8
 SECONDS = TOP / "checks" / "gate" / "seconds.txt"
 PROGRAM = "gorefd"
 # What each build of the program is asked beside the stored sessions.
-CHECKS = ("checks.server.program",)
+CHECKS = ("checks.server.program", "checks.attack.program")
 
 
 def load(path):

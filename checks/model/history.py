@@ -32,9 +32,8 @@ class State:
         """The object of a package that is finished and has no faults, else None."""
         return object_of(self.workspace, package) if package in self.finished else None
 
-    def carried(self, texts):
-        """The finished packages that a change to other texts carries over."""
-        after = State(None, texts, set())
+    def carried(self, after):
+        """The finished packages that a change to this state carries over."""
         return {
             package
             for package in self.finished
@@ -70,7 +69,8 @@ class History:
 
     def change(self, texts):
         self.enter("commit", f"ok {self.numbers}")
-        state = State(self.numbers, texts, self.current.carried(texts))
+        state = State(self.numbers, texts, set())
+        state.finished = self.current.carried(state)
         self.states = (self.states[: self.cursor + 1] + [state])[-UNDO_DEPTH - 1 :]
         self.cursor = len(self.states) - 1
         self.numbers += 1

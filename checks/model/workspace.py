@@ -17,20 +17,32 @@ def tokens_of_file(path, source):
 
 
 class SourceFile:
+    """A file. Its tree or its fault is found where one of them is first asked for."""
+
     def __init__(self, path, source):
         self.path = path
         self.source = source
-        self.fault = None
-        self.tree = None
+
+    @functools.cached_property
+    def parsed(self):
+        """The tree and None; or None and the offset and the kind of the first fault."""
         try:
-            tokens = tokens_of_file(path, source)
+            tokens = tokens_of_file(self.path, self.source)
         except lexer.Fault as fault:
-            self.fault = (fault.offset, fault.kind)
-            return
-        self.tree, fault = syntax.first_fault(tokens)
-        if fault is not None:
-            number, kind = fault
-            self.fault = (tokens[number].offset if number < len(tokens) else len(source), kind)
+            return None, (fault.offset, fault.kind)
+        tree, fault = syntax.first_fault(tokens)
+        if fault is None:
+            return tree, None
+        number, kind = fault
+        return None, (tokens[number].offset if number < len(tokens) else len(self.source), kind)
+
+    @property
+    def tree(self):
+        return self.parsed[0]
+
+    @property
+    def fault(self):
+        return self.parsed[1]
 
     def imports(self):
         """Each import's path, or None where the value is no text, with its node."""
@@ -43,9 +55,12 @@ class Package:
     def __init__(self, path, files):
         self.path = path
         self.files = files
-        self.trees = [file for file in files if file.tree is not None]
         self.faults = None
         self.checker = None
+
+    @property
+    def trees(self):
+        return [file for file in self.files if file.tree is not None]
 
     def name(self):
         return self.files[0].tree.name.text

@@ -1,6 +1,7 @@
 """Checks sessions of a built `gorefd` that end well, alone and at once, with workers, and how a server ends."""
 
 import os
+import pathlib
 import re
 import resource
 import socket
@@ -247,10 +248,8 @@ def entries_from(client, start):
 
 
 def settled_length():
-    """The length that a server tells at its end is that of the journal which a client read: all of it, and no more than the workers may
-    still have added, an entry of a Job and of a refused one each."""
-    workers = 3
-    with Server(workers, 1, 1) as server:
+    """The length that a server tells at its end is that of the journal which a client read: workers that have nothing to build add nothing."""
+    with Server(3, 1, 1) as server:
         client = server.connect()
         same(client.ask(put(0, "a/a.go", A)), (b"ok 1", b""))
         same(client.ask(b"wait\n"), (b"ok 1", b""))
@@ -258,13 +257,11 @@ def settled_length():
         same([entries.count(e) for e in (b"commit 0 ok 1\n", b"take 1 ok 1\n", b"deliver 1 ok 1\n")], [1, 1, 1])
         count = count_of(client)
         client.end()
-        length = settles(server)
-        if not count <= length <= count + 2 * workers:
-            raise AssertionError(f"settled {length}, and {count} were seen")
+        same(settles(server), count)
 
 
 def alone_settled():
-    """Without a package to build each worker takes at most once, and is refused: so the length is known but for these."""
+    """Without a package to build no worker takes: the journal has the looks of the sessions alone."""
     with Server(4, 2, 2) as server:
         first, second = server.connect(), server.connect()
         for client in (first, second):
@@ -272,9 +269,7 @@ def alone_settled():
                 same(client.number(), 0)
             same(client.ask(b"frob\n"), (b"no 2", b""))
             client.end()
-        length = settles(server)
-        if not 20 <= length <= 24:
-            raise AssertionError(f"settled {length}")
+        same(settles(server), 20)
 
 
 def a_large_package(name):
@@ -308,21 +303,41 @@ def workers_at_once():
     raise AssertionError("never seen")
 
 
+def workers_behind_one_change():
+    """The same behind one change by which two packages have to be built: a worker that takes one of them has another worker take the next."""
+    with Server(2, 1, 1) as server:
+        client, read = server.connect(), 0
+        for number, name in enumerate((b"a", b"b")):
+            text = a_large_package(name).replace(b"\n", b'\nimport "c"\nfunc G() int {\n\treturn c.V\n}\n', 1)
+            same(client.ask(put(number, "%s/x.go" % name.decode(), text)), (b"ok %d" % (number + 1), b""))
+        for number in range(2, 102):
+            same(client.ask(put(number, "c/x.go", b"package c\n\nvar V int\nvar v%d int\n" % number)), (b"ok %d" % (number + 1), b""))
+            same(client.ask(b"wait\n"), (b"ok %d" % (number + 1), b""))
+            entries, read = entries_from(client, read)
+            if overlap(entries):
+                client.end()
+                settles(server)
+                return f"seen in turn {number - 1}"
+    raise AssertionError("never seen")
+
+
 def one_worker_alone():
-    """With one worker no Job is taken while another is out."""
+    """With one worker no Job is taken while another is out. A session that waits meanwhile looks again only where an event may have finished
+    what it waits for, so the journal has few looks."""
     with Server(1, 1, 1) as server:
         client, number = server.connect(), 0
         for name in (b"a", b"b", b"c"):
             text = a_large_package(name)
             number, _ = retried(client, b"put %%d %s/x.go %d" % (name, len(text)), number, text)
         same(client.ask(b"wait\n"), (b"ok 3", b""))
-        same(overlap(entries_from(client, 0)[0]), False)
+        entries, _ = entries_from(client, 0)
+        same((overlap(entries), sum(entry.startswith(b"look ") for entry in entries) < 20), (False, True))
         client.end()
         settles(server)
 
 
 def all_wake():
-    """A session that begins to wait behind workers which sleep is woken as they are: behind the last delivery all who wait look again."""
+    """A session that begins to wait behind workers which sleep is woken: behind the last delivery all who wait look."""
     with Server(4, 1, 1) as server:
         client, text = server.connect(), a_large_package(b"a")
         client.send(put(0, "a/x.go", text) + b"wait\n")
@@ -366,6 +381,27 @@ def asleep():
         time.sleep(1)
         taken = seconds_of(server.process) - begin
         same(taken < 0.2, True)
+        client.end()
+        settles(server)
+
+
+def awake(process):
+    """How many threads of a process run, or wait to run."""
+    stats = pathlib.Path(f"/proc/{process.pid}/task").glob("*/stat")
+    return sum(stat.read_text().rpartition(")")[2].split()[0] == "R" for stat in stats)
+
+
+def others_sleep():
+    """While a worker builds, the other workers sleep, and so does a session that waits."""
+    with Server(4, 1, 1) as server:
+        client, seen = server.connect(), []
+        client.send(put(0, "a/x.go", a_large_package(b"a")) + b"wait\n")
+        same(client.reply(), (b"ok 1", b""))
+        for _ in range(30):
+            seen.append(awake(server.process))
+            time.sleep(0.001)
+        same(client.reply(), (b"ok 1", b""))
+        same((seen, 2 * sum(count > 1 for count in seen) <= sum(count > 0 for count in seen)), (seen, True))
         client.end()
         settles(server)
 
@@ -442,10 +478,12 @@ CHECKS = (
     settled_length,
     alone_settled,
     workers_at_once,
+    workers_behind_one_change,
     one_worker_alone,
     all_wake,
     none_missed,
     asleep,
+    others_sleep,
     builds_meanwhile,
     many_at_once,
     with_a_small_stack,

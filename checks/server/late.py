@@ -14,7 +14,7 @@ import threading
 import time
 
 from checks.model.history import History, answered
-from checks.server.editors import entries_from
+from checks.server.editors import awake, entries_from
 from checks.server.server import DEADLINE, PROGRAM, Client, Server, put, same, settles
 
 # How many functions the package has, one try after another.
@@ -200,6 +200,22 @@ def undone():
     return until_late(play)
 
 
+def undone_once_all_sleep():
+    """Undo goes back to a state whose package was never finished, while the worker sleeps: it is woken, and builds the package."""
+
+    def play(first, second, functions):
+        put_meanwhile(first, second, functions, "a/0.go", MORE)
+        same(second.ask(b"wait\n"), (b"ok 2", b""))
+        journal(first)
+        same(second.ask(b"undo 2\n"), (b"ok 1", b""))
+        builds(second, 1, functions)
+        before = "commit 0 ok 1, take 1 ok 1, commit 1 ok 2"
+        behind = "deliver 1 no 21, take 2 ok 2, deliver 2 ok 2, undo 2 ok 1, take 1 ok 1, deliver 1 ok 1"
+        return shows(journal(first), before, behind, {0: 0, 1: 1, 2: 1})
+
+    return until_late(play)
+
+
 def undone_and_redone():
     """Back in the state in which it was taken, on another visit, the delivery is done."""
 
@@ -228,12 +244,14 @@ def taken_on_two_visits():
 
 
 def once_each():
-    """With workers to spare two packages go out once each on a visit, one of them although it is out since another; who asks for more
-    meanwhile is refused. The three are delivered in any order."""
+    """With workers to spare two packages go out once each on a visit, one of them although it is out since another; a session that asks for
+    more meanwhile is refused. The three are delivered in any order."""
 
     def play(first, second, functions):
         begins(first, 0, functions)
         same(second.ask(put(1, "b/0.go", large(functions, b"b"))), (b"ok 2", b""))
+        waits_for(second, b"take 2 ok 2\n")
+        second.ask(b"work\n")
         builds(second, 2, functions)
         entries = journal(first)
         before = "commit 0 ok 1, take 1 ok 1, commit 1 ok 2, take 2 ok 2, take 2 ok 2"
@@ -290,13 +308,53 @@ def given_back():
         program.wait()
 
 
+def sleeps(process):
+    """Waits until all threads of a process have slept for a while."""
+    end, seen = time.monotonic() + DEADLINE, 0
+    while seen < 50:
+        seen = 0 if awake(process) else seen + 1
+        if time.monotonic() > end:
+            raise AssertionError("the server never sleeps")
+        threading.Event().wait(0.002)
+
+
+def gives_back(functions, is_changed):
+    """How often a worker gives a package back for which it finds no memory. Then it sleeps, though the package waits, until there is memory
+    again and a change comes, or the server ends."""
+    with Server(1, 1, 1) as server:
+        client, (soft, hard) = server.connect(), resource.prlimit(server.process.pid, resource.RLIMIT_DATA)
+        same(client.ask(put(0, "a/0.go", large(functions))), (b"ok 1", b""))
+        resource.prlimit(server.process.pid, resource.RLIMIT_DATA, (resource.getpagesize(), hard))
+        sleeps(server.process)
+        resource.prlimit(server.process.pid, resource.RLIMIT_DATA, (soft, hard))
+        given = sum(entry.startswith(b"give 1 ok") for entry in journal(client))
+        if is_changed:
+            same(client.ask(put(1, "b/0.go", OTHER)), (b"ok 2", b""))
+            builds(client, 2, functions)
+        client.end()
+        settles(server)
+    return given
+
+
+def given_back_by_a_worker():
+    """A worker for whose package memory is wanting gives it back, and tries again a few times alone, so that the journal isn't filled."""
+    told = []
+    for is_changed in (True, False):
+        given = next(filter(None, (gives_back(functions, is_changed) for functions in SIZES)), 0)
+        same((given, 8 < given < 50), (given, True))
+        told.append(given)
+    return f"given back {told[0]} and {told[1]} times"
+
+
 CHECKS = (
     put_of_the_package,
     put_of_another,
     undone,
+    undone_once_all_sleep,
     undone_and_redone,
     taken_on_two_visits,
     once_each,
     told_to_work,
     given_back,
+    given_back_by_a_worker,
 )

@@ -5,7 +5,7 @@ limits at their full size, and a server with clients and workers on threads. che
 checks, which need more of a machine or take longer.
 """
 
-from checks.server import connections, editors, late, limits, serve, statuses, streams, tools
+from checks.server import connections, editors, entries, late, limits, serve, statuses, streams, tools
 
 CHECKS = (
     statuses.bad_words,
@@ -16,17 +16,23 @@ CHECKS = (
     statuses.servers_at_once,
     statuses.owner_alone,
     statuses.owner_enters,
+    statuses.none_accepted,
+    statuses.untold_end,
     *limits.CHECKS,
     editors.in_one_write,
     editors.reply_by_reply_on_pipes,
     editors.two_editors,
     editors.racing_puts,
     editors.workers_at_once,
+    editors.workers_behind_one_change,
     editors.one_worker_alone,
     editors.all_wake,
     editors.none_missed,
     editors.asleep,
+    editors.others_sleep,
     editors.settled_length,
+    editors.alone_settled,
+    *entries.CHECKS,
     *late.CHECKS,
     connections.cut_while_sending,
     connections.cut_while_reading,

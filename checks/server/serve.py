@@ -7,11 +7,19 @@ where one fails. The answers are those of the protocol, by hand or by the model.
 minute fails.
 """
 
-from checks.server import connections, editors, late, limits, statuses, story, streams, tools
+from checks.server import connections, editors, entries, late, limits, statuses, story, streams, tools
 from checks.server.server import check_program
 
 CHECKS = (
-    statuses.CHECKS + limits.CHECKS + editors.CHECKS + late.CHECKS + connections.CHECKS + streams.CHECKS + story.CHECKS + tools.CHECKS
+    statuses.CHECKS
+    + limits.CHECKS
+    + editors.CHECKS
+    + entries.CHECKS
+    + late.CHECKS
+    + connections.CHECKS
+    + streams.CHECKS
+    + story.CHECKS
+    + tools.CHECKS
 )
 
 

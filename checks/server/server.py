@@ -41,7 +41,9 @@ def run(words, limits=(), **streams):
     streams = {"stdin": subprocess.DEVNULL, "stdout": subprocess.PIPE} | streams
     if "input" in streams:
         del streams["stdin"]
-    ran = subprocess.run(PROGRAM + words, stderr=subprocess.PIPE, timeout=DEADLINE, preexec_fn=limited(limits), **streams)
+    # (a child that does nothing before it becomes the program is made faster)
+    begin = limited(limits) if limits else None
+    ran = subprocess.run(PROGRAM + words, stderr=subprocess.PIPE, timeout=DEADLINE, preexec_fn=begin, **streams)
     return ran.returncode, ran.stdout, ran.stderr
 
 
