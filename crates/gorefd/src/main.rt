@@ -16,10 +16,11 @@ use server_session::{SessionFault, session_alone};
 use server_shared::OpenGate;
 use server_socket::serve;
 use server_words::{RequestFault, Words, read_request};
+use std::alloc::Global;
 use std::env::Env;
 use std::fmt::Display;
 use std::io;
-use std::io::{BufReader, BufWriter, ErrorKind, Write};
+use std::io::{BufReader, BufWriter, ErrorKind, Read, Write};
 use std::process::ExitCode;
 use tool_commands::{list_faults, list_uses, move_package, rename};
 use tool_disk::ToolFault;
@@ -28,6 +29,17 @@ use tool_told::CommandOutcome;
 /// The usage text where a word of the command line is not UTF-8.
 const NOT_UTF8: &str =
     "error: a word is not UTF-8\n\nUsage: gorefd <COMMAND>\n\nFor more information, try '--help'.\n";
+
+/// Serves one session with the greatest limits, over a new book that has them too. Returns how it ended, and the writer.
+fn serve_from<I: Read + Drop, O: Write>(
+    alloc: Global,
+    input: I,
+    output: O,
+) -> (Result<(), SessionFault>, O)
+    ensures { ServesOne result.0 }
+{
+    session_alone(alloc, input, output, Limits::FULL)
+}
 
 /// Serves one session from standard input to standard output. Returns how it ended, if there was memory to begin it.
 fn serve_one(
@@ -38,7 +50,7 @@ fn serve_one(
     let alloc = rt.alloc();
     let input = BufReader::new(alloc, rt.reader()).map_err(|_| ProgramFault::Memory)?;
     let output = BufWriter::new(alloc, std::io::writer(rt)).map_err(|_| ProgramFault::Memory)?;
-    let (ended, _output) = session_alone(alloc, input, output, Limits::FULL);
+    let (ended, _output) = serve_from(alloc, input, output);
     Ok(ended)
 }
 
