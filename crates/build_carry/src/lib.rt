@@ -1,9 +1,9 @@
 //! Carries finished units and verdicts over a change, and compares the inputs of a build with a workspace.
 //!
 //! Crates above rely on: `marks_of` marks exactly the packages whose closure has other texts after a change. `carried_units` keeps exactly
-//! the units of the others, and verdicts that `kept` and `learned` keep are right. `learned_from` and `with_kept` keep exactly the verdicts of
-//! another workspace on packages whose closures stay. `are_inputs_of_both` is true exactly where two inputs are those of a package. `Finished` is the
-//! table of units by package number.
+//! the units of the others, and verdicts that `kept` and `learned` keep are right. `learned_from` and `with_kept` keep exactly the verdicts
+//! of another workspace on packages whose closures stay. `are_inputs_of_both` is true exactly where two inputs are those of a package.
+//! `Finished` is the table of units by package number.
 #![tactic(auto)]
 
 mod carried;

@@ -22,13 +22,13 @@ use Rattle.build_object.specs.declared.code.Code.{Code}
 use Rattle.build_object.specs.Lines.{CodeLine, Duplicate, Pop, JumpUnless, Operate, Zero, MakeSlice}
 use Rattle.build_object.specs.LineView.{lines_in, Puts}
 use Rattle.build_object.specs.Source.{Source}
-use Rattle.build_object.specs.Operands.{Mode, Values, CodeOperand, qualifies, selected, operated, left_by_call, value_count, prefixed}
+use Rattle.build_object.specs.Operands.{Mode, Values, CodeOperand, name_operand, qualifies, selected, operated, left_by_call, value_count, prefixed}
 use Rattle.build_object.specs.Expressions.{operand_of, operations, linked, one_link, keyed_lines, bare_lines, literal_lines, literal_code, typed_literal}
 use Rattle.build_object.specs.Expressions.{value_lines}
 use Rattle.build_object.specs.Making.{before_link, test_lines, AppliesLines}
 use Rattle.build_object.proofs.Putting.{puts_length}
 use Rattle.build_object.proofs.Modes.{linked_end, known_before, link_at}
-use Rattle.build_object.proofs.Trees.{selector_here, index_here, call_here, chain_here, prefix_here, operations_step, literal_here}
+use Rattle.build_object.proofs.Trees.{selector_here, index_here, call_here, chain_here, named_chain_here, prefix_here, operations_step, literal_here}
 
 pub stands_at_once : (s : Source) (slots : List ℕ) (links : List Link) (n : ℕ) (o : CodeOperand) → n ≡ 0 → linked s slots o (links_in (take n links)) ≡ o
 stands_at_once s slots links n o none = ap (λ k. linked s slots o (links_in (take k links))) none ∙ linked_end s slots o
@@ -49,7 +49,7 @@ selector_stands s slots links n last x d token head r q size lt is form known ru
 pub index_stands : (s : Source) (slots : List ℕ) (links : List Link) (n last : ℕ) (x : Link) (b : ℕ) (e : _) (c : ℕ) (o : CodeOperand) →
     n ≡ last + 1 → last < length links → x ≡ get_or links last x → x ≡ link.Index b e c → (linked s slots o (links_in (take n links))).mode ≡ Values 1
 index_stands s slots links n last x b e c o size lt is form =
-    ap (λ p. p.mode) (link_before s slots links n last x o size lt is ∙ index_here s slots b e c _ form)
+    ap (λ p. p.mode) (link_before s slots links n last x o size lt is ∙ index_here s slots b e c _ form e.value refl)
 
 pub call_stands : (s : Source) (slots : List ℕ) (links : List Link) (n last : ℕ) (x : Link) (b : ℕ) (xs : _) (c : ℕ) (o : CodeOperand) →
     n ≡ last + 1 → last < length links → x ≡ get_or links last x → x ≡ link.Call b xs c →
@@ -146,6 +146,22 @@ pub chain_alone : (s : Source) (slots : List ℕ) {e : Expr} (b : _) (links : _)
 chain_alone s slots b links is x hx none stands known =
     ap (λ p. p.mode) (chain_here s slots b links is x [] hx (sym (no_items links.items none)))
     ∙ (ap (λ p. Values (value_count p.mode)) (linked_end s slots (operand_of s slots (expr_view x))) ∙ ap (λ k. Values (value_count k)) known)
+
+pub named_alone : (s : Source) (slots : List ℕ) {e : Expr} (n : ℕ) (links : _) → e ≡ expr.NamedChain n links → length links.items ≡ 0 →
+    (stands : Mode) → (name_operand s slots n).mode ≡ stands → (operand_of s slots (expr_view e)).mode ≡ Values (value_count stands)
+named_alone s slots n links is none stands known =
+    ap (λ p. p.mode) (named_chain_here s slots n links is [] (sym (no_items links.items none)))
+    ∙ (ap (λ p. Values (value_count p.mode)) (linked_end s slots (name_operand s slots n)) ∙ ap (λ k. Values (value_count k)) known)
+
+pub named_behind : (s : Source) (slots : List ℕ) {e : Expr} (n : ℕ) (links : _) → e ≡ expr.NamedChain n links → (xs : List Link) → xs ≡ links.items →
+    (last : ℕ) → length links.items ≡ last + 1 → (head : Mode) → (name_operand s slots n).mode ≡ head → (k : ℕ) →
+    ((o : CodeOperand) → before_link o.mode ≡ before_link head → value_count (linked s slots o (links_in (take (last + 1) xs))).mode ≡ k) →
+    (operand_of s slots (expr_view e)).mode ≡ Values k
+named_behind s slots n links is xs hxs last size head known k rule =
+    let all : take (last + 1) xs ≡ xs = take_all (last + 1) xs (let h = ap length hxs ∙ size in omega arith) in
+    ap (λ p. p.mode) (named_chain_here s slots n links is xs hxs)
+    ∙ (ap (λ ys. Values (value_count (linked s slots (name_operand s slots n) (links_in ys)).mode)) (sym all) ∙
+    ap Values (rule (name_operand s slots n) (ap before_link known)))
 
 pub chain_behind : (s : Source) (slots : List ℕ) {e : Expr} (b : _) (links : _) → e ≡ expr.Chain b links → (x : Expr) → x ≡ b.value → (xs : List Link) →
     xs ≡ links.items →

@@ -90,7 +90,7 @@ selected_never s slots n o (Predeclared b) = typed_never s n o _
 pub link_never : (s : Source) (slots : List ℕ) (l : Link) (o : CodeOperand) → qualifies (one_link s slots (link_view l no_link) o).mode ≡ false
 unfolding one_link link_view
 link_never s slots (link.Selector d n) o = selected_never s slots n o o.mode
-link_never s slots (link.Index b e c) o = refl
+link_never s slots (link.Index' b p e c) o = refl
 link_never s slots (link.Call' b shape row c) o = refl
 
 -- links in turn
@@ -99,7 +99,7 @@ pub linked_step : (s : Source) (slots : List ℕ) (o : CodeOperand) (l : Link) (
     linked s slots o (links_in (l ∷ rest)) ≡ linked s slots (one_link s slots (link_view l no_link) o) (links_in rest)
 unfolding linked one_link links_in link_view
 linked_step s slots o (link.Selector d n) rest = refl
-linked_step s slots o (link.Index b e c) rest = refl
+linked_step s slots o (link.Index' b p e c) rest = refl
 linked_step s slots o (link.Call' b shape row c) rest = refl
 
 pub linked_end : (s : Source) (slots : List ℕ) (o : CodeOperand) → linked s slots o (links_in []) ≡ o

@@ -13,7 +13,7 @@ use Rattle.go_ast.specs.Tree as tree
 use Rattle.go_ast.specs.View.{type_view, expr_view, link_view, literal_view, key_view}
 use Rattle.types_expr.specs.Lists.{links_in, operands_in, arguments_in, elements_in}
 use Rattle.types_expr.specs.Judge.{judge_type}
-use Rattle.types_expr.proofs.Trees.{chain_tree, binary_tree, call_tree, literal_tree}
+use Rattle.types_expr.proofs.Trees.{chain_tree, named_chain_tree, binary_tree, call_tree, literal_tree}
 use Rattle.build_object.specs.Lines.{CodeLine, With, New, line_if_known}
 use Rattle.build_object.specs.Lines as line
 use Rattle.build_object.specs.Source.{Source}
@@ -73,6 +73,16 @@ chain_here s slots b links is x xs hx hxs = ap (λ z. operand_of s slots (expr_v
     ∙ (ap (λ z. settled (linked s slots (operand_of s slots (expr_view z)) (links_in links.items))) (sym hx) ∙
     ap (λ z. settled (linked s slots (operand_of s slots (expr_view x)) (links_in z))) (sym hxs)))
 
+named_chain_at : (s : Source) (slots : List ℕ) (n : ℕ) (links : _) →
+    operand_of s slots (expr_view (expr.NamedChain n links)) ≡ settled (linked s slots (name_operand s slots n) (links_in links.items))
+unfolding operand_of
+named_chain_at s slots n links = ap (operand_of s slots) (named_chain_tree n links)
+
+pub named_chain_here : (s : Source) (slots : List ℕ) {e : Expr} (n : ℕ) (links : _) → e ≡ expr.NamedChain n links → (xs : List Link) → xs ≡ links.items →
+    operand_of s slots (expr_view e) ≡ settled (linked s slots (name_operand s slots n) (links_in xs))
+named_chain_here s slots n links is xs hxs = ap (λ z. operand_of s slots (expr_view z)) is ∙ (named_chain_at s slots n links
+    ∙ ap (λ z. settled (linked s slots (name_operand s slots n) (links_in z))) (sym hxs))
+
 binary_at : (s : Source) (slots : List ℕ) (b : _) (rest : _) →
     operand_of s slots (expr_view (expr.Binary b rest)) ≡ plain (operations s slots (operand_of s slots (expr_view b.value)).value (operands_in rest.items))
 unfolding operand_of
@@ -92,10 +102,11 @@ pub selector_here : (s : Source) (slots : List ℕ) {l : Link} (d n : ℕ) (o : 
 unfolding one_link link_view
 selector_here s slots d n o is = ap (λ x. one_link s slots (link_view x tree.no_link) o) is
 
-pub index_here : (s : Source) (slots : List ℕ) {l : Link} (b : ℕ) (e : Expr) (c : ℕ) (o : ops.CodeOperand) → l ≡ link.Index b e c →
-    one_link s slots (link_view l tree.no_link) o ≡ indexed o (value_lines s slots (expr_view e))
+pub index_here : (s : Source) (slots : List ℕ) {l : Link} (b : ℕ) (e : _) (c : ℕ) (o : ops.CodeOperand) → l ≡ link.Index b e c →
+    (v : Expr) → v ≡ e.value → one_link s slots (link_view l tree.no_link) o ≡ indexed o (value_lines s slots (expr_view v))
 unfolding one_link link_view
-index_here s slots b e c o is = ap (λ x. one_link s slots (link_view x tree.no_link) o) is
+index_here s slots b e c o is v h = ap (λ x. one_link s slots (link_view x tree.no_link) o) is ∙
+    ap (λ x. indexed o (value_lines s slots (expr_view x))) (sym h)
 
 call_at : (s : Source) (slots : List ℕ) (b : ℕ) (xs : _) (c : ℕ) (o : ops.CodeOperand) →
     one_link s slots (link_view (link.Call b xs c) tree.no_link) o ≡ called o (argument_count (arguments_in xs.items))

@@ -2,7 +2,7 @@
 use Rattle.std.specs.Prelude.{ℕ, suc, ◌==◌, ◌+◌, Bool, false, if◌then◌else◌, List, [], ◌∷◌, map, Option, Some, None, slice_get}
 use Rattle.std.specs.List.{flat_map}
 use Rattle.std.specs.Cmp.Lexicographic.{pointwise}
-use Rattle.go_ast.specs.Tree.{Item, FieldTree, BodyTree, Other, Struct, ReceiverTree}
+use Rattle.go_ast.specs.Tree.{Item, FieldTree, BodyTree, Other, Struct, Interface, ReceiverTree}
 use Rattle.go_ast.specs.SourceFile.{SourceFile}
 use Rattle.types_declared.specs.Laid.{init_name}
 use Rattle.types_expr.specs.declared.symbol.Symbol.{Symbol}
@@ -84,6 +84,7 @@ names_of_fields fs = flat_map (λ i. i.value.names) fs
 abbrev pub body_positions : BodyTree → List ℕ
 body_positions (Other t) = []
 body_positions (Struct k o fs c) = positions_from 0 (names_of_fields fs)
+body_positions (Interface k o ms c) = []
 
 -- The positions of the fields of a type definition.
 abbrev pub type_positions : PlacedType → List ℕ

@@ -1,8 +1,8 @@
 -- The object of a package: its imports and its declarations, with the code of its functions.
 use Rattle.std.specs.Prelude.{ℕ, List, [], ◌∷◌, ◌++◌, map, Option, Some, None, length, option_map, option_to_list}
 use Rattle.std.specs.List.{flat_map}
-use Rattle.go_ast.specs.Tree.{Item, TypeTree, BasicTree, Integer, String, GlobalTree, FieldTree, BodyTree, Other, Struct, TypeSpecTree, ReceiverTree}
-use Rattle.go_ast.specs.Tree.{FuncTree, DeclTree, VarDecl, TypeDecl, FuncDecl, FileTree}
+use Rattle.go_ast.specs.Tree.{Item, TypeTree, BasicTree, Integer, String, GlobalTree, FieldTree, BodyTree, Other, Struct, Interface, TypeSpecTree}
+use Rattle.go_ast.specs.Tree.{ReceiverTree, FuncTree, DeclTree, VarDecl, TypeDecl, FuncDecl, FileTree}
 use Rattle.types_expr.specs.Types.{PlainType}
 use Rattle.types_expr.specs.World.{World}
 use Rattle.types_expr.specs.Judge.{judge_type, named_type}
@@ -61,10 +61,11 @@ all_written w ts = flat_map (written w) ts
 abbrev pub field_types : World → List (Item FieldTree) → List PlainType
 field_types w fs = flat_map (λ i. flat_map (λ n. written w i.value.type_use) i.value.names) fs
 
--- What a type with this body is defined as, if that is known.
+-- What a type with this body is defined as, if that is known. An interface is a fault, and no object has one.
 unfoldable pub definition_of : World → BodyTree → Option ObjectDefinition
 definition_of w (Other t) = option_map SameAs (judge_type w t).type_of
 definition_of w (Struct k o fs c) = Some (Fields (field_types w fs))
+definition_of w (Interface k o ms c) = None
 
 -- The declaration of a type, if its name and its definition are known.
 abbrev pub type_declarations : Option GlobalName → Option ObjectDefinition → List ObjectDeclaration

@@ -107,6 +107,7 @@ fn defined_as(
             let types = field_types(alloc, world, fields)?;
             Ok(Some(DefinitionLine::Fields(types)))
         }
+        TypeBody::Interface { .. } => Ok(None),
     }
 }
 

@@ -74,6 +74,13 @@ impl<'a> SlotScope<'a> {
                 }
                 OperandMode::Values(self.left_by_links(head, links, links.len() - 1))
             }
+            Expr::NamedChain { name, links } => {
+                let head = self.name_mode(*name);
+                if links.is_empty() {
+                    return OperandMode::Values(head.values());
+                }
+                OperandMode::Values(self.left_by_links(head, links, links.len() - 1))
+            }
             Expr::Number(_)
             | Expr::Text(_)
             | Expr::Composite(_)
@@ -191,6 +198,11 @@ pub fn operand<'a>(
             let head = scope.mode(first);
             let want = chain(alloc, scope, links, head, want, code)?;
             operand(alloc, scope, first, want, code)
+        }
+        Expr::NamedChain { name, links } => {
+            let head = scope.name_mode(*name);
+            let want = chain(alloc, scope, links, head, want, code)?;
+            scope.put_name(*name, want, code)
         }
         Expr::Binary { first, rest } => {
             operations(alloc, scope, rest, code)?;

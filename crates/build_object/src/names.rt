@@ -165,6 +165,7 @@ fn add_body(positions: &mut Vec<usize>, body: &TypeBody) -> Result<(), AllocErro
     match body {
         TypeBody::Type(_) => Ok(()),
         TypeBody::Struct { fields, .. } => add_fields(positions, fields),
+        TypeBody::Interface { .. } => Ok(()),
     }
 }
 

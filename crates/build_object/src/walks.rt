@@ -174,6 +174,7 @@ fn position_in_spec(spec: &TypeSpec, rank: usize) -> Result<usize, usize>
     match &spec.body {
         TypeBody::Type(_) => Err(rank),
         TypeBody::Struct { fields, .. } => position_in_fields(fields, rank),
+        TypeBody::Interface { .. } => Err(rank),
     }
 }
 

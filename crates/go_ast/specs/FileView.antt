@@ -2,7 +2,7 @@
 use Rattle.std.specs.Prelude.{ℕ, List, map}
 use Rattle.go_ast.specs.Tree as tree
 use Rattle.go_ast.specs.Tree.{LocalTree, SimpleTree, InitTree, ForTree, StatementTree, BlockTree, StatementTrees, IfTree, ElseTree, ExprTree, BasicTree}
-use Rattle.go_ast.specs.Tree.{ImportTree, GlobalTree, FieldTree, BodyTree, TypeSpecTree, ReceiverTree, ParamTree, ResultTree, FuncTree, ImportsTree}
+use Rattle.go_ast.specs.Tree.{ImportTree, GlobalTree, FieldTree, MethodTree, BodyTree, TypeSpecTree, ReceiverTree, ParamTree, ResultTree, FuncTree, ImportsTree}
 use Rattle.go_ast.specs.Tree.{DeclTree, FileTree}
 use Rattle.go_ast.specs.View.{option_view, list_view, group_view, ident_view, type_view, expr_view, exprs_view}
 use Rattle.go_ast.specs.declared.tree.Values.{Values}
@@ -24,6 +24,7 @@ use Rattle.go_ast.specs.declared.tree.BasicLit.TheVariants as basic
 use Rattle.go_ast.specs.declared.tree.VarValues.{VarValues}
 use Rattle.go_ast.specs.declared.tree.VarSpec.{VarSpec}
 use Rattle.go_ast.specs.declared.tree.FieldDecl.{FieldDecl}
+use Rattle.go_ast.specs.declared.tree.MethodSpec.{MethodSpec}
 use Rattle.go_ast.specs.declared.tree.TypeBody.{TypeBody}
 use Rattle.go_ast.specs.declared.tree.TypeBody.TheVariants as body
 use Rattle.go_ast.specs.declared.tree.TypeSpec.{TypeSpec}
@@ -50,7 +51,7 @@ local_view l = record { names = list_view ident_view l.names.items; type_use = o
 unfoldable pub simple_view : SimpleStmt → SimpleTree
 simple_view (simple.Expr e) = tree.Alone (expr_view e)
 simple_view (simple.Step e op p) = tree.Step (expr_view e) op p
-simple_view (simple.Update e op p f) = tree.Update (expr_view e) op p (expr_view f)
+simple_view (simple.Update e op p f) = tree.Update (expr_view e) op p (expr_view f.value)
 simple_view (simple.Assign es p fs) = tree.Assign (exprs_view es.items) p (exprs_view fs.items)
 simple_view (simple.Define es p fs) = tree.Define (exprs_view es.items) p (exprs_view fs.items)
 
@@ -66,7 +67,7 @@ for_view (for.Clauses init s condition t post) = tree.clauses (option_view simpl
 unfoldable mutual
   pub stmt_view : Stmt → StatementTree
   stmt_view stmt.Empty = tree.Empty
-  stmt_view (stmt.Var p g) = tree.Var p (group_view local_view g)
+  stmt_view (stmt.Var p g) = tree.Var p (group_view local_view g.value)
   stmt_view (stmt.Simple s) = tree.Simple (simple_view s)
   stmt_view (stmt.Block b) = tree.Inner (block_view b)
   stmt_view (stmt.If' p i) = tree.If (if_view i)
@@ -106,16 +107,6 @@ global_view g = record { names = list_view same_index g.names.items; type_use = 
 unfoldable pub field_view : FieldDecl → FieldTree
 field_view f = record { names = list_view same_index f.names.items; type_use = type_view f.field_type }
 
-unfoldable pub body_view : TypeBody → BodyTree
-body_view (body.Type t) = tree.Other (type_view t)
-body_view (body.Struct s o fs c) = tree.Struct s o (list_view field_view fs.items) c
-
-unfoldable pub type_spec_view : TypeSpec → TypeSpecTree
-type_spec_view t = record { name = t.name; body = body_view t.body }
-
-unfoldable pub receiver_view : Receiver → ReceiverTree
-receiver_view r = record { lparen = r.open; name = ident_view r.ident; star = r.star; type_name = r.type_name; comma = r.comma; rparen = r.close }
-
 unfoldable pub param_view : Param → ParamTree
 param_view p = record { names = list_view ident_view p.names.items; type_use = type_view p.param_type }
 
@@ -123,6 +114,20 @@ unfoldable pub results_view : Results → ResultTree
 results_view results.None = tree.no_result
 results_view (results.Single t) = tree.one_result (type_view t)
 results_view (results.Several o ts c) = tree.results o (list_view type_view ts.items) c
+
+unfoldable pub method_view : MethodSpec → MethodTree
+method_view m = record { name = m.name; lparen = m.open; params = list_view param_view m.params.items; rparen = m.close; result = results_view m.results }
+
+unfoldable pub body_view : TypeBody → BodyTree
+body_view (body.Type t) = tree.Other (type_view t)
+body_view (body.Struct s o fs c) = tree.Struct s o (list_view field_view fs.items) c
+body_view (body.Interface i o ms c) = tree.Interface i o (list_view method_view ms.items) c
+
+unfoldable pub type_spec_view : TypeSpec → TypeSpecTree
+type_spec_view t = record { name = t.name; body = body_view t.body }
+
+unfoldable pub receiver_view : Receiver → ReceiverTree
+receiver_view r = record { lparen = r.open; name = ident_view r.ident; star = r.star; type_name = r.type_name; comma = r.comma; rparen = r.close }
 
 unfoldable pub func_view : FuncDecl → FuncTree
 func_view f = record {

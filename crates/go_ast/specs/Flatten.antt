@@ -17,8 +17,8 @@ use Rattle.go_ast.specs.Tree.{operand, LinkTrees, no_link, selector, index, call
 use Rattle.go_ast.specs.Tree.{no_element, element, SimpleTree, Alone, Step, Update, Assign, Define, LocalTree, InitTree, ForTree, forever, while, clauses}
 use Rattle.go_ast.specs.Tree.{StatementTree, Empty, Var, Simple, Inner, If, For, Break, Continue, Return, BlockTree, block, StatementTrees, no_statement}
 use Rattle.go_ast.specs.Tree.{statement, IfTree, if_tree, ElseTree, no_else, else_if, else_block, ImportTree, GlobalTree, FieldTree, BodyTree, Other}
-use Rattle.go_ast.specs.Tree.{Struct, TypeSpecTree, ReceiverTree, ParamTree, ResultTree, no_result, one_result, results, FuncTree, ImportsTree, DeclTree}
-use Rattle.go_ast.specs.Tree.{VarDecl, TypeDecl, FuncDecl, FileTree}
+use Rattle.go_ast.specs.Tree.{Struct, Interface, MethodTree, TypeSpecTree, ReceiverTree, ParamTree, ResultTree, no_result, one_result, results}
+use Rattle.go_ast.specs.Tree.{FuncTree, ImportsTree, DeclTree, VarDecl, TypeDecl, FuncDecl, FileTree}
 
 -- the token of this kind and index
 abbrev pub sign : Kind → ℕ → Token
@@ -200,17 +200,6 @@ global_tokens g = list_tokens kind.Comma name_tokens g.names ++ (type_tokens g.t
 unfoldable pub field_tokens : FieldTree → List Token
 field_tokens f = list_tokens kind.Comma name_tokens f.names ++ type_tokens f.type_use
 
-unfoldable pub body_tokens : BodyTree → List Token
-body_tokens (Other t) = type_tokens t
-body_tokens (Struct s o fs c) = sign kind.Struct s ∷ sign kind.LeftBrace o ∷ (list_tokens kind.Semicolon field_tokens fs ++ (sign kind.RightBrace c ∷ []))
-
-unfoldable pub type_spec_tokens : TypeSpecTree → List Token
-type_spec_tokens t = sign kind.Name t.name ∷ body_tokens t.body
-
-unfoldable pub receiver_tokens : ReceiverTree → List Token
-receiver_tokens r = sign kind.LeftParen r.lparen ∷ (ident_tokens r.name ++ (sign_if kind.Star r.star ++
-    (sign kind.Name r.type_name ∷ (sign_if kind.Comma r.comma ++ (sign kind.RightParen r.rparen ∷ [])))))
-
 unfoldable pub param_tokens : ParamTree → List Token
 param_tokens p = list_tokens kind.Comma ident_tokens p.names ++ type_tokens p.type_use
 
@@ -218,6 +207,23 @@ unfoldable pub result_tokens : ResultTree → List Token
 result_tokens no_result = []
 result_tokens (one_result t) = type_tokens t
 result_tokens (results o ts c) = sign kind.LeftParen o ∷ (list_tokens kind.Comma type_tokens ts ++ (sign kind.RightParen c ∷ []))
+
+unfoldable pub method_tokens : MethodTree → List Token
+method_tokens m = sign kind.Name m.name ∷ sign kind.LeftParen m.lparen ∷
+    (list_tokens kind.Comma param_tokens m.params ++ (sign kind.RightParen m.rparen ∷ result_tokens m.result))
+
+unfoldable pub body_tokens : BodyTree → List Token
+body_tokens (Other t) = type_tokens t
+body_tokens (Struct s o fs c) = sign kind.Struct s ∷ sign kind.LeftBrace o ∷ (list_tokens kind.Semicolon field_tokens fs ++ (sign kind.RightBrace c ∷ []))
+body_tokens (Interface i o ms c) = sign kind.Interface i ∷ sign kind.LeftBrace o ∷
+    (list_tokens kind.Semicolon method_tokens ms ++ (sign kind.RightBrace c ∷ []))
+
+unfoldable pub type_spec_tokens : TypeSpecTree → List Token
+type_spec_tokens t = sign kind.Name t.name ∷ body_tokens t.body
+
+unfoldable pub receiver_tokens : ReceiverTree → List Token
+receiver_tokens r = sign kind.LeftParen r.lparen ∷ (ident_tokens r.name ++ (sign_if kind.Star r.star ++
+    (sign kind.Name r.type_name ∷ (sign_if kind.Comma r.comma ++ (sign kind.RightParen r.rparen ∷ [])))))
 
 unfoldable pub func_tokens : FuncTree → List Token
 func_tokens f = tokens_if receiver_tokens f.receiver ++ (sign kind.Name f.name ∷ sign kind.LeftParen f.lparen ∷

@@ -5,7 +5,7 @@ use Rattle.go_ast.specs.declared.syntax.Kind.TheVariants.{Name, Blank, Number, T
 use Rattle.go_ast.specs.declared.syntax.Kind.TheVariants.{RightBrace, Comma, Dot, Colon, Semicolon, Plus, Minus, Star, Slash, Percent, Equal, NotEqual}
 use Rattle.go_ast.specs.declared.syntax.Kind.TheVariants.{Less, LessEqual, Greater, GreaterEqual, AndAnd, OrOr, Not, Ampersand, Assign, Define, AddAssign}
 use Rattle.go_ast.specs.declared.syntax.Kind.TheVariants.{SubAssign, MulAssign, DivAssign, RemAssign, Increment, Decrement, If, Else, For, Break, Continue}
-use Rattle.go_ast.specs.declared.syntax.Kind.TheVariants.{Return, Var, Package, Import, Func, TypeWord, Struct, Other}
+use Rattle.go_ast.specs.declared.syntax.Kind.TheVariants.{Return, Var, Package, Import, Func, TypeWord, Struct, Interface, Other}
 use Rattle.go_ast.specs.declared.syntax.BinaryOp.{BinaryOp}
 use Rattle.go_ast.specs.declared.syntax.BinaryOp.TheVariants as binary
 use Rattle.go_ast.specs.declared.syntax.PrefixOp.{PrefixOp}
@@ -63,7 +63,8 @@ number_of Import = 46
 number_of Func = 47
 number_of TypeWord = 48
 number_of Struct = 49
-number_of Other = 50
+number_of Interface = 50
+number_of Other = 51
 
 -- the binary operator that a token of this kind is, if any
 abbrev pub binary_of : Kind → Option BinaryOp
@@ -132,6 +133,8 @@ pub data Part : Type 0 where
   TypeBody : Part
   Fields : Part
   MoreFields : Part
+  Methods : Part
+  MoreMethods : Part
   MoreIdents : Part
   LocalRest : Part
   LocalValues : Part
@@ -303,12 +306,19 @@ rules GlobalValues = Begins (is Assign) (One (is Assign) ∷ One is_literal ∷ 
 rules MoreLiterals = Begins (is Comma) (One (is Comma) ∷ One is_literal ∷ A MoreLiterals ∷ []) ∷ nothing ∷ []
 rules TypeBody =
     Begins (is Struct) (One (is Struct) ∷ Opening (is LeftBrace) ∷ A Fields ∷ Close ∷ []) ∷
+    Begins (is Interface) (One (is Interface) ∷ Opening (is LeftBrace) ∷ A Methods ∷ Close ∷ []) ∷
     Otherwise (A TypeUse ∷ []) ∷ []
 rules Fields =
     Begins (is RightBrace) (One (is RightBrace) ∷ []) ∷
     Otherwise (One (is Name) ∷ A MoreNames ∷ A TypeUse ∷ A MoreFields ∷ []) ∷ []
 rules MoreFields =
     Begins (is Semicolon) (One (is Semicolon) ∷ A Fields ∷ []) ∷
+    Otherwise (One (is RightBrace) ∷ []) ∷ []
+rules Methods =
+    Begins (is RightBrace) (One (is RightBrace) ∷ []) ∷
+    Otherwise (One (is Name) ∷ Opening (is LeftParen) ∷ A Params ∷ Close ∷ A Result ∷ A MoreMethods ∷ []) ∷ []
+rules MoreMethods =
+    Begins (is Semicolon) (One (is Semicolon) ∷ A Methods ∷ []) ∷
     Otherwise (One (is RightBrace) ∷ []) ∷ []
 rules MoreIdents = Begins (is Comma) (One (is Comma) ∷ One is_ident ∷ A MoreIdents ∷ []) ∷ nothing ∷ []
 rules LocalRest =

@@ -139,10 +139,30 @@ pub record FieldTree : Type 0 where
   pub names : List (Item ℕ)
   pub type_use : TypeTree
 
--- the right side of a type definition: a type, or `struct`, the opening brace, the fields, the closing brace
+-- parameters: `a, b T`
+pub record ParamTree : Type 0 where
+  pub names : List (Item IdentTree)
+  pub type_use : TypeTree
+
+-- the results of a function: none, one type, or types in parentheses
+pub data ResultTree : Type 0 where
+  no_result : ResultTree
+  one_result : TypeTree → ResultTree
+  results : ℕ → List (Item TypeTree) → ℕ → ResultTree
+
+-- a method that an interface asks for: `M(a, b T) R`
+pub record MethodTree : Type 0 where
+  pub name : ℕ
+  pub lparen : ℕ
+  pub params : List (Item ParamTree)
+  pub rparen : ℕ
+  pub result : ResultTree
+
+-- the right side of a type definition: a type, or `struct` or `interface`, the opening brace, the fields or methods, the closing brace
 pub data BodyTree : Type 0 where
   Other : TypeTree → BodyTree
   Struct : ℕ → ℕ → List (Item FieldTree) → ℕ → BodyTree
+  Interface : ℕ → ℕ → List (Item MethodTree) → ℕ → BodyTree
 
 -- a type definition
 pub record TypeSpecTree : Type 0 where
@@ -157,17 +177,6 @@ pub record ReceiverTree : Type 0 where
   pub type_name : ℕ
   pub comma : Option ℕ
   pub rparen : ℕ
-
--- parameters: `a, b T`
-pub record ParamTree : Type 0 where
-  pub names : List (Item IdentTree)
-  pub type_use : TypeTree
-
--- the results of a function: none, one type, or types in parentheses
-pub data ResultTree : Type 0 where
-  no_result : ResultTree
-  one_result : TypeTree → ResultTree
-  results : ℕ → List (Item TypeTree) → ℕ → ResultTree
 
 -- a function or a method, without the keyword `func`
 pub record FuncTree : Type 0 where

@@ -57,6 +57,7 @@ unfoldable mutual
   expr_view (expr.Address' at p l) = tree.Address at (literal_view l)
   expr_view (expr.Chain' p e shape row) = tree.Chain (expr_view e) (links_view row)
   expr_view (expr.Binary' p e shape row) = tree.Binary (expr_view e) (operands_view row)
+  expr_view (expr.NamedChain' n shape row) = tree.Chain (tree.Name n) (links_view row)
 
   pub literal_view : CompositeLit → LiteralTree
   literal_view (CompositeLit' t o shape row c) = tree.literal (type_view t) o (elements_view row) c
@@ -64,7 +65,7 @@ unfoldable mutual
   -- a link in front of others
   pub link_view : Link → LinkTrees → LinkTrees
   link_view (link.Selector d n) others = tree.selector d n others
-  link_view (link.Index o e c) others = tree.index o (expr_view e) c others
+  link_view (link.Index' o p e c) others = tree.index o (expr_view e) c others
   link_view (link.Call' o shape row c) others = tree.call o (arguments_view row) c others
 
   pub links_view : {m : _} → Row_of-Link m → LinkTrees

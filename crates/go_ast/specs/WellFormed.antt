@@ -9,8 +9,8 @@ use Rattle.go_ast.specs.Tree.{Address, Chain, Binary, OperandTrees, no_operand, 
 use Rattle.go_ast.specs.Tree.{no_argument, argument, LiteralTree, literal, ElementTrees, no_element, element, SimpleTree, Alone, Step, Update, Assign}
 use Rattle.go_ast.specs.Tree.{Define, LocalTree, InitTree, ForTree, forever, while, clauses, StatementTree, Empty, Var, Simple, Inner, If, For, Break}
 use Rattle.go_ast.specs.Tree.{Continue, Return, BlockTree, block, StatementTrees, no_statement, statement, IfTree, if_tree, ElseTree, no_else, else_if}
-use Rattle.go_ast.specs.Tree.{else_block, GlobalTree, FieldTree, BodyTree, Other, Struct, TypeSpecTree, ParamTree, ResultTree, no_result, one_result}
-use Rattle.go_ast.specs.Tree.{results, FuncTree, ImportsTree, DeclTree, VarDecl, TypeDecl, FuncDecl, FileTree}
+use Rattle.go_ast.specs.Tree.{else_block, GlobalTree, FieldTree, MethodTree, BodyTree, Other, Struct, Interface, TypeSpecTree, ParamTree, ResultTree}
+use Rattle.go_ast.specs.Tree.{no_result, one_result, results, FuncTree, ImportsTree, DeclTree, VarDecl, TypeDecl, FuncDecl, FileTree}
 use Rattle.go_ast.specs.Flatten.{flatten}
 
 -- lists
@@ -225,13 +225,6 @@ pub record IsGlobal (g : GlobalTree) : Type 0 where
 abbrev pub IsField : FieldTree → Type 0
 IsField f = IsList Any f.names
 
-abbrev pub IsBody : BodyTree → Type 0
-IsBody (Other t) = Unit {0}
-IsBody (Struct s o fs c) = IsOpenList IsField fs
-
-abbrev pub IsTypeSpec : TypeSpecTree → Type 0
-IsTypeSpec t = IsBody t.body
-
 abbrev pub IsParam : ParamTree → Type 0
 IsParam p = IsList Any p.names
 
@@ -239,6 +232,18 @@ abbrev pub IsResult : ResultTree → Type 0
 IsResult no_result = Unit {0}
 IsResult (one_result t) = Unit {0}
 IsResult (results o ts c) = IsOpenList Any ts
+
+pub record IsMethodSpec (m : MethodTree) : Type 0 where
+  pub params : IsOpenList IsParam m.params
+  pub result : IsResult m.result
+
+abbrev pub IsBody : BodyTree → Type 0
+IsBody (Other t) = Unit {0}
+IsBody (Struct s o fs c) = IsOpenList IsField fs
+IsBody (Interface i o ms c) = IsOpenList IsMethodSpec ms
+
+abbrev pub IsTypeSpec : TypeSpecTree → Type 0
+IsTypeSpec t = IsBody t.body
 
 pub record IsFunc (f : FuncTree) : Type 0 where
   pub params : IsOpenList IsParam f.params

@@ -118,7 +118,7 @@ impl FileTree {
     {
         let pieces = self.pieces();
         match pieces.tokens().get(token) {
-            Some(piece) => piece.span.start,
+            Some(piece) => piece.start(),
             None => pieces.file().len(),
         }
     }

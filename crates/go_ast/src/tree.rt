@@ -46,8 +46,9 @@ pub enum TypeExpr {
     },
 }
 
-/// An expression. A chain has at least one link, and its first operand is no chain. A binary expression has at least two operands, and all
-/// of its operators have one precedence. Literals lie in boxes, so that other expressions take little room.
+/// An expression. A chain has at least one link, and its first operand is no chain. A `NamedChain` begins with a name, which needs no box. A
+/// binary expression has at least two operands, and all of its operators have one precedence. Literals lie in boxes, so that other
+/// expressions take little room.
 #[derive(Drop)]
 #[cycle(expression)]
 pub enum Expr {
@@ -78,6 +79,10 @@ pub enum Expr {
         first: Box<Expr>,
         rest: Vec<Operand>,
     },
+    NamedChain {
+        name: usize,
+        links: Vec<Link>,
+    },
 }
 
 /// A binary operator with its right operand.
@@ -99,7 +104,7 @@ pub enum Link {
     },
     Index {
         open: usize,
-        index: Expr,
+        index: Box<Expr>,
         close: usize,
     },
     Call {
@@ -158,7 +163,7 @@ pub struct LocalSpec {
     pub values: Option<Values>,
 }
 
-/// A simple statement: `x`, `x++`, `x += y`, `x, y = z`, `x, y := z`.
+/// A simple statement: `x`, `x++`, `x += y`, `x, y = z`, `x, y := z`. The `y` of `x += y` lies in a box, so that the others take little room.
 #[derive(Drop)]
 pub enum SimpleStmt {
     Expr(Expr),
@@ -171,7 +176,7 @@ pub enum SimpleStmt {
         left: Expr,
         op: UpdateOp,
         at: usize,
-        right: Expr,
+        right: Box<Expr>,
     },
     Assign {
         left: Vec<ExprItem>,
@@ -213,7 +218,7 @@ pub enum Stmt {
     Empty,
     Var {
         at: usize,
-        group: Group<LocalSpec>,
+        group: Box<Group<LocalSpec>>,
     },
     Simple(SimpleStmt),
     Block(BlockStmt),
@@ -304,7 +309,17 @@ pub struct FieldDecl {
     pub field_type: TypeExpr,
 }
 
-/// The right side of a type definition: a type, or a struct.
+/// A method that an interface asks for: `M(a, b T) R`.
+#[derive(Drop)]
+pub struct MethodSpec {
+    pub name: usize,
+    pub open: usize,
+    pub params: Vec<Item<Param>>,
+    pub close: usize,
+    pub results: Results,
+}
+
+/// The right side of a type definition: a type, a struct, or an interface.
 #[derive(Drop)]
 pub enum TypeBody {
     Type(TypeExpr),
@@ -312,6 +327,12 @@ pub enum TypeBody {
         at: usize,
         open: usize,
         fields: Vec<Item<FieldDecl>>,
+        close: usize,
+    },
+    Interface {
+        at: usize,
+        open: usize,
+        methods: Vec<Item<MethodSpec>>,
         close: usize,
     },
 }

@@ -10,6 +10,7 @@ use Rattle.go_ast.specs.declared.tree.VarSpec.{VarSpec}
 use Rattle.go_ast.specs.declared.tree.FieldDecl.{FieldDecl}
 use Rattle.go_ast.specs.declared.tree.Param.{Param}
 use Rattle.go_ast.specs.declared.tree.TypeExpr.{TypeExpr}
+use Rattle.go_ast.specs.declared.tree.MethodSpec.{MethodSpec}
 use Rattle.go_ast.specs.declared.tree.TypeBody.TheVariants as body
 use Rattle.go_ast.specs.declared.tree.TypeSpec.{TypeSpec}
 use Rattle.go_ast.specs.declared.tree.Results.TheVariants as results
@@ -20,11 +21,11 @@ use Rattle.go_ast.specs.declared.tree.FuncDecl.{FuncDecl}
 use Rattle.go_ast.specs.declared.tree.Decl.TheVariants as decl
 use Rattle.go_ast.specs.declared.tree.File.{File}
 use Rattle.go_ast.specs.WellFormed.{IsSeparated, IsList, IsOpenList, IsGroup, IsNoneOr, Any, IsExprIn, IsLocal, IsGlobal, IsField, IsBody, IsTypeSpec}
-use Rattle.go_ast.specs.WellFormed.{IsParam, IsResult, IsBlock, IsFunc, IsImports, IsDecl, IsFile}
+use Rattle.go_ast.specs.WellFormed.{IsMethodSpec, IsParam, IsResult, IsBlock, IsFunc, IsImports, IsDecl, IsFile}
 use Rattle.go_parser.specs.Listed.{HasTypeOrValues}
 use Rattle.go_ast.specs.View.{option_view, list_view, item_view, group_view, ident_view, type_view, exprs_view}
 use Rattle.go_ast.specs.FileView.{same_index, values_view, local_view, import_view, var_values_view, global_view, field_view, body_view, type_spec_view}
-use Rattle.go_ast.specs.FileView.{param_view, results_view, block_view, func_view, imports_view, decl_view, file_view}
+use Rattle.go_ast.specs.FileView.{method_view, param_view, results_view, block_view, func_view, imports_view, decl_view, file_view}
 
 pub if_ok : {Y E : Type 0} (P Q : Y → Type 0) (r : Result Y E) → ((y : Y) → P y → Q y) → IfOk r P → IfOk r Q
 if_ok P Q (Ok y) f h = f y h
@@ -86,6 +87,16 @@ type_formed t = tt
 pub struct_formed : (s o : ℕ) (fs : _) (c : ℕ) → let x = body.Struct s o fs c in IsOpenList IsField (list_view field_view fs.items) → IsBody (body_view x)
 unfolding body_view
 struct_formed s o fs c h = h
+
+pub method_formed : (m : MethodSpec) → IsOpenList IsParam (list_view param_view m.params.items) → IsResult (results_view m.results) →
+    IsMethodSpec (method_view m)
+unfolding method_view
+method_formed m p r = record { params = p; result = r }
+
+pub interface_formed : (s o : ℕ) (ms : _) (c : ℕ) → let x = body.Interface s o ms c in
+    IsOpenList IsMethodSpec (list_view method_view ms.items) → IsBody (body_view x)
+unfolding body_view
+interface_formed s o ms c h = h
 
 pub type_spec_formed : (t : TypeSpec) → IsBody (body_view t.body) → IsTypeSpec (type_spec_view t)
 unfolding type_spec_view

@@ -49,9 +49,8 @@ step_formed setting.Plain e op p h = h
 step_formed setting.Head e op p h = h
 step_formed setting.Post e op p h = h
 
-pub update_formed : (s : Setting) (e : Expr) (op : UpdateOp) (p : ℕ) (f : Expr) → IsExprIn (in_head (setting_of s)) (expr_view e) →
-    IsExprIn (in_head (setting_of s)) (expr_view f) →
-    IsSimpleIn s (simple_view (simple.Update e op p f))
+pub update_formed : (s : Setting) (e : Expr) (op : UpdateOp) (p : ℕ) (f : _) → let x = simple.Update e op p f in
+    IsExprIn (in_head (setting_of s)) (expr_view e) → IsExprIn (in_head (setting_of s)) (expr_view f.value) → IsSimpleIn s (simple_view x)
 unfolding simple_view
 update_formed setting.Plain e op p f h k = (h, k)
 update_formed setting.Head e op p f h k = (h, k)
@@ -117,9 +116,10 @@ pub empty_formed : IsStatement (stmt_view stmt.Empty)
 unfolding IsStatement stmt_view
 empty_formed = tt
 
-pub var_formed : (p : ℕ) (g : _) → IsGroup (λ x. IsLocal (local_view x)) (group_view (λ y. y) g) → IsStatement (stmt_view (stmt.Var p g))
+pub var_formed : (p : ℕ) (g : _) → let x = stmt.Var p g in IsGroup (λ l. IsLocal (local_view l)) (group_view (λ y. y) g.value) →
+    IsStatement (stmt_view x)
 unfolding IsStatement stmt_view
-var_formed p g h = group_formed IsLocal local_view g h
+var_formed p g h = group_formed IsLocal local_view g.value h
 
 pub simple_stmt_formed : (s : SimpleStmt) → IsSimple false (simple_view s) → IsStatement (stmt_view (stmt.Simple s))
 unfolding IsStatement stmt_view

@@ -153,6 +153,7 @@ leaf_grouped_if h p kind.Import = tt
 leaf_grouped_if h p kind.Func = tt
 leaf_grouped_if h p kind.TypeWord = tt
 leaf_grouped_if h p kind.Struct = tt
+leaf_grouped_if h p kind.Interface = tt
 leaf_grouped_if h p kind.Other = tt
 
 pub leaf_grouped : (h : Bool) (p : ℕ) (k : Kind) (e : Expr) → leaf_of k p ≡ Some e → IsOperand h (expr_view e)
@@ -164,14 +165,14 @@ links_wf : {n : _} (row : Row_of-Link n) → Each IsLink (items-the_row-Link n r
 unfolding AreLinks links_view link_view
 links_wf end_of-Link w = tt
 links_wf (more_of-Link (link.Selector d n) rest) w = links_wf rest w.1
-links_wf (more_of-Link (link.Index o e c) rest) w = (w.0.0, links_wf rest w.1)
+links_wf (more_of-Link (link.Index' o p e c) rest) w = (w.0.0, links_wf rest w.1)
 links_wf (more_of-Link (link.Call' o shape row c) rest) w = (w.0.0, links_wf rest w.1)
 
 some_links : {n : _} (row : Row_of-Link n) → items-the_row-Link n row ≢ [] → links_view row ≢ no_link
 unfolding links_view link_view
 some_links end_of-Link w e = w refl
 some_links (more_of-Link (link.Selector d n) rest) w e = cc
-some_links (more_of-Link (link.Index o x c) rest) w e = cc
+some_links (more_of-Link (link.Index' o p x c) rest) w e = cc
 some_links (more_of-Link (link.Call' o shape row c) rest) w e = cc
 
 pub chain_grouped : (h : Bool) (e : _) (links : _) → let x = expr.Chain e links in
@@ -186,6 +187,22 @@ chain_grouped h e links w each some = record {
       links_wf (hidden-the_row-Link-0 links) (subst (Each IsLink) (sym (items_hidden-the_row-Link-0 links)) each),
     );
     unnamed = λ x. w.expr.unnamed x;
+  };
+  single = refl;
+}
+
+pub named_chain_grouped : (h : Bool) (n : ℕ) (links : _) → let x = expr.NamedChain n links in
+    Each IsLink links.items → links.items ≢ [] → IsUnary h (expr_view x)
+unfolding expr_view IsExpr HasNoNamedLiteral
+named_chain_grouped h n links each some = record {
+  expr = record {
+    grouped = (
+      refl,
+      some_links (hidden-the_row-Link-0 links) (λ x. some (sym (items_hidden-the_row-Link-0 links) ∙ x)),
+      tt,
+      links_wf (hidden-the_row-Link-0 links) (subst (Each IsLink) (sym (items_hidden-the_row-Link-0 links)) each),
+    );
+    unnamed = λ x. tt;
   };
   single = refl;
 }
@@ -278,7 +295,7 @@ pub selector_wf : (d n : ℕ) → IsLink (link.Selector d n)
 unfolding AreLinks link_view
 selector_wf d n = tt
 
-pub index_wf : (o : ℕ) (e : Expr) (c : ℕ) → IsExprIn false (expr_view e) → IsLink (link.Index o e c)
+pub index_wf : (o : ℕ) (e : _) (c : ℕ) → let l = link.Index o e c in IsExprIn false (expr_view e.value) → IsLink l
 unfolding AreLinks link_view
 index_wf o e c w = (w.grouped, tt)
 

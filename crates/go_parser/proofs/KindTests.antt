@@ -5,7 +5,7 @@ use Rattle.go_ast.specs.declared.syntax.Kind.TheVariants.{Name, Blank, Number, T
 use Rattle.go_ast.specs.declared.syntax.Kind.TheVariants.{RightBrace, Comma, Dot, Colon, Semicolon, Plus, Minus, Star, Slash, Percent, Equal, NotEqual}
 use Rattle.go_ast.specs.declared.syntax.Kind.TheVariants.{Less, LessEqual, Greater, GreaterEqual, AndAnd, OrOr, Not, Ampersand, Assign, Define, AddAssign}
 use Rattle.go_ast.specs.declared.syntax.Kind.TheVariants.{SubAssign, MulAssign, DivAssign, RemAssign, Increment, Decrement, If, Else, For, Break, Continue}
-use Rattle.go_ast.specs.declared.syntax.Kind.TheVariants.{Return, Var, Package, Import, Func, TypeWord, Struct, Other}
+use Rattle.go_ast.specs.declared.syntax.Kind.TheVariants.{Return, Var, Package, Import, Func, TypeWord, Struct, Interface, Other}
 use Rattle.std.proofs.lemmas.Bool.{eqb-true}
 use Rattle.go_ast.specs.Grammar.{number_of, is}
 
@@ -13,7 +13,7 @@ abbrev pub kinds : List Kind
 kinds = Name ∷ Blank ∷ Number ∷ Text ∷ LeftParen ∷ RightParen ∷ LeftBracket ∷ RightBracket ∷ LeftBrace ∷ RightBrace ∷ Comma ∷ Dot ∷ Colon ∷ Semicolon ∷ Plus
     ∷ Minus ∷ Star ∷ Slash ∷ Percent ∷ Equal ∷ NotEqual ∷ Less ∷ LessEqual ∷ Greater ∷ GreaterEqual ∷ AndAnd ∷ OrOr ∷ Not ∷ Ampersand ∷ Assign ∷ Define ∷
     AddAssign ∷ SubAssign ∷ MulAssign ∷ DivAssign ∷ RemAssign ∷ Increment ∷ Decrement ∷ If ∷ Else ∷ For ∷ Break ∷ Continue ∷ Return ∷ Var ∷ Package ∷ Import
-    ∷ Func ∷ TypeWord ∷ Struct ∷ Other ∷ []
+    ∷ Func ∷ TypeWord ∷ Struct ∷ Interface ∷ Other ∷ []
 
 pub at_number : (k : Kind) → get_or kinds (number_of k) Name ≡ k
 at_number Name = refl
@@ -66,6 +66,7 @@ at_number Import = refl
 at_number Func = refl
 at_number TypeWord = refl
 at_number Struct = refl
+at_number Interface = refl
 at_number Other = refl
 
 pub one_number : (j k : Kind) → number_of j ≡ number_of k → j ≡ k

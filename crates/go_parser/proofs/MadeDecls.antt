@@ -4,17 +4,19 @@ use Rattle.std.specs.List.{All}
 use Rattle.go_ast.specs.declared.syntax.Kind.TheVariants as kind
 use Rattle.go_ast.specs.declared.syntax.Token.{Token}
 use Rattle.go_ast.specs.Grammar.{GrammarSymbol, One, Close, A, is, is_literal, ImportItem, GlobalItem, TypeItem, Single, File, Imports, Tops, MoreNames}
-use Rattle.go_ast.specs.Grammar.{GlobalValues, MoreLiterals, TypeBody, Fields, MoreFields, FuncHead, ReceiverStar, ReceiverEnd, Signature, Params}
+use Rattle.go_ast.specs.Grammar.{GlobalValues, MoreLiterals, TypeBody, Fields, MoreFields, Methods}
+use Rattle.go_ast.specs.Grammar.{MoreMethods, FuncHead, ReceiverStar, ReceiverEnd, Signature, Params}
 use Rattle.go_ast.specs.Grammar.{MoreParams, Result, Types, MoreTypes}
 use Rattle.go_ast.specs.Language.{tested, untested, below}
 use Rattle.go_ast.specs.Tree.{Item, IdentTree, BasicTree, Integer, String, TypeTree, BlockTree, ImportTree, GlobalTree, FieldTree, BodyTree, Other, Struct}
-use Rattle.go_ast.specs.Tree.{TypeSpecTree, ReceiverTree, ParamTree, ResultTree, no_result, one_result, results, FuncTree, ImportsTree, DeclTree, VarDecl}
+use Rattle.go_ast.specs.Tree.{Interface, MethodTree, TypeSpecTree, ReceiverTree, ParamTree, ResultTree}
+use Rattle.go_ast.specs.Tree.{no_result, one_result, results, FuncTree, ImportsTree, DeclTree, VarDecl}
 use Rattle.go_ast.specs.Tree.{TypeDecl, FuncDecl, FileTree}
 use Rattle.go_ast.specs.Flatten.{sign, sign_if, tokens_if, all_tokens, list_tokens, group_tokens, name_tokens, ident_tokens, basic_tokens, value_tokens}
 use Rattle.go_ast.specs.Flatten.{type_tokens, block_tokens, import_tokens, global_tokens, field_tokens, body_tokens, type_spec_tokens, receiver_tokens}
-use Rattle.go_ast.specs.Flatten.{param_tokens, result_tokens, func_tokens, imports_tokens, decl_tokens, flatten}
+use Rattle.go_ast.specs.Flatten.{param_tokens, method_tokens, result_tokens, func_tokens, imports_tokens, decl_tokens, flatten}
 use Rattle.go_ast.specs.WellFormed.{Any, IsNoneOr, IsList, IsGlobal, IsField, IsBody, IsTypeSpec, IsParam, IsOpenList, IsResult, IsFunc, IsBlock, IsImports}
-use Rattle.go_ast.specs.WellFormed.{IsDecl, IsFile}
+use Rattle.go_ast.specs.WellFormed.{IsMethodSpec, IsDecl, IsFile}
 use Rattle.go_parser.proofs.Values.{basic}
 use Rattle.go_parser.proofs.OneValue.{Values}
 use Rattle.go_parser.proofs.Made.{Made, one, opens, closes, rule, along, made_type}
@@ -115,27 +117,6 @@ field_names (x ∷ xs) t w {ts = ts} m =
     ∙ apart (name_tokens x.value) (sign_if kind.Comma x.separator) (list_tokens kind.Comma name_tokens xs) (type_tokens t ++ ts))
     (rule (below untested) (one refl (more_names x.separator xs (behind_item x xs w.joined) (tail_of (λ x. Any x.value) x xs w.each) (made_type t m))) refl)
 
-made_body : (b : BodyTree) → IsBody b → {ss : List GrammarSymbol} {vs : Values ss} {ts : List Token} → Made ss vs ts →
-    Made (A TypeBody ∷ ss) (b, vs) (body_tokens b ++ ts)
-unfolding body_tokens field_tokens
-made_body (Other t) w m = rule (below untested) (made_type t m) refl
-made_body (Struct s o fs c) w {ss = ss} {vs = vs} {ts = ts} m =
-    along (ap (λ z. sign kind.Struct s ∷ sign kind.LeftBrace o ∷ z)
-    (append_assoc (list_tokens kind.Semicolon field_tokens fs) (sign kind.RightBrace c ∷ []) ts))
-    (rule tested (one refl (opens refl
-    (open_list IsField field_tokens kind.Semicolon c
-    (λ r us. Made (A Fields ∷ Close ∷ ss) (r, vs) us) (λ g us. Made (A MoreFields ∷ Close ∷ ss) (g, vs) us) (sign kind.RightBrace c ∷ ts)
-    (rule tested (one refl (closes m)) refl)
-    (λ x h g us n. field_names x.names x.type_use h n)
-    (λ p ys us n. rule tested (one refl n) refl)
-    (rule (below untested) (one refl (closes m)) refl)
-    fs w.separated w.each))) refl)
-
-made_type_spec : (t : TypeSpecTree) → IsTypeSpec t → (ss : List GrammarSymbol) (vs : Values ss) (ts : List Token) → Made ss vs ts →
-    Made (A (Single TypeItem) ∷ ss) (t, vs) (type_spec_tokens t ++ ts)
-unfolding type_spec_tokens
-made_type_spec t w ss vs ts m = rule untested (one refl (made_body t.body w m)) refl
-
 -- functions
 
 param_names : (xs : List (Item IdentTree)) (t : TypeTree) → IsList Any xs →
@@ -164,7 +145,8 @@ made_params ps c w {ss = ss} {vs = vs} {ts = ts} m =
     ps w.separated w.each
 
 -- one result, by what its type begins with
-one_type : (t : TypeTree) {ss : List GrammarSymbol} {vs : Values ss} {ts : List Token} → Made ss vs ts → Made (A Result ∷ ss) (one_result t, vs) (type_tokens t ++ ts)
+one_type : (t : TypeTree) {ss : List GrammarSymbol} {vs : Values ss} {ts : List Token} → Made ss vs ts →
+    Made (A Result ∷ ss) (one_result t, vs) (type_tokens t ++ ts)
 one_type t m = rule (below tested) (made_type t m) refl
 
 made_result : (r : ResultTree) → IsResult r → {ss : List GrammarSymbol} {vs : Values ss} {ts : List Token} → Made ss vs ts →
@@ -182,6 +164,47 @@ made_result (results o rs c) w {ss = ss} {vs = vs} {ts = ts} m =
     (λ p ys us n. rule tested (one refl n) refl)
     (rule (below untested) (one refl (closes m)) refl)
     rs w.separated w.each)) refl)
+
+-- a method that an interface asks for, in front of others
+made_method : (x : MethodTree) → IsMethodSpec x → {ss : List GrammarSymbol} {vs : Values ss} {g : MethodTree → List (Item MethodTree) × ℕ} {ts : List Token} →
+    Made (A MoreMethods ∷ ss) (g, vs) ts → Made (A Methods ∷ ss) (g x, vs) (method_tokens x ++ ts)
+unfolding method_tokens
+made_method x h {ts = ts} m =
+    let a : List Token = list_tokens kind.Comma param_tokens x.params in
+    along (ap (λ z. sign kind.Name x.name ∷ sign kind.LeftParen x.lparen ∷ z) (append_assoc a (sign kind.RightParen x.rparen ∷ result_tokens x.result) ts))
+    (rule (below untested) (one refl (opens refl (made_params x.params x.rparen h.params (made_result x.result h.result m)))) refl)
+
+made_body : (b : BodyTree) → IsBody b → {ss : List GrammarSymbol} {vs : Values ss} {ts : List Token} → Made ss vs ts →
+    Made (A TypeBody ∷ ss) (b, vs) (body_tokens b ++ ts)
+unfolding body_tokens field_tokens
+made_body (Other t) w m = rule (below (below untested)) (made_type t m) refl
+made_body (Struct s o fs c) w {ss = ss} {vs = vs} {ts = ts} m =
+    along (ap (λ z. sign kind.Struct s ∷ sign kind.LeftBrace o ∷ z)
+    (append_assoc (list_tokens kind.Semicolon field_tokens fs) (sign kind.RightBrace c ∷ []) ts))
+    (rule tested (one refl (opens refl
+    (open_list IsField field_tokens kind.Semicolon c
+    (λ r us. Made (A Fields ∷ Close ∷ ss) (r, vs) us) (λ g us. Made (A MoreFields ∷ Close ∷ ss) (g, vs) us) (sign kind.RightBrace c ∷ ts)
+    (rule tested (one refl (closes m)) refl)
+    (λ x h g us n. field_names x.names x.type_use h n)
+    (λ p ys us n. rule tested (one refl n) refl)
+    (rule (below untested) (one refl (closes m)) refl)
+    fs w.separated w.each))) refl)
+made_body (Interface s o ms c) w {ss = ss} {vs = vs} {ts = ts} m =
+    along (ap (λ z. sign kind.Interface s ∷ sign kind.LeftBrace o ∷ z)
+    (append_assoc (list_tokens kind.Semicolon method_tokens ms) (sign kind.RightBrace c ∷ []) ts))
+    (rule (below tested) (one refl (opens refl
+    (open_list IsMethodSpec method_tokens kind.Semicolon c
+    (λ r us. Made (A Methods ∷ Close ∷ ss) (r, vs) us) (λ g us. Made (A MoreMethods ∷ Close ∷ ss) (g, vs) us) (sign kind.RightBrace c ∷ ts)
+    (rule tested (one refl (closes m)) refl)
+    (λ x h g us n. made_method x h n)
+    (λ p ys us n. rule tested (one refl n) refl)
+    (rule (below untested) (one refl (closes m)) refl)
+    ms w.separated w.each))) refl)
+
+made_type_spec : (t : TypeSpecTree) → IsTypeSpec t → (ss : List GrammarSymbol) (vs : Values ss) (ts : List Token) → Made ss vs ts →
+    Made (A (Single TypeItem) ∷ ss) (t, vs) (type_spec_tokens t ++ ts)
+unfolding type_spec_tokens
+made_type_spec t w ss vs ts m = rule untested (one refl (made_body t.body w m)) refl
 
 made_star : (s : Option ℕ) {ss : List GrammarSymbol} {vs : Values ss} {ts : List Token} → Made ss vs ts →
     Made (A ReceiverStar ∷ ss) (s, vs) (sign_if kind.Star s ++ ts)
@@ -263,7 +286,8 @@ made_imports (i ∷ is) a {ts = ts} m =
     (rule tested (one refl (made_group ImportItem Any import_tokens made_import i.imports (head_of IsImports i is a)
     (one refl (made_imports is (tail_of IsImports i is a) m)))) refl)
 
-pub made_file : (f : FileTree) → IsFile f → {ss : List GrammarSymbol} {vs : Values ss} {ts : List Token} → Made ss vs ts → Made (A File ∷ ss) (f, vs) (flatten f ++ ts)
+pub made_file : (f : FileTree) → IsFile f → {ss : List GrammarSymbol} {vs : Values ss} {ts : List Token} → Made ss vs ts →
+    Made (A File ∷ ss) (f, vs) (flatten f ++ ts)
 unfolding flatten
 made_file f w {ts = ts} m =
     along (ap (λ z. sign kind.Package f.keyword ∷ sign kind.Name f.name ∷ sign kind.Semicolon f.semicolon ∷ z)

@@ -10,7 +10,8 @@ use Rattle.go_ast.specs.declared.syntax.Token.{Token}
 use Rattle.go_ast.specs.declared.syntax.TokenFaultKind.TheVariants.{Syntax, Nesting}
 use Rattle.go_ast.specs.Grammar.{number_of, GrammarSymbol, One, Opening, Close, A, Part, Rule, Begins, Otherwise, rules, is, Item, ImportItem, GlobalItem}
 use Rattle.go_ast.specs.Grammar.{TypeItem, LocalItem, Plain, Head, Post, File, Imports, Tops, GroupOf, Items, MoreItems, Single, MoreNames, GlobalValues}
-use Rattle.go_ast.specs.Grammar.{MoreLiterals, TypeBody, Fields, MoreFields, MoreIdents, LocalRest, LocalValues, FuncHead, ReceiverStar, ReceiverEnd}
+use Rattle.go_ast.specs.Grammar.{MoreLiterals, TypeBody, Fields, MoreFields, Methods, MoreMethods}
+use Rattle.go_ast.specs.Grammar.{MoreIdents, LocalRest, LocalValues, FuncHead, ReceiverStar, ReceiverEnd}
 use Rattle.go_ast.specs.Grammar.{Signature, Params, MoreParams, Result, Types, MoreTypes, Block, MoreStatements, Statement, ReturnValues, Expressions}
 use Rattle.go_ast.specs.Grammar.{MoreExpressions, SimpleRest, IfHead, IfAfter, IfBody, ElsePart, ElseBody, ForHead, ForAfter, ForRest, ForCondition}
 use Rattle.go_ast.specs.Grammar.{ForPost, TypeUse, AfterTypeName, Expression, Binaries, Unary, Operand, AfterName, AfterSelector, Links, Arguments}
@@ -264,7 +265,7 @@ single GlobalItem = (
   by_rule untested (token refl (derives_append (nothing_of {p = MoreNames} (below untested))
       (derives_append type_use (nothing_of {p = GlobalValues} (below untested))))),
 )
-single TypeItem = (at_place kind.Name ∷ at_place kind.Name ∷ [], by_rule untested (token refl (by_rule (below untested) type_use)))
+single TypeItem = (at_place kind.Name ∷ at_place kind.Name ∷ [], by_rule untested (token refl (by_rule (below (below untested)) type_use)))
 single LocalItem = (
   at_place kind.Name ∷ at_place kind.Name ∷ [],
   by_rule untested (token refl (derives_append (nothing_of {p = MoreIdents} (below untested)) local_rest)),
@@ -288,9 +289,11 @@ part_text (Single i) = single i
 part_text MoreNames = ([], by_rule (below untested) ends)
 part_text GlobalValues = ([], by_rule (below untested) ends)
 part_text MoreLiterals = ([], by_rule (below untested) ends)
-part_text TypeBody = (_, by_rule (below untested) type_use)
+part_text TypeBody = (_, by_rule (below (below untested)) type_use)
 part_text Fields = (at_place kind.RightBrace ∷ [], by_rule tested (token refl ends))
 part_text MoreFields = (at_place kind.RightBrace ∷ [], by_rule (below untested) (token refl ends))
+part_text Methods = (at_place kind.RightBrace ∷ [], by_rule tested (token refl ends))
+part_text MoreMethods = (at_place kind.RightBrace ∷ [], by_rule (below untested) (token refl ends))
 part_text MoreIdents = ([], by_rule (below untested) ends)
 part_text LocalRest = (_, local_rest)
 part_text LocalValues = ([], by_rule (below untested) ends)
@@ -386,6 +389,8 @@ part_alive MoreLiterals = refl
 part_alive TypeBody = refl
 part_alive Fields = refl
 part_alive MoreFields = refl
+part_alive Methods = refl
+part_alive MoreMethods = refl
 part_alive MoreIdents = refl
 part_alive LocalRest = refl
 part_alive LocalValues = refl
@@ -535,7 +540,8 @@ pub record Halts (symbols : List GrammarSymbol) (limit d : ℕ) (ts : List Token
   pub dead : (t : Token) → (others more : List Token) → rest ≡ t ∷ others → Derives symbols (before ++ (t ∷ more)) → ⊥
   pub shallow : (more : List Token) → (x : Derives symbols (before ++ more)) → (k : ℕ) → k < length before → get_or (levels d x) k 0 ≤ limit
 
-pub stops_at : {d : ℕ} {ss : List GrammarSymbol} {ts : List Token} {n : ℕ} → ParserRun d ss ts (Stopped Syntax n) → Good ss → alive ss ≡ true → Halts ss 200 d ts n
+pub stops_at : {d : ℕ} {ss : List GrammarSymbol} {ts : List Token} {n : ℕ} → ParserRun d ss ts (Stopped Syntax n) → Good ss → alive ss ≡ true →
+    Halts ss 200 d ts n
 stops_at {d = d} (take {c = c} {t = u} {ss = ss} {ts = ts} e r) g a =
     let f = stops_at r g (and_right (some_kind c kinds) (alive ss) a) in
     record {
@@ -618,7 +624,8 @@ accepts (opens e b r) = opening e (accepts r)
 accepts (closes r) = closing (accepts r)
 accepts (expand s r) = by_rule (selected s) (accepts r)
 
-pub deep_at : {d : ℕ} {ss : List GrammarSymbol} {ts : List Token} {n : ℕ} → ParserRun d ss ts (Stopped Nesting n) → Good ss → alive ss ≡ true → IsTooDeep ss 200 d ts n
+pub deep_at : {d : ℕ} {ss : List GrammarSymbol} {ts : List Token} {n : ℕ} → ParserRun d ss ts (Stopped Nesting n) → Good ss → alive ss ≡ true →
+    IsTooDeep ss 200 d ts n
 deep_at {d = d} (take {c = c} {t = u} {ss = ss} {ts = ts} e r) g a =
     let f = deep_at r g (and_right (some_kind c kinds) (alive ss) a) in
     record {

@@ -114,6 +114,7 @@ is_leaf_by p kind.Import = refl
 is_leaf_by p kind.Func = refl
 is_leaf_by p kind.TypeWord = refl
 is_leaf_by p kind.Struct = refl
+is_leaf_by p kind.Interface = refl
 is_leaf_by p kind.Other = refl
 
 pub leaf_none : (p : ℕ) (k : Kind) → leaf_of k p ≡ None → is_leaf k ≡ false
@@ -178,6 +179,7 @@ leaf_tokens p kind.Import e h = cc
 leaf_tokens p kind.Func e h = cc
 leaf_tokens p kind.TypeWord e h = cc
 leaf_tokens p kind.Struct e h = cc
+leaf_tokens p kind.Interface e h = cc
 leaf_tokens p kind.Other e h = cc
 
 -- expressions
@@ -207,7 +209,7 @@ prefix_tokens op p e = refl
 link_more : (l : Link) (others : LinkTrees) → link_tokens (link_view l others) ≡ link_spelled l ++ link_tokens others
 unfolding link_tokens link_view
 link_more (link.Selector d n) others = refl
-link_more (link.Index o e c) others = ap (λ x. sign kind.LeftBracket o ∷ x)
+link_more (link.Index' o p e c) others = ap (λ x. sign kind.LeftBracket o ∷ x)
     (sym (append_assoc (expr_spelled e) (sign kind.RightBracket c ∷ []) (link_tokens others)))
 link_more (link.Call' o shape row c) others = ap (λ x. sign kind.LeftParen o ∷ x)
     (sym (append_assoc (argument_tokens (arguments_view row)) (sign kind.RightParen c ∷ []) (link_tokens others)))
@@ -222,11 +224,17 @@ unfolding expr_tokens expr_view
 chain_tokens e links = ap (λ x. expr_spelled e.value ++ x)
     (link_row_tokens (hidden-the_row-Link-0 links) ∙ ap (λ xs. all_tokens link_spelled xs) (items_hidden-the_row-Link-0 links))
 
+pub named_chain_tokens : (n : ℕ) (links : _) → expr_spelled (expr.NamedChain n links) ≡ sign kind.Name n ∷ all_tokens link_spelled links.items
+unfolding expr_tokens expr_view
+named_chain_tokens n links = ap (λ x. sign kind.Name n ∷ x)
+    (link_row_tokens (hidden-the_row-Link-0 links) ∙ ap (λ xs. all_tokens link_spelled xs) (items_hidden-the_row-Link-0 links))
+
 pub selector_tokens : (d n : ℕ) → link_spelled (link.Selector d n) ≡ sign kind.Dot d ∷ sign kind.Name n ∷ []
 unfolding link_tokens link_view
 selector_tokens d n = refl
 
-pub index_tokens : (o : ℕ) (e : Expr) (c : ℕ) → link_spelled (link.Index o e c) ≡ sign kind.LeftBracket o ∷ (expr_spelled e ++ (sign kind.RightBracket c ∷ []))
+pub index_tokens : (o : ℕ) (e : _) (c : ℕ) →
+    link_spelled (link.Index o e c) ≡ sign kind.LeftBracket o ∷ (expr_spelled e.value ++ (sign kind.RightBracket c ∷ []))
 unfolding link_tokens link_view
 index_tokens o e c = refl
 

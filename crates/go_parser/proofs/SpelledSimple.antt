@@ -39,8 +39,8 @@ pub step_spelled : (e : Expr) (op : StepOp) (p : ℕ) → simple_spelled (simple
 unfolding simple_tokens simple_view
 step_spelled e op p = refl
 
-pub update_spelled : (e : Expr) (op : UpdateOp) (p : ℕ) (f : Expr) →
-    simple_spelled (simple.Update e op p f) ≡ expr_spelled e ++ (sign (update_kind op) p ∷ expr_spelled f)
+pub update_spelled : (e : Expr) (op : UpdateOp) (p : ℕ) (f : _) →
+    simple_spelled (simple.Update e op p f) ≡ expr_spelled e ++ (sign (update_kind op) p ∷ expr_spelled f.value)
 unfolding simple_tokens simple_view
 update_spelled e op p f = refl
 

@@ -63,9 +63,9 @@ pub empty_spelled : stmt_spelled stmt.Empty ≡ []
 unfolding statement_tokens stmt_view
 empty_spelled = refl
 
-pub var_spelled : (p : ℕ) (g : _) → stmt_spelled (stmt.Var p g) ≡ sign kind.Var p ∷ group_spelled (λ x. local_spelled x) g
+pub var_spelled : (p : ℕ) (g : _) → stmt_spelled (stmt.Var p g) ≡ sign kind.Var p ∷ group_spelled (λ x. local_spelled x) g.value
 unfolding statement_tokens stmt_view
-var_spelled p g = ap (λ x. sign kind.Var p ∷ x) (sym (group_spelled_as local_tokens local_view g))
+var_spelled p g = ap (λ x. sign kind.Var p ∷ x) (sym (group_spelled_as local_tokens local_view g.value))
 
 pub simple_stmt_spelled : (s : SimpleStmt) → stmt_spelled (stmt.Simple s) ≡ simple_spelled s
 unfolding statement_tokens stmt_view

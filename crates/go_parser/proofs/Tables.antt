@@ -4,10 +4,12 @@ use Rattle.std.proofs.Common.{◌≡◌, Bool, true, false, List, [], ◌∷◌,
 use Rattle.std.specs.Prelude.{◌&&◌, ◌||◌}
 use Rattle.go_ast.specs.declared.syntax.Kind.{Kind}
 use Rattle.go_ast.specs.declared.syntax.Kind.TheVariants as kind
-use Rattle.go_ast.specs.Grammar.{GrammarSymbol, One, Opening, Close, A, Part, Rule, Begins, Otherwise, rules, is, is_binary, is_ident, is_step, is_update, may_set}
+use Rattle.go_ast.specs.Grammar.{GrammarSymbol, One, Opening, Close, A, Part, Rule, Begins}
+use Rattle.go_ast.specs.Grammar.{Otherwise, rules, is, is_binary, is_ident, is_step, is_update, may_set}
 use Rattle.go_ast.specs.Grammar.{one_of, begins_type, begins_operand, begins_expression, unless, Item, ImportItem, GlobalItem, TypeItem, LocalItem}
 use Rattle.go_ast.specs.Grammar.{Setting, Plain, Head, Post, File, Imports, Tops, GroupOf, Items, MoreItems, Single, MoreNames, GlobalValues, MoreLiterals}
-use Rattle.go_ast.specs.Grammar.{TypeBody, Fields, MoreFields, MoreIdents, LocalRest, LocalValues, FuncHead, ReceiverStar, ReceiverEnd, Signature, Params}
+use Rattle.go_ast.specs.Grammar.{TypeBody, Fields, MoreFields, Methods, MoreMethods, MoreIdents}
+use Rattle.go_ast.specs.Grammar.{LocalRest, LocalValues, FuncHead, ReceiverStar, ReceiverEnd, Signature, Params}
 use Rattle.go_ast.specs.Grammar.{MoreParams, Result, Types, MoreTypes, Block, MoreStatements, Statement, ReturnValues, Expressions, MoreExpressions}
 use Rattle.go_ast.specs.Grammar.{SimpleRest, IfHead, IfAfter, IfBody, ElsePart, ElseBody, ForHead, ForAfter, ForRest, ForCondition, ForPost, TypeUse}
 use Rattle.go_ast.specs.Grammar.{AfterTypeName, Expression, Binaries, Unary, Operand, AfterName, AfterSelector, Links, Arguments, MoreArguments, Address}
@@ -60,9 +62,11 @@ first (Single i) = begins_item i
 first MoreNames = is kind.Comma
 first GlobalValues = is kind.Assign
 first MoreLiterals = is kind.Comma
-first TypeBody = λ k. is kind.Struct k || begins_type k
+first TypeBody = λ k. one_of (kind.Struct ∷ kind.Interface ∷ []) k || begins_type k
 first Fields = one_of (kind.RightBrace ∷ kind.Name ∷ [])
 first MoreFields = one_of (kind.RightBrace ∷ kind.Semicolon ∷ [])
+first Methods = one_of (kind.RightBrace ∷ kind.Name ∷ [])
+first MoreMethods = one_of (kind.RightBrace ∷ kind.Semicolon ∷ [])
 first MoreIdents = is kind.Comma
 first LocalRest = λ k. is kind.Assign k || begins_type k
 first LocalValues = is kind.Assign
@@ -151,7 +155,7 @@ follow LocalValues = ends_either
 follow ReceiverStar = is kind.Name
 follow FuncHead = is kind.Semicolon
 follow Signature = is kind.Semicolon
-follow Result = is kind.LeftBrace
+follow Result = one_of (kind.LeftBrace ∷ kind.Semicolon ∷ kind.RightBrace ∷ [])
 follow Block = λ k. is kind.Else k || ends_statement k
 follow MoreStatements = is kind.RightBrace
 follow Statement = ends_statement
@@ -264,6 +268,8 @@ checked MoreLiterals = refl
 checked TypeBody = refl
 checked Fields = refl
 checked MoreFields = refl
+checked Methods = refl
+checked MoreMethods = refl
 checked MoreIdents = refl
 checked LocalRest = refl
 checked LocalValues = refl

@@ -13,6 +13,7 @@ use Rattle.go_ast.specs.declared.syntax.UpdateOp.{UpdateOp}
 use Rattle.go_ast.specs.declared.syntax.UpdateOp.TheVariants as update
 use Rattle.go_ast.specs.Grammar.{GrammarSymbol, One, Opening, Close, A, Part, Rule, rules, Item as Sort, ImportItem, GlobalItem, TypeItem, LocalItem, File}
 use Rattle.go_ast.specs.Grammar.{Imports, Tops, GroupOf, Items, MoreItems, Single, MoreNames, GlobalValues, MoreLiterals, TypeBody, Fields, MoreFields}
+use Rattle.go_ast.specs.Grammar.{Methods, MoreMethods}
 use Rattle.go_ast.specs.Grammar.{MoreIdents, LocalRest, LocalValues, FuncHead, ReceiverStar, ReceiverEnd, Signature, Params, MoreParams, Result, Types}
 use Rattle.go_ast.specs.Grammar.{MoreTypes, Block, MoreStatements, Statement, ReturnValues, Expressions, MoreExpressions, SimpleRest, IfHead, IfAfter}
 use Rattle.go_ast.specs.Grammar.{IfBody, ElsePart, ElseBody, ForHead, ForAfter, ForRest, ForCondition, ForPost, TypeUse, AfterTypeName, Expression}
@@ -24,7 +25,8 @@ use Rattle.go_ast.specs.Tree.{LinkTrees, no_link, selector, index, call, Argumen
 use Rattle.go_ast.specs.Tree.{no_element, element, SimpleTree, Alone, Step, Update, Assign, Define, LocalTree, ForTree, forever, while, clauses}
 use Rattle.go_ast.specs.Tree.{StatementTree, Empty, Var, Simple, Inner, If, For, Break, Continue, Return, BlockTree, block, StatementTrees, no_statement}
 use Rattle.go_ast.specs.Tree.{statement, IfTree, if_tree, ElseTree, no_else, else_if, else_block, ImportTree, GlobalTree, FieldTree, BodyTree, Other}
-use Rattle.go_ast.specs.Tree.{Struct, TypeSpecTree, ReceiverTree, ParamTree, ResultTree, no_result, one_result, results, FuncTree, ImportsTree, DeclTree}
+use Rattle.go_ast.specs.Tree.{Struct, Interface, MethodTree, TypeSpecTree, ReceiverTree, ParamTree}
+use Rattle.go_ast.specs.Tree.{ResultTree, no_result, one_result, results, FuncTree, ImportsTree, DeclTree}
 use Rattle.go_ast.specs.Tree.{VarDecl, TypeDecl, FuncDecl, FileTree}
 use Rattle.go_parser.proofs.Tables.{symbols_of}
 use Rattle.go_parser.proofs.Precedence.{grouped}
@@ -132,6 +134,8 @@ Value MoreLiterals = BasicTree → List (Item BasicTree)
 Value TypeBody = BodyTree
 Value Fields = Closed FieldTree
 Value MoreFields = FieldTree → Closed FieldTree
+Value Methods = Closed MethodTree
+Value MoreMethods = MethodTree → Closed MethodTree
 Value MoreIdents = IdentTree → List (Item IdentTree)
 Value LocalRest = Option TypeTree × Option (ℕ × List (Item ExprTree))
 Value LocalValues = Option (ℕ × List (Item ExprTree))
@@ -219,9 +223,14 @@ makers (Single LocalItem) = (λ n more rest. record { names = more (ident n); ty
 makers MoreNames = (λ s n more x. parted x s ∷ more n.place, (λ x. last_item x ∷ [], tt))
 makers GlobalValues = (λ s v more. Some (s.place, more (basic v)), (None, tt))
 makers MoreLiterals = (λ s v more x. parted x s ∷ more (basic v), (λ x. last_item x ∷ [], tt))
-makers TypeBody = (λ s o fs. Struct s.place o.place fs.0 fs.1, (λ t. Other t, tt))
+makers TypeBody = (λ s o fs. Struct s.place o.place fs.0 fs.1, (λ i o ms. Interface i.place o.place ms.0 ms.1, (λ t. Other t, tt)))
 makers Fields = (λ c. ([], c.place), (λ n more t rest. rest (record { names = more n.place; type_use = t }), tt))
 makers MoreFields = (λ s more x. (parted x s ∷ more.0, more.1), (λ c x. (last_item x ∷ [], c.place), tt))
+makers Methods = (
+  λ c. ([], c.place),
+  (λ n o ps r rest. rest (record { name = n.place; lparen = o.place; params = ps.0; rparen = ps.1; result = r }), tt),
+)
+makers MoreMethods = (λ s more x. (parted x s ∷ more.0, more.1), (λ c x. (last_item x ∷ [], c.place), tt))
 makers MoreIdents = (λ s n more x. parted x s ∷ more (ident n), (λ x. last_item x ∷ [], tt))
 makers LocalRest = (λ s es. (None, Some (s.place, es)), (λ t vs. (Some t, vs), tt))
 makers LocalValues = (λ s es. Some (s.place, es), (None, tt))

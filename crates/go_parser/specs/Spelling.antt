@@ -22,6 +22,7 @@ use Rattle.go_ast.specs.declared.tree.ImportSpec.{ImportSpec}
 use Rattle.go_ast.specs.declared.tree.BasicLit.{BasicLit}
 use Rattle.go_ast.specs.declared.tree.VarSpec.{VarSpec}
 use Rattle.go_ast.specs.declared.tree.FieldDecl.{FieldDecl}
+use Rattle.go_ast.specs.declared.tree.MethodSpec.{MethodSpec}
 use Rattle.go_ast.specs.declared.tree.TypeBody.{TypeBody}
 use Rattle.go_ast.specs.declared.tree.TypeSpec.{TypeSpec}
 use Rattle.go_ast.specs.declared.tree.Receiver.{Receiver}
@@ -37,7 +38,7 @@ use Rattle.go_ast.specs.Flatten.{sign_if}
 use Rattle.go_ast.specs.View.{list_view, ident_view, type_view, key_view, expr_view, literal_view, link_view, exprs_view}
 use Rattle.go_ast.specs.FileView.{same_index, local_view, simple_view, init_view, for_view, stmt_view, block_view, if_view, else_view, import_view}
 use Rattle.go_ast.specs.FileView.{basic_view, global_view, field_view, body_view, type_spec_view, receiver_view, param_view, results_view, func_view}
-use Rattle.go_ast.specs.FileView.{imports_view, decl_view, file_view}
+use Rattle.go_ast.specs.FileView.{imports_view, decl_view, file_view, method_view}
 
 abbrev pub type_spelled : TypeExpr → List Token
 type_spelled t = flat.type_tokens (type_view t)
@@ -107,6 +108,9 @@ global_spelled g = flat.global_tokens (global_view g)
 
 abbrev pub field_spelled : FieldDecl → List Token
 field_spelled f = flat.field_tokens (field_view f)
+
+abbrev pub method_spelled : MethodSpec → List Token
+method_spelled m = flat.method_tokens (method_view m)
 
 abbrev pub body_spelled : TypeBody → List Token
 body_spelled b = flat.body_tokens (body_view b)

@@ -11,6 +11,7 @@ ghost use Rattle.go_parser.specs.ListSpelling.{items_spelled};
 ghost use Rattle.go_ast.specs.WellFormed.{IsList, IsOpenList, IsNoneOr, Any, IsGlobal, IsField, IsBody, IsTypeSpec};
 
 use crate::groups::Spec;
+use crate::interfaces::interface_body;
 use crate::names::{literals, names};
 use crate::short_lists::push;
 use crate::tokens::{Parsed, at, expect, goes_on, open, separator};
@@ -83,7 +84,7 @@ fn var_values(alloc: Global, tokens: &[Token], depth: u32) -> Parsed<'_, Option<
     Ok((Some(VarValues { assign, values }), rest))
 }
 
-/// Parses the right side of a type definition: a type or a struct.
+/// Parses the right side of a type definition: a type, a struct or an interface.
 fn type_body(alloc: Global, tokens: &[Token], depth: u32) -> Parsed<'_, TypeBody>
     ensures exact { Parses (A grammar.TypeBody ∷ []) (λ x. body_spelled x.0) (λ x. x.1.now) depth tokens.now result }
     ensures formed { IfOk result (λ x. IsBody (body_view x.0)) }
@@ -99,6 +100,9 @@ fn type_body(alloc: Global, tokens: &[Token], depth: u32) -> Parsed<'_, TypeBody
             close,
         };
         return Ok((body, rest));
+    }
+    if at(tokens, Kind::Interface) {
+        return interface_body(alloc, tokens, depth);
     }
     let (type_expr, rest) = type_expr(alloc, tokens, depth)?;
     Ok((TypeBody::Type(type_expr), rest))

@@ -1,5 +1,5 @@
 //! Parses expressions.
-ghost use Rattle.std.specs.Prelude.{◌≡◌, ◌∷◌, ◌≤◌, ◌<◌, ◌+◌, ◌++◌, [], length, true, false, IfOk, is_some};
+ghost use Rattle.std.specs.Prelude.{◌≡◌, ◌≢◌, ◌∷◌, ◌≤◌, ◌<◌, ◌+◌, ◌++◌, [], Bool, length, true, false, IfOk, is_some};
 ghost use Rattle.go_ast.specs.Grammar.{A, Expression, Unary, Binaries, Links, Arguments, Address, Elements, ElementList, slice_type, is};
 ghost use Rattle.go_ast.specs.Grammar as grammar;
 ghost use Rattle.go_parser.specs.Machine.{at};
@@ -9,7 +9,7 @@ ghost use Rattle.go_parser.specs.Spelling.{type_spelled, expr_spelled, literal_s
 ghost use Rattle.go_parser.specs.Strength.{strength_at};
 ghost use Rattle.go_ast.specs.View.{type_view, expr_view, literal_view};
 ghost use Rattle.go_ast.specs.WellFormed.{strength_of, IsExpr, IsExprIn, IsLiteral};
-ghost use Rattle.go_parser.specs.Grouping.{IsUnary, IsOperand, IsLiteralIn, IsLink, AreItems, is_literal_type, literal_type_of};
+ghost use Rattle.go_parser.specs.Grouping.{Each, IsUnary, IsOperand, IsLiteralIn, IsLink, AreItems, is_literal_type, literal_type_of};
 
 use crate::lookahead::{begins_key, begins_link, literal_is_named, type_is_named};
 use crate::operators::{at_leaf, at_prefix, binary_operator, leaf, open_prefix, strength_at};
@@ -18,7 +18,7 @@ use crate::tokens::{Parsed, at, expect, goes_on, open, separator};
 use crate::types::{slice_type, type_name};
 use go_ast::syntax::{Kind, Token};
 use go_ast::tree::{CompositeLit, Element, Expr, ExprItem, Key, Link, Operand, TypeExpr};
-use std::alloc::Global;
+use std::alloc::{AllocError, Global};
 
 /// Parses an expression. In the header of an `if` or a `for`, outside brackets, no composite literal begins with a name.
 #[cycle(expression)]
@@ -234,8 +234,22 @@ fn chain(alloc: Global, first: Expr, tokens: &[Token], depth: u32, header: bool)
     if links.is_empty() {
         return Ok((first, rest));
     }
-    let first = Box::new(alloc, first)?;
-    Ok((Expr::Chain { first, links }, rest))
+    let whole = chained(alloc, first, links)?;
+    Ok((whole, rest))
+}
+
+/// The chain of an operand and the links that follow it. A name needs no box.
+fn chained(alloc: Global, first: Expr, links: Vec<Link>) -> Result<Expr, AllocError>
+    ensures tokens { IfOk result (λ whole. expr_spelled whole ≡ expr_spelled first ++ all_tokens link_spelled links.items) }
+    ensures grouped { IfOk result (λ whole. (h : Bool) → IsOperand h (expr_view first) → Each IsLink links.items → links.items ≢ [] → IsUnary h (expr_view whole)) }
+{
+    match first {
+        Expr::Name(name) => Ok(Expr::NamedChain { name, links }),
+        other => {
+            let first = Box::new(alloc, other)?;
+            Ok(Expr::Chain { first, links })
+        }
+    }
 }
 
 /// Parses one selector, index or call.
@@ -253,8 +267,9 @@ fn link(alloc: Global, tokens: &[Token], depth: u32, header: bool) -> Parsed<'_,
     }
     if at(tokens, Kind::LeftBracket) {
         let ((open, inside), rest) = open(tokens, Kind::LeftBracket, depth)?;
-        let (index, rest) = expression(alloc, rest, inside, false)?;
+        let (inner, rest) = expression(alloc, rest, inside, false)?;
         let (close, rest) = expect(rest, Kind::RightBracket, inside)?;
+        let index = Box::new(alloc, inner)?;
         return Ok((Link::Index { open, index, close }, rest));
     }
     let ((open, inside), rest) = open(tokens, Kind::LeftParen, depth)?;

@@ -12,6 +12,7 @@ ghost use Rattle.go_ast.specs.FileView.{imports_view, decl_view, func_view, file
 
 use crate::functions::{optional_receiver, params, results};
 use crate::groups::group;
+use crate::short_lists::push;
 use crate::statements::block;
 use crate::tokens::{Parsed, at, expect, open};
 use go_ast::syntax::{Kind, Token};
@@ -47,7 +48,7 @@ fn imports(alloc: Global, tokens: &[Token], depth: u32) -> Parsed<'_, Vec<Import
     let mut rest = tokens;
     'imports: while at(rest, Kind::Import) {
         let (next, after) = import_decl(alloc, rest, depth)?;
-        imports.push(next)?;
+        push(&mut imports, next)?;
         rest = after;
     }
     Ok((imports, rest))
@@ -80,7 +81,7 @@ fn decls(alloc: Global, tokens: &[Token], depth: u32) -> Parsed<'_, Vec<Decl>>
     let mut rest = tokens;
     'decls: while begins_decl(rest) {
         let (next, after) = decl(alloc, rest, depth)?;
-        decls.push(next)?;
+        push(&mut decls, next)?;
         rest = after;
     }
     Ok((decls, rest))

@@ -102,7 +102,7 @@ fn kind_at(pieces: &Pieces, place: usize) -> Kind
     requires { place < length (tokens_in pieces.now) }
     ensures { result ≡ kind_of (token_at pieces.now place).class (bytes_of pieces.now.text (token_at pieces.now place)) }
 {
-    let class = pieces.tokens()[place].class;
+    let class = pieces.tokens()[place].class();
     kind_of(class, pieces.text(place))
 }
 
@@ -126,7 +126,7 @@ pub(crate) fn place_of(pieces: &Pieces, left: usize) -> usize
     let tokens = pieces.tokens();
     let first = tokens.len().saturating_sub(left);
     match &tokens[first..] {
-        [token, ..] => token.span.start,
+        [token, ..] => token.start(),
         [] => pieces.file().len(),
     }
 }

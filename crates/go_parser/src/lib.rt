@@ -11,6 +11,7 @@ mod file_tree;
 mod functions;
 mod groups;
 mod headers;
+mod interfaces;
 mod kinds;
 pub mod laws;
 mod locals;

@@ -169,18 +169,19 @@ fn updated(
     }
 }
 
-/// Parses an operator such as `+=` and the right side: the operator, its token index, and the expression.
+/// Parses an operator such as `+=` and the right side: the operator, its token index, and the expression in a box.
 fn change(
     alloc: Global,
     tokens: &[Token],
     depth: u32,
     setting: Setting,
-) -> Parsed<'_, (UpdateOp, usize, Expr)>
-    ensures exact { Parses (One is_update ∷ A (Expression (in_head (setting_of setting))) ∷ []) (λ x. sign (update_kind x.0.0) x.0.1 ∷ expr_spelled x.0.2) (λ x. x.1.now) depth tokens.now result }
-    ensures formed { IfOk result (λ x. IsExprIn (in_head (setting_of setting)) (expr_view x.0.2)) }
+) -> Parsed<'_, (UpdateOp, usize, Box<Expr>)>
+    ensures exact { Parses (One is_update ∷ A (Expression (in_head (setting_of setting))) ∷ []) (λ x. sign (update_kind x.0.0) x.0.1 ∷ expr_spelled x.0.2.value) (λ x. x.1.now) depth tokens.now result }
+    ensures formed { IfOk result (λ x. IsExprIn (in_head (setting_of setting)) (expr_view x.0.2.value)) }
 {
     let ((op, at), rest) = update(tokens, depth)?;
-    let (right, rest) = expr(alloc, rest, depth, setting)?;
+    let (value, rest) = expr(alloc, rest, depth, setting)?;
+    let right = Box::new(alloc, value)?;
     Ok(((op, at, right), rest))
 }
 

@@ -64,7 +64,8 @@ fn statement(alloc: Global, tokens: &[Token], depth: u32) -> Parsed<'_, Stmt>
 {
     if at(tokens, Kind::Var) {
         let (var, rest) = expect(tokens, Kind::Var, depth)?;
-        let (group, rest) = group::<LocalSpec>(alloc, rest, depth)?;
+        let (locals, rest) = group::<LocalSpec>(alloc, rest, depth)?;
+        let group = Box::new(alloc, locals)?;
         return Ok((Stmt::Var { at: var, group }, rest));
     }
     if at(tokens, Kind::LeftBrace) {

@@ -273,13 +273,13 @@ has_one : (n : ℕ) (b : Bool) → b ≡ nat_eq n 0 → b ≡ false → 0 < n
 has_one zero b is none = absurd (false≢true (sym none ∙ is))
 has_one (suc n) b is none = omega arith
 
-pub first_string : (c : CutText) (tokens : List Piece) (d : Piece) (bytes whole : List ℕ) (b : Bool) → b ≡ nat_eq (length tokens) 0 → b ≡ false →
-    tokens ≡ tokens_in c → bytes ≡ bytes_of c.text (token_at c 0) → IsTokenText (token_at c 0).class bytes →
-    (get_or tokens 0 d).class ≡ InterpretedString → (get_or tokens 0 d).span.start ≡ 0 → whole ≡ c.text →
-    nat_eq (get_or tokens 0 d).span.end (length whole) ≡ true → IsCut c.text c.pieces → IsEncodedString c.text
-first_string c tokens d bytes whole b is some same spelled text class start all end cut =
+pub first_string : (c : CutText) (tokens : List Piece) (d t : Piece) (bytes whole : List ℕ) (b : Bool) → b ≡ nat_eq (length tokens) 0 → b ≡ false →
+    tokens ≡ tokens_in c → t ≡ get_or tokens 0 d → bytes ≡ bytes_of c.text (token_at c 0) → IsTokenText (token_at c 0).class bytes →
+    t.class ≡ InterpretedString → t.span.start ≡ 0 → whole ≡ c.text → nat_eq t.span.end (length whole) ≡ true → IsCut c.text c.pieces →
+    IsEncodedString c.text
+first_string c tokens d t bytes whole b is some same read spelled text class start all end cut =
     let here : 0 < length (tokens_in c) = subst (λ ts. 0 < length ts) same (has_one (length tokens) b is some) in
-    let first : get_or tokens 0 d ≡ token_at c 0 = ap (λ ts. get_or ts 0 d) same ∙ get_or_default (tokens_in c) 0 d (semicolon 0) here in
-    let size : (get_or tokens 0 d).span.end ≡ length c.text = eqb-true (get_or tokens 0 d).span.end (length whole) end ∙ ap length all in
-    one_string c (token_at c 0) bytes spelled text (ap (λ (t : Piece). t.class) (sym first) ∙ class)
-    (ap (λ (t : Piece). t.span.start) (sym first) ∙ start) (ap (λ (t : Piece). t.span.end) (sym first) ∙ size) cut
+    let first : t ≡ token_at c 0 = read ∙ ap (λ ts. get_or ts 0 d) same ∙ get_or_default (tokens_in c) 0 d (semicolon 0) here in
+    let size : t.span.end ≡ length c.text = eqb-true t.span.end (length whole) end ∙ ap length all in
+    one_string c (token_at c 0) bytes spelled text (ap (λ (x : Piece). x.class) (sym first) ∙ class)
+    (ap (λ (x : Piece). x.span.start) (sym first) ∙ start) (ap (λ (x : Piece). x.span.end) (sym first) ∙ size) cut

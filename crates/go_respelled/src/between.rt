@@ -6,7 +6,7 @@ ghost use Rattle.go_respelled.specs.Replaced.{IsDifference, IsTokenBehind, PutsT
 use crate::token_edits::replaces_token;
 use base_edits::Edit;
 use base_files::{FileText, Span};
-use go_scanner::{Class, Piece, Pieces, name_len};
+use go_scanner::{Class, CompactPiece, Pieces, name_len};
 use std::alloc::{AllocError, Global};
 
 /// How far two texts are the same, by steps of as many bytes. They are the same up to `from`.
@@ -40,14 +40,14 @@ fn common_len(one: &[u8], other: &[u8]) -> usize
 }
 
 /// The number of tokens that begin at or before an offset, found by binary search.
-fn begun(tokens: &[Piece], offset: usize) -> usize
+fn begun(tokens: &[CompactPiece], offset: usize) -> usize
     ensures { result ≤ length tokens.now }
 {
     let mut low = 0;
     let mut high = tokens.len();
     while low < high {
         let middle = low + (high - low) / 2;
-        if tokens[middle].span.start <= offset {
+        if tokens[middle].start() <= offset {
             low = middle + 1;
         } else {
             high = middle;
@@ -57,13 +57,13 @@ fn begun(tokens: &[Piece], offset: usize) -> usize
 }
 
 /// Whether the token of this number is a name that reaches up to an offset, or a string about the offset.
-fn reaches(tokens: &[Piece], number: usize, offset: usize) -> bool
+fn reaches(tokens: &[CompactPiece], number: usize, offset: usize) -> bool
     ensures { IsTrue result → number < length tokens.now }
 {
     match tokens.get(number) {
-        Some(token) => match token.class {
-            Class::Name => offset <= token.span.end,
-            Class::InterpretedString => offset < token.span.end,
+        Some(token) => match token.class() {
+            Class::Name => offset <= token.end(),
+            Class::InterpretedString => offset < token.end(),
             _ => false,
         },
         None => false,
@@ -71,7 +71,7 @@ fn reaches(tokens: &[Piece], number: usize, offset: usize) -> bool
 }
 
 /// The number of the name or string that contains an offset, or of the name that ends there.
-fn token_near(tokens: &[Piece], offset: usize) -> Option<usize>
+fn token_near(tokens: &[CompactPiece], offset: usize) -> Option<usize>
     ensures { IfSome result (λ number. number < length tokens.now) }
 {
     let count = begun(tokens, offset);
@@ -105,11 +105,11 @@ pub(crate) enum Difference {
 }
 
 /// The name or string at an offset, if it begins where the texts are the same: at or behind `at`, and at or before the offset.
-fn token_behind(tokens: &[Piece], at: usize, offset: usize) -> Option<TokenBehind>
+fn token_behind(tokens: &[CompactPiece], at: usize, offset: usize) -> Option<TokenBehind>
     ensures { IfSome result (λ token. IsTokenBehind tokens.now at offset token) }
 {
     let number = token_near(tokens, offset)?;
-    let start = tokens[number].span.start;
+    let start = tokens[number].start();
     if start < at || offset < start {
         return None;
     }
@@ -204,7 +204,7 @@ fn edit_of(
     requires { number < length (tokens_in old.now) }
     ensures { IfOk result (λ made. IfSome made (PutsToken old.now number left.now)) }
 {
-    let span = old.tokens()[number].span;
+    let span = old.tokens()[number].span();
     let text = token_text(alloc, leading_token(left), before)?;
     let edit = Edit { span, text };
     if replaces_token(alloc, old, number, &edit)? {

@@ -10,7 +10,7 @@ ghost use Rattle.go_respelled.specs.Replaced.{AreFollowing, AreMoved, FitsMoved,
 
 use base_edits::Edit;
 use base_files::Span;
-use go_scanner::Piece;
+use go_scanner::{CompactPiece, Piece};
 use std::alloc::{AllocError, Global};
 
 /// The edits passed so far: their number, and where the last of them ends in the old text and in the new one.
@@ -134,9 +134,9 @@ fn move_next(edits: &[Edit], at: Stretch, token: &Piece) -> (Stretch, Piece)
 /// The tokens at the places to which the edits move them. The list has no spare room.
 pub(crate) fn moved_tokens(
     alloc: Global,
-    tokens: &[Piece],
+    tokens: &[CompactPiece],
     edits: &[Edit],
-) -> Result<Vec<Piece>, AllocError>
+) -> Result<Vec<CompactPiece>, AllocError>
     requires order { AreInOrder 0 edits.now }
     requires tokens { AreFollowing tokens.now }
     requires fits { All (FitsMoved edits.now) tokens.now }
@@ -150,8 +150,10 @@ pub(crate) fn moved_tokens(
     };
     let mut at = Stretch { cursor, limit: 0 };
     while moved.len() < tokens.len() {
-        let step = move_next(edits, at, &tokens[moved.len()]);
-        moved.push_reserved(step.1);
+        let token = tokens[moved.len()].piece();
+        let step = move_next(edits, at, &token);
+        let token = CompactPiece::new(&step.1)?;
+        moved.push_reserved(token);
         at = step.0;
     }
     Ok(moved)

@@ -30,7 +30,7 @@ fn is_one_string(pieces: &Pieces) -> bool
     if tokens.is_empty() {
         return false;
     }
-    let token = tokens[0];
+    let token = tokens[0].piece();
     let _ = pieces.text(0);
     match token.class {
         Class::InterpretedString => {
@@ -79,7 +79,7 @@ pub(crate) fn replaces_token(
     requires { number < length (tokens_in old.now) }
     ensures { IfOk result (λ replaces. IsTrue replaces → ReplacesToken old.now edit.now) }
 {
-    let token = old.tokens()[number];
+    let token = old.tokens()[number].piece();
     if token.span.start != edit.span.start || token.span.end != edit.span.end {
         return Ok(false);
     }

@@ -5,6 +5,7 @@ ghost use Rattle.go_scanner.specs.TokenValues.{HasTokenValue};
 ghost use Rattle.go_scanner.specs.Spans.{IsTokenText, AreTokensInOrder};
 ghost use Rattle.go_scanner.specs.CutText.{HasTokens, IsCutText, token_at, tokens_in};
 
+use crate::compact_piece::CompactPiece;
 use crate::piece::{Class, Piece};
 use crate::string_values::string_value;
 use crate::trail::{Trail, pieces_of};
@@ -17,7 +18,7 @@ use std::marker::Model;
 pub struct Pieces {
     file: FileText,
     pieces: Trail<Piece>,
-    tokens: Vec<Piece>,
+    tokens: Vec<CompactPiece>,
 }
 
 impl Model for Pieces {
@@ -41,7 +42,7 @@ fn part(text: &[u8], span: Span) -> &[u8]
 
 impl Pieces {
     /// Joins a file with its tokens, where others than `scan` know them.
-    pub fn of_tokens(file: FileText, tokens: Vec<Piece>) -> Pieces
+    pub fn of_tokens(file: FileText, tokens: Vec<CompactPiece>) -> Pieces
         requires { HasTokens file tokens.items }
         ensures text { result.text ≡ file }
         ensures cut { IsCut result.text result.pieces }
@@ -52,7 +53,7 @@ impl Pieces {
     }
 
     /// Joins a file with its pieces and tokens.
-    pub(crate) fn new(file: FileText, pieces: Trail<Piece>, tokens: Vec<Piece>) -> Pieces
+    pub(crate) fn new(file: FileText, pieces: Trail<Piece>, tokens: Vec<CompactPiece>) -> Pieces
         requires { IsCutText file pieces.items tokens.items }
         ensures { result ≡ record { text = file; pieces = pieces.items } }
     {
@@ -72,7 +73,7 @@ impl Pieces {
     }
 
     /// The tokens in order. An inserted semicolon is empty and lies at the end of the token before it.
-    pub fn tokens(&self) -> &[Piece]
+    pub fn tokens(&self) -> &[CompactPiece]
         ensures tokens { result.now ≡ tokens_in self.now }
         ensures order { AreTokensInOrder self.now.text (tokens_in self.now) }
     {
@@ -85,7 +86,7 @@ impl Pieces {
         ensures bytes { result.now ≡ bytes_of self.now.text (token_at self.now token) }
         ensures class { IsTokenText (token_at self.now token).class result.now }
     {
-        let span = self.tokens[token].span;
+        let span = self.tokens[token].span();
         part(self.file.bytes(), span)
     }
 
@@ -94,7 +95,7 @@ impl Pieces {
         requires { token < length (tokens_in self.now) }
         ensures { IfOk result (HasTokenValue (token_at self.now token).class (bytes_of self.now.text (token_at self.now token))) }
     {
-        match self.tokens[token].class {
+        match self.tokens[token].class() {
             Class::InterpretedString | Class::RawString => {
                 let value = string_value(alloc, self.text(token))?;
                 Ok(Some(value))

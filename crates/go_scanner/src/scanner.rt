@@ -4,12 +4,13 @@ ghost use Rattle.go_scanner.specs.Cuts.{IsCut, mark_len, mark_of};
 ghost use Rattle.go_scanner.specs.CutText.{IsCutText};
 ghost use Rattle.go_scanner.specs.Refusals.{IsRefusalOfCut};
 
+use crate::compact_piece::CompactPiece;
 use crate::encoding::encoding_fault;
 use crate::front::front;
 use crate::piece::{Class, Piece};
 use crate::pieces::Pieces;
 use crate::refusal::{ScanRefusal, TextFault};
-use crate::tokens::{add_piece, semicolon};
+use crate::tokens::{add_piece, keep_token, semicolon};
 use crate::trail::Trail;
 use base_files::{FaultKind, FileText, Span};
 use std::alloc::Global;
@@ -32,7 +33,7 @@ fn mark(text: &[u8]) -> (Trail<Piece>, usize)
 }
 
 /// The pieces and tokens of a text, or its first fault.
-fn cut(alloc: Global, text: &[u8]) -> Result<(Trail<Piece>, Vec<Piece>), ScanRefusal>
+fn cut(alloc: Global, text: &[u8]) -> Result<(Trail<Piece>, Vec<CompactPiece>), ScanRefusal>
     ensures cut { IfOk result (λ found. IsCutText text.now found.0.items found.1.items) }
     ensures refused { IfErr result (IsRefusalOfCut text.now) }
 {
@@ -61,7 +62,7 @@ fn cut(alloc: Global, text: &[u8]) -> Result<(Trail<Piece>, Vec<Piece>), ScanRef
     }
     match due {
         Some(end) => {
-            tokens.push(semicolon(end))?;
+            keep_token(&mut tokens, &semicolon(end))?;
             Ok((pieces, tokens))
         }
         None => Ok((pieces, tokens)),

@@ -1,8 +1,9 @@
 //! Makes tokens of pieces: drops trivia and inserts semicolons (Go specification, "Semicolons").
-ghost use Rattle.std.specs.Prelude.{◌≡◌, ◌==◌, ◌≤◌, length, IfOk};
+ghost use Rattle.std.specs.Prelude.{◌≡◌, ◌==◌, ◌≤◌, ◌∷◌, ◌++◌, [], length, IfOk, OnOk};
 ghost use Rattle.std.specs.List.{list_any};
 ghost use Rattle.go_scanner.specs.Tokens.{is_trivia, ends_statement, ends_line, AddsTokensOf};
 
+use crate::compact_piece::CompactPiece;
 use crate::keywords::Keyword;
 use crate::operators::Operator;
 use crate::piece::{Class, Piece};
@@ -75,10 +76,19 @@ pub fn semicolon(at: usize) -> Piece
     }
 }
 
+/// Appends a token.
+pub fn keep_token(found: &mut Vec<CompactPiece>, token: &Piece) -> Result<(), AllocError>
+    ensures { OnOk result (found.new.items ≡ found.old.items ++ token.now ∷ []) }
+{
+    let token = CompactPiece::new(token)?;
+    found.push(token)?;
+    Ok(())
+}
+
 /// Adds the token of one piece, and before it the semicolon that is due if the piece ends a line. `due` and the result are the offset at
 /// which a semicolon is inserted if the line ends next.
 pub fn add_piece(
-    found: &mut Vec<Piece>,
+    found: &mut Vec<CompactPiece>,
     due: Option<usize>,
     text: &[u8],
     piece: &Piece,
@@ -88,7 +98,7 @@ pub fn add_piece(
     ensures { IfOk result (λ next. AddsTokensOf text.now found.old.items due piece.now found.new.items next) }
 {
     if !is_trivia(piece.class) {
-        found.push(*piece)?;
+        keep_token(found, piece)?;
         if ends_statement(piece.class) {
             return Ok(Some(piece.span.end));
         }
@@ -99,7 +109,7 @@ pub fn add_piece(
     }
     match due {
         Some(at) => {
-            found.push(semicolon(at))?;
+            keep_token(found, &semicolon(at))?;
             Ok(None)
         }
         None => Ok(None),

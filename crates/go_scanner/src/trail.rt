@@ -4,6 +4,7 @@ ghost use Rattle.std.specs.Borrow.{ftrue};
 ghost use Rattle.std.specs.Coded.{coded_list};
 ghost use Rattle.go_scanner.specs.CutText.{HasTokens, IsCutText};
 
+use crate::compact_piece::CompactPiece;
 use crate::piece::Piece;
 use base_files::FileText;
 use std::marker::{Model, PhantomData};
@@ -36,7 +37,7 @@ impl<T> Trail<T> {
 }
 
 /// The pieces of a text whose tokens are given. They follow from the text, and only proofs keep them.
-pub fn pieces_of(_text: &FileText, _tokens: &Vec<Piece>) -> Trail<Piece>
+pub fn pieces_of(_text: &FileText, _tokens: &Vec<CompactPiece>) -> Trail<Piece>
     requires { HasTokens _text.now _tokens.now.items }
     ensures { IsCutText _text.now result.items _tokens.now.items }
 {

@@ -10,11 +10,11 @@ use Rattle.go_scope.specs.Site.{Site, TokenSpellings, site}
 use Rattle.go_scope.specs.ExpressionSites.{sites_if, list_sites, type_sites}
 use Rattle.go_scope.specs.StatementSites.{separated_sites, group_sites, open_of, close_of, block_sites}
 use Rattle.go_scope.specs.FileSites.{global_name, member_name, spec_sites, global_sites, field_sites, body_sites, type_spec_sites, receiver_sites}
-use Rattle.go_scope.specs.FileSites.{param_sites, result_sites, func_role, func_sites, import_sites, imports_sites, decl_sites, file_sites}
+use Rattle.go_scope.specs.FileSites.{method_sites, param_sites, result_sites, func_role, func_sites, import_sites, imports_sites, decl_sites, file_sites}
 use Rattle.go_scope.proofs.StatementParts.{flat_map-map, open_from}
 use Rattle.go_ast.specs.View.{option_view, item_view, list_view, group_view, type_view}
 use Rattle.go_ast.specs.FileView.{global_view, field_view, body_view, type_spec_view, receiver_view, param_view, results_view, func_view, block_view}
-use Rattle.go_ast.specs.FileView.{import_view, imports_view, decl_view, file_view}
+use Rattle.go_ast.specs.FileView.{method_view, import_view, imports_view, decl_view, file_view}
 use Rattle.go_ast.specs.declared.tree.Group.{Group}
 use Rattle.go_ast.specs.declared.tree.Group.TheVariants as group
 use Rattle.go_ast.specs.declared.tree.TypeBody.{TypeBody}
@@ -30,6 +30,7 @@ use Rattle.go_ast.specs.declared.tree.TypeExpr.{TypeExpr}
 use Rattle.go_ast.specs.declared.tree.VarSpec.{VarSpec}
 use Rattle.go_ast.specs.declared.tree.TypeSpec.{TypeSpec}
 use Rattle.go_ast.specs.declared.tree.FieldDecl.{FieldDecl}
+use Rattle.go_ast.specs.declared.tree.MethodSpec.{MethodSpec}
 use Rattle.go_ast.specs.declared.tree.Param.{Param}
 use Rattle.go_ast.specs.declared.tree.ImportSpec.{ImportSpec}
 use Rattle.go_ast.specs.declared.tree.ImportDecl.{ImportDecl}
@@ -43,6 +44,9 @@ member_part s x = member_name s x.value
 
 abbrev pub field_part : TokenSpellings → Item FieldDecl → List Site
 field_part s x = field_sites s (field_view x.value)
+
+abbrev pub method_part : TokenSpellings → Item MethodSpec → List Site
+method_part s x = method_sites s (method_view x.value)
 
 abbrev pub param_part : TokenSpellings → Block → ℕ → Item Param → List Site
 param_part s b start x = param_sites s b start (param_view x.value)
@@ -77,6 +81,11 @@ pub struct_from : (s : TokenSpellings) (b : TypeBody) (p o : ℕ) (fields : _) (
 unfolding body_sites body_view
 struct_from s b p o fields c xs eb ex = ap (flat_map (field_part s)) ex ∙ flat_map-map (λ x. field_sites s x.value) (item_view field_view) fields.items ∙
     ap (λ z. body_sites s (body_view z)) (sym eb)
+
+pub interface_from : (s : TokenSpellings) (b : TypeBody) (p o : ℕ) (methods : _) (c : ℕ) (xs : List (Item MethodSpec)) → b ≡ body.Interface p o methods c →
+    xs ≡ methods.items → list_sites (method_sites s) (list_view method_view xs) ≡ body_sites s (body_view b)
+unfolding body_sites body_view
+interface_from s b p o methods c xs eb ex = ap (λ z. list_sites (method_sites s) (list_view method_view z)) ex ∙ ap (λ z. body_sites s (body_view z)) (sym eb)
 
 pub results_from : (s : TokenSpellings) (r : Results) (o : ℕ) (types : _) (c : ℕ) (xs : List (Item TypeExpr)) → r ≡ results.Several o types c → xs ≡ types.items →
     flat_map (type_part s) xs ≡ result_sites s (results_view r)

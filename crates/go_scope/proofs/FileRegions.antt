@@ -13,20 +13,23 @@ use Rattle.go_scope.specs.ExpressionSites.{sites_if, list_sites, type_sites}
 use Rattle.go_scope.specs.StatementSites.{ident_sites, separated_sites, group_sites, open_of, close_of, block_sites}
 use Rattle.go_scope.specs.FileSites.{global_name, member_name, spec_sites, global_sites, field_sites, body_sites, type_spec_sites, receiver_sites}
 use Rattle.go_scope.specs.FileSites.{param_sites, result_sites, func_role, func_sites, import_name, import_purpose, import_sites, imports_sites, decl_sites}
-use Rattle.go_scope.specs.FileSites.{file_sites}
-use Rattle.go_scope.proofs.Regions.{Each, each_append, Segment, segment_join, segment_widen, segment_outward, Plain, segment_plain_before, Flat, Level}
+use Rattle.go_scope.specs.FileSites.{method_sites, file_sites}
+use Rattle.go_scope.proofs.Regions.{Each, each_append, Segment, segment_plain_after, segment_together, segment_join}
+use Rattle.go_scope.proofs.Regions.{segment_widen, segment_outward, Plain, segment_plain_before, Flat, Level}
 use Rattle.go_scope.proofs.Regions.{segment_level, level_plain, Together, segment_head, together_plain}
 use Rattle.go_scope.proofs.PlainSites.{plain_append, plain_list, plain_type}
 use Rattle.go_scope.proofs.StatementRegions.{each_rising, idents_together, ident_together, statements_fits}
 use Rattle.go_scope.proofs.Rising.{Rises, rises_le, rises_up, rises_down, rises_split}
 use Rattle.go_ast.specs.declared.syntax.Kind.TheVariants as kind
-use Rattle.go_ast.specs.Flatten.{sign, sign_if, tokens_if, all_tokens, list_tokens, group_tokens, ident_tokens, type_tokens, param_tokens}
-use Rattle.go_ast.specs.Flatten.{receiver_tokens, result_tokens, block_tokens}
+use Rattle.go_ast.specs.declared.syntax.Kind.{Kind}
+use Rattle.go_ast.specs.declared.syntax.Token.{Token}
+use Rattle.go_ast.specs.Flatten.{sign, sign_if, tokens_if, all_tokens, item_tokens, list_tokens, group_tokens, ident_tokens, type_tokens, param_tokens}
+use Rattle.go_ast.specs.Flatten.{field_tokens, method_tokens, body_tokens, receiver_tokens, result_tokens, block_tokens}
 use Rattle.go_ast.specs.Flatten.{statements_tokens, global_tokens, type_spec_tokens, func_tokens, imports_tokens, decl_tokens, flatten}
 use Rattle.go_ast.specs.WellFormed.{IsFunc, IsDecl, IsFile, IsBlock}
 use Rattle.go_ast.specs.Tree.{Item, Group, single, several, GlobalTree, FieldTree, BodyTree, Other, Struct, TypeSpecTree, ReceiverTree, ParamTree}
 use Rattle.go_ast.specs.Tree.{ResultTree, no_result, one_result, results, FuncTree, ImportTree, ImportsTree, DeclTree, VarDecl, TypeDecl, FuncDecl}
-use Rattle.go_ast.specs.Tree.{FileTree, BlockTree, block}
+use Rattle.go_ast.specs.Tree.{MethodTree, Interface, FileTree, BlockTree, block}
 
 level_append : (xs ys : List Site) → Level xs → Level ys → Level (xs ++ ys)
 level_append xs ys a b = each_append (λ x. may_declare x.role ≡ true → Flat x) xs ys a b
@@ -61,15 +64,6 @@ plain_field : (s : TokenSpellings) (f : FieldTree) → Plain (field_sites s f)
 unfolding field_sites
 plain_field s f = plain_append (list_sites (member_name s) f.names) (type_sites s f.type_use) (plain_list (member_name s) (plain_member s) f.names)
     (plain_type s f.type_use)
-
-plain_body : (s : TokenSpellings) (b : BodyTree) → Plain (body_sites s b)
-unfolding body_sites
-plain_body s (Other t) = plain_type s t
-plain_body s (Struct p o fs c) = plain_list (field_sites s) (plain_field s) fs
-
-level_type_spec : (s : TokenSpellings) (t : TypeSpecTree) → Level (type_spec_sites s t)
-unfolding type_spec_sites
-level_type_spec s t = level_append (global_name s t.name) (body_sites s t.body) (level_name s t.name) (level_plain (body_sites s t.body) (plain_body s t.body))
 
 level_import_name : (s : TokenSpellings) (n : Option ℕ) → Level (import_name s n)
 level_import_name s None = tt
@@ -119,22 +113,25 @@ head_receiver s o c n m (Some r) mo h =
     head_append s o c (ident_sites s (Declaring (Inner s.rank o c) o) r.name) (site s r.type_name Use ∷ [])
     (ident_together s o c o o (suc r.lparen) u.0 r.name (omega arith) u.1.0) ((λ m. absurd_may m), tt)
 
-head_param : (s : TokenSpellings) (o c n m : ℕ) (p : ParamTree) → m ≤ o → Rises n (param_tokens p) m → Head s o c (param_sites s (Inner s.rank o c) o p)
+-- parameters of a block from o to c, whose scopes begin at q
+param_together : (s : TokenSpellings) (o c q n m : ℕ) (p : ParamTree) → m ≤ q → Rises n (param_tokens p) m →
+    Each (Together s.rank o c o q) (param_sites s (Inner s.rank o c) q p)
 unfolding param_sites param_tokens
-head_param s o c n m p mo h =
+param_together s o c q n m p mq h =
     let u = rises_split n (list_tokens kind.Comma ident_tokens p.names) (type_tokens p.type_use) m h in
     let um : u.0 ≤ m = rises_le u.0 (type_tokens p.type_use) m u.1.1 in
-    head_append s o c (list_sites (ident_sites s (Declaring (Inner s.rank o c) o)) p.names) (type_sites s p.type_use)
-    (idents_together s o c o o n u.0 p.names (omega arith) u.1.0)
-    (together_plain s.rank o c o o (type_sites s p.type_use) (plain_type s p.type_use))
+    each_append (Together s.rank o c o q) (list_sites (ident_sites s (Declaring (Inner s.rank o c) q)) p.names) (type_sites s p.type_use)
+    (idents_together s o c q o n u.0 p.names (omega arith) u.1.0)
+    (together_plain s.rank o c o q (type_sites s p.type_use) (plain_type s p.type_use))
 
-head_params : (s : TokenSpellings) (o c n m : ℕ) (ps : List (Item ParamTree)) → m ≤ o → Rises n (list_tokens kind.Comma param_tokens ps) m →
-    Head s o c (list_sites (param_sites s (Inner s.rank o c) o) ps)
-head_params s o c n m ps mo h =
-    each_rising (Together s.rank o c o o) param_tokens (param_sites s (Inner s.rank o c) o) kind.Comma 0 o
-    (λ i j p z le r. head_param s o c i j p le r) n m ps (omega arith) mo h
+params_together : (s : TokenSpellings) (o c q n m : ℕ) (ps : List (Item ParamTree)) → m ≤ q → Rises n (list_tokens kind.Comma param_tokens ps) m →
+    Each (Together s.rank o c o q) (list_sites (param_sites s (Inner s.rank o c) q) ps)
+params_together s o c q n m ps mq h =
+    each_rising (Together s.rank o c o q) param_tokens (param_sites s (Inner s.rank o c) q) kind.Comma 0 q
+    (λ i j p z le r. param_together s o c q i j p le r) n m ps (omega arith) mq h
 
-init_name : (s : TokenSpellings) (o c i : ℕ) (b : Bool) → Together s.rank o c o o (site s i (if b then NotLexical purpose.InitFunction else Declaring Package 0))
+init_name : (s : TokenSpellings) (o c i : ℕ) (b : Bool) → Together s.rank o c o o (site s i (if b then NotLexical purpose.InitFunction else Declaring
+    Package 0))
 init_name s o c i true = λ m. absurd_may m
 init_name s o c i false = λ m. inl (flat_package s i)
 
@@ -199,9 +196,117 @@ func_fits s b n m f w mb h =
         segment_outward s.rank o c o c 0 b n c (func_sites s f) oc (omega arith) (omega arith) (omega arith) (omega arith) (omega arith)
             (func_body s o c f.receiver f.name (func_role f.receiver (s.spell f.name)) f.params f.result (block_sites s f.body)
             (head_receiver s o c n r.0 f.receiver (omega arith) r.1.0) (func_name s o c f.name f.receiver (s.spell f.name))
-            (head_params s o c (suc f.lparen) u.0 f.params (omega arith) u.1.0) oc y.3),
+            (params_together s o c o (suc f.lparen) u.0 f.params (omega arith) u.1.0) oc y.3),
       ),
     )
+
+-- types
+
+-- each item of a list lies in a region of its own
+module _ {X : Type 0} (f b : ℕ) (tokens : X → List Token) (sites : X → List Site)
+    (one : (n m : ℕ) (x : X) → m ≤ b → Rises n (tokens x) m → (q : ℕ) × ((n ≤ q) × (suc q ≤ m) × Segment f 0 b n q (sites x))) where
+  items_fit : (k : Kind) (n m : ℕ) (xs : List (Item X)) → m ≤ b → Rises n (list_tokens k tokens xs) m → Segment f 0 b n m (list_sites sites xs)
+  unfolding all_tokens
+  items_fit k n m [] mb h = (tt, tt)
+  items_fit k n m (x ∷ xs) mb h =
+      let r = rises_split n (item_tokens k tokens x) (list_tokens k tokens xs) m h in
+      let rm : r.0 ≤ m = rises_le r.0 (list_tokens k tokens xs) m r.1.1 in
+      let v = rises_split n (tokens x.value) (sign_if k x.separator) r.0 r.1.0 in
+      let vr : v.0 ≤ r.0 = rises_le v.0 (sign_if k x.separator) r.0 v.1.1 in
+      let u = one n v.0 x.value (omega arith) v.1.0 in
+      let nu : n ≤ u.0 = u.1.0 in
+      let uv : suc u.0 ≤ v.0 = u.1.1 in
+      segment_join f 0 b n u.0 m (sites x.value) (list_sites sites xs) (omega arith) (omega arith) u.1.2
+      (items_fit k (suc u.0) m xs mb (rises_down (suc u.0) r.0 (list_tokens k tokens xs) m (omega arith) r.1.1))
+
+  specs_fit : (n m : ℕ) (g : Group X) → m ≤ b → Rises n (group_tokens tokens g) m → Segment f 0 b n m (spec_sites sites g)
+  unfolding group_tokens group_sites separated_sites
+  specs_fit n m (single x) mb h =
+      let u = one n m x mb h in
+      let um : suc u.0 ≤ m = u.1.1 in
+      segment_widen f 0 b n u.0 n m (sites x) (omega arith) (omega arith) u.1.2
+  specs_fit n m (several o xs c) mb h =
+      let no : n ≤ o = h.0 in
+      let r = rises_split (suc o) (list_tokens kind.Semicolon tokens xs) (sign kind.RightParen c ∷ []) m h.1 in
+      let rc : r.0 ≤ c = r.1.1.0 in
+      let cm : suc c ≤ m = r.1.1.1 in
+      segment_widen f 0 b (suc o) r.0 n m (list_sites sites xs) (omega arith) (omega arith) (items_fit kind.Semicolon (suc o) r.0 xs (omega arith) r.1.0)
+
+-- the block of the parameters of an interface's method
+method_fits : (s : TokenSpellings) (b n m : ℕ) (x : MethodTree) → m ≤ b → Rises n (method_tokens x) m →
+    (q : ℕ) × ((n ≤ q) × (suc q ≤ m) × Segment s.rank 0 b n q (method_sites s x))
+unfolding method_tokens method_sites
+method_fits s b n m x mb h =
+    let o = x.lparen in
+    let c = x.rparen in
+    let nx : n ≤ x.name = h.0 in
+    let xo : suc x.name ≤ o = h.1.0 in
+    let u = rises_split (suc o) (list_tokens kind.Comma param_tokens x.params) (sign kind.RightParen c ∷ result_tokens x.result) m h.1.1 in
+    let ou : suc o ≤ u.0 = rises_le (suc o) (list_tokens kind.Comma param_tokens x.params) u.0 u.1.0 in
+    let uc : u.0 ≤ c = u.1.1.0 in
+    let cm : suc c ≤ m = rises_le (suc c) (result_tokens x.result) m u.1.1.1 in
+    let ps = list_sites (param_sites s (Inner s.rank o c) c) x.params in (
+      c,
+      (
+        omega arith,
+        cm,
+        segment_plain_before s.rank 0 b n c (member_name s x.name) (ps ++ result_sites s x.result) (plain_member s x.name)
+            (segment_plain_after s.rank 0 b n c ps (result_sites s x.result)
+            (segment_outward s.rank o c o c 0 b n c ps (omega arith) (omega arith) (omega arith) (omega arith) (omega arith) (omega arith)
+            (segment_together s.rank o c o c ps (omega arith) (omega arith) (params_together s o c c (suc o) u.0 x.params uc u.1.0)))
+            (plain_result s x.result)),
+      ),
+    )
+
+-- a definition's blocks come after its name, and before what follows it
+defined_fits : (s : TokenSpellings) (b n m name : ℕ) (t : BodyTree) → m ≤ b → n ≤ name → Rises (suc name) (body_tokens t) m →
+    (q : ℕ) × ((n ≤ q) × (suc q ≤ m) × Segment s.rank 0 b n q (global_name s name ++ body_sites s t))
+unfolding body_tokens body_sites
+defined_fits s b n m name (Other t) mb nn h =
+    let le : suc name ≤ m = rises_le (suc name) (type_tokens t) m h in (
+      name,
+      (
+        nn,
+        le,
+        segment_level s.rank 0 b n name (global_name s name ++ type_sites s t)
+            (level_append (global_name s name) (type_sites s t) (level_name s name) (level_plain (type_sites s t) (plain_type s t))),
+      ),
+    )
+defined_fits s b n m name (Struct p o fs c) mb nn h =
+    let fields = list_sites (field_sites s) fs in
+    let le : suc name ≤ p = h.0 in
+    let pm : suc p ≤ m = rises_le (suc p) (sign kind.LeftBrace o ∷ (list_tokens kind.Semicolon field_tokens fs ++ (sign kind.RightBrace c ∷ []))) m h.1 in (
+      name,
+      (
+        nn,
+        omega arith,
+        segment_level s.rank 0 b n name (global_name s name ++ fields)
+            (level_append (global_name s name) fields (level_name s name) (level_plain fields (plain_list (field_sites s) (plain_field s) fs))),
+      ),
+    )
+defined_fits s b n m name (Interface p o ms c) mb nn h =
+    let np : suc name ≤ p = h.0 in
+    let po : suc p ≤ o = h.1.0 in
+    let r = rises_split (suc o) (list_tokens kind.Semicolon method_tokens ms) (sign kind.RightBrace c ∷ []) m h.1.1 in
+    let ro : suc o ≤ r.0 = rises_le (suc o) (list_tokens kind.Semicolon method_tokens ms) r.0 r.1.0 in
+    let rc : r.0 ≤ c = r.1.1.0 in
+    let cm : suc c ≤ m = r.1.1.1 in
+    let methods = list_sites (method_sites s) ms in (
+      c,
+      (
+        omega arith,
+        cm,
+        segment_join s.rank 0 b n name c (global_name s name) methods (omega arith) (omega arith)
+            (segment_level s.rank 0 b n name (global_name s name) (level_name s name))
+            (segment_widen s.rank 0 b (suc o) r.0 (suc name) c methods (omega arith) (omega arith)
+            (items_fit s.rank b method_tokens (method_sites s) (method_fits s b) kind.Semicolon (suc o) r.0 ms (omega arith) r.1.0)),
+      ),
+    )
+
+type_spec_fits : (s : TokenSpellings) (b n m : ℕ) (t : TypeSpecTree) → m ≤ b → Rises n (type_spec_tokens t) m →
+    (q : ℕ) × ((n ≤ q) × (suc q ≤ m) × Segment s.rank 0 b n q (type_spec_sites s t))
+unfolding type_spec_tokens type_spec_sites
+type_spec_fits s b n m t mb h = defined_fits s b n m t.name t.body mb h.0 h.1
 
 decl_fits : (s : TokenSpellings) (b n m : ℕ) (d : DeclTree) → 0 < n → IsDecl d → m ≤ b → Rises n (decl_tokens d) m →
     (q : ℕ) × ((n ≤ q) × (suc q ≤ m) × Segment s.rank 0 b n q (decl_sites s d))
@@ -210,8 +315,19 @@ decl_fits s b n m (VarDecl k g semicolon) pos w mb h =
     let le : suc k ≤ m = rises_le (suc k) (group_tokens global_tokens g ++ (sign kind.Semicolon semicolon ∷ [])) m h.1 in
     (k, (h.0, le, segment_level s.rank 0 b n k (spec_sites (global_sites s) g) (level_group (global_sites s) (level_global s) g)))
 decl_fits s b n m (TypeDecl k g semicolon) pos w mb h =
-    let le : suc k ≤ m = rises_le (suc k) (group_tokens type_spec_tokens g ++ (sign kind.Semicolon semicolon ∷ [])) m h.1 in
-    (k, (h.0, le, segment_level s.rank 0 b n k (spec_sites (type_spec_sites s) g) (level_group (type_spec_sites s) (level_type_spec s) g)))
+    let nk : n ≤ k = h.0 in
+    let r = rises_split (suc k) (group_tokens type_spec_tokens g) (sign kind.Semicolon semicolon ∷ []) m h.1 in
+    let kr : suc k ≤ r.0 = rises_le (suc k) (group_tokens type_spec_tokens g) r.0 r.1.0 in
+    let rs : r.0 ≤ semicolon = r.1.1.0 in
+    let sm : suc semicolon ≤ m = r.1.1.1 in (
+      semicolon,
+      (
+        omega arith,
+        sm,
+        segment_widen s.rank 0 b (suc k) r.0 n semicolon (spec_sites (type_spec_sites s) g) (omega arith) (omega arith)
+            (specs_fit s.rank b type_spec_tokens (type_spec_sites s) (type_spec_fits s b) (suc k) r.0 g (omega arith) r.1.0),
+      ),
+    )
 decl_fits s b n m (FuncDecl k f semicolon) pos w mb h =
     let nk : n ≤ k = h.0 in
     let r = rises_split (suc k) (func_tokens f) (sign kind.Semicolon semicolon ∷ []) m h.1 in

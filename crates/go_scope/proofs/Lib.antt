@@ -17,6 +17,10 @@ pub mod PlainSites
 pub mod StatementRegions
 pub mod FileRegions
 pub mod PackageRegions
+pub mod Covers
+pub mod CoveredExpressions
+pub mod CoveredStatements
+pub mod CoveredFiles
 pub mod AmongTokens
 pub mod AmongTrees
 pub mod PackagePlaces

@@ -3,7 +3,7 @@ use Rattle.std.proofs.Common.{ℕ, ◌≡◌, ◌⊎◌, inl, inr, List, [], ◌
 use Rattle.std.specs.List.{flat_map}
 use Rattle.go_scope.specs.Site.{Site, TokenSpellings}
 use Rattle.go_scope.specs.ExpressionSites.{key_sites, type_sites, expr_sites, operand_sites, link_sites, argument_sites, literal_sites, element_sites}
-use Rattle.go_ast.specs.Tree.{no_link, LinkTrees}
+use Rattle.go_ast.specs.Tree.{no_link, LinkTrees, Name}
 use Rattle.go_ast.specs.View.{type_view, expr_view, literal_view, link_view, links_view, operands_view, arguments_view, elements_view, key_view}
 use Rattle.go_ast.specs.declared.tree.Expr.{Expr, Row_of-Link, end_of-Link, more_of-Link, items-the_row-Link, items_hidden-the_row-Link-0, Row_of-Operand}
 use Rattle.go_ast.specs.declared.tree.Expr.{end_of-Operand, more_of-Operand, items-the_row-Operand, items_hidden-the_row-Operand-1}
@@ -35,7 +35,7 @@ element_part s x = key_sites s (key_view x.key) ++ expr_sites s (expr_view x.val
 link_before : (s : TokenSpellings) (l : Link) (others : LinkTrees) → link_sites s (link_view l others) ≡ link_part s l ++ link_sites s others
 unfolding link_sites link_view
 link_before s (link.Selector d n) others = refl
-link_before s (link.Index o e c) others = sym (ap (λ z. z ++ link_sites s others) (append-nil (expr_sites s (expr_view e))))
+link_before s (link.Index' o p e c) others = sym (ap (λ z. z ++ link_sites s others) (append-nil (expr_sites s (expr_view e))))
 link_before s (link.Call' o shape row c) others = sym (ap (λ z. z ++ link_sites s others) (append-nil (argument_sites s (arguments_view row))))
 
 link_row : (s : TokenSpellings) {n : _} (row : Row_of-Link n) → link_sites s (links_view row) ≡ flat_map (link_part s) (items-the_row-Link n row)
@@ -58,6 +58,12 @@ pub chain_parts : (s : TokenSpellings) (first : _) (links : _) →
     expr_sites s (expr_view (expr.Chain first links)) ≡ expr_sites s (expr_view first.value) ++ flat_map (link_part s) links.items
 unfolding expr_sites expr_view
 chain_parts s first links = ap (λ z. expr_sites s (expr_view first.value) ++ z)
+    (link_row s (hidden-the_row-Link-0 links) ∙ ap (flat_map (link_part s)) (items_hidden-the_row-Link-0 links))
+
+named_chain_parts : (s : TokenSpellings) (n : ℕ) (links : _) →
+    expr_sites s (expr_view (expr.NamedChain n links)) ≡ expr_sites s (Name n) ++ flat_map (link_part s) links.items
+unfolding expr_sites expr_view
+named_chain_parts s n links = ap (λ z. expr_sites s (Name n) ++ z)
     (link_row s (hidden-the_row-Link-0 links) ∙ ap (flat_map (link_part s)) (items_hidden-the_row-Link-0 links))
 
 pub binary_parts : (s : TokenSpellings) (first : _) (rest : _) →
@@ -93,6 +99,11 @@ chain_from s e first links v xs ee ev ex =
     ap (λ z. expr_sites s (expr_view z) ++ flat_map (link_part s) xs) ev ∙ ap (λ z. expr_sites s (expr_view first.value) ++ flat_map (link_part s) z) ex ∙
     sym (chain_parts s first links) ∙ ap (λ z. expr_sites s (expr_view z)) (sym ee)
 
+pub named_chain_from : (s : TokenSpellings) (e : Expr) (n : ℕ) (links : _) (xs : List Link) → e ≡ expr.NamedChain n links → xs ≡ links.items →
+    expr_sites s (Name n) ++ flat_map (link_part s) xs ≡ expr_sites s (expr_view e)
+named_chain_from s e n links xs ee ex =
+    ap (λ z. expr_sites s (Name n) ++ flat_map (link_part s) z) ex ∙ sym (named_chain_parts s n links) ∙ ap (λ z. expr_sites s (expr_view z)) (sym ee)
+
 pub binary_from : (s : TokenSpellings) (e : Expr) (first : _) (rest : _) (v : Expr) (xs : List Operand) → e ≡ expr.Binary first rest → v ≡ first.value →
     xs ≡ rest.items →
     expr_sites s (expr_view v) ++ flat_map (operand_part s) xs ≡ expr_sites s (expr_view e)
@@ -104,9 +115,11 @@ pub call_from : (s : TokenSpellings) (l : Link) (o : ℕ) (arguments : _) (c : �
     flat_map (argument_part s) xs ≡ link_part s l
 call_from s l o arguments c xs el ex = ap (flat_map (argument_part s)) ex ∙ sym (call_parts s o arguments c) ∙ ap (link_part s) (sym el)
 
-pub index_from : (s : TokenSpellings) (l : Link) (o : ℕ) (e : Expr) (c : ℕ) → l ≡ link.Index o e c → expr_sites s (expr_view e) ≡ link_part s l
+pub index_from : (s : TokenSpellings) (l : Link) (o : ℕ) (e : _) (c : ℕ) (v : Expr) → l ≡ link.Index o e c → v ≡ e.value →
+    expr_sites s (expr_view v) ≡ link_part s l
 unfolding link_sites link_view
-index_from s l o e c el = sym (append-nil (expr_sites s (expr_view e))) ∙ ap (link_part s) (sym el)
+index_from s l o e c v el ev =
+    ap (λ z. expr_sites s (expr_view z)) ev ∙ sym (append-nil (expr_sites s (expr_view e.value))) ∙ ap (link_part s) (sym el)
 
 literal_from : (s : TokenSpellings) (l : CompositeLit) → type_sites s (type_view (out-CompositeLit l).literal_type) ++ flat_map (element_part s)
     (out-CompositeLit l).elements.items ≡ literal_sites s (literal_view l)

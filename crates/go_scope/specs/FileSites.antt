@@ -10,14 +10,14 @@ use Rattle.go_scope.specs.declared.model.Purpose.TheVariants as purpose
 use Rattle.go_scope.specs.Site.{Site, TokenSpellings, site}
 use Rattle.go_scope.specs.ExpressionSites.{sites_if, list_sites, type_sites}
 use Rattle.go_scope.specs.StatementSites.{ident_sites, group_sites, open_of, close_of, block_sites}
-use Rattle.go_ast.specs.Tree.{Group, GlobalTree, FieldTree, BodyTree, Other, Struct, TypeSpecTree, ReceiverTree, ParamTree, ResultTree, no_result}
-use Rattle.go_ast.specs.Tree.{one_result, results, FuncTree, ImportTree, ImportsTree, DeclTree, VarDecl, TypeDecl, FuncDecl, FileTree}
+use Rattle.go_ast.specs.Tree.{Group, GlobalTree, FieldTree, MethodTree, BodyTree, Other, Struct, Interface, TypeSpecTree, ReceiverTree, ParamTree}
+use Rattle.go_ast.specs.Tree.{ResultTree, no_result, one_result, results, FuncTree, ImportTree, ImportsTree, DeclTree, VarDecl, TypeDecl, FuncDecl, FileTree}
 
 -- the identifier of a name that the package block declares
 abbrev pub global_name : TokenSpellings → ℕ → List Site
 global_name s n = site s n (Declaring Package 0) ∷ []
 
--- the identifier of a field's name in its declaration
+-- the identifier of the name of a field, or of a method that an interface asks for, in its declaration
 abbrev pub member_name : TokenSpellings → ℕ → List Site
 member_name s n = site s n (NotLexical purpose.Member) ∷ []
 
@@ -31,18 +31,7 @@ global_sites s g = list_sites (global_name s) g.names ++ type_sites s g.type_use
 unfoldable pub field_sites : TokenSpellings → FieldTree → List Site
 field_sites s f = list_sites (member_name s) f.names ++ type_sites s f.type_use
 
-unfoldable pub body_sites : TokenSpellings → BodyTree → List Site
-body_sites s (Other t) = type_sites s t
-body_sites s (Struct p o fs c) = list_sites (field_sites s) fs
-
-unfoldable pub type_spec_sites : TokenSpellings → TypeSpecTree → List Site
-type_spec_sites s t = global_name s t.name ++ body_sites s t.body
-
--- the identifiers of a receiver, declared in the block b of the body with a scope from the token `start`
-unfoldable pub receiver_sites : TokenSpellings → Block → ℕ → ReceiverTree → List Site
-receiver_sites s b start r = ident_sites s (Declaring b start) r.name ++ (site s r.type_name Use ∷ [])
-
--- the identifiers of parameters of one type, declared in the block b of the body with scopes from the token `start`
+-- the identifiers of parameters of one type, declared in the block b with scopes from the token `start`
 unfoldable pub param_sites : TokenSpellings → Block → ℕ → ParamTree → List Site
 param_sites s b start p = list_sites (ident_sites s (Declaring b start)) p.names ++ type_sites s p.type_use
 
@@ -50,6 +39,29 @@ unfoldable pub result_sites : TokenSpellings → ResultTree → List Site
 result_sites s no_result = []
 result_sites s (one_result t) = type_sites s t
 result_sites s (results o ts c) = list_sites (type_sites s) ts
+
+-- the block of the parameters of a method that an interface asks for: between its parentheses
+abbrev pub method_block : TokenSpellings → MethodTree → Block
+method_block s m = Inner s.rank m.lparen m.rparen
+
+-- The identifiers of a method that an interface asks for. The scopes of its parameters begin where their block ends. So they are empty, and
+-- only its own identifier is bound to a parameter:
+--
+--   type I interface { M(int int) int }   // int is the predeclared type, each time but the first
+unfoldable pub method_sites : TokenSpellings → MethodTree → List Site
+method_sites s m = member_name s m.name ++ (list_sites (param_sites s (method_block s m) m.rparen) m.params ++ result_sites s m.result)
+
+unfoldable pub body_sites : TokenSpellings → BodyTree → List Site
+body_sites s (Other t) = type_sites s t
+body_sites s (Struct p o fs c) = list_sites (field_sites s) fs
+body_sites s (Interface p o ms c) = list_sites (method_sites s) ms
+
+unfoldable pub type_spec_sites : TokenSpellings → TypeSpecTree → List Site
+type_spec_sites s t = global_name s t.name ++ body_sites s t.body
+
+-- the identifiers of a receiver, declared in the block b of the body with a scope from the token `start`
+unfoldable pub receiver_sites : TokenSpellings → Block → ℕ → ReceiverTree → List Site
+receiver_sites s b start r = ident_sites s (Declaring b start) r.name ++ (site s r.type_name Use ∷ [])
 
 -- the block of a function's body
 abbrev pub func_block : TokenSpellings → FuncTree → Block

@@ -10,6 +10,7 @@ pub mod ExpressionSites
 pub mod StatementSites
 pub mod FileSites
 pub mod Trees
+pub mod IdentifierTokens
 pub mod IdentifierViews
 pub mod SpelledFiles
 pub mod Packages

@@ -9,7 +9,7 @@ use crate::identifiers::PREDECLARED;
 use crate::model::Identifier;
 use go_ast::FileTree;
 use go_ast::tree::{Group, ImportDecl};
-use go_scanner::{Class, Piece};
+use go_scanner::{Class, CompactPiece};
 use std::alloc::{AllocError, Global};
 
 /// The number of specs of an import declaration.
@@ -21,10 +21,10 @@ fn import_count(decl: &ImportDecl) -> usize {
 }
 
 /// The number of names among tokens.
-fn name_count(tokens: &[Piece]) -> usize {
+fn name_count(tokens: &[CompactPiece]) -> usize {
     let mut count: usize = 0;
     for token in tokens {
-        if token.class == Class::Name {
+        if token.class() == Class::Name {
             count = count.saturating_add(1);
         }
     }

@@ -1,10 +1,10 @@
 //! Collects the identifiers of a file's imports and top-level declarations.
 ghost use Rattle.std.specs.Prelude.{◌≡◌, OnOk};
 ghost use Rattle.go_scope.specs.ExpressionSites.{sites_if, list_sites};
-ghost use Rattle.go_scope.specs.FileSites.{global_name, member_name, spec_sites, global_sites, field_sites, body_sites, type_spec_sites, receiver_sites, param_sites, result_sites, func_role, func_sites, import_name, import_purpose, import_sites, imports_sites, decl_sites, file_sites};
+ghost use Rattle.go_scope.specs.FileSites.{global_name, member_name, spec_sites, global_sites, field_sites, method_sites, body_sites, type_spec_sites, receiver_sites, param_sites, result_sites, func_role, func_sites, import_name, import_purpose, import_sites, imports_sites, decl_sites, file_sites};
 ghost use Rattle.go_scope.specs.IdentifierViews.{as_source, AddsTo};
 ghost use Rattle.go_ast.specs.View.{option_view, list_view, group_view};
-ghost use Rattle.go_ast.specs.FileView.{same_index, global_view, field_view, body_view, type_spec_view, receiver_view, param_view, results_view, func_view, import_view, imports_view, decl_view, file_view};
+ghost use Rattle.go_ast.specs.FileView.{same_index, global_view, field_view, method_view, body_view, type_spec_view, receiver_view, param_view, results_view, func_view, import_view, imports_view, decl_view, file_view};
 
 use crate::expressions::add_type;
 use crate::model::{Block, Identifier, Purpose, Role};
@@ -12,8 +12,8 @@ use crate::simple::{add_ident, add_idents};
 use crate::source::RankedFile;
 use crate::statements::add_block;
 use go_ast::tree::{
-    Decl, FieldDecl, File, FuncDecl, Group, ImportDecl, ImportSpec, Item, Param, Receiver, Results,
-    TypeBody, TypeSpec, VarSpec,
+    Decl, FieldDecl, File, FuncDecl, Group, ImportDecl, ImportSpec, Item, MethodSpec, Param,
+    Receiver, Results, TypeBody, TypeSpec, VarSpec,
 };
 use std::alloc::AllocError;
 
@@ -85,7 +85,37 @@ fn add_body<'a>(
             }
             Ok(())
         }
+        TypeBody::Interface { methods, .. } => add_methods(source, found, methods),
     }
+}
+
+/// Adds the identifiers of methods that an interface asks for.
+fn add_methods<'a>(
+    source: &RankedFile<'a>,
+    found: &mut Vec<Identifier<'a>>,
+    methods: &[Item<MethodSpec>],
+) -> Result<(), AllocError>
+    ensures { OnOk result (AddsTo found.old.items found.new.items (list_sites (method_sites (as_source source.now)) (list_view method_view methods.now))) }
+{
+    for item in methods {
+        add_method(source, found, &item.value)?;
+    }
+    Ok(())
+}
+
+/// Adds the identifiers of a method that an interface asks for. The scopes of its parameters are empty: each begins where the block of the
+/// parameters ends.
+fn add_method<'a>(
+    source: &RankedFile<'a>,
+    found: &mut Vec<Identifier<'a>>,
+    method: &MethodSpec,
+) -> Result<(), AllocError>
+    ensures { OnOk result (AddsTo found.old.items found.new.items (method_sites (as_source source.now) (method_view method.now))) }
+{
+    let block = Block::Inner(source.rank, method.open, method.close);
+    source.add(found, method.name, Role::NotLexical(Purpose::Member))?;
+    add_params(source, found, block, method.close, &method.params)?;
+    add_results(source, found, &method.results)
 }
 
 /// Adds the identifiers of a type definition.
@@ -133,7 +163,7 @@ fn add_param<'a>(
     add_type(source, found, &param.param_type)
 }
 
-/// Adds the identifiers of parameters. They are declared in the block of the body, with scopes from its opening brace.
+/// Adds the identifiers of parameters. They are declared in the block, with scopes from the token `start`.
 fn add_params<'a>(
     source: &RankedFile<'a>,
     found: &mut Vec<Identifier<'a>>,

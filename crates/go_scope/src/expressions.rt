@@ -1,5 +1,6 @@
 //! Collects the identifiers of types and expressions.
 ghost use Rattle.std.specs.Prelude.{OnOk};
+ghost use Rattle.std.specs.List.{flat_map};
 ghost use Rattle.go_scope.specs.ExpressionSites.{type_sites, expr_sites, link_sites, literal_sites};
 ghost use Rattle.go_scope.specs.IdentifierViews.{as_source, AddsTo};
 ghost use Rattle.go_ast.specs.View.{type_view, expr_view, link_view, literal_view};
@@ -48,10 +49,11 @@ pub(crate) fn add_expr<'a>(
         Expr::Address { literal, .. } => add_literal(source, found, literal),
         Expr::Chain { first, links } => {
             add_expr(source, found, first)?;
-            for link in links {
-                add_link(source, found, link)?;
-            }
-            Ok(())
+            add_links(source, found, links)
+        }
+        Expr::NamedChain { name, links } => {
+            source.add(found, *name, Role::Use)?;
+            add_links(source, found, links)
         }
         Expr::Binary { first, rest } => {
             add_expr(source, found, first)?;
@@ -61,6 +63,21 @@ pub(crate) fn add_expr<'a>(
             Ok(())
         }
     }
+}
+
+/// Adds the identifiers of links.
+#[cycle(expression)]
+fn add_links<'a>(
+    source: &RankedFile<'a>,
+    found: &mut Vec<Identifier<'a>>,
+    links: &[Link],
+) -> Result<(), AllocError>
+    ensures { OnOk result (AddsTo found.old.items found.new.items (flat_map (λ link. link_sites (as_source source.now) (link_view link no_link)) links.now)) }
+{
+    for link in links {
+        add_link(source, found, link)?;
+    }
+    Ok(())
 }
 
 /// Adds the identifiers of a selector, an index or a call.

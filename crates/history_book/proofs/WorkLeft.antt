@@ -1,5 +1,5 @@
 -- When a Take hands out a Job, and which packages are finished.
-use Rattle.std.proofs.Common.{◌≡◌, ◌<◌, ◌↔◌, ℕ, IsTrue, Bool, false, List, [], inl, inr, Option, Some, None, Bor, is_some, length, get_or, slice_get, refl, ap}
+use Rattle.std.proofs.Common.{◌≡◌, ◌<◌, ◌↔◌, ℕ, IsTrue, false, List, [], inl, inr, Option, Some, None, Bor, is_some, length, get_or, refl, ap}
 use Rattle.std.proofs.lemmas.Bool.{false≢true}
 use Rattle.std.proofs.lemmas.Option.{slice_get-get_or}
 use Rattle.base_files.specs.declared.refusal.Refusal.{Refusal}
@@ -13,7 +13,7 @@ use Rattle.history_machine.specs.declared.event.Event.TheVariants.{Take}
 use Rattle.history_machine.specs.declared.event.Reply.TheVariants.{Back, Refused, Taken}
 use Rattle.history_machine.specs.Machine.{Machine}
 use Rattle.history_machine.specs.State.{State}
-use Rattle.history_machine.specs.Step.{HasRoom, Step}
+use Rattle.history_machine.specs.Step.{Step}
 use Rattle.history_machine.specs.Waiting.{FindsWaiting, IsFirstWaiting, IsWaiting}
 use Rattle.history_machine.proofs.Fresh.{Holds}
 use Rattle.history_book.specs.WorkLeft.{HasJob, IsFinishedAt, TakesOnlyJobs, TakesOrLacks}

@@ -48,7 +48,7 @@ step_next old event (Back Memory job unit) new s = machine_next old new s.2
 step_next old event (Back JournalFull job unit) new s = machine_next old new s.2
 step_next old event reply new s = answer_next (content old) event reply (content new) s.1
 
-run_next : (old : Machine) (es : List (Event × Reply)) (new : Machine) → Run old es new → old.next ≤ new.next
+pub run_next : (old : Machine) (es : List (Event × Reply)) (new : Machine) → Run old es new → old.next ≤ new.next
 run_next old [] new r = machine_next old new r
 run_next old (e ∷ es) new r =
     let first = step_next old e.0 e.1 r.0 r.1 in

@@ -29,16 +29,16 @@ push_not_empty : (xs : List State) (x : State) → xs ++ x ∷ [] ≡ [] → ⊥
 push_not_empty xs x e = absurd (omega (arith, sym (length-append xs (x ∷ [])) ∙ ap length e))
 
 -- the newest states end with the last
-newest-push : (depth : ℕ) (xs : List State) (x : State) → 1 ≤ depth → (kept : List State) × (newest depth (xs ++ x ∷ []) ≡ kept ++ x ∷ [])
+pub newest-push : (depth : ℕ) (xs : List State) (x : State) → 1 ≤ depth → (kept : List State) × (newest depth (xs ++ x ∷ []) ≡ kept ++ x ∷ [])
 newest-push depth xs x h =
     let n = length (xs ++ x ∷ []) - depth in
     let within : n ≤ length xs = omega (arith, length-append xs (x ∷ [])) in
     (drop n xs, drop-append-le n xs (x ∷ []) within)
 
 -- undo and redo reach the same states from n as from m
-record SameReach (m n : Content) : Type 0 where
-  earlier : n.earlier ≡ m.earlier
-  later : n.later ≡ m.later
+pub record SameReach (m n : Content) : Type 0 where
+  pub earlier : n.earlier ≡ m.earlier
+  pub later : n.later ≡ m.later
 
 same_reach : (m n k : Content) → n ≡ k → k.earlier ≡ m.earlier → k.later ≡ m.later → SameReach m n
 same_reach m n k e earlier later = record { earlier = ap (λ (x : Content). x.earlier) e ∙ earlier; later = ap (λ (x : Content). x.later) e ∙ later }
@@ -75,7 +75,7 @@ quiet_step old event (Back Memory job unit) new quiet s = same_machine old new s
 quiet_step old event (Back JournalFull job unit) new quiet s = same_machine old new s.2
 quiet_step old event reply new quiet s = quiet_answer (content old) event reply (content new) quiet s.1
 
-quiet_run : (old : Machine) (es : List (Event × Reply)) (new : Machine) → Run old es new → AdmitsNoChange es → SameReach (content old) (content new)
+pub quiet_run : (old : Machine) (es : List (Event × Reply)) (new : Machine) → Run old es new → AdmitsNoChange es → SameReach (content old) (content new)
 quiet_run old [] new r quiet = same_machine old new r
 quiet_run old (e ∷ es) new r quiet =
     let first = quiet_step old e.0 e.1 r.0 quiet.0 r.1 in

@@ -4,15 +4,16 @@ use Rattle.std.specs.Prelude.{bytes_eq, codes, if◌then◌else◌}
 use Rattle.std.specs.List.{All, flat_map}
 use Rattle.std.proofs.lemmas.List.Elements.{All-head, All-tail}
 use Rattle.base_lemmas.proofs.Elements.{first_in, later_in}
+use Rattle.go_ast.specs.declared.syntax.Kind.{Kind}
 use Rattle.go_ast.specs.declared.syntax.Kind.TheVariants as kind
 use Rattle.go_ast.specs.declared.syntax.Token.{Token}
-use Rattle.go_ast.specs.Flatten.{sign, sign_if, tokens_if, all_tokens, list_tokens, group_tokens, name_tokens, ident_tokens, basic_tokens, type_tokens}
-use Rattle.go_ast.specs.Flatten.{value_tokens, param_tokens, receiver_tokens, result_tokens, block_tokens, statements_tokens, import_tokens, global_tokens}
-use Rattle.go_ast.specs.Flatten.{body_tokens, type_spec_tokens, func_tokens, imports_tokens, decl_tokens, flatten}
+use Rattle.go_ast.specs.Flatten.{sign, sign_if, tokens_if, all_tokens, item_tokens, list_tokens, group_tokens, name_tokens, ident_tokens, basic_tokens}
+use Rattle.go_ast.specs.Flatten.{type_tokens, value_tokens, param_tokens, receiver_tokens, result_tokens, block_tokens, statements_tokens, import_tokens}
+use Rattle.go_ast.specs.Flatten.{global_tokens, method_tokens, body_tokens, type_spec_tokens, func_tokens, imports_tokens, decl_tokens, flatten}
 use Rattle.go_ast.specs.WellFormed.{IsFunc, IsDecl, IsFile, IsBlock}
-use Rattle.go_ast.specs.Tree.{Item, Group, single, several, GlobalTree, FieldTree, BodyTree, Other, Struct, TypeSpecTree, ReceiverTree, ParamTree}
-use Rattle.go_ast.specs.Tree.{ResultTree, no_result, one_result, results, FuncTree, ImportTree, ImportsTree, DeclTree, VarDecl, TypeDecl, FuncDecl}
-use Rattle.go_ast.specs.Tree.{FileTree, BlockTree, block}
+use Rattle.go_ast.specs.Tree.{Item, Group, single, several, GlobalTree, FieldTree, MethodTree, BodyTree, Other, Struct, Interface, TypeSpecTree}
+use Rattle.go_ast.specs.Tree.{ReceiverTree, ParamTree, ResultTree, no_result, one_result, results, FuncTree, ImportTree, ImportsTree, DeclTree, VarDecl}
+use Rattle.go_ast.specs.Tree.{TypeDecl, FuncDecl, FileTree, BlockTree, block}
 use Rattle.go_scope.specs.declared.model.Block.{Block}
 use Rattle.go_scope.specs.declared.model.Block.TheVariants.{Package, File, Inner}
 use Rattle.go_scope.specs.declared.model.Role.TheVariants.{Use, Declaring, NotLexical}
@@ -23,7 +24,7 @@ use Rattle.go_scope.specs.ExpressionSites.{list_sites, type_sites}
 use Rattle.go_scope.specs.StatementSites.{ident_sites, separated_sites, group_sites, open_of, close_of, block_sites}
 use Rattle.go_scope.specs.FileSites.{global_name, member_name, spec_sites, global_sites, field_sites, body_sites, type_spec_sites, receiver_sites}
 use Rattle.go_scope.specs.FileSites.{param_sites, result_sites, func_role, func_sites, import_name, import_purpose, import_sites, imports_sites, decl_sites}
-use Rattle.go_scope.specs.FileSites.{file_sites}
+use Rattle.go_scope.specs.FileSites.{method_sites, file_sites}
 use Rattle.go_scope.proofs.Regions.{Each, each_append, each_map, Plain, not_both}
 use Rattle.go_scope.proofs.PlainSites.{plain_append, plain_list, plain_type}
 use Rattle.go_scope.proofs.StatementRegions.{each_rising}
@@ -31,9 +32,10 @@ use Rattle.go_scope.proofs.Rising.{Rises, rises_le, rises_up, rises_split}
 use Rattle.go_scope.specs.Named.{is_unnamed_import}
 use Rattle.law_blocks.proofs.Others.{IsOther, other_decls}
 use Rattle.law_blocks.specs.Ranges.{Range, BlockRange, body_blocks, braced_specs, func_range, signature_range, decl_blocks, decl_specs}
-use Rattle.law_blocks.specs.Ranges.{file_blocks, file_specs, import_ranges}
+use Rattle.law_blocks.specs.Ranges.{method_range, type_blocks, by_specs, parameters_range, type_specs, file_blocks, file_specs, import_ranges}
 use Rattle.law_blocks.specs.Lookup.{Spans, NestOrAreApart, outside, imported, not_imported, IsBlockAt, at_once, IsStartAt}
-use Rattle.law_blocks.proofs.Ranged.{Laid, IsRanged, laid_plain, laid_wider, laid_join, laid_plain_before, laid_head, laid_together, laid_inside, AtSpec}
+use Rattle.law_blocks.proofs.Ranged.{Laid, IsRanged, laid_plain, laid_wider, laid_join, laid_plain_before, laid_plain_after, laid_head, laid_together}
+use Rattle.law_blocks.proofs.Ranged.{laid_inside, AtSpec}
 use Rattle.law_blocks.proofs.Ranged.{spec_plain, range, AtLevel, laid_level, RangesLie, blocks_wider, ranges_wider, blocks_behind, ranges_behind}
 use Rattle.law_blocks.proofs.Ranged.{ranges_ahead}
 use Rattle.law_blocks.proofs.RangedStatements.{ident_at, idents_at, statements_laid}
@@ -79,19 +81,6 @@ plain_field : (s : TokenSpellings) (f : FieldTree) → Plain (field_sites s f)
 unfolding field_sites
 plain_field s f = plain_append (list_sites (member_name s) f.names) (type_sites s f.type_use) (plain_list (member_name s) (plain_member s) f.names)
     (plain_type s f.type_use)
-
-plain_body : (s : TokenSpellings) (b : BodyTree) → Plain (body_sites s b)
-unfolding body_sites
-plain_body s (Other t) = plain_type s t
-plain_body s (Struct p o fs c) = plain_list (field_sites s) (plain_field s) fs
-
-type_spec_at : (s : TokenSpellings) (k q n m : ℕ) (t : TypeSpecTree) → k ≤ n → m ≤ q → Rises n (type_spec_tokens t) m →
-    Each (AtLevel Package k q) (type_spec_sites s t)
-unfolding type_spec_sites type_spec_tokens
-type_spec_at s k q n m t kn mq h =
-    let le : suc t.name ≤ m = rises_le (suc t.name) (body_tokens t.body) m h.1 in
-    each_append (AtLevel Package k q) (global_name s t.name) (body_sites s t.body) (name_at s k q n m t.name kn mq (h.0, le))
-    (level_plain Package k q (body_sites s t.body) (plain_body s t.body))
 
 -- functions
 
@@ -157,6 +146,90 @@ module _ (s : TokenSpellings) (k o c : ℕ) (ps : List (Item ParamTree)) (result
   with_params n m kn mo h = headed (list_sites (param_sites s own_block o) ps) (result_sites s result ++ body)
       (each_rising (AtSpec own_block k o) param_tokens (param_sites s own_block o) kind.Comma k o
       (λ i j p ki jo r. param_at s own_block k o i j p ki jo r) n m ps kn mo h) behind_head
+
+-- type definitions
+
+-- identifiers of a list, or of a group, where those of each item have the blocks and scopes of its ranges
+module _ {X : Type 0} (rank : ℕ) (tokens : X → List Token) (sites : X → List Site) (blocks : X → List BlockRange) (specs : X → List Range)
+    (one : (n m : ℕ) (x : X) → Rises n (tokens x) m → Laid rank Package n m (blocks x) (specs x) (sites x)) where
+  listed_laid : (k : Kind) (n m : ℕ) (xs : List (Item X)) → Rises n (list_tokens k tokens xs) m →
+      Laid rank Package n m (flat_map (λ (i : Item X). blocks i.value) xs) (flat_map (λ (i : Item X). specs i.value) xs) (list_sites sites xs)
+  unfolding all_tokens
+  listed_laid k n m [] h = laid_plain rank Package n m [] tt
+  listed_laid k n m (x ∷ xs) h =
+      let r = rises_split n (item_tokens k tokens x) (list_tokens k tokens xs) m h in
+      let nr : n ≤ r.0 = rises_le n (item_tokens k tokens x) r.0 r.1.0 in
+      let rm : r.0 ≤ m = rises_le r.0 (list_tokens k tokens xs) m r.1.1 in
+      let v = rises_split n (tokens x.value) (sign_if k x.separator) r.0 r.1.0 in
+      let vr : v.0 ≤ r.0 = rises_le v.0 (sign_if k x.separator) r.0 v.1.1 in
+      laid_join rank Package n r.0 m (blocks x.value) (flat_map (λ (i : Item X). blocks i.value) xs) (specs x.value)
+      (flat_map (λ (i : Item X). specs i.value) xs) (sites x.value) (list_sites sites xs) nr rm
+      (laid_wider rank Package n v.0 n r.0 (blocks x.value) (specs x.value) (sites x.value) (omega arith) vr (one n v.0 x.value v.1.0))
+      (listed_laid k r.0 m xs r.1.1)
+
+  grouped_laid : (n m : ℕ) (g : Group X) → Rises n (group_tokens tokens g) m →
+      Laid rank Package n m (by_specs blocks g) (by_specs specs g) (spec_sites sites g)
+  unfolding group_tokens group_sites separated_sites
+  grouped_laid n m (single x) h = one n m x h
+  grouped_laid n m (several o xs c) h =
+      let no : n ≤ o = h.0 in
+      let r = rises_split (suc o) (list_tokens kind.Semicolon tokens xs) (sign kind.RightParen c ∷ []) m h.1 in
+      let rc : r.0 ≤ c = r.1.1.0 in
+      let cm : suc c ≤ m = r.1.1.1 in
+      laid_wider rank Package (suc o) r.0 n m (by_specs blocks (several o xs c)) (by_specs specs (several o xs c)) (list_sites sites xs) (omega arith)
+      (omega arith) (listed_laid kind.Semicolon (suc o) r.0 xs r.1.0)
+
+-- the parameters of a method that an interface asks for, in a block of their own
+method_laid : (s : TokenSpellings) (n m : ℕ) (x : MethodTree) → Rises n (method_tokens x) m →
+    Laid s.rank Package n m (method_range x ∷ []) (parameters_range x ∷ []) (method_sites s x)
+unfolding method_tokens method_sites
+method_laid s n m x h =
+    let o = x.lparen in
+    let c = x.rparen in
+    let b = Inner s.rank o c in
+    let nx : n ≤ x.name = h.0 in
+    let xo : suc x.name ≤ o = h.1.0 in
+    let u = rises_split (suc o) (list_tokens kind.Comma param_tokens x.params) (sign kind.RightParen c ∷ result_tokens x.result) m h.1.1 in
+    let ou : suc o ≤ u.0 = rises_le (suc o) (list_tokens kind.Comma param_tokens x.params) u.0 u.1.0 in
+    let uc : u.0 ≤ c = u.1.1.0 in
+    let cm : suc c ≤ m = rises_le (suc c) (result_tokens x.result) m u.1.1.1 in
+    let ps = list_sites (param_sites s b c) x.params in
+    let rs = method_range x ∷ [] in
+    let es = parameters_range x ∷ [] in
+    let inside = laid_together s.rank b o c ps (omega arith)
+    (each_rising (AtSpec b o c) param_tokens (param_sites s b c) kind.Comma o c (λ i j p oi jc r. param_at s b o c i j p oi jc r) (suc o) u.0 x.params
+    (omega arith) uc u.1.0) in
+    laid_plain_before s.rank Package n m rs es (member_name s x.name) (ps ++ result_sites s x.result) (plain_member s x.name)
+    (laid_plain_after s.rank Package n m rs es ps (result_sites s x.result)
+    (laid_wider s.rank Package o c n m rs es ps (omega arith) (omega arith)
+    (laid_inside s.rank Package (method_range x) [] es ps (omega arith) tt inside)) (plain_result s x.result))
+
+type_laid : (s : TokenSpellings) (n m : ℕ) (t : BodyTree) → Rises n (body_tokens t) m →
+    Laid s.rank Package n m (type_blocks t) (type_specs t) (body_sites s t)
+unfolding body_tokens body_sites
+type_laid s n m (Other t) h = laid_plain s.rank Package n m (type_sites s t) (plain_type s t)
+type_laid s n m (Struct p o fs c) h = laid_plain s.rank Package n m (list_sites (field_sites s) fs) (plain_list (field_sites s) (plain_field s) fs)
+type_laid s n m (Interface p o ms c) h =
+    let np : n ≤ p = h.0 in
+    let po : suc p ≤ o = h.1.0 in
+    let r = rises_split (suc o) (list_tokens kind.Semicolon method_tokens ms) (sign kind.RightBrace c ∷ []) m h.1.1 in
+    let rc : r.0 ≤ c = r.1.1.0 in
+    let cm : suc c ≤ m = r.1.1.1 in
+    laid_wider s.rank Package (suc o) r.0 n m (type_blocks (Interface p o ms c)) (type_specs (Interface p o ms c)) (list_sites (method_sites s) ms)
+    (omega arith) (omega arith)
+    (listed_laid s.rank method_tokens (method_sites s) (λ x. method_range x ∷ []) (λ x. parameters_range x ∷ []) (method_laid s) kind.Semicolon (suc o) r.0 ms
+    r.1.0)
+
+type_spec_laid : (s : TokenSpellings) (n m : ℕ) (t : TypeSpecTree) → Rises n (type_spec_tokens t) m →
+    Laid s.rank Package n m (type_blocks t.body) (type_specs t.body) (type_spec_sites s t)
+unfolding type_spec_sites type_spec_tokens
+type_spec_laid s n m t h =
+    let nt : n ≤ t.name = h.0 in
+    let le : suc t.name ≤ m = rises_le (suc t.name) (body_tokens t.body) m h.1 in
+    laid_join s.rank Package n (suc t.name) m [] (type_blocks t.body) [] (type_specs t.body) (global_name s t.name) (body_sites s t.body) (omega arith) le
+    (laid_level s.rank Package n (suc t.name) (global_name s t.name)
+    (name_at s n (suc t.name) n (suc t.name) t.name (omega arith) (omega arith) (nt, omega arith)))
+    (type_laid s (suc t.name) m t.body h.1)
 
 named_at : (s : TokenSpellings) (n q i : ℕ) (b : Bool) → n ≤ i → i < q →
     AtLevel Package n q (site s i (if b then NotLexical purpose.InitFunction else Declaring Package 0))
@@ -264,10 +337,10 @@ decl_laid s n m (TypeDecl k g semicolon) w h =
     let nk : n ≤ k = h.0 in
     let r = rises_split (suc k) (group_tokens type_spec_tokens g) (sign kind.Semicolon semicolon ∷ []) m h.1 in
     let rm : r.0 ≤ m = rises_le r.0 (sign kind.Semicolon semicolon ∷ []) m r.1.1 in
-    laid_level s.rank Package n m (spec_sites (type_spec_sites s) g)
-    (level_group (AtLevel Package n m) n m type_spec_tokens (type_spec_sites s) (λ i j x ni jm u. type_spec_at s n m i j x ni jm u) (suc k) r.0 g (omega arith)
-    rm
-    r.1.0)
+    let rs = by_specs (λ (t : TypeSpecTree). type_blocks t.body) g in
+    let es = by_specs (λ (t : TypeSpecTree). type_specs t.body) g in
+    laid_wider s.rank Package (suc k) r.0 n m rs es (spec_sites (type_spec_sites s) g) (omega arith) rm
+    (grouped_laid s.rank type_spec_tokens (type_spec_sites s) (λ t. type_blocks t.body) (λ t. type_specs t.body) (type_spec_laid s) (suc k) r.0 g r.1.0)
 decl_laid s n m (FuncDecl k f semicolon) w h =
     let nk : n ≤ k = h.0 in
     let r = rises_split (suc k) (func_tokens f) (sign kind.Semicolon semicolon ∷ []) m h.1 in

@@ -2,7 +2,7 @@
 use Rattle.std.specs.Prelude.{ℕ, ◌≡◌, List, [], ◌∷◌, Some, None, refl}
 use Rattle.go_ast.specs.Flatten.{simple_tokens, expr_tokens, all_tokens}
 use Rattle.go_ast.specs.Tree.{Item, Named, Local, Name, Define, Simple, If, block, no_statement, statement, if_tree}
-use Rattle.go_ast.specs.Tree.{no_else, no_result, DeclTree, FuncDecl, Empty}
+use Rattle.go_ast.specs.Tree.{no_else, no_result, DeclTree, FuncDecl, TypeDecl, single, Interface, Empty}
 use Rattle.law_blocks.specs.Ranges.{Range, BlockRange, statement_blocks, braced_blocks, statements_blocks, if_blocks, else_blocks, statement_specs}
 use Rattle.law_blocks.specs.Ranges.{braced_specs, statements_specs, if_specs, else_specs, decl_blocks, decl_specs}
 
@@ -38,3 +38,24 @@ blocks_of_text = refl
 specs_of_text : decl_specs text ≡ range 2 6 ∷ range 7 10 ∷ range 12 15 ∷ []
 unfolding braced_specs statements_specs statement_specs if_specs else_specs simple_tokens expr_tokens all_tokens
 specs_of_text = refl
+
+-- `type I interface { m(x int) }`, from token 0 on
+abbrev asking : DeclTree
+asking = TypeDecl 0 (single (record {
+  name = 1;
+  body = Interface 2 3 (only (record {
+    name = 4;
+    lparen = 5;
+    params = only (record { names = only (Named 6); type_use = Local 7 });
+    rparen = 8;
+    result = no_result;
+  })) 9;
+})) 10
+
+-- the parameters of `m`, between its parentheses
+blocks_of_asking : decl_blocks asking ≡ blocked 5 5 8 ∷ []
+blocks_of_asking = refl
+
+-- the scope of `x` begins at the closing parenthesis, where the block ends
+specs_of_asking : decl_specs asking ≡ range 5 8 ∷ []
+specs_of_asking = refl

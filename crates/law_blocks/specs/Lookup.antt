@@ -55,7 +55,7 @@ pub data IsStartAmong (rs : List Range) (t k : ℕ) : Type 0 where
   begins : (r : Range) → Contains rs r → Spans r t → k ≡ r.last → AllByRecursion (λ o. Spans o t → o.last ≡ k) rs → IsStartAmong rs t k
   at_once : AllByRecursion (λ o. Spans o t → ⊥) rs → k ≡ 0 → IsStartAmong rs t k
 
--- the scope of a declaration at the token t of the file begins at the token k; outside of functions it is all of its block, from 0
+-- the scope of a declaration at the token t of the file begins at the token k; in the package block it is all of its block, from 0
 abbrev pub IsStartAt : FileTree → ℕ → ℕ → Type 0
 IsStartAt f t k = IsStartAmong (file_specs f) t k
 

@@ -7,8 +7,8 @@ use Rattle.go_ast.specs.declared.syntax.Token.{Token}
 use Rattle.go_ast.specs.Flatten.{simple_tokens, local_tokens}
 use Rattle.go_ast.specs.Tree.{Item, Group, single, several, SimpleTree, Alone, Step, Update, Assign, Define, LocalTree, InitTree, ForTree, forever, while}
 use Rattle.go_ast.specs.Tree.{clauses, StatementTree, Empty, Var, Simple, Inner, If, For, Break, Continue, Return, BlockTree, block, StatementTrees}
-use Rattle.go_ast.specs.Tree.{no_statement, statement, IfTree, if_tree, ElseTree, no_else, else_if, else_block, ReceiverTree, FuncTree}
-use Rattle.go_ast.specs.Tree.{DeclTree, VarDecl, TypeDecl, FuncDecl, FileTree}
+use Rattle.go_ast.specs.Tree.{no_statement, statement, IfTree, if_tree, ElseTree, no_else, else_if, else_block, MethodTree, BodyTree, Other, Struct}
+use Rattle.go_ast.specs.Tree.{Interface, ReceiverTree, FuncTree, DeclTree, VarDecl, TypeDecl, FuncDecl, FileTree}
 use Rattle.go_scope.specs.StatementSites.{open_of, close_of}
 
 -- the tokens from `first` on, before `last`
@@ -72,10 +72,25 @@ signature_start (Some r) lparen = r.lparen
 abbrev pub func_range : FuncTree → BlockRange
 func_range f = record { first = signature_start f.receiver f.lparen; from = open_of f.body; last = close_of f.body }
 
+-- the block of the parameters of a method that an interface asks for, from one parenthesis to the other
+abbrev pub method_range : MethodTree → BlockRange
+method_range m = record { first = m.lparen; from = m.lparen; last = m.rparen }
+
+-- the blocks of a type definition: those of the methods of an interface
+abbrev pub type_blocks : BodyTree → List BlockRange
+type_blocks (Other t) = []
+type_blocks (Struct p o fs c) = []
+type_blocks (Interface p o ms c) = flat_map (λ i. method_range i.value ∷ []) ms
+
+-- what `f` gives for each spec of a declaration, with or without parentheses
+abbrev pub by_specs : {X Y : Type 0} → (X → List Y) → Group X → List Y
+by_specs f (single x) = f x
+by_specs f (several o xs c) = flat_map (λ i. f i.value) xs
+
 -- the blocks of a top-level declaration
 abbrev pub decl_blocks : DeclTree → List BlockRange
 decl_blocks (VarDecl k g semicolon) = []
-decl_blocks (TypeDecl k g semicolon) = []
+decl_blocks (TypeDecl k g semicolon) = by_specs (λ t. type_blocks t.body) g
 decl_blocks (FuncDecl k f semicolon) = func_range f ∷ body_blocks f.body
 
 -- the blocks of a file, but for those of the file, the package and the universe
@@ -149,12 +164,21 @@ unfoldable mutual
 abbrev pub signature_range : FuncTree → Range
 signature_range f = record { first = signature_start f.receiver f.lparen; last = open_of f.body }
 
+-- The parameters of a method that an interface asks for, up to the closing parenthesis. Their scopes begin and end there, and so are empty.
+abbrev pub parameters_range : MethodTree → Range
+parameters_range m = record { first = m.lparen; last = m.rparen }
+
+abbrev pub type_specs : BodyTree → List Range
+type_specs (Other t) = []
+type_specs (Struct p o fs c) = []
+type_specs (Interface p o ms c) = flat_map (λ i. parameters_range i.value ∷ []) ms
+
 abbrev pub decl_specs : DeclTree → List Range
 decl_specs (VarDecl k g semicolon) = []
-decl_specs (TypeDecl k g semicolon) = []
+decl_specs (TypeDecl k g semicolon) = by_specs (λ t. type_specs t.body) g
 decl_specs (FuncDecl k f semicolon) = signature_range f ∷ braced_specs f.body
 
--- what declares in a function, over a whole file
+-- what declares in a function or in a method of an interface, over a whole file
 abbrev pub file_specs : FileTree → List Range
 file_specs f = flat_map decl_specs f.decls
 

@@ -5,12 +5,14 @@ use Rattle.std.specs.Option.{unwrap_or}
 use Rattle.std.proofs.lemmas.Bool.{true≢false}
 use Rattle.base_lemmas.proofs.EachElement.{all_append}
 use Rattle.go_ast.specs.declared.syntax.Kind.TheVariants as kind
+use Rattle.go_ast.specs.declared.syntax.Token.{Token}
 use Rattle.go_ast.specs.Flatten.{sign, sign_if, tokens_if, all_tokens, item_tokens, list_tokens, group_tokens, ident_tokens, type_tokens, expr_tokens}
 use Rattle.go_ast.specs.Flatten.{exprs_tokens, simple_tokens, value_tokens, local_tokens, init_tokens, for_tokens, statement_tokens, block_tokens}
 use Rattle.go_ast.specs.Flatten.{statements_tokens, if_tokens, else_tokens, receiver_tokens, param_tokens, result_tokens, func_tokens, imports_tokens}
-use Rattle.go_ast.specs.Flatten.{decl_tokens, flatten}
+use Rattle.go_ast.specs.Flatten.{method_tokens, body_tokens, type_spec_tokens, decl_tokens, flatten}
 use Rattle.go_ast.specs.Tree.{Item, Group, single, several, IdentTree, Named, Underscore, ExprTree, SimpleTree, LocalTree, InitTree, ForTree}
-use Rattle.go_ast.specs.Tree.{StatementTree, BlockTree, StatementTrees, IfTree, ElseTree, ReceiverTree, ParamTree, FuncTree, DeclTree, FileTree}
+use Rattle.go_ast.specs.Tree.{StatementTree, BlockTree, StatementTrees, IfTree, ElseTree, MethodTree, BodyTree, TypeSpecTree, ReceiverTree, ParamTree}
+use Rattle.go_ast.specs.Tree.{FuncTree, DeclTree, FileTree}
 use Rattle.go_ast.specs.Tree as tree
 use Rattle.go_scope.specs.declared.model.Block.TheVariants.{Inner}
 use Rattle.go_scope.specs.declared.model.Role.TheVariants.{Use, Declaring}
@@ -20,7 +22,7 @@ use Rattle.go_scope.specs.ExpressionSites.{sites_if, list_sites, type_sites, exp
 use Rattle.go_scope.specs.StatementSites.{ident_sites, left_sites, assigned_sites, simple_sites, value_sites, local_sites, separated_sites, group_sites}
 use Rattle.go_scope.specs.StatementSites.{init_sites, for_sites, open_of, close_of, statement_sites, block_sites, statements_sites, if_sites, else_sites}
 use Rattle.go_scope.specs.FileSites.{receiver_sites, param_sites, result_sites, func_block, func_role, func_sites, global_sites, type_spec_sites}
-use Rattle.go_scope.specs.FileSites.{imports_sites, decl_sites, file_sites}
+use Rattle.go_scope.specs.FileSites.{spec_sites, field_sites, method_sites, body_sites, imports_sites, decl_sites, file_sites}
 use Rattle.go_scope.proofs.PlainSites.{plain_append, plain_list, plain_if, plain_type, plain_expr, plain_exprs, plain_assigned}
 use Rattle.go_scope.proofs.Regions.{Each, inner_file}
 use Rattle.law_faultless.specs.ResolvedNames.{may_be_local}
@@ -28,7 +30,7 @@ use Rattle.law_faultless.proofs.NumberedTokens.{Strung, strung_split, strung_le}
 use Rattle.law_faultless.proofs.KnownLocals.{local_may}
 use Rattle.law_faultless.proofs.Leaves.{below_more, left_stands, list_stands}
 use Rattle.law_faultless.proofs.Simples.{idents_stand}
-use Rattle.law_faultless.proofs.Typed.{group_abroad, global_abroad, spec_abroad, result_abroad, func_abroad, imports_abroad}
+use Rattle.law_faultless.proofs.Typed.{type_abroad, group_abroad, global_abroad, fields_abroad, result_abroad, func_abroad, imports_abroad}
 
 -- its scope begins behind it, and its block is one of the file of that rank
 abbrev pub Begins : ℕ → Site → Type 0
@@ -302,6 +304,51 @@ module _ (B : ℕ → Type 0) (s : TokenSpellings) where
             (all_append P s3 s4 (abroad_begins s.rank s3 (result_abroad s f.result)) (block_begins t3.0 m f.body t3.1.1)),
       )
 
+  -- types
+
+  method_begins : (n m : ℕ) (x : MethodTree) → Strung B n (method_tokens x) m → AllByRecursion P (method_sites s x)
+  unfolding method_sites method_tokens
+  method_begins n m x t =
+      let o = x.lparen in
+      let c = x.rparen in
+      let params = list_tokens kind.Comma param_tokens x.params in
+      let y = strung_split B (suc (suc n)) params (sign kind.RightParen c ∷ result_tokens x.result) m t.1.1.1.1 in
+      let at : c ≡ y.0 = y.1.1.0 in
+      let s2 = list_sites (param_sites s (Inner s.rank o c) c) x.params in
+      let s3 = result_sites s x.result in (
+        (λ e. absurd (true≢false (sym e))),
+        all_append P s2 s3 (params_begin o c c (suc (suc n)) y.0 x.params y.1.0 (omega arith)) (abroad_begins s.rank s3 (result_abroad s x.result)),
+      )
+
+  -- each identifier of the items of a list, or of a group of specs
+  module _ {X : Type 0} (sites : X → List Site) (tokens : X → List Token)
+      (one_begins : (n m : ℕ) (x : X) → Strung B n (tokens x) m → AllByRecursion P (sites x)) where
+    listed_begin : (n m : ℕ) (xs : List (Item X)) → Strung B n (list_tokens kind.Semicolon tokens xs) m → AllByRecursion P (list_sites sites xs)
+    unfolding all_tokens
+    listed_begin n m [] t = tt
+    listed_begin n m (x ∷ xs) t =
+        let y = strung_split B n (item_tokens kind.Semicolon tokens x) (list_tokens kind.Semicolon tokens xs) m t in
+        let z = strung_split B n (tokens x.value) (sign_if kind.Semicolon x.separator) y.0 y.1.0 in
+        all_append P (sites x.value) (list_sites sites xs) (one_begins n z.0 x.value z.1.0) (listed_begin y.0 m xs y.1.1)
+
+    specs_begin : (n m : ℕ) (g : Group X) → Strung B n (group_tokens tokens g) m → AllByRecursion P (spec_sites sites g)
+    unfolding group_tokens group_sites separated_sites
+    specs_begin n m (single x) t = one_begins n m x t
+    specs_begin n m (several o xs c) t =
+        let y = strung_split B (suc n) (list_tokens kind.Semicolon tokens xs) (sign kind.RightParen c ∷ []) m t.1.1 in listed_begin (suc n) y.0 xs y.1.0
+
+  body_begins : (n m : ℕ) (b : BodyTree) → Strung B n (body_tokens b) m → AllByRecursion P (body_sites s b)
+  unfolding body_sites body_tokens
+  body_begins n m (tree.Other x) t = abroad_begins s.rank (type_sites s x) (type_abroad s x)
+  body_begins n m (tree.Struct p o fs c) t = abroad_begins s.rank (list_sites (field_sites s) fs) (fields_abroad s fs)
+  body_begins n m (tree.Interface p o ms c) t =
+      let y = strung_split B (suc (suc n)) (list_tokens kind.Semicolon method_tokens ms) (sign kind.RightBrace c ∷ []) m t.1.1.1.1 in
+      listed_begin (method_sites s) method_tokens method_begins (suc (suc n)) y.0 ms y.1.0
+
+  spec_begins : (n m : ℕ) (x : TypeSpecTree) → Strung B n (type_spec_tokens x) m → AllByRecursion P (type_spec_sites s x)
+  unfolding type_spec_sites type_spec_tokens
+  spec_begins n m x t = ((λ e. absurd (true≢false (sym e))), body_begins (suc n) m x.body t.1.1)
+
   decls_begin : (n m : ℕ) (ds : List DeclTree) → Strung B n (all_tokens decl_tokens ds) m → AllByRecursion P (flat_map (decl_sites s) ds)
   unfolding all_tokens decl_sites decl_tokens
   decls_begin n m [] t = tt
@@ -311,8 +358,9 @@ module _ (B : ℕ → Type 0) (s : TokenSpellings) where
       (abroad_begins s.rank _ (group_abroad (global_sites s) (global_abroad s) g)) (decls_begin x.0 m ds x.1.1)
   decls_begin n m (tree.TypeDecl k g c ∷ ds) t =
       let x = strung_split B n (decl_tokens (tree.TypeDecl k g c)) (all_tokens decl_tokens ds) m t in
+      let y = strung_split B (suc n) (group_tokens type_spec_tokens g) (sign kind.Semicolon c ∷ []) x.0 x.1.0.1.1 in
       all_append P (decl_sites s (tree.TypeDecl k g c)) (flat_map (decl_sites s) ds)
-      (abroad_begins s.rank _ (group_abroad (type_spec_sites s) (spec_abroad s) g)) (decls_begin x.0 m ds x.1.1)
+      (specs_begin (type_spec_sites s) type_spec_tokens spec_begins (suc n) y.0 g y.1.0) (decls_begin x.0 m ds x.1.1)
   decls_begin n m (tree.FuncDecl k f c ∷ ds) t =
       let x = strung_split B n (decl_tokens (tree.FuncDecl k f c)) (all_tokens decl_tokens ds) m t in
       let y = strung_split B (suc n) (func_tokens f) (sign kind.Semicolon c ∷ []) x.0 x.1.0.1.1 in

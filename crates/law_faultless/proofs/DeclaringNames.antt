@@ -10,11 +10,11 @@ use Rattle.go_ast.specs.declared.syntax.Kind.TheVariants as kind
 use Rattle.go_ast.specs.declared.syntax.Token.{Token}
 use Rattle.go_ast.specs.Flatten.{sign, sign_if, tokens_if, all_tokens, item_tokens, list_tokens, group_tokens, name_tokens, ident_tokens, type_tokens}
 use Rattle.go_ast.specs.Flatten.{expr_tokens, exprs_tokens, simple_tokens, value_tokens, local_tokens, init_tokens, for_tokens, statement_tokens}
-use Rattle.go_ast.specs.Flatten.{block_tokens, statements_tokens, if_tokens, else_tokens, global_tokens, type_spec_tokens, receiver_tokens, param_tokens}
-use Rattle.go_ast.specs.Flatten.{result_tokens, func_tokens, decl_tokens}
+use Rattle.go_ast.specs.Flatten.{block_tokens, statements_tokens, if_tokens, else_tokens, global_tokens, method_tokens, body_tokens, type_spec_tokens}
+use Rattle.go_ast.specs.Flatten.{receiver_tokens, param_tokens, result_tokens, func_tokens, decl_tokens}
 use Rattle.go_ast.specs.Tree.{Item, Group, single, several, IdentTree, Named, Underscore, ExprTree, SimpleTree, LocalTree, InitTree, ForTree}
-use Rattle.go_ast.specs.Tree.{StatementTree, BlockTree, StatementTrees, IfTree, ElseTree, GlobalTree, FieldTree, BodyTree, Other, Struct, TypeSpecTree}
-use Rattle.go_ast.specs.Tree.{ReceiverTree, ParamTree, ResultTree, no_result, one_result, results, FuncTree, DeclTree, VarDecl}
+use Rattle.go_ast.specs.Tree.{StatementTree, BlockTree, StatementTrees, IfTree, ElseTree, GlobalTree, FieldTree, MethodTree, BodyTree, Other, Struct}
+use Rattle.go_ast.specs.Tree.{Interface, TypeSpecTree, ReceiverTree, ParamTree, ResultTree, no_result, one_result, results, FuncTree, DeclTree, VarDecl}
 use Rattle.go_ast.specs.Tree.{TypeDecl, FuncDecl}
 use Rattle.go_ast.specs.Tree as tree
 use Rattle.go_scope.specs.declared.model.Block.TheVariants.{Universe, File, Inner}
@@ -28,7 +28,7 @@ use Rattle.go_scope.specs.ExpressionSites.{sites_if, list_sites, type_sites, exp
 use Rattle.go_scope.specs.StatementSites.{ident_sites, left_sites, assigned_sites, simple_sites, value_sites, local_sites, separated_sites, group_sites}
 use Rattle.go_scope.specs.StatementSites.{init_sites, for_sites, open_of, close_of, statement_sites, block_sites, statements_sites, if_sites, else_sites}
 use Rattle.go_scope.specs.FileSites.{global_name, member_name, spec_sites, global_sites, field_sites, body_sites, type_spec_sites, receiver_sites}
-use Rattle.go_scope.specs.FileSites.{param_sites, result_sites, func_block, func_role, func_sites, decl_sites}
+use Rattle.go_scope.specs.FileSites.{param_sites, result_sites, method_sites, func_block, func_role, func_sites, decl_sites}
 use Rattle.go_scope.proofs.PlainSites.{plain_append, plain_list, plain_if, plain_type, plain_expr, plain_exprs, plain_assigned}
 use Rattle.go_scope.proofs.Regions.{Each}
 use Rattle.types_declared.specs.Files.{group_items}
@@ -318,14 +318,33 @@ module _ (K : Kind → ℕ → Type 0) where
         plain_append (list_sites (member_name s) f.names) (type_sites s f.type_use) (plain_list (member_name s) (λ n. (refl, tt)) f.names)
         (plain_type s f.type_use)
 
-    plain_body : (b : BodyTree) → Each (λ x. may_declare x.role ≡ false) (body_sites s b)
-    unfolding body_sites
-    plain_body (Other t) = plain_type s t
-    plain_body (Struct p o fs c) = plain_list (field_sites s) plain_field fs
+    method_told : (m : MethodTree) → AllOf K (method_tokens m) → AllByRecursion P (method_sites s m)
+    unfolding method_sites method_tokens
+    method_told m h =
+        let params = list_tokens kind.Comma param_tokens m.params in
+        let tail = sign kind.RightParen m.rparen ∷ result_tokens m.result in
+        let s2 = list_sites (param_sites s (Inner s.rank m.lparen m.rparen) m.rparen) m.params in
+        let s3 = result_sites s m.result in
+        (tt, all_append P s2 s3 (params_told m.lparen m.rparen m.rparen m.params (front params tail h.1.1)) (plain s3 (plain_result m.result)))
+
+    methods_told : (ms : List (Item MethodTree)) → AllOf K (list_tokens kind.Semicolon method_tokens ms) → AllByRecursion P (list_sites (method_sites s) ms)
+    unfolding all_tokens
+    methods_told [] h = tt
+    methods_told (m ∷ ms) h =
+        let own = item_tokens kind.Semicolon method_tokens m in
+        let rest = list_tokens kind.Semicolon method_tokens ms in
+        all_append P (method_sites s m.value) (list_sites (method_sites s) ms)
+        (method_told m.value (front (method_tokens m.value) (sign_if kind.Semicolon m.separator) (front own rest h))) (methods_told ms (back own rest h))
+
+    body_told : (b : BodyTree) → AllOf K (body_tokens b) → AllByRecursion P (body_sites s b)
+    unfolding body_sites body_tokens
+    body_told (Other t) h = plain (type_sites s t) (plain_type s t)
+    body_told (Struct p o fs c) h = plain (list_sites (field_sites s) fs) (plain_list (field_sites s) plain_field fs)
+    body_told (Interface p o ms c) h = methods_told ms (front (list_tokens kind.Semicolon method_tokens ms) (sign kind.RightBrace c ∷ []) h.1.1)
 
     spec_told : (x : TypeSpecTree) → G x.name → AllOf K (type_spec_tokens x) → AllByRecursion P (type_spec_sites s x)
     unfolding type_spec_sites type_spec_tokens
-    spec_told x g h = ((h.0, g), plain (body_sites s x.body) (plain_body x.body))
+    spec_told x g h = ((h.0, g), body_told x.body h.1)
 
     -- a group of declarations
     members_told : {X : Type 0} (f : X → List Site) (t : X → List Token) (xs : List (Item X)) →

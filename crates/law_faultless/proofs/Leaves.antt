@@ -12,8 +12,8 @@ use Rattle.go_scope.specs.Site.{Site, TokenSpellings}
 use Rattle.go_scope.specs.ExpressionSites.{list_sites, expr_sites, exprs_sites}
 use Rattle.go_scope.specs.StatementSites.{left_sites, assigned_sites}
 use Rattle.go_scope.proofs.PlainSites.{plain_expr}
-use Rattle.law_tokens.specs.Tokens.{is_ident_token}
-use Rattle.law_tokens.proofs.CoveredExpressions.{expr_named}
+use Rattle.go_scope.specs.IdentifierTokens.{is_ident_token}
+use Rattle.go_scope.proofs.CoveredExpressions.{expr_named}
 use Rattle.types_expr.specs.Types.{PlainType, ValueKind, Typed, Value}
 use Rattle.types_expr.specs.World.{World, Locals}
 use Rattle.types_expr.specs.Judge.{judge_value, followed}

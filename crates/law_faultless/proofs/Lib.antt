@@ -72,3 +72,8 @@ pub mod Objects
 pub mod Compiled
 pub mod Names
 pub mod Arity
+pub mod NamedTypes
+pub mod KnownGlobals
+pub mod PrintedTypes
+pub mod DeclarationLines
+pub mod PackageLines

@@ -6,8 +6,8 @@ use Rattle.std.proofs.lemmas.Bool.{true≢false}
 use Rattle.base_lemmas.proofs.EachElement.{all_append}
 use Rattle.go_ast.specs.Tree.{Item, Group, single, several, TypeTree, IdentTree, Named, Underscore, ExprTree, OperandTrees, LinkTrees, ArgumentTrees}
 use Rattle.go_ast.specs.Tree.{LiteralTree, ElementTrees, SimpleTree, LocalTree, InitTree, ForTree, StatementTree, BlockTree, StatementTrees, IfTree}
-use Rattle.go_ast.specs.Tree.{ElseTree, GlobalTree, FieldTree, BodyTree, Other, Struct, TypeSpecTree, ReceiverTree, ParamTree, ResultTree, no_result}
-use Rattle.go_ast.specs.Tree.{one_result, results, FuncTree, ImportTree, ImportsTree, DeclTree, VarDecl, TypeDecl, FuncDecl, FileTree}
+use Rattle.go_ast.specs.Tree.{ElseTree, GlobalTree, FieldTree, MethodTree, BodyTree, Other, Struct, Interface, TypeSpecTree, ReceiverTree, ParamTree}
+use Rattle.go_ast.specs.Tree.{ResultTree, no_result, one_result, results, FuncTree, ImportTree, ImportsTree, DeclTree, VarDecl, TypeDecl, FuncDecl, FileTree}
 use Rattle.go_ast.specs.Tree as tree
 use Rattle.go_scope.specs.declared.model.Block.{Block}
 use Rattle.go_scope.specs.declared.model.Block.TheVariants.{Package as PackageBlock}
@@ -21,7 +21,7 @@ use Rattle.go_scope.specs.StatementSites.{ident_sites, left_sites, assigned_site
 use Rattle.go_scope.specs.StatementSites.{init_sites, for_sites, open_of, statement_sites, block_sites, statements_sites, if_sites, else_sites}
 use Rattle.go_scope.specs.FileSites.{global_name, member_name, spec_sites, global_sites, field_sites, body_sites, type_spec_sites, receiver_sites}
 use Rattle.go_scope.specs.FileSites.{param_sites, result_sites, func_block, func_role, func_sites, import_name, import_purpose, import_sites, imports_sites}
-use Rattle.go_scope.specs.FileSites.{decl_sites, file_sites}
+use Rattle.go_scope.specs.FileSites.{method_block, method_sites, decl_sites, file_sites}
 use Rattle.types_declared.specs.Files.{group_items}
 use Rattle.types_info.proofs.DeclKinds.{Holds}
 
@@ -208,6 +208,7 @@ module _ (s : TokenSpellings) where
 abbrev pub IsFieldIn : BodyTree → ℕ → Type 0
 IsFieldIn (Other t) i = ⊥
 IsFieldIn (Struct k o fs c) i = (f : Item FieldTree) × (Holds fs f × ((n : Item ℕ) × (Holds f.value.names n × (n.value ≡ i))))
+IsFieldIn (Interface k o ms c) i = (m : Item MethodTree) × (Holds ms m × (m.value.name ≡ i))
 
 abbrev pub IsMemberIn : DeclTree → ℕ → Type 0
 IsMemberIn (VarDecl k g s) i = ⊥
@@ -237,10 +238,38 @@ module _ (M : ℕ → Type 0) (s : TokenSpellings) where
   fields_in (f ∷ fs) m =
       all_append Q (field_sites s f.value) (list_sites (field_sites s) fs) (field_in f.value (m f (inl refl))) (fields_in fs (λ g i. m g (inr i)))
 
+  of_param : (b : Block) (q : ℕ) (x : ParamTree) → NoMember (param_sites s b q x)
+  unfolding param_sites
+  of_param b q x =
+      joined (list_sites (ident_sites s (Declaring b q)) x.names) (type_sites s x.type_use) (listed (ident_sites s (Declaring b q)) (of_ident s b q) x.names)
+      (of_type s x.type_use)
+
+  of_result : (r : ResultTree) → NoMember (result_sites s r)
+  unfolding result_sites
+  of_result no_result = tt
+  of_result (one_result t) = of_type s t
+  of_result (results o ts c) = listed (type_sites s) (of_type s) ts
+
+  method_in : (x : MethodTree) → M x.name → AllByRecursion Q (method_sites s x)
+  unfolding method_sites
+  method_in x m =
+      let b = method_block s x in
+      let params = list_sites (param_sites s b x.rparen) x.params in (
+        (λ e. m),
+        others (params ++ result_sites s x.result)
+            (joined params (result_sites s x.result) (listed (param_sites s b x.rparen) (of_param b x.rparen) x.params) (of_result x.result)),
+      )
+
+  methods_in : (ms : List (Item MethodTree)) → ((x : Item MethodTree) → Holds ms x → M x.value.name) → AllByRecursion Q (list_sites (method_sites s) ms)
+  methods_in [] m = tt
+  methods_in (x ∷ ms) m =
+      all_append Q (method_sites s x.value) (list_sites (method_sites s) ms) (method_in x.value (m x (inl refl))) (methods_in ms (λ y i. m y (inr i)))
+
   body_in : (b : BodyTree) → ((i : ℕ) → IsFieldIn b i → M i) → AllByRecursion Q (body_sites s b)
   unfolding body_sites
   body_in (Other t) m = others (type_sites s t) (of_type s t)
   body_in (Struct k o fs c) m = fields_in fs (λ f i n j. m n.value (f, (i, (n, (j, refl)))))
+  body_in (Interface k o ms c) m = methods_in ms (λ x i. m x.value.name (x, (i, refl)))
 
   spec_in : (x : TypeSpecTree) → ((i : ℕ) → IsFieldIn x.body i → M i) → AllByRecursion Q (type_spec_sites s x)
   unfolding type_spec_sites
@@ -265,18 +294,6 @@ module _ (M : ℕ → Type 0) (s : TokenSpellings) where
   of_receiver : (b : Block) (q : ℕ) (r : ReceiverTree) → NoMember (receiver_sites s b q r)
   unfolding receiver_sites
   of_receiver b q r = joined (ident_sites s (Declaring b q) r.name) (site s r.type_name Use ∷ []) (of_ident s b q r.name) (refl, tt)
-
-  of_param : (b : Block) (q : ℕ) (x : ParamTree) → NoMember (param_sites s b q x)
-  unfolding param_sites
-  of_param b q x =
-      joined (list_sites (ident_sites s (Declaring b q)) x.names) (type_sites s x.type_use) (listed (ident_sites s (Declaring b q)) (of_ident s b q) x.names)
-      (of_type s x.type_use)
-
-  of_result : (r : ResultTree) → NoMember (result_sites s r)
-  unfolding result_sites
-  of_result no_result = tt
-  of_result (one_result t) = of_type s t
-  of_result (results o ts c) = listed (type_sites s) (of_type s) ts
 
   plain_function : (b : Bool) → (if b then NotLexical purpose.InitFunction else Declaring PackageBlock 0) ≡ NotLexical purpose.Member → ⊥
   plain_function true e = cc

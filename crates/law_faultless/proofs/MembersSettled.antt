@@ -9,7 +9,7 @@ use Rattle.std.proofs.lemmas.Option.{none-some, slice_get_within}
 use Rattle.base_files.specs.Workspace.{Workspace}
 use Rattle.base_files.specs.Packages.{package_paths, package_files}
 use Rattle.go_ast.specs.SourceFile.{SourceFile, spelling_of}
-use Rattle.go_ast.specs.Tree.{Item, TypeTree, FieldTree, BodyTree, Other, Struct, ReceiverTree}
+use Rattle.go_ast.specs.Tree.{Item, TypeTree, FieldTree, BodyTree, Other, Struct, Interface, ReceiverTree}
 use Rattle.workspace_graph.specs.Packages.{IsInClosure, itself}
 use Rattle.workspace_graph.specs.Parsed.{AreParsed}
 use Rattle.types_expr.specs.declared.symbol.Symbol.{Symbol}
@@ -66,6 +66,7 @@ names_long rank file (i ∷ is) =
 body_long : (rank file : ℕ) (b : BodyTree) → length (body_positions b) ≡ length (body_fields rank file b)
 body_long rank file (Other t) = refl
 body_long rank file (Struct k o fs c) = positions_length 0 (names_of_fields fs) ∙ names_long rank file fs
+body_long rank file (Interface k o ms c) = refl
 
 fields_long : (rank : ℕ) (ds : List PlacedType) → length (flat_map type_positions ds) ≡ length (fields_from rank ds)
 fields_long rank [] = refl

@@ -5,7 +5,7 @@ use Rattle.go_ast.specs.declared.syntax.Kind.{Kind}
 use Rattle.go_ast.specs.declared.syntax.Kind.TheVariants as kind
 use Rattle.go_ast.specs.declared.syntax.Token.{Token}
 use Rattle.go_scope.specs.Site.{Site, TokenSpellings}
-use Rattle.law_tokens.proofs.Covers.{Covers, ends, skips, takes, selects, keys}
+use Rattle.go_scope.proofs.Covers.{Covers, ends, skips, takes, selects, keys}
 
 -- B: that the token of that number is `_`
 abbrev pub Strung : (B : ℕ → Type 0) → ℕ → List Token → ℕ → Type 0
@@ -29,11 +29,11 @@ stand_below B P s n m _ _ (takes {x = x} {xs = xs} {t = t} {ts = ts} k i e a) h 
     let le : suc n ≤ m = strung_le B (suc n) ts m h.1.1 in
     let place : t.place ≡ n = h.0 in
     let same : x.place.index ≡ t.place = ap (λ (y : Site). y.place.index) e in (omega arith, stand_below B P s (suc n) m xs ts a h.1.1)
-stand_below B P s n m _ _ (selects {x = x} {xs = xs} {d = d} {t = t} {ts = ts} dot out k e a) h =
+stand_below B P s n m _ _ (selects {x = x} {xs = xs} {d = d} {t = t} {ts = ts} dot out k w e a) h =
     let le : suc (suc n) ≤ m = strung_le B (suc (suc n)) ts m h.1.1.1.1 in
     let place : t.place ≡ suc n = h.1.1.0 in
     let same : x.place.index ≡ t.place = ap (λ (y : Site). y.place.index) e in (omega arith, stand_below B P s (suc (suc n)) m xs ts a h.1.1.1.1)
-stand_below B P s n m _ _ (keys {x = x} {xs = xs} {t = t} {c = c} {ts = ts} colon out k e a) h =
+stand_below B P s n m _ _ (keys {x = x} {xs = xs} {t = t} {c = c} {ts = ts} colon out k w e a) h =
     let le : suc (suc n) ≤ m = strung_le B (suc (suc n)) ts m h.1.1.1.1 in
     let place : t.place ≡ n = h.0 in
     let same : x.place.index ≡ t.place = ap (λ (y : Site). y.place.index) e in (omega arith, stand_below B P s (suc (suc n)) m xs ts a h.1.1.1.1)

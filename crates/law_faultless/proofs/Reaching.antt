@@ -7,30 +7,31 @@ use Rattle.base_lemmas.proofs.EachElement.{all_append, all_front}
 use Rattle.go_ast.specs.declared.syntax.Kind.{Kind}
 use Rattle.go_ast.specs.declared.syntax.Kind.TheVariants as kind
 use Rattle.go_ast.specs.declared.syntax.Token.{Token}
-use Rattle.go_ast.specs.Flatten.{sign, tokens_if, all_tokens, list_tokens, param_tokens, receiver_tokens, result_tokens, block_tokens}
-use Rattle.go_ast.specs.Flatten.{statements_tokens, func_tokens, imports_tokens, decl_tokens, flatten}
+use Rattle.go_ast.specs.Flatten.{sign, sign_if, tokens_if, all_tokens, item_tokens, list_tokens, group_tokens, param_tokens, receiver_tokens}
+use Rattle.go_ast.specs.Flatten.{result_tokens, block_tokens, statements_tokens, method_tokens, body_tokens, type_spec_tokens, func_tokens}
+use Rattle.go_ast.specs.Flatten.{imports_tokens, decl_tokens, flatten}
 use Rattle.go_ast.specs.WellFormed.{IsFunc, IsDecl, IsFile, IsBlock}
-use Rattle.go_ast.specs.Tree.{Item, IdentTree, Named, Underscore, ReceiverTree, ParamTree, FuncTree, DeclTree, VarDecl, TypeDecl, FuncDecl, FileTree}
-use Rattle.go_ast.specs.Tree.{BlockTree, block}
+use Rattle.go_ast.specs.Tree.{Item, Group, single, several, IdentTree, Named, Underscore, MethodTree, BodyTree, Other, Struct, Interface, TypeSpecTree}
+use Rattle.go_ast.specs.Tree.{ReceiverTree, ParamTree, FuncTree, DeclTree, VarDecl, TypeDecl, FuncDecl, FileTree, BlockTree, block}
 use Rattle.go_scope.specs.declared.model.Block.TheVariants.{Inner}
 use Rattle.go_scope.specs.declared.model.Role.{Role}
 use Rattle.go_scope.specs.declared.model.Role.TheVariants.{Use, Declaring}
 use Rattle.go_scope.specs.Bindings.{block_of, start_of}
 use Rattle.go_scope.specs.Site.{Site, TokenSpellings, site}
 use Rattle.go_scope.specs.ExpressionSites.{sites_if, list_sites, type_sites}
-use Rattle.go_scope.specs.StatementSites.{ident_sites, open_of, close_of, block_sites, statements_sites}
-use Rattle.go_scope.specs.FileSites.{spec_sites, global_sites, type_spec_sites, receiver_sites, param_sites, result_sites, func_role, func_sites}
-use Rattle.go_scope.specs.FileSites.{imports_sites, decl_sites, file_sites}
+use Rattle.go_scope.specs.StatementSites.{ident_sites, separated_sites, group_sites, open_of, close_of, block_sites, statements_sites}
+use Rattle.go_scope.specs.FileSites.{spec_sites, global_sites, field_sites, method_sites, body_sites, type_spec_sites, receiver_sites, param_sites}
+use Rattle.go_scope.specs.FileSites.{result_sites, func_role, func_sites, imports_sites, decl_sites, file_sites}
 use Rattle.go_scope.proofs.Regions.{Each, Fits, Framed, inner_to}
 use Rattle.go_scope.proofs.StatementRegions.{statements_fits}
 use Rattle.go_scope.proofs.Rising.{Rises, rises_le, rises_up, rises_split}
-use Rattle.law_tokens.proofs.Covers.{Covers, ends, skips, takes, selects, keys}
-use Rattle.law_tokens.proofs.CoveredFiles.{decls_named}
+use Rattle.go_scope.proofs.Covers.{Covers, ends, skips, takes, selects, keys}
+use Rattle.go_scope.proofs.CoveredFiles.{decls_named}
 use Rattle.types_info.proofs.DeclKinds.{Holds}
 use Rattle.refs_lookup.proofs.Apart.{all_as}
 use Rattle.law_faultless.specs.ResolvedNames.{may_be_local}
 use Rattle.law_faultless.proofs.KnownLocals.{local_may}
-use Rattle.law_faultless.proofs.Typed.{type_abroad, result_abroad, func_abroad, group_abroad, global_abroad, spec_abroad, imports_abroad}
+use Rattle.law_faultless.proofs.Typed.{type_abroad, result_abroad, func_abroad, group_abroad, global_abroad, fields_abroad, imports_abroad}
 
 -- where identifiers stand
 
@@ -49,13 +50,13 @@ covers_lie (takes {x = x} {xs = xs} {t = t} {ts = ts} k i e a) n m r =
     let up : suc t.place ≤ m = rises_le (suc t.place) ts m r.1 in
     let at : x.place.index ≡ t.place = ap (λ (y : Site). y.place.index) e in
     ((omega arith, omega arith), lies_later n (suc t.place) m xs (omega arith) (covers_lie a (suc t.place) m r.1))
-covers_lie (selects {x = x} {xs = xs} {d = d} {t = t} {ts = ts} dot out k e a) n m r =
+covers_lie (selects {x = x} {xs = xs} {d = d} {t = t} {ts = ts} dot out k w e a) n m r =
     let first : n ≤ d.place = r.0 in
     let le : suc d.place ≤ t.place = r.1.0 in
     let up : suc t.place ≤ m = rises_le (suc t.place) ts m r.1.1 in
     let at : x.place.index ≡ t.place = ap (λ (y : Site). y.place.index) e in
     ((omega arith, omega arith), lies_later n (suc t.place) m xs (omega arith) (covers_lie a (suc t.place) m r.1.1))
-covers_lie (keys {x = x} {xs = xs} {t = t} {c = c} {ts = ts} colon out k e a) n m r =
+covers_lie (keys {x = x} {xs = xs} {t = t} {c = c} {ts = ts} colon out k w e a) n m r =
     let le : n ≤ t.place = r.0 in
     let next : suc t.place ≤ c.place = r.1.0 in
     let up : suc c.place ≤ m = rises_le (suc c.place) ts m r.1.1 in
@@ -94,36 +95,36 @@ all_fit : (f o c u q n m : ℕ) (xs : List Site) → n ≤ o → c < m → Each 
 all_fit f o c u q n m [] begun cm h = tt
 all_fit f o c u q n m (x ∷ xs) begun cm h = (fits_within f o c u q n m begun cm x h.0, all_fit f o c u q n m xs begun cm h.1)
 
-ident_within : (s : TokenSpellings) (o c n m : ℕ) → n ≤ o → c < m → (x : IdentTree) →
-    AllByRecursion (IsWithin n m) (ident_sites s (Declaring (Inner s.rank o c) o) x)
-ident_within s o c n m begun cm (Named i) = ((λ may f a b e. (begun, let end : c ≡ b = inner_to s.rank o c f a b e in omega arith)), tt)
-ident_within s o c n m begun cm (Underscore i) = ((λ may f a b e. absurd (true≢false (sym may))), tt)
+ident_within : (s : TokenSpellings) (o c q n m : ℕ) → n ≤ q → c < m → (x : IdentTree) →
+    AllByRecursion (IsWithin n m) (ident_sites s (Declaring (Inner s.rank o c) q) x)
+ident_within s o c q n m begun cm (Named i) = ((λ may f a b e. (begun, let end : c ≡ b = inner_to s.rank o c f a b e in omega arith)), tt)
+ident_within s o c q n m begun cm (Underscore i) = ((λ may f a b e. absurd (true≢false (sym may))), tt)
 
-idents_within : (s : TokenSpellings) (o c n m : ℕ) → n ≤ o → c < m → (xs : List (Item IdentTree)) →
-    AllByRecursion (IsWithin n m) (list_sites (ident_sites s (Declaring (Inner s.rank o c) o)) xs)
-idents_within s o c n m begun cm [] = tt
-idents_within s o c n m begun cm (x ∷ xs) =
-    let names = ident_sites s (Declaring (Inner s.rank o c) o) in
-    all_append (IsWithin n m) (names x.value) (list_sites names xs) (ident_within s o c n m begun cm x.value) (idents_within s o c n m begun cm xs)
+idents_within : (s : TokenSpellings) (o c q n m : ℕ) → n ≤ q → c < m → (xs : List (Item IdentTree)) →
+    AllByRecursion (IsWithin n m) (list_sites (ident_sites s (Declaring (Inner s.rank o c) q)) xs)
+idents_within s o c q n m begun cm [] = tt
+idents_within s o c q n m begun cm (x ∷ xs) =
+    let names = ident_sites s (Declaring (Inner s.rank o c) q) in
+    all_append (IsWithin n m) (names x.value) (list_sites names xs) (ident_within s o c q n m begun cm x.value) (idents_within s o c q n m begun cm xs)
 
 receiver_within : (s : TokenSpellings) (o c n m : ℕ) → n ≤ o → c < m → (r : Option ReceiverTree) →
     AllByRecursion (IsWithin n m) (sites_if (receiver_sites s (Inner s.rank o c) o) r)
 unfolding receiver_sites
 receiver_within s o c n m begun cm None = tt
 receiver_within s o c n m begun cm (Some r) =
-    all_append (IsWithin n m) (ident_sites s (Declaring (Inner s.rank o c) o) r.name) (site s r.type_name Use ∷ []) (ident_within s o c n m begun cm r.name)
+    all_append (IsWithin n m) (ident_sites s (Declaring (Inner s.rank o c) o) r.name) (site s r.type_name Use ∷ []) (ident_within s o c o n m begun cm r.name)
     ((λ may f a b e. absurd (true≢false (sym may))), tt)
 
-params_within : (s : TokenSpellings) (o c n m : ℕ) → n ≤ o → c < m → (ps : List (Item ParamTree)) →
-    AllByRecursion (IsWithin n m) (list_sites (param_sites s (Inner s.rank o c) o) ps)
+params_within : (s : TokenSpellings) (o c q n m : ℕ) → n ≤ q → c < m → (ps : List (Item ParamTree)) →
+    AllByRecursion (IsWithin n m) (list_sites (param_sites s (Inner s.rank o c) q) ps)
 unfolding param_sites
-params_within s o c n m begun cm [] = tt
-params_within s o c n m begun cm (p ∷ ps) =
-    let names = list_sites (ident_sites s (Declaring (Inner s.rank o c) o)) p.value.names in
+params_within s o c q n m begun cm [] = tt
+params_within s o c q n m begun cm (p ∷ ps) =
+    let names = list_sites (ident_sites s (Declaring (Inner s.rank o c) q)) p.value.names in
     let typing = type_sites s p.value.type_use in
-    all_append (IsWithin n m) (names ++ typing) (list_sites (param_sites s (Inner s.rank o c) o) ps)
-    (all_append (IsWithin n m) names typing (idents_within s o c n m begun cm p.value.names) (abroad_within n m typing (type_abroad s p.value.type_use)))
-    (params_within s o c n m begun cm ps)
+    all_append (IsWithin n m) (names ++ typing) (list_sites (param_sites s (Inner s.rank o c) q) ps)
+    (all_append (IsWithin n m) names typing (idents_within s o c q n m begun cm p.value.names) (abroad_within n m typing (type_abroad s p.value.type_use)))
+    (params_within s o c q n m begun cm ps)
 
 body_within : (s : TokenSpellings) (n k m : ℕ) (x : BlockTree) → n ≤ k → IsBlock x → Rises k (block_tokens x) m →
     (n ≤ open_of x) × (close_of x < m) × AllByRecursion (IsWithin n m) (block_sites s x)
@@ -163,7 +164,7 @@ func_within s n m f w h =
     let results = result_sites s f.result in
     all_append (IsWithin n m) rs (name ∷ (ps ++ (results ++ block_sites s f.body))) (receiver_within s o c n m y.0 y.1 f.receiver) (
       (λ may g a b e. absurd (true≢false (sym may ∙ func_abroad f.receiver (s.spell f.name)))),
-      all_append (IsWithin n m) ps (results ++ block_sites s f.body) (params_within s o c n m y.0 y.1 f.params)
+      all_append (IsWithin n m) ps (results ++ block_sites s f.body) (params_within s o c o n m y.0 y.1 f.params)
           (all_append (IsWithin n m) results (block_sites s f.body) (abroad_within n m results (result_abroad s f.result)) y.2),
     )
 
@@ -175,10 +176,83 @@ wider_within n k u m xs nk um h =
     let high : b < u = j.1 in
     (omega arith, omega arith)) xs h
 
+-- types
+
+-- each identifier of the items of a list, or of a group
+module _ {X : Type 0} (tokens : X → List Token) (sites : X → List Site)
+    (one : (n m : ℕ) (x : X) → Rises n (tokens x) m → AllByRecursion (IsWithin n m) (sites x)) where
+  items_within : (k : Kind) (n m : ℕ) (xs : List (Item X)) → Rises n (list_tokens k tokens xs) m → AllByRecursion (IsWithin n m) (list_sites sites xs)
+  unfolding all_tokens
+  items_within k n m [] h = tt
+  items_within k n m (x ∷ xs) h =
+      let r = rises_split n (item_tokens k tokens x) (list_tokens k tokens xs) m h in
+      let nr : n ≤ r.0 = rises_le n (item_tokens k tokens x) r.0 r.1.0 in
+      let rm : r.0 ≤ m = rises_le r.0 (list_tokens k tokens xs) m r.1.1 in
+      let v = rises_split n (tokens x.value) (sign_if k x.separator) r.0 r.1.0 in
+      let vr : v.0 ≤ r.0 = rises_le v.0 (sign_if k x.separator) r.0 v.1.1 in
+      all_append (IsWithin n m) (sites x.value) (list_sites sites xs)
+      (wider_within n n v.0 m (sites x.value) (omega arith) (omega arith) (one n v.0 x.value v.1.0))
+      (wider_within n r.0 m m (list_sites sites xs) nr (omega arith) (items_within k r.0 m xs r.1.1))
+
+  group_within : (n m : ℕ) (g : Group X) → Rises n (group_tokens tokens g) m → AllByRecursion (IsWithin n m) (spec_sites sites g)
+  unfolding group_tokens group_sites separated_sites
+  group_within n m (single x) h = one n m x h
+  group_within n m (several o xs c) h =
+      let no : n ≤ o = h.0 in
+      let r = rises_split (suc o) (list_tokens kind.Semicolon tokens xs) (sign kind.RightParen c ∷ []) m h.1 in
+      let rc : r.0 ≤ c = r.1.1.0 in
+      let cm : suc c ≤ m = r.1.1.1 in
+      wider_within n (suc o) r.0 m (list_sites sites xs) (omega arith) (omega arith) (items_within kind.Semicolon (suc o) r.0 xs r.1.0)
+
+method_within : (s : TokenSpellings) (n m : ℕ) (x : MethodTree) → Rises n (method_tokens x) m → AllByRecursion (IsWithin n m) (method_sites s x)
+unfolding method_tokens method_sites
+method_within s n m x h =
+    let o = x.lparen in
+    let c = x.rparen in
+    let nx : n ≤ x.name = h.0 in
+    let xo : suc x.name ≤ o = h.1.0 in
+    let u = rises_split (suc o) (list_tokens kind.Comma param_tokens x.params) (sign kind.RightParen c ∷ result_tokens x.result) m h.1.1 in
+    let ou : suc o ≤ u.0 = rises_le (suc o) (list_tokens kind.Comma param_tokens x.params) u.0 u.1.0 in
+    let uc : u.0 ≤ c = u.1.1.0 in
+    let cm : suc c ≤ m = rises_le (suc c) (result_tokens x.result) m u.1.1.1 in
+    let ps = list_sites (param_sites s (Inner s.rank o c) c) x.params in
+    let results = result_sites s x.result in (
+      (λ may f a b e. absurd (true≢false (sym may))),
+      all_append (IsWithin n m) ps results (params_within s o c c n m (omega arith) (omega arith) x.params)
+          (abroad_within n m results (result_abroad s x.result)),
+    )
+
+type_within : (s : TokenSpellings) (n m : ℕ) (t : BodyTree) → Rises n (body_tokens t) m → AllByRecursion (IsWithin n m) (body_sites s t)
+unfolding body_tokens body_sites
+type_within s n m (Other t) h = abroad_within n m (type_sites s t) (type_abroad s t)
+type_within s n m (Struct p o fs c) h = abroad_within n m (list_sites (field_sites s) fs) (fields_abroad s fs)
+type_within s n m (Interface p o ms c) h =
+    let np : n ≤ p = h.0 in
+    let po : suc p ≤ o = h.1.0 in
+    let r = rises_split (suc o) (list_tokens kind.Semicolon method_tokens ms) (sign kind.RightBrace c ∷ []) m h.1.1 in
+    let rc : r.0 ≤ c = r.1.1.0 in
+    let cm : suc c ≤ m = r.1.1.1 in
+    wider_within n (suc o) r.0 m (list_sites (method_sites s) ms) (omega arith) (omega arith)
+    (items_within method_tokens (method_sites s) (method_within s) kind.Semicolon (suc o) r.0 ms r.1.0)
+
+spec_within : (s : TokenSpellings) (n m : ℕ) (x : TypeSpecTree) → Rises n (type_spec_tokens x) m → AllByRecursion (IsWithin n m) (type_spec_sites s x)
+unfolding type_spec_tokens type_spec_sites
+spec_within s n m x h =
+    let nx : n ≤ x.name = h.0 in (
+      (λ may f a b e. absurd (true≢false (sym may))),
+      wider_within n (suc x.name) m m (body_sites s x.body) (omega arith) (omega arith) (type_within s (suc x.name) m x.body h.1),
+    )
+
 decl_within : (s : TokenSpellings) (n m : ℕ) (d : DeclTree) → IsDecl d → Rises n (decl_tokens d) m → AllByRecursion (IsWithin n m) (decl_sites s d)
 unfolding decl_tokens decl_sites
 decl_within s n m (VarDecl k g semicolon) w h = abroad_within n m (spec_sites (global_sites s) g) (group_abroad (global_sites s) (global_abroad s) g)
-decl_within s n m (TypeDecl k g semicolon) w h = abroad_within n m (spec_sites (type_spec_sites s) g) (group_abroad (type_spec_sites s) (spec_abroad s) g)
+decl_within s n m (TypeDecl k g semicolon) w h =
+    let nk : n ≤ k = h.0 in
+    let r = rises_split (suc k) (group_tokens type_spec_tokens g) (sign kind.Semicolon semicolon ∷ []) m h.1 in
+    let rs : r.0 ≤ semicolon = r.1.1.0 in
+    let sm : suc semicolon ≤ m = r.1.1.1 in
+    wider_within n (suc k) r.0 m (spec_sites (type_spec_sites s) g) (omega arith) (omega arith)
+    (group_within type_spec_tokens (type_spec_sites s) (spec_within s) (suc k) r.0 g r.1.0)
 decl_within s n m (FuncDecl k f semicolon) w h =
     let nk : n ≤ k = h.0 in
     let r = rises_split (suc k) (func_tokens f) (sign kind.Semicolon semicolon ∷ []) m h.1 in

@@ -16,8 +16,8 @@ use Rattle.go_scope.specs.Site.{Site, TokenSpellings}
 use Rattle.go_scope.specs.ExpressionSites.{sites_if, list_sites, type_sites, expr_sites, exprs_sites}
 use Rattle.go_scope.specs.StatementSites.{ident_sites, left_sites, assigned_sites, simple_sites, value_sites, local_sites}
 use Rattle.go_scope.proofs.PlainSites.{plain_append, plain_list, plain_if, plain_type, plain_expr, plain_exprs, plain_assigned}
-use Rattle.law_tokens.specs.Tokens.{is_ident_token}
-use Rattle.law_tokens.proofs.CoveredExpressions.{type_named, expr_named, exprs_named}
+use Rattle.go_scope.specs.IdentifierTokens.{is_ident_token}
+use Rattle.go_scope.proofs.CoveredExpressions.{type_named, expr_named, exprs_named}
 use Rattle.types_expr.specs.Types.{PlainType, ValueKind}
 use Rattle.types_expr.specs.World.{World, Locals}
 use Rattle.law_typing.proofs.Judgements.{empty_first, empty_second}

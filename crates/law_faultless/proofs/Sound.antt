@@ -64,6 +64,7 @@ body_sound : (w : World) (b : BodyTree) → body_faults w b ≡ [] → AllByRecu
 unfolding body_faults
 body_sound w (tree.Other x) h = (h, tt)
 body_sound w (tree.Struct p o fs c) h = fields_sound w fs h
+body_sound w (tree.Interface p o ms c) h = tt
 
 definitions_sound : (w : World) (ts : List TypeSpecTree) → AllByRecursion (λ t. body_faults w t.body ≡ []) ts →
     AllByRecursion (IsSound w) (flat_map (λ t. written_types t.body) ts)
@@ -147,6 +148,14 @@ pub types_sound : (w : World) (is_init : ℕ → Bool) (f : FileTree) → (check
 unfolding check_file
 types_sound w is_init f h d i =
     let a = one_decl w is_init f.decls (record { locals = no_locals; faults = []; uses = [] }) d h i in decl_sound w is_init a.0 d a.1
+
+-- no definition writes a fault
+pub bodies_sound : (w : World) (is_init : ℕ → Bool) (f : FileTree) → (check_file w is_init f).faults ≡ [] → (k c : ℕ) (g : Group TypeSpecTree) →
+    Holds f.decls (tree.TypeDecl k g c) → AllByRecursion (λ t. body_faults w t.body ≡ []) (group_items g)
+unfolding check_file check_decl
+bodies_sound w is_init f h k c g i =
+    let a = one_decl w is_init f.decls (record { locals = no_locals; faults = []; uses = [] }) (tree.TypeDecl k g c) h i in
+    group_first (check_type w) (λ t. body_faults w t.body) (λ x y. refl) g a.0 a.1
 
 pub receiver_sound : (w : World) (is_init : ℕ → Bool) (f : FileTree) → (check_file w is_init f).faults ≡ [] → (k c : ℕ) (g : FuncTree) →
     Holds f.decls (tree.FuncDecl k g c) → (r : ReceiverTree) → g.receiver ≡ Some r → (judge_receiver w r).faults ≡ []

@@ -102,6 +102,7 @@ body_tight (tree.Struct s o fs c) h =
     let rest = inside ++ (sign kind.RightBrace c ∷ []) in
     let behind = numbered_tail (sign kind.LeftBrace o) rest (numbered_tail (sign kind.Struct s) (sign kind.LeftBrace o ∷ rest) h) in
     fields_tight fs (list_numbered field_tokens kind.Semicolon fs (numbered_left inside (sign kind.RightBrace c ∷ []) behind))
+body_tight (tree.Interface p o ms c) h = tt
 
 definitions_tight : (ts : List TypeSpecTree) → AllByRecursion (λ t. Numbered (type_spec_tokens t)) ts →
     AllByRecursion IsTight (flat_map (λ t. written_types t.body) ts)

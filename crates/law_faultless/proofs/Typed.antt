@@ -28,12 +28,13 @@ use Rattle.types_stmt.specs.Sides.{Wants}
 use Rattle.types_stmt.specs.Headers.{check_optional_receiver, check_param, judge_types, judge_results, check_signature, check_function}
 use Rattle.types_stmt.specs.Declarations.{check_global, check_type, check_decl, check_decls, check_file}
 use Rattle.law_typing.proofs.Naming.{type_true}
-use Rattle.law_typing.specs.Sequences.{PartRule, Excuse, InTurn, no_item, then_item, IfPresent, absent, present, ExcusedInTurn, this_item, later_item}
-use Rattle.law_typing.specs.Sequences.{ExcusedInGroup, excused_alone, excused_together, ExcusedIfPresent, excused_present}
+use Rattle.law_typing.specs.Sequences.{PartRule, Excuse, InTurn, no_item, then_item, InGroup, alone, together, IfPresent, absent, present, ExcusedInTurn}
+use Rattle.law_typing.specs.Sequences.{this_item, later_item, ExcusedInGroup, excused_alone, excused_together, ExcusedIfPresent, excused_present}
 use Rattle.law_typing.specs.Statements.{BlockIsTyped}
 use Rattle.law_typing.specs.Declarations.{ReceiverIsTyped, a_receiver, ParamIsTyped, a_param, AreTypes, no_type_left, also_type, AreResults}
-use Rattle.law_typing.specs.Declarations.{none_written, one_written, several_written, FunctionIsTyped, a_function, GlobalIsTyped, TypeIsTyped}
-use Rattle.law_typing.specs.Declarations.{DeclIsTyped, one_function, DeclsAreTyped, no_decl, also_decl, FileIsTyped, a_file}
+use Rattle.law_typing.specs.Declarations.{none_written, one_written, several_written, FunctionIsTyped, a_function, GlobalIsTyped, BodyIsTyped}
+use Rattle.law_typing.specs.Declarations.{another_type, a_struct, TypeIsTyped, a_definition_of, DeclIsTyped, types}
+use Rattle.law_typing.specs.Declarations.{one_function, DeclsAreTyped, no_decl, also_decl, FileIsTyped, a_file}
 use Rattle.law_typing.specs.Excused.{ReceiverIsExcused, of_broken, ParamIsExcused, param_of_broken, AnyIsBrokenType, this_type, later_type}
 use Rattle.law_typing.specs.Excused.{ResultIsExcused, one_broken, one_of_several, FunctionIsExcused, in_receiver, in_params, in_result, in_body}
 use Rattle.law_typing.specs.Excused.{GlobalIsExcused, global_of_broken, FieldIsBroken, this_field, later_field, BodyIsBroken, other_broken}
@@ -141,14 +142,34 @@ unfolding field_sites
 field_abroad s x = abroad_append (list_sites (member_name s) x.names) (type_sites s x.type_use) (list_abroad (member_name s) (λ n. (refl, tt)) x.names)
     (type_abroad s x.type_use)
 
-body_abroad : (s : TokenSpellings) (b : BodyTree) → Abroad (body_sites s b)
-unfolding body_sites
-body_abroad s (tree.Other x) = type_abroad s x
-body_abroad s (tree.Struct p o fs c) = list_abroad (field_sites s) (field_abroad s) fs
+pub fields_abroad : (s : TokenSpellings) (fs : List (Item FieldTree)) → Abroad (list_sites (field_sites s) fs)
+fields_abroad s fs = list_abroad (field_sites s) (field_abroad s) fs
 
-pub spec_abroad : (s : TokenSpellings) (x : TypeSpecTree) → Abroad (type_spec_sites s x)
+body_abroad : (w : World) (s : TokenSpellings) {b : BodyTree} → BodyIsTyped w b → Abroad (body_sites s b)
+unfolding body_sites
+body_abroad w s (another_type {x = x} i) = type_abroad s x
+body_abroad w s (a_struct {is = fs} h) = fields_abroad s fs
+
+spec_abroad : (w : World) (s : TokenSpellings) {before : Locals} {x : TypeSpecTree} {after : Locals} → TypeIsTyped w before x after →
+    Abroad (type_spec_sites s x)
 unfolding type_spec_sites
-spec_abroad s x = (refl, body_abroad s x.body)
+spec_abroad w s (a_definition_of h) = (refl, body_abroad w s h)
+
+specs_abroad : (w : World) (s : TokenSpellings) {before after : Locals} {is : List (Item TypeSpecTree)} → InTurn TypeSpecTree (TypeIsTyped w) before is after →
+    Abroad (list_sites (type_spec_sites s) is)
+specs_abroad w s no_item = tt
+specs_abroad w s (then_item {i = i} {is = is} h more) =
+    abroad_append (type_spec_sites s i.value) (list_sites (type_spec_sites s) is) (spec_abroad w s h) (specs_abroad w s more)
+
+definitions_abroad : (w : World) (s : TokenSpellings) {before after : Locals} {g : Group TypeSpecTree} → InGroup TypeSpecTree (TypeIsTyped w) before g after →
+    Abroad (spec_sites (type_spec_sites s) g)
+unfolding group_sites separated_sites
+definitions_abroad w s (alone h) = spec_abroad w s h
+definitions_abroad w s (together h) = specs_abroad w s h
+
+typed_abroad : (w : World) (is_init : ℕ → Bool) (s : TokenSpellings) {before after : Locals} {k c : ℕ} {g : Group TypeSpecTree} →
+    DeclIsTyped w is_init before (tree.TypeDecl k g c) after → Abroad (spec_sites (type_spec_sites s) g)
+typed_abroad w is_init s (types h) = definitions_abroad w s h
 
 pub result_abroad : (s : TokenSpellings) (r : ResultTree) → Abroad (result_sites s r)
 unfolding result_sites
@@ -181,13 +202,15 @@ imports_abroad s (x ∷ xs) =
 -- functions
 
 -- what declares no local
-items_stay : {X : Type 0} (check : FoundSoFar → X → FoundSoFar) → ((a : FoundSoFar) (x : X) → (check a x).locals ≡ a.locals) → (is : List (Item X)) (st : FoundSoFar) →
+items_stay : {X : Type 0} (check : FoundSoFar → X → FoundSoFar) → ((a : FoundSoFar) (x : X) → (check a x).locals ≡ a.locals) →
+    (is : List (Item X)) (st : FoundSoFar) →
     (check_items check st is).locals ≡ st.locals
 unfolding check_items
 items_stay check same [] st = refl
 items_stay check same (i ∷ is) st = items_stay check same is (check st i.value) ∙ same st i.value
 
-group_stays : {X : Type 0} (check : FoundSoFar → X → FoundSoFar) → ((a : FoundSoFar) (x : X) → (check a x).locals ≡ a.locals) → (g : Group X) (st : FoundSoFar) →
+group_stays : {X : Type 0} (check : FoundSoFar → X → FoundSoFar) → ((a : FoundSoFar) (x : X) → (check a x).locals ≡ a.locals) →
+    (g : Group X) (st : FoundSoFar) →
     (check_group check st g).locals ≡ st.locals
 unfolding check_group
 group_stays check same (single x) st = same st x
@@ -307,15 +330,16 @@ module _ (w : World) (B : ℕ → Type 0) (s : TokenSpellings) (u : IsUnbroken w
   decl_typed is_init A n m st (tree.TypeDecl k g c) formed f known r t =
       let sites = spec_sites (type_spec_sites s) g in
       let q = decl_settled w is_init st (tree.TypeDecl k g c) f in
-      let same = group_stays (check_type w) (λ a x. refl) g st in (
-        elim q.1 [ inl h ↦ h | inr e ↦ absurd (no_definitions e) ],
-        subst (λ z. AllKnown w z (past A sites)) (sym same) (abroad_past w st.locals A sites known (group_abroad (type_spec_sites s) (spec_abroad s) g)),
-      )
+      let same = group_stays (check_type w) (λ a x. refl) g st in
+      let typed : DeclIsTyped w is_init st.locals (tree.TypeDecl k g c) (check_decl w is_init st (tree.TypeDecl k g c)).locals =
+      elim q.1 [ inl h ↦ h | inr e ↦ absurd (no_definitions e) ] in
+      (typed, subst (λ z. AllKnown w z (past A sites)) (sym same) (abroad_past w st.locals A sites known (typed_abroad w is_init s typed)))
   decl_typed is_init A n m st (tree.FuncDecl k f c) formed h known r t =
       let x = strung_split B (suc n) (func_tokens f) (sign kind.Semicolon c ∷ []) m t.1.1 in
       let o = function_typed (is_init f.name) A (suc n) x.0 st f formed h known r x.1.0 in (one_function o.0, o.1)
 
-  decls_typed : (is_init : ℕ → Bool) (A : List Site) (n m : ℕ) (ds : List DeclTree) (st : FoundSoFar) → All IsDecl ds → (check_decls w is_init st ds).faults ≡ [] →
+  decls_typed : (is_init : ℕ → Bool) (A : List Site) (n m : ℕ) (ds : List DeclTree) (st : FoundSoFar) → All IsDecl ds →
+      (check_decls w is_init st ds).faults ≡ [] →
       AllKnown w st.locals A → AreResolved w B A (flat_map (decl_sites s) ds) → Strung B n (all_tokens decl_tokens ds) m →
       DeclsAreTyped w is_init st.locals ds (check_decls w is_init st ds).locals
   unfolding check_decls all_tokens

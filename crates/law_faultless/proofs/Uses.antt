@@ -54,6 +54,7 @@ module _ (s : TokenSpellings) (P : Site → Type 0) where
   unfolding body_sites
   body_of (tree.Other x) h = (h, tt)
   body_of (tree.Struct p o fs c) h = fields_of fs h
+  body_of (tree.Interface p o ms c) h = tt
 
   definitions_of : (ts : List TypeSpecTree) → AllByRecursion (λ t. AllByRecursion P (type_spec_sites s t)) ts →
       AllByRecursion (OfType s P) (flat_map (λ t. written_types t.body) ts)

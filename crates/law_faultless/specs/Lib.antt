@@ -17,3 +17,4 @@ pub mod GlobalMeanings
 pub mod OpenQuestions
 pub mod Arities
 pub mod FileFunctions
+pub mod Lines

@@ -9,17 +9,18 @@ use Rattle.go_ast.specs.Tree.{Slice, ExprTree, Number, Text, Name, Blank, Compos
 use Rattle.go_ast.specs.Tree.{operand, LinkTrees, no_link, selector, index, call, ArgumentTrees, no_argument, argument, LiteralTree, literal, ElementTrees}
 use Rattle.go_ast.specs.Tree.{no_element, element, SimpleTree, Alone, Step, Update, Assign, Define, LocalTree, InitTree, ForTree, forever, while, clauses}
 use Rattle.go_ast.specs.Tree.{StatementTree, Empty, Var, Simple, Inner, If, For, Break, Continue, Return, BlockTree, block, StatementTrees, no_statement}
-use Rattle.go_ast.specs.Tree.{statement, IfTree, if_tree, ElseTree, no_else, else_if, else_block, GlobalTree, BodyTree, Other}
-use Rattle.go_ast.specs.Tree.{Struct, ResultTree, no_result, one_result, results, FuncTree, DeclTree}
+use Rattle.go_ast.specs.Tree.{statement, IfTree, if_tree, ElseTree, no_else, else_if, else_block, GlobalTree, MethodTree, BodyTree, Other}
+use Rattle.go_ast.specs.Tree.{Struct, Interface, ParamTree, ResultTree, no_result, one_result, results, FuncTree, DeclTree}
 use Rattle.go_ast.specs.Tree.{VarDecl, TypeDecl, FuncDecl, FileTree}
 use Rattle.go_ast.specs.WellFormed.{IsNonEmpty, IsSeparated, IsJoined, IsList, IsOpenList, IsGroup, IsNoneOr, Any, strength, strength_of, is_operand}
 use Rattle.go_ast.specs.WellFormed.{is_binary_tree, IsLiteralType, IsExpr, AreOperands, AreLinks, AreArguments, IsLiteral, AreElements, IsUnnamed}
 use Rattle.go_ast.specs.WellFormed.{HasNoNamedLiteral, HaveNoNamedLiteral, IsExprIn, IsSimple, IsPost, IsInit, IsFor, IsLocal, IsStatement, IsBlock}
-use Rattle.go_ast.specs.WellFormed.{AreStatements, IsIf, IsElse, IsGlobal, IsField, IsBody, IsTypeSpec, IsParam, IsResult, IsFunc, IsImports, IsDecl, IsFile}
+use Rattle.go_ast.specs.WellFormed.{AreStatements, IsIf, IsElse, IsGlobal, IsField, IsMethodSpec, IsBody, IsTypeSpec, IsParam, IsResult, IsFunc, IsImports}
+use Rattle.go_ast.specs.WellFormed.{IsDecl, IsFile}
 use Rattle.law_rename.specs.Renumbered.{item_by, items_by, group_by, ident_by, basic_by, type_by, expr_by, operands_by, links_by}
 use Rattle.law_rename.specs.Renumbered.{arguments_by, literal_by, elements_by, simple_by, values_by, local_by, init_by, for_by, statement_by}
 use Rattle.law_rename.specs.Renumbered.{block_by, statements_by, if_by, else_by, import_by, global_by, field_by, body_by, type_spec_by}
-use Rattle.law_rename.specs.Renumbered.{param_by, result_by, func_by, imports_by, decl_by, renumbered}
+use Rattle.law_rename.specs.Renumbered.{param_by, result_by, method_by, func_by, imports_by, decl_by, renumbered}
 
 mapped : {X : Type 0} (P : X → Type 0) (by : X → X) → ((x : X) → P x → P (by x)) → (xs : List X) → AllByRecursion P xs → AllByRecursion P (map by xs)
 mapped P by each [] w = tt
@@ -267,18 +268,25 @@ module _ (g : ℕ → ℕ) where
     values = perhaps_kept (λ u. IsList Any u.1) (values_by g (basic_by g)) (λ u is. list_kept Any (basic_by g) (λ x is. tt) u.1 is) v.values w.values;
   }
 
-  body_kept : (b : BodyTree) → IsBody b → IsBody (body_by g b)
-  body_kept (Other t) w = tt
-  body_kept (Struct s o fs c) w = open_kept IsField (field_by g) (λ f is. list_kept Any g (λ x is. tt) f.names is) fs w
-
   result_kept : (r : ResultTree) → IsResult r → IsResult (result_by g r)
   result_kept no_result w = tt
   result_kept (one_result t) w = tt
   result_kept (results o ts c) w = open_kept Any (type_by g) (λ x is. tt) ts w
 
+  params_kept : (ps : List (Item ParamTree)) → IsOpenList IsParam ps → IsOpenList IsParam (items_by g (param_by g) ps)
+  params_kept ps w = open_kept IsParam (param_by g) (λ p is. list_kept Any (ident_by g) (λ x is. tt) p.names is) ps w
+
+  method_kept : (m : MethodTree) → IsMethodSpec m → IsMethodSpec (method_by g m)
+  method_kept m w = record { params = params_kept m.params w.params; result = result_kept m.result w.result }
+
+  body_kept : (b : BodyTree) → IsBody b → IsBody (body_by g b)
+  body_kept (Other t) w = tt
+  body_kept (Struct s o fs c) w = open_kept IsField (field_by g) (λ f is. list_kept Any g (λ x is. tt) f.names is) fs w
+  body_kept (Interface i o ms c) w = open_kept IsMethodSpec (method_by g) method_kept ms w
+
   func_kept : (f : FuncTree) → IsFunc f → IsFunc (func_by g f)
   func_kept f w = record {
-    params = open_kept IsParam (param_by g) (λ p is. list_kept Any (ident_by g) (λ x is. tt) p.names is) f.params w.params;
+    params = params_kept f.params w.params;
     result = result_kept f.result w.result;
     body = block_kept f.body w.body;
   }

@@ -15,21 +15,21 @@ use Rattle.go_scope.specs.ExpressionSites.{sites_if, list_sites, type_sites, key
 use Rattle.go_scope.specs.ExpressionSites.{literal_sites, element_sites, exprs_sites}
 use Rattle.go_scope.specs.StatementSites.{ident_sites, left_sites, assigned_sites, simple_sites, value_sites, local_sites, separated_sites, group_sites}
 use Rattle.go_scope.specs.StatementSites.{init_sites, for_sites, open_of, close_of, statement_sites, block_sites, statements_sites, if_sites, else_sites}
-use Rattle.go_scope.specs.FileSites.{global_name, member_name, spec_sites, global_sites, field_sites, body_sites, type_spec_sites, receiver_sites}
-use Rattle.go_scope.specs.FileSites.{param_sites, result_sites, func_role, func_sites, import_name, import_purpose, import_sites, imports_sites, decl_sites}
-use Rattle.go_scope.specs.FileSites.{file_sites}
+use Rattle.go_scope.specs.FileSites.{global_name, member_name, spec_sites, global_sites, field_sites, method_sites, body_sites, type_spec_sites}
+use Rattle.go_scope.specs.FileSites.{receiver_sites, param_sites, result_sites, func_role, func_sites, import_name, import_purpose, import_sites}
+use Rattle.go_scope.specs.FileSites.{imports_sites, decl_sites, file_sites}
 use Rattle.go_ast.specs.Tree.{Item, Group, single, several, IdentTree, Named, Underscore, TypeTree, Local, Imported, Pointer}
 use Rattle.go_ast.specs.Tree.{Slice, ExprTree, Number, Text, Name, Blank, Composite, Paren, Prefix, Address, Chain, Binary, OperandTrees, no_operand}
 use Rattle.go_ast.specs.Tree.{operand, LinkTrees, no_link, selector, index, call, ArgumentTrees, no_argument, argument, LiteralTree, literal, ElementTrees}
 use Rattle.go_ast.specs.Tree.{no_element, element, SimpleTree, Alone, Step, Update, Assign, Define, LocalTree, InitTree, ForTree, forever, while, clauses}
 use Rattle.go_ast.specs.Tree.{StatementTree, Empty, Var, Simple, Inner, If, For, Break, Continue, Return, BlockTree, block, StatementTrees, no_statement}
-use Rattle.go_ast.specs.Tree.{statement, IfTree, if_tree, ElseTree, no_else, else_if, else_block, ImportTree, GlobalTree, FieldTree, BodyTree, Other}
-use Rattle.go_ast.specs.Tree.{Struct, TypeSpecTree, ReceiverTree, ParamTree, ResultTree, no_result, one_result, results, FuncTree, ImportsTree, DeclTree}
-use Rattle.go_ast.specs.Tree.{VarDecl, TypeDecl, FuncDecl, FileTree}
+use Rattle.go_ast.specs.Tree.{statement, IfTree, if_tree, ElseTree, no_else, else_if, else_block, ImportTree, GlobalTree, FieldTree, MethodTree, BodyTree}
+use Rattle.go_ast.specs.Tree.{Other, Struct, Interface, TypeSpecTree, ReceiverTree, ParamTree, ResultTree, no_result, one_result, results, FuncTree}
+use Rattle.go_ast.specs.Tree.{ImportsTree, DeclTree, VarDecl, TypeDecl, FuncDecl, FileTree}
 use Rattle.law_rename.specs.Renumbered.{item_by, items_by, group_by, ident_by, type_by, key_by, expr_by, operands_by, links_by}
 use Rattle.law_rename.specs.Renumbered.{arguments_by, literal_by, elements_by, exprs_by, simple_by, values_by, local_by, init_by, for_by, statement_by}
 use Rattle.law_rename.specs.Renumbered.{block_by, statements_by, if_by, else_by, import_by, global_by, field_by, body_by, type_spec_by, receiver_by}
-use Rattle.law_rename.specs.Renumbered.{param_by, result_by, func_by, imports_by, decl_by, renumbered}
+use Rattle.law_rename.specs.Renumbered.{param_by, result_by, method_by, func_by, imports_by, decl_by, renumbered}
 use Rattle.law_rename.specs.MovedSites.{moved_site}
 
 open_by : (g : ℕ → ℕ) (b : BlockTree) → open_of (block_by g b) ≡ g (open_of b)
@@ -288,22 +288,6 @@ module _ (move : ℕ → ℕ → ℕ) (rank : ℕ) (old new : ℕ → List ℕ) 
       both (list_sites (member_name before) f.names) (type_sites before f.type_use)
       (list_moved (member_name before) (member_name after) g (λ n. one n (NotLexical purpose.Member)) f.names) (type_moved f.type_use)
 
-  body_moved : (b : BodyTree) → body_sites after (body_by g b) ≡ map by (body_sites before b)
-  unfolding body_sites
-  body_moved (Other t) = type_moved t
-  body_moved (Struct s o fs c) = list_moved (field_sites before) (field_sites after) (field_by g) field_moved fs
-
-  type_spec_moved : (t : TypeSpecTree) → type_spec_sites after (type_spec_by g t) ≡ map by (type_spec_sites before t)
-  unfolding type_spec_sites
-  type_spec_moved t = first t.name (Declaring blocks.Package 0) (body_sites before t.body) (body_moved t.body)
-
-  receiver_moved : (x y start : ℕ) (r : ReceiverTree) →
-      receiver_sites after (inner (g x) (g y)) (g start) (receiver_by g r) ≡ map by (receiver_sites before (inner x y) start r)
-  unfolding receiver_sites
-  receiver_moved x y start r =
-      let role : Role = Declaring (inner x y) start in
-      both (ident_sites before role r.name) (site before r.type_name Use ∷ []) (ident_moved role r.name) (one r.type_name Use)
-
   param_moved : (x y start : ℕ) (p : ParamTree) →
       param_sites after (inner (g x) (g y)) (g start) (param_by g p) ≡ map by (param_sites before (inner x y) start p)
   unfolding param_sites
@@ -317,6 +301,33 @@ module _ (move : ℕ → ℕ → ℕ) (rank : ℕ) (old new : ℕ → List ℕ) 
   result_moved no_result = refl
   result_moved (one_result t) = type_moved t
   result_moved (results o ts c) = list_moved (type_sites before) (type_sites after) (type_by g) type_moved ts
+
+  method_moved : (m : MethodTree) → method_sites after (method_by g m) ≡ map by (method_sites before m)
+  unfolding method_sites
+  method_moved m =
+      let start = m.rparen in
+      let params = list_sites (param_sites before (inner m.lparen start) start) m.params in
+      first m.name (NotLexical purpose.Member) (params ++ result_sites before m.result)
+      (both params (result_sites before m.result)
+      (list_moved (param_sites before (inner m.lparen start) start) (param_sites after (inner (g m.lparen) (g start)) (g start)) (param_by g)
+      (param_moved m.lparen start start) m.params) (result_moved m.result))
+
+  body_moved : (b : BodyTree) → body_sites after (body_by g b) ≡ map by (body_sites before b)
+  unfolding body_sites
+  body_moved (Other t) = type_moved t
+  body_moved (Struct s o fs c) = list_moved (field_sites before) (field_sites after) (field_by g) field_moved fs
+  body_moved (Interface i o ms c) = list_moved (method_sites before) (method_sites after) (method_by g) method_moved ms
+
+  type_spec_moved : (t : TypeSpecTree) → type_spec_sites after (type_spec_by g t) ≡ map by (type_spec_sites before t)
+  unfolding type_spec_sites
+  type_spec_moved t = first t.name (Declaring blocks.Package 0) (body_sites before t.body) (body_moved t.body)
+
+  receiver_moved : (x y start : ℕ) (r : ReceiverTree) →
+      receiver_sites after (inner (g x) (g y)) (g start) (receiver_by g r) ≡ map by (receiver_sites before (inner x y) start r)
+  unfolding receiver_sites
+  receiver_moved x y start r =
+      let role : Role = Declaring (inner x y) start in
+      both (ident_sites before role r.name) (site before r.type_name Use ∷ []) (ident_moved role r.name) (one r.type_name Use)
 
   -- The name of a function decides its role.
   init_or : (b : Bool) → (if b then NotLexical purpose.InitFunction else Declaring blocks.Package 0) ≡

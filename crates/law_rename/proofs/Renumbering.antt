@@ -9,20 +9,20 @@ use Rattle.go_ast.specs.Flatten.{sign, binary_kind, prefix_kind, step_kind, upda
 use Rattle.go_ast.specs.Flatten.{group_tokens, name_tokens, ident_tokens, basic_tokens, type_tokens, key_tokens, expr_tokens, operand_tokens, link_tokens}
 use Rattle.go_ast.specs.Flatten.{argument_tokens, literal_tokens, element_tokens, simple_tokens, value_tokens, local_tokens, init_tokens, for_tokens}
 use Rattle.go_ast.specs.Flatten.{statement_tokens, block_tokens, statements_tokens, if_tokens, else_tokens, import_tokens, global_tokens, field_tokens}
-use Rattle.go_ast.specs.Flatten.{body_tokens, type_spec_tokens, receiver_tokens, param_tokens, result_tokens, func_tokens, imports_tokens, decl_tokens}
-use Rattle.go_ast.specs.Flatten.{flatten}
+use Rattle.go_ast.specs.Flatten.{method_tokens, body_tokens, type_spec_tokens, receiver_tokens, param_tokens, result_tokens, func_tokens}
+use Rattle.go_ast.specs.Flatten.{imports_tokens, decl_tokens, flatten}
 use Rattle.go_ast.specs.Tree.{Item, Group, single, several, IdentTree, Named, Underscore, BasicTree, Integer, String, TypeTree, Local, Imported, Pointer}
 use Rattle.go_ast.specs.Tree.{Slice, ExprTree, Number, Text, Name, Blank, Composite, Paren, Prefix, Address, Chain, Binary, OperandTrees, no_operand}
 use Rattle.go_ast.specs.Tree.{operand, LinkTrees, no_link, selector, index, call, ArgumentTrees, no_argument, argument, LiteralTree, literal, ElementTrees}
 use Rattle.go_ast.specs.Tree.{no_element, element, SimpleTree, Alone, Step, Update, Assign, Define, LocalTree, InitTree, ForTree, forever, while, clauses}
 use Rattle.go_ast.specs.Tree.{StatementTree, Empty, Var, Simple, Inner, If, For, Break, Continue, Return, BlockTree, block, StatementTrees, no_statement}
-use Rattle.go_ast.specs.Tree.{statement, IfTree, if_tree, ElseTree, no_else, else_if, else_block, ImportTree, GlobalTree, FieldTree, BodyTree, Other}
-use Rattle.go_ast.specs.Tree.{Struct, TypeSpecTree, ReceiverTree, ParamTree, ResultTree, no_result, one_result, results, FuncTree, ImportsTree, DeclTree}
-use Rattle.go_ast.specs.Tree.{VarDecl, TypeDecl, FuncDecl, FileTree}
+use Rattle.go_ast.specs.Tree.{statement, IfTree, if_tree, ElseTree, no_else, else_if, else_block, ImportTree, GlobalTree, FieldTree, MethodTree, BodyTree}
+use Rattle.go_ast.specs.Tree.{Other, Struct, Interface, TypeSpecTree, ReceiverTree, ParamTree, ResultTree, no_result, one_result, results, FuncTree}
+use Rattle.go_ast.specs.Tree.{ImportsTree, DeclTree, VarDecl, TypeDecl, FuncDecl, FileTree}
 use Rattle.law_rename.specs.Renumbered.{numbered, item_by, items_by, group_by, ident_by, basic_by, type_by, key_by, expr_by, operands_by, links_by}
 use Rattle.law_rename.specs.Renumbered.{arguments_by, literal_by, elements_by, simple_by, values_by, local_by, init_by, for_by, statement_by}
 use Rattle.law_rename.specs.Renumbered.{block_by, statements_by, if_by, else_by, import_by, global_by, field_by, body_by, type_spec_by, receiver_by}
-use Rattle.law_rename.specs.Renumbered.{param_by, result_by, func_by, imports_by, decl_by, renumbered}
+use Rattle.law_rename.specs.Renumbered.{param_by, result_by, method_by, func_by, imports_by, decl_by, renumbered}
 
 module _ (g : ℕ → ℕ) where
   pub both : {xs ys : List Token} (us vs : List Token) → xs ≡ map (numbered g) us → ys ≡ map (numbered g) vs → xs ++ ys ≡ map (numbered g) (us ++ vs)
@@ -221,6 +221,29 @@ module _ (g : ℕ → ℕ) where
   field_same f =
       both (list_tokens kind.Comma name_tokens f.names) (type_tokens f.type_use) (list_same kind.Comma name_tokens g name_same f.names) (type_same f.type_use)
 
+  param_same : (x : ParamTree) → param_tokens (param_by g x) ≡ map (numbered g) (param_tokens x)
+  unfolding param_tokens
+  param_same p =
+      both (list_tokens kind.Comma ident_tokens p.names) (type_tokens p.type_use) (list_same kind.Comma ident_tokens (ident_by g) ident_same p.names)
+      (type_same p.type_use)
+
+  result_same : (x : ResultTree) → result_tokens (result_by g x) ≡ map (numbered g) (result_tokens x)
+  unfolding result_tokens
+  result_same no_result = refl
+  result_same (one_result t) = type_same t
+  result_same (results o ts c) =
+      ap (λ l. sign kind.LeftParen (g o) ∷ l) (both (list_tokens kind.Comma type_tokens ts) (sign kind.RightParen c ∷ [])
+      (list_same kind.Comma type_tokens (type_by g) type_same ts) refl)
+
+  method_same : (x : MethodTree) → method_tokens (method_by g x) ≡ map (numbered g) (method_tokens x)
+  unfolding method_tokens
+  method_same m =
+      ap (λ l. sign kind.Name (g m.name) ∷ l)
+      (ap (λ l. sign kind.LeftParen (g m.lparen) ∷ l)
+      (both (list_tokens kind.Comma param_tokens m.params) (sign kind.RightParen m.rparen ∷ (result_tokens m.result))
+      (list_same kind.Comma param_tokens (param_by g) param_same m.params)
+      (ap (λ l. sign kind.RightParen (g m.rparen) ∷ l) (result_same m.result))))
+
   body_same : (x : BodyTree) → body_tokens (body_by g x) ≡ map (numbered g) (body_tokens x)
   unfolding body_tokens
   body_same (Other t) = type_same t
@@ -228,6 +251,10 @@ module _ (g : ℕ → ℕ) where
       ap (λ l. sign kind.Struct (g s) ∷ l) (ap (λ l. sign kind.LeftBrace (g o) ∷ l)
       (both (list_tokens kind.Semicolon field_tokens fs) (sign kind.RightBrace c ∷ [])
       (list_same kind.Semicolon field_tokens (field_by g) field_same fs) refl))
+  body_same (Interface i o ms c) =
+      ap (λ l. sign kind.Interface (g i) ∷ l) (ap (λ l. sign kind.LeftBrace (g o) ∷ l)
+      (both (list_tokens kind.Semicolon method_tokens ms) (sign kind.RightBrace c ∷ [])
+      (list_same kind.Semicolon method_tokens (method_by g) method_same ms) refl))
 
   type_spec_same : (x : TypeSpecTree) → type_spec_tokens (type_spec_by g x) ≡ map (numbered g) (type_spec_tokens x)
   unfolding type_spec_tokens
@@ -242,20 +269,6 @@ module _ (g : ℕ → ℕ) where
       (sign kind.Name r.type_name ∷ (sign_if kind.Comma r.comma ++ (sign kind.RightParen r.rparen ∷ []))) (sign_same kind.Star r.star)
       (ap (λ l. sign kind.Name (g r.type_name) ∷ l)
       (both (sign_if kind.Comma r.comma) (sign kind.RightParen r.rparen ∷ []) (sign_same kind.Comma r.comma) refl))))
-
-  param_same : (x : ParamTree) → param_tokens (param_by g x) ≡ map (numbered g) (param_tokens x)
-  unfolding param_tokens
-  param_same p =
-      both (list_tokens kind.Comma ident_tokens p.names) (type_tokens p.type_use) (list_same kind.Comma ident_tokens (ident_by g) ident_same p.names)
-      (type_same p.type_use)
-
-  result_same : (x : ResultTree) → result_tokens (result_by g x) ≡ map (numbered g) (result_tokens x)
-  unfolding result_tokens
-  result_same no_result = refl
-  result_same (one_result t) = type_same t
-  result_same (results o ts c) =
-      ap (λ l. sign kind.LeftParen (g o) ∷ l) (both (list_tokens kind.Comma type_tokens ts) (sign kind.RightParen c ∷ [])
-      (list_same kind.Comma type_tokens (type_by g) type_same ts) refl)
 
   func_same : (x : FuncTree) → func_tokens (func_by g x) ≡ map (numbered g) (func_tokens x)
   unfolding func_tokens

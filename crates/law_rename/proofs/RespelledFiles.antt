@@ -14,17 +14,17 @@ use Rattle.go_scope.specs.ExpressionSites.{sites_if, list_sites, type_sites, key
 use Rattle.go_scope.specs.ExpressionSites.{literal_sites, element_sites, exprs_sites}
 use Rattle.go_scope.specs.StatementSites.{ident_sites, left_sites, assigned_sites, simple_sites, value_sites, local_sites, separated_sites, group_sites}
 use Rattle.go_scope.specs.StatementSites.{init_sites, for_sites, open_of, close_of, statement_sites, block_sites, statements_sites, if_sites, else_sites}
-use Rattle.go_scope.specs.FileSites.{global_name, member_name, spec_sites, global_sites, field_sites, body_sites, type_spec_sites, receiver_sites}
-use Rattle.go_scope.specs.FileSites.{param_sites, result_sites, func_role, func_sites, import_name, import_purpose, import_sites, imports_sites, decl_sites}
-use Rattle.go_scope.specs.FileSites.{file_sites}
+use Rattle.go_scope.specs.FileSites.{global_name, member_name, spec_sites, global_sites, field_sites, method_sites, body_sites, type_spec_sites}
+use Rattle.go_scope.specs.FileSites.{receiver_sites, param_sites, result_sites, func_role, func_sites, import_name, import_purpose, import_sites}
+use Rattle.go_scope.specs.FileSites.{imports_sites, decl_sites, file_sites}
 use Rattle.go_ast.specs.Tree.{Item, Group, single, several, IdentTree, Named, Underscore, TypeTree, Local, Imported, Pointer}
 use Rattle.go_ast.specs.Tree.{Slice, ExprTree, Number, Text, Name, Blank, Composite, Paren, Prefix, Address, Chain, Binary, OperandTrees, no_operand}
 use Rattle.go_ast.specs.Tree.{operand, LinkTrees, no_link, selector, index, call, ArgumentTrees, no_argument, argument, LiteralTree, literal, ElementTrees}
 use Rattle.go_ast.specs.Tree.{no_element, element, SimpleTree, Alone, Step, Update, Assign, Define, LocalTree, InitTree, ForTree, forever, while, clauses}
 use Rattle.go_ast.specs.Tree.{StatementTree, Empty, Var, Simple, Inner, If, For, Break, Continue, Return, BlockTree, block, StatementTrees, no_statement}
-use Rattle.go_ast.specs.Tree.{statement, IfTree, if_tree, ElseTree, no_else, else_if, else_block, ImportTree, GlobalTree, FieldTree, BodyTree, Other}
-use Rattle.go_ast.specs.Tree.{Struct, TypeSpecTree, ReceiverTree, ParamTree, ResultTree, no_result, one_result, results, FuncTree, ImportsTree, DeclTree}
-use Rattle.go_ast.specs.Tree.{VarDecl, TypeDecl, FuncDecl, FileTree}
+use Rattle.go_ast.specs.Tree.{statement, IfTree, if_tree, ElseTree, no_else, else_if, else_block, ImportTree, GlobalTree, FieldTree, MethodTree, BodyTree}
+use Rattle.go_ast.specs.Tree.{Other, Struct, Interface, TypeSpecTree, ReceiverTree, ParamTree, ResultTree, no_result, one_result, results, FuncTree}
+use Rattle.go_ast.specs.Tree.{ImportsTree, DeclTree, VarDecl, TypeDecl, FuncDecl, FileTree}
 use Rattle.law_rename.specs.Respelled.{Spelling, respelled, KeepsRole, KeepsRoles}
 
 module _ (rank : ℕ) (old : ℕ → List ℕ) (spell : Spelling) where
@@ -263,22 +263,6 @@ module _ (rank : ℕ) (old : ℕ → List ℕ) (spell : Spelling) where
       both (list_sites (member_name before) f.names) (type_sites before f.type_use)
       (list_respelled (member_name before) (member_name after) (λ n. one n (NotLexical purpose.Member)) f.names) (type_respelled f.type_use)
 
-  body_respelled : (b : BodyTree) → body_sites after b ≡ map by (body_sites before b)
-  unfolding body_sites
-  body_respelled (Other t) = type_respelled t
-  body_respelled (Struct s o fs c) = list_respelled (field_sites before) (field_sites after) field_respelled fs
-
-  type_spec_respelled : (t : TypeSpecTree) → type_spec_sites after t ≡ map by (type_spec_sites before t)
-  unfolding type_spec_sites
-  type_spec_respelled t = first t.name (Declaring blocks.Package 0) (body_sites before t.body) (body_respelled t.body)
-
-  receiver_respelled : (x y start : ℕ) (r : ReceiverTree) →
-      receiver_sites after (inner x y) start r ≡ map by (receiver_sites before (inner x y) start r)
-  unfolding receiver_sites
-  receiver_respelled x y start r =
-      let role : Role = Declaring (inner x y) start in
-      both (ident_sites before role r.name) (site before r.type_name Use ∷ []) (ident_respelled role r.name) (one r.type_name Use)
-
   param_respelled : (x y start : ℕ) (p : ParamTree) →
       param_sites after (inner x y) start p ≡ map by (param_sites before (inner x y) start p)
   unfolding param_sites
@@ -292,6 +276,34 @@ module _ (rank : ℕ) (old : ℕ → List ℕ) (spell : Spelling) where
   result_respelled no_result = refl
   result_respelled (one_result t) = type_respelled t
   result_respelled (results o ts c) = list_respelled (type_sites before) (type_sites after) type_respelled ts
+
+  method_respelled : (m : MethodTree) → method_sites after m ≡ map by (method_sites before m)
+  unfolding method_sites
+  method_respelled m =
+      let start = m.rparen in
+      let inside = inner m.lparen start in
+      let params = list_sites (param_sites before inside start) m.params in
+      first m.name (NotLexical purpose.Member) (params ++ result_sites before m.result)
+      (both params (result_sites before m.result)
+      (list_respelled (param_sites before inside start) (param_sites after inside start) (param_respelled m.lparen start start) m.params)
+      (result_respelled m.result))
+
+  body_respelled : (b : BodyTree) → body_sites after b ≡ map by (body_sites before b)
+  unfolding body_sites
+  body_respelled (Other t) = type_respelled t
+  body_respelled (Struct s o fs c) = list_respelled (field_sites before) (field_sites after) field_respelled fs
+  body_respelled (Interface i o ms c) = list_respelled (method_sites before) (method_sites after) method_respelled ms
+
+  type_spec_respelled : (t : TypeSpecTree) → type_spec_sites after t ≡ map by (type_spec_sites before t)
+  unfolding type_spec_sites
+  type_spec_respelled t = first t.name (Declaring blocks.Package 0) (body_sites before t.body) (body_respelled t.body)
+
+  receiver_respelled : (x y start : ℕ) (r : ReceiverTree) →
+      receiver_sites after (inner x y) start r ≡ map by (receiver_sites before (inner x y) start r)
+  unfolding receiver_sites
+  receiver_respelled x y start r =
+      let role : Role = Declaring (inner x y) start in
+      both (ident_sites before role r.name) (site before r.type_name Use ∷ []) (ident_respelled role r.name) (one r.type_name Use)
 
   -- a function's identifiers, by the ends of its block
   abbrev parts : TokenSpellings → ℕ → ℕ → Role → FuncTree → List Site

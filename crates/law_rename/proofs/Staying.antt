@@ -8,13 +8,13 @@ use Rattle.go_ast.specs.Tree.{Slice, ExprTree, Number, Text, Name, Blank, Compos
 use Rattle.go_ast.specs.Tree.{operand, LinkTrees, no_link, selector, index, call, ArgumentTrees, no_argument, argument, LiteralTree, literal, ElementTrees}
 use Rattle.go_ast.specs.Tree.{no_element, element, SimpleTree, Alone, Step, Update, Assign, Define, LocalTree, InitTree, ForTree, forever, while, clauses}
 use Rattle.go_ast.specs.Tree.{StatementTree, Empty, Var, Simple, Inner, If, For, Break, Continue, Return, BlockTree, block, StatementTrees, no_statement}
-use Rattle.go_ast.specs.Tree.{statement, IfTree, if_tree, ElseTree, no_else, else_if, else_block, ImportTree, GlobalTree, FieldTree, BodyTree, Other}
-use Rattle.go_ast.specs.Tree.{Struct, TypeSpecTree, ReceiverTree, ParamTree, ResultTree, no_result, one_result, results, FuncTree, ImportsTree, DeclTree}
-use Rattle.go_ast.specs.Tree.{VarDecl, TypeDecl, FuncDecl, FileTree}
+use Rattle.go_ast.specs.Tree.{statement, IfTree, if_tree, ElseTree, no_else, else_if, else_block, ImportTree, GlobalTree, FieldTree, MethodTree, BodyTree}
+use Rattle.go_ast.specs.Tree.{Other, Struct, Interface, TypeSpecTree, ReceiverTree, ParamTree, ResultTree, no_result, one_result, results, FuncTree}
+use Rattle.go_ast.specs.Tree.{ImportsTree, DeclTree, VarDecl, TypeDecl, FuncDecl, FileTree}
 use Rattle.law_rename.specs.Renumbered.{items_by, group_by, ident_by, basic_by, type_by, key_by, expr_by, operands_by, links_by}
 use Rattle.law_rename.specs.Renumbered.{arguments_by, literal_by, elements_by, exprs_by, simple_by, values_by, local_by, init_by, for_by, statement_by}
 use Rattle.law_rename.specs.Renumbered.{block_by, statements_by, if_by, else_by, import_by, global_by, field_by, body_by, type_spec_by, receiver_by}
-use Rattle.law_rename.specs.Renumbered.{param_by, result_by, func_by, imports_by, decl_by, renumbered}
+use Rattle.law_rename.specs.Renumbered.{param_by, result_by, method_by, func_by, imports_by, decl_by, renumbered}
 use Rattle.law_rename.specs.MovedSites.{moved_site}
 use Rattle.law_rename.proofs.MovedFiles.{file_moved}
 
@@ -179,20 +179,6 @@ field_stays f =
     let type_use = type_stays f.type_use in
     λ i. record { names = names i; type_use = type_use i }
 
-body_stays : (b : BodyTree) → body_by itself b ≡ b
-body_stays (Other t) = ap Other (type_stays t)
-body_stays (Struct s o fs c) = ap (λ xs. Struct s o xs c) (items_stay (field_by itself) field_stays fs)
-
-type_spec_stays : (t : TypeSpecTree) → type_spec_by itself t ≡ t
-type_spec_stays t = let body = body_stays t.body in λ i. record { name = t.name; body = body i }
-
-receiver_stays : (r : ReceiverTree) → receiver_by itself r ≡ r
-receiver_stays r =
-    let name = ident_stays r.name in
-    let star = number_stays r.star in
-    let comma = number_stays r.comma in
-    λ i. record { lparen = r.lparen; name = name i; star = star i; type_name = r.type_name; comma = comma i; rparen = r.rparen }
-
 param_stays : (p : ParamTree) → param_by itself p ≡ p
 param_stays p =
     let names = items_stay (ident_by itself) ident_stays p.names in
@@ -203,6 +189,27 @@ result_stays : (r : ResultTree) → result_by itself r ≡ r
 result_stays no_result = refl
 result_stays (one_result t) = ap one_result (type_stays t)
 result_stays (results o ts c) = ap (λ xs. results o xs c) (items_stay (type_by itself) type_stays ts)
+
+method_stays : (m : MethodTree) → method_by itself m ≡ m
+method_stays m =
+    let params = items_stay (param_by itself) param_stays m.params in
+    let result = result_stays m.result in
+    λ i. record { name = m.name; lparen = m.lparen; params = params i; rparen = m.rparen; result = result i }
+
+body_stays : (b : BodyTree) → body_by itself b ≡ b
+body_stays (Other t) = ap Other (type_stays t)
+body_stays (Struct s o fs c) = ap (λ xs. Struct s o xs c) (items_stay (field_by itself) field_stays fs)
+body_stays (Interface p o ms c) = ap (λ xs. Interface p o xs c) (items_stay (method_by itself) method_stays ms)
+
+type_spec_stays : (t : TypeSpecTree) → type_spec_by itself t ≡ t
+type_spec_stays t = let body = body_stays t.body in λ i. record { name = t.name; body = body i }
+
+receiver_stays : (r : ReceiverTree) → receiver_by itself r ≡ r
+receiver_stays r =
+    let name = ident_stays r.name in
+    let star = number_stays r.star in
+    let comma = number_stays r.comma in
+    λ i. record { lparen = r.lparen; name = name i; star = star i; type_name = r.type_name; comma = comma i; rparen = r.rparen }
 
 func_stays : (f : FuncTree) → func_by itself f ≡ f
 func_stays f =

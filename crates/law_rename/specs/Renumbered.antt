@@ -6,9 +6,9 @@ use Rattle.go_ast.specs.Tree.{Slice, ExprTree, Number, Text, Name, Blank, Compos
 use Rattle.go_ast.specs.Tree.{operand, LinkTrees, no_link, selector, index, call, ArgumentTrees, no_argument, argument, LiteralTree, literal, ElementTrees}
 use Rattle.go_ast.specs.Tree.{no_element, element, SimpleTree, Alone, Step, Update, Assign, Define, LocalTree, InitTree, ForTree, forever, while, clauses}
 use Rattle.go_ast.specs.Tree.{StatementTree, Empty, Var, Simple, Inner, If, For, Break, Continue, Return, BlockTree, block, StatementTrees, no_statement}
-use Rattle.go_ast.specs.Tree.{statement, IfTree, if_tree, ElseTree, no_else, else_if, else_block, ImportTree, GlobalTree, FieldTree, BodyTree, Other}
-use Rattle.go_ast.specs.Tree.{Struct, TypeSpecTree, ReceiverTree, ParamTree, ResultTree, no_result, one_result, results, FuncTree, ImportsTree, DeclTree}
-use Rattle.go_ast.specs.Tree.{VarDecl, TypeDecl, FuncDecl, FileTree}
+use Rattle.go_ast.specs.Tree.{statement, IfTree, if_tree, ElseTree, no_else, else_if, else_block, ImportTree, GlobalTree, FieldTree, MethodTree, BodyTree}
+use Rattle.go_ast.specs.Tree.{Other, Struct, Interface, TypeSpecTree, ReceiverTree, ParamTree, ResultTree, no_result, one_result, results, FuncTree}
+use Rattle.go_ast.specs.Tree.{ImportsTree, DeclTree, VarDecl, TypeDecl, FuncDecl, FileTree}
 
 -- The token with its index changed by `g`. The definitions from here to `decl_by` do this for each kind of tree.
 abbrev pub numbered : (ℕ → ℕ) → Token → Token
@@ -146,9 +146,27 @@ global_by g v = record {
 abbrev pub field_by : (ℕ → ℕ) → FieldTree → FieldTree
 field_by g f = record { names = items_by g g f.names; type_use = type_by g f.type_use }
 
+abbrev pub param_by : (ℕ → ℕ) → ParamTree → ParamTree
+param_by g p = record { names = items_by g (ident_by g) p.names; type_use = type_by g p.type_use }
+
+abbrev pub result_by : (ℕ → ℕ) → ResultTree → ResultTree
+result_by g no_result = no_result
+result_by g (one_result t) = one_result (type_by g t)
+result_by g (results o ts c) = results (g o) (items_by g (type_by g) ts) (g c)
+
+abbrev pub method_by : (ℕ → ℕ) → MethodTree → MethodTree
+method_by g m = record {
+  name = g m.name;
+  lparen = g m.lparen;
+  params = items_by g (param_by g) m.params;
+  rparen = g m.rparen;
+  result = result_by g m.result;
+}
+
 abbrev pub body_by : (ℕ → ℕ) → BodyTree → BodyTree
 body_by g (Other t) = Other (type_by g t)
 body_by g (Struct s o fs c) = Struct (g s) (g o) (items_by g (field_by g) fs) (g c)
+body_by g (Interface i o ms c) = Interface (g i) (g o) (items_by g (method_by g) ms) (g c)
 
 abbrev pub type_spec_by : (ℕ → ℕ) → TypeSpecTree → TypeSpecTree
 type_spec_by g t = record { name = g t.name; body = body_by g t.body }
@@ -162,14 +180,6 @@ receiver_by g r = record {
   comma = option_map g r.comma;
   rparen = g r.rparen;
 }
-
-abbrev pub param_by : (ℕ → ℕ) → ParamTree → ParamTree
-param_by g p = record { names = items_by g (ident_by g) p.names; type_use = type_by g p.type_use }
-
-abbrev pub result_by : (ℕ → ℕ) → ResultTree → ResultTree
-result_by g no_result = no_result
-result_by g (one_result t) = one_result (type_by g t)
-result_by g (results o ts c) = results (g o) (items_by g (type_by g) ts) (g c)
 
 abbrev pub func_by : (ℕ → ℕ) → FuncTree → FuncTree
 func_by g f = record {

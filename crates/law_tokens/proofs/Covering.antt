@@ -15,10 +15,11 @@ use Rattle.go_scope.specs.declared.model.Role.TheVariants.{Use, Declaring, LeftN
 use Rattle.go_scope.specs.Bindings.{is_implied}
 use Rattle.go_scope.specs.Site.{Site, TokenSpellings, site}
 use Rattle.go_scope.specs.FileSites.{imports_sites, decl_sites, file_sites}
-use Rattle.law_tokens.specs.Tokens.{is_ident_token, is_header_name, begins_declaration, names_among, identifiers_among}
+use Rattle.go_scope.specs.IdentifierTokens.{is_ident_token, is_header_name}
+use Rattle.law_tokens.specs.Tokens.{begins_declaration, names_among, identifiers_among}
 use Rattle.law_tokens.specs.Covered.{CoverTokens, place_in}
-use Rattle.law_tokens.proofs.Covers.{Covers, is_link, is_linked, IsTaken, ends, skips, takes, selects, keys}
-use Rattle.law_tokens.proofs.CoveredFiles.{imports_covered, decls_named}
+use Rattle.go_scope.proofs.Covers.{Covers, is_link, is_linked, stands_unlinked, IsTaken, ends, skips, takes, selects, keys}
+use Rattle.go_scope.proofs.CoveredFiles.{imports_covered, decls_named}
 
 -- one identifier at each token, in their order, none of them predeclared
 abbrev pub Pairs : TokenSpellings → List Site → List Token → Type 0
@@ -62,11 +63,11 @@ pairs_of P s _ _ ends = tt
 pairs_of P s xs _ (skips {t = t} {ts = ts} k a) =
     subst (λ l. Pairs s xs l) (sym (dropped P t ts (neither (P t.kind) (is_link t.kind) k).0)) (pairs_of P s xs ts a)
 pairs_of P s _ _ (takes {x = x} {xs = xs} {t = t} {ts = ts} k i e a) =
-    subst (λ l. Pairs s (x ∷ xs) l) (sym (kept P t ts k)) (not_implied x.role i, e, pairs_of P s xs ts a)
-pairs_of P s _ _ (selects {x = x} {xs = xs} {d = d} {t = t} {ts = ts} dot out k e a) =
+    subst (λ l. Pairs s (x ∷ xs) l) (sym (kept P t ts k)) (not_implied x.role (stands_unlinked x.role t.kind i), e, pairs_of P s xs ts a)
+pairs_of P s _ _ (selects {x = x} {xs = xs} {d = d} {t = t} {ts = ts} dot out k w e a) =
     let own = by_role s x t.place purpose.Selected e in
     subst (λ l. Pairs s (x ∷ xs) l) (sym (dropped P d (t ∷ ts) out ∙ kept P t ts k)) (own.0, own.1, pairs_of P s xs ts a)
-pairs_of P s _ _ (keys {x = x} {xs = xs} {t = t} {c = c} {ts = ts} colon out k e a) =
+pairs_of P s _ _ (keys {x = x} {xs = xs} {t = t} {c = c} {ts = ts} colon out k w e a) =
     let own = by_role s x t.place purpose.Key e in
     subst (λ l. Pairs s (x ∷ xs) l) (sym (kept P t (c ∷ ts) k ∙ ap (λ l. t ∷ l) (dropped P c ts out))) (own.0, own.1, pairs_of P s xs ts a)
 

@@ -29,7 +29,8 @@ use Rattle.go_scope.specs.Trees.{AreNumbered, IsNumbered}
 use Rattle.go_scope.proofs.Declared.{file_numbered, no_numbers}
 use Rattle.go_scope.proofs.NamedSites.{place_stays}
 use Rattle.law_tokens.specs.Order.{StandInOrder}
-use Rattle.law_tokens.specs.Tokens.{is_ident_token, is_header_name, begins_declaration, names_among, identifiers_among}
+use Rattle.go_scope.specs.IdentifierTokens.{is_ident_token, is_header_name}
+use Rattle.law_tokens.specs.Tokens.{begins_declaration, names_among, identifiers_among}
 use Rattle.law_tokens.specs.Covered.{AreSourceFiles}
 use Rattle.law_tokens.specs.Bytes.{TokenCovers, CoversByte, AreCut, HaveOwnPaths}
 use Rattle.law_tokens.proofs.Ordered.{package_ordered, one_stands, same_length}

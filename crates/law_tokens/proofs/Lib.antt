@@ -1,9 +1,6 @@
 -- The lemmas of this crate.
-pub mod Covers
-pub mod CoveredExpressions
-pub mod CoveredStatements
-pub mod CoveredFiles
 pub mod Covering
+pub mod EachIdentifier
 pub mod Elements
 pub mod FileIdentifiers
 pub mod Links

@@ -12,9 +12,9 @@ use Rattle.go_scope.specs.declared.model.Role.{Role}
 use Rattle.go_scope.specs.declared.model.Role.TheVariants.{NotLexical}
 use Rattle.go_scope.specs.Site.{Site, TokenSpellings}
 use Rattle.go_scope.specs.FileSites.{imports_sites, decl_sites, file_sites}
-use Rattle.law_tokens.specs.Tokens.{is_ident_token, is_header_name}
-use Rattle.law_tokens.proofs.Covers.{Covers, is_link, is_linked, ends, skips, takes, selects, keys}
-use Rattle.law_tokens.proofs.CoveredFiles.{imports_covered, decls_named}
+use Rattle.go_scope.specs.IdentifierTokens.{is_ident_token, is_header_name}
+use Rattle.go_scope.proofs.Covers.{Covers, is_link, is_linked, stands_unlinked, ends, skips, takes, selects, keys}
+use Rattle.go_scope.proofs.CoveredFiles.{imports_covered, decls_named}
 use Rattle.law_tokens.proofs.Covering.{neither}
 
 -- identifiers among tokens: behind each dot stands a selected name, before each colon a key
@@ -34,11 +34,12 @@ linked : (P : Kind → Bool) (s : TokenSpellings) (xs : List Site) (ts : List To
 linked P s _ _ ends = stop
 linked P s xs _ (skips {t = t} {ts = ts} k a) = skip (neither (P t.kind) (is_link t.kind) k).1 (linked P s xs ts a)
 linked P s _ _ (takes {x = x} {xs = xs} {t = t} {ts = ts} k i e a) =
-    take (not-true (is_link t.kind) (and_parts (P t.kind) (not (is_link t.kind)) k).1) i (ap (λ (y : Site). y.place.index) e) (linked P s xs ts a)
-linked P s _ _ (selects {x = x} {xs = xs} {t = t} {ts = ts} d out k e a) =
+    take (not-true (is_link t.kind) (and_parts (P t.kind) (not (is_link t.kind)) k).1) (stands_unlinked x.role t.kind i)
+    (ap (λ (y : Site). y.place.index) e) (linked P s xs ts a)
+linked P s _ _ (selects {x = x} {xs = xs} {t = t} {ts = ts} d out k w e a) =
     select d (not-true (is_link t.kind) (and_parts (P t.kind) (not (is_link t.kind)) k).1) (ap (λ (y : Site). y.place.index) e)
     (ap (λ (y : Site). y.role) e) (linked P s xs ts a)
-linked P s _ _ (keys {x = x} {xs = xs} {t = t} {ts = ts} c out k e a) =
+linked P s _ _ (keys {x = x} {xs = xs} {t = t} {ts = ts} c out k w e a) =
     key c (not-true (is_link t.kind) (and_parts (P t.kind) (not (is_link t.kind)) k).1) (ap (λ (y : Site). y.place.index) e) (ap (λ (y : Site). y.role) e)
     (linked P s xs ts a)
 

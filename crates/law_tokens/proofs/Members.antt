@@ -5,8 +5,8 @@ use Rattle.std.specs.List.{flat_map}
 use Rattle.std.proofs.lemmas.Option.{none-some, same_Some}
 use Rattle.go_ast.specs.FileView.{file_view}
 use Rattle.go_ast.specs.SourceFile.{FileParts, source_of, spelling_of}
-use Rattle.go_ast.specs.Tree.{Item, Group, single, several, FieldTree, BodyTree, Other, Struct, TypeSpecTree, ReceiverTree, FuncTree, DeclTree, VarDecl}
-use Rattle.go_ast.specs.Tree.{TypeDecl, FuncDecl, FileTree}
+use Rattle.go_ast.specs.Tree.{Item, Group, single, several, FieldTree, MethodTree, BodyTree, Other, Struct, Interface, TypeSpecTree, ReceiverTree}
+use Rattle.go_ast.specs.Tree.{FuncTree, DeclTree, VarDecl, TypeDecl, FuncDecl, FileTree}
 use Rattle.go_scope.specs.declared.model.Position.{Position}
 use Rattle.go_scope.specs.declared.model.Purpose.TheVariants as purpose
 use Rattle.go_scope.specs.declared.model.Role.TheVariants.{NotLexical}
@@ -15,7 +15,7 @@ use Rattle.go_scope.specs.ExpressionSites.{sites_if, list_sites, type_sites}
 use Rattle.go_scope.specs.StatementSites.{separated_sites, group_sites, open_of, block_sites}
 use Rattle.go_scope.specs.FileSites.{global_name, member_name, spec_sites, field_sites, body_sites, type_spec_sites, receiver_sites, param_sites}
 use Rattle.go_scope.specs.FileSites.{result_sites, func_block, func_role, func_sites, imports_sites, decl_sites, file_sites, files_sites, universe}
-use Rattle.go_scope.specs.FileSites.{universe_site, package_sites}
+use Rattle.go_scope.specs.FileSites.{method_sites, universe_site, package_sites}
 use Rattle.go_scope.specs.Named.{with_names}
 use Rattle.go_scope.specs.SpelledFiles.{spelled_file}
 use Rattle.go_scope.specs.Packages.{scoped, layout_in}
@@ -76,11 +76,17 @@ field_has : (s : TokenSpellings) (n : ℕ) (f : FieldTree) → IsOne n (field_na
 unfolding field_sites
 field_has s n f one = has_left s n (list_sites (member_name s) f.names) (type_sites s f.type_use) (names_have s n f.names one)
 
+asked_has : (s : TokenSpellings) (n : ℕ) (m : MethodTree) → IsOne n (m.name ∷ []) → Has s n (method_sites s m)
+unfolding method_sites
+asked_has s n m one = elim one [ inl e ↦ inl (ap (λ k. site s k (NotLexical purpose.Member)) e) | inr rest ↦ absurd rest ]
+
 body_has : (s : TokenSpellings) (n : ℕ) (b : BodyTree) → IsOne n (body_members b) → Has s n (body_sites s b)
 unfolding body_sites
 body_has s n (Other t) one = absurd one
 body_has s n (Struct p o fs c) one =
     has_all s n (λ (i : Item FieldTree). field_sites s i.value) (λ (i : Item FieldTree). field_name_tokens i.value) (λ i. field_has s n i.value) fs one
+body_has s n (Interface p o ms c) one =
+    has_all s n (λ (i : Item MethodTree). method_sites s i.value) (λ (i : Item MethodTree). i.value.name ∷ []) (λ i. asked_has s n i.value) ms one
 
 type_spec_has : (s : TokenSpellings) (n : ℕ) (t : TypeSpecTree) → IsOne n (body_members t.body) → Has s n (type_spec_sites s t)
 unfolding type_spec_sites

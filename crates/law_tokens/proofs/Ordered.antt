@@ -18,7 +18,8 @@ use Rattle.go_scope.specs.Table.{LiesAt}
 use Rattle.go_scope.specs.Trees.{AreRising, IsNumbered, AreNumbered}
 use Rattle.go_scope.proofs.NamedSites.{place_stays}
 use Rattle.law_tokens.specs.Order.{ComesBefore, StandInOrder}
-use Rattle.law_tokens.specs.Tokens.{is_ident_token, is_header_name, begins_declaration, names_among, identifiers_among}
+use Rattle.go_scope.specs.IdentifierTokens.{is_ident_token, is_header_name}
+use Rattle.law_tokens.specs.Tokens.{begins_declaration, names_among, identifiers_among}
 use Rattle.law_tokens.proofs.Covering.{Pairs, file_pairs}
 
 -- identifiers of one file, each behind the one before, the first at that token or behind it

@@ -1,7 +1,8 @@
--- The tokens of a file that declare fields and methods.
+-- The tokens of a file that declare fields and methods, also those that an interface asks for.
 use Rattle.std.specs.Prelude.{ℕ, List, [], ◌∷◌, Option, Some, None, map}
 use Rattle.std.specs.List.{flat_map}
-use Rattle.go_ast.specs.Tree.{Group, single, several, FieldTree, BodyTree, Other, Struct, ReceiverTree, DeclTree, VarDecl, TypeDecl, FuncDecl, FileTree}
+use Rattle.go_ast.specs.Tree.{Group, single, several, FieldTree, BodyTree, Other, Struct, Interface, ReceiverTree, DeclTree, VarDecl, TypeDecl}
+use Rattle.go_ast.specs.Tree.{FuncDecl, FileTree}
 
 -- The tokens that `f` gives for the specs of a declaration, with or without parentheses.
 abbrev pub in_group : {X : Type 0} → (X → List ℕ) → Group X → List ℕ
@@ -12,10 +13,11 @@ in_group f (several o xs c) = flat_map (λ i. f i.value) xs
 abbrev pub field_name_tokens : FieldTree → List ℕ
 field_name_tokens f = map (λ i. i.value) f.names
 
--- The tokens that declare the fields of a type definition; none where its type is not a struct.
+-- The tokens that declare the fields of a struct, or the methods that an interface asks for; none where a definition writes another type.
 abbrev pub body_members : BodyTree → List ℕ
 body_members (Other t) = []
 body_members (Struct p o fs c) = flat_map (λ i. field_name_tokens i.value) fs
+body_members (Interface p o ms c) = flat_map (λ i. i.value.name ∷ []) ms
 
 -- The token of a function's name if it has a receiver, and so is a method.
 abbrev pub method_name : Option ReceiverTree → ℕ → List ℕ

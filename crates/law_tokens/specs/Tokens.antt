@@ -3,19 +3,7 @@ use Rattle.std.specs.Prelude.{Bool, true, false, List, [], ◌∷◌, filter, if
 use Rattle.go_ast.specs.declared.syntax.Kind.{Kind}
 use Rattle.go_ast.specs.declared.syntax.Kind.TheVariants as kind
 use Rattle.go_ast.specs.declared.syntax.Token.{Token}
-
--- Whether a kind is that of an identifier token, `_` among them.
-abbrev pub is_ident_token : Kind → Bool
-is_ident_token kind.Name = true
-is_ident_token kind.Blank = true
-is_ident_token _ = false
-
--- Whether a kind is that of an identifier token, `_` or a string. Before the first declaration of a file, each string is that of an import.
-abbrev pub is_header_name : Kind → Bool
-is_header_name kind.Name = true
-is_header_name kind.Blank = true
-is_header_name kind.Text = true
-is_header_name _ = false
+use Rattle.go_scope.specs.IdentifierTokens.{is_ident_token, is_header_name}
 
 -- Whether a kind is that of a keyword with which a top-level declaration begins: `var`, `type` or `func`.
 abbrev pub begins_declaration : Kind → Bool

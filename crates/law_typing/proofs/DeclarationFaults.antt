@@ -19,8 +19,9 @@ use Rattle.law_typing.proofs.Naming.{type_true, true_type}
 use Rattle.law_typing.proofs.Fitting.{fits_true, true_fits}
 use Rattle.law_typing.proofs.Declarations.{literals}
 use Rattle.law_typing.specs.DeclarationFaults.{LiteralMisfits, no_int, no_string, later_literal, GlobalBreaksAt, in_global_type, literal_misfit, wrong_literals}
-use Rattle.law_typing.specs.DeclarationFaults.{FieldBreaksAt, this_field, later_field, BodyBreaksAt, in_other, in_struct, TypeBreaksAt, in_type_body, DeclaresNone}
-use Rattle.law_typing.specs.DeclarationFaults.{stays, DeclDeclares, behind_variables, behind_types, behind_one_function, DeclBreaksAt, in_variables, in_types}
+use Rattle.law_typing.specs.DeclarationFaults.{FieldBreaksAt, this_field, later_field, BodyBreaksAt, in_other, in_struct, an_interface, TypeBreaksAt}
+use Rattle.law_typing.specs.DeclarationFaults.{in_type_body, DeclaresNone, stays, DeclDeclares, behind_variables}
+use Rattle.law_typing.specs.DeclarationFaults.{behind_types, behind_one_function, DeclBreaksAt, in_variables, in_types}
 use Rattle.law_typing.specs.DeclarationFaults.{in_function, DeclsBreakAt, this_decl, later_decl, FileBreaksAt, in_file}
 use Rattle.law_typing.proofs.FaultLists.{HasToken, AreExactly, none_told, both_told, told_as, At, at_place, fault_at, test_told, some_same, none_some}
 use Rattle.law_typing.proofs.TypeFaults.{type_told}
@@ -178,10 +179,15 @@ other_breaks (in_other b) = b
 struct_breaks : {w : World} {q o c p : ℕ} {is : List (Item FieldTree)} → BodyBreaksAt w (tree.Struct q o is c) p → FieldBreaksAt w is p
 struct_breaks (in_struct b) = b
 
+interface_breaks : {w : World} {q o c p : ℕ} {is : List (Item tree.MethodTree)} → BodyBreaksAt w (tree.Interface q o is c) p → q ≡ p
+interface_breaks an_interface = refl
+
 body_told : (w : World) (b : BodyTree) → AreExactly (body_faults w b) (BodyBreaksAt w b)
 unfolding body_faults
 body_told w (tree.Other x) = told_as (type_told w x) (λ p b. in_other b) (λ p b. other_breaks b)
 body_told w (tree.Struct q o is c) = told_as (fields_told w is) (λ p b. in_struct b) (λ p b. struct_breaks b)
+body_told w (tree.Interface q o is c) =
+    told_as (fault_at q {C = Unit {0}} tt) (at_place (BodyBreaksAt w (tree.Interface q o is c)) (λ u. an_interface)) (λ p b. (interface_breaks b, tt))
 
 type_breaks : {w : World} {locals : Locals} {t : TypeSpecTree} {p : ℕ} → TypeBreaksAt w locals t p → BodyBreaksAt w t.body p
 type_breaks (in_type_body b) = b
@@ -200,13 +206,15 @@ type_spec_told w = told_of TypeSpecTree (DeclaresNone TypeSpecTree) (TypeBreaksA
 -- declarations
 
 -- after a group that declares no local, the locals are those before it
-items_stay : {X : Type 0} {B : Locals → X → ℕ → Type 0} {check : FoundSoFar → X → FoundSoFar} → IsExact X (DeclaresNone X) B check → (s : FoundSoFar) (is : List (Item X)) →
+items_stay : {X : Type 0} {B : Locals → X → ℕ → Type 0} {check : FoundSoFar → X → FoundSoFar} → IsExact X (DeclaresNone X) B check →
+    (s : FoundSoFar) (is : List (Item X)) →
     (check_items check s is).locals ≡ s.locals
 unfolding check_items
 items_stay t s [] = refl
 items_stay {check = check} t s (i ∷ is) = items_stay t (check s i.value) is ∙ t.only s i.value s.locals stays
 
-group_stays : {X : Type 0} {B : Locals → X → ℕ → Type 0} {check : FoundSoFar → X → FoundSoFar} → IsExact X (DeclaresNone X) B check → (s : FoundSoFar) (g : Group X) →
+group_stays : {X : Type 0} {B : Locals → X → ℕ → Type 0} {check : FoundSoFar → X → FoundSoFar} → IsExact X (DeclaresNone X) B check →
+    (s : FoundSoFar) (g : Group X) →
     (check_group check s g).locals ≡ s.locals
 unfolding check_group
 group_stays t s (tree.single x) = t.only s x s.locals stays
@@ -214,8 +222,10 @@ group_stays t s (tree.several o is c) = items_stay t s is
 
 decl_leads : (w : World) (is_init : ℕ → Bool) (s : FoundSoFar) (d : DeclTree) → DeclDeclares w s.locals d (check_decl w is_init s d).locals
 unfolding check_decl
-decl_leads w is_init s (tree.VarDecl q g c) = subst (λ z. DeclDeclares w s.locals (tree.VarDecl q g c) z) (sym (group_stays (global_told w) s g)) behind_variables
-decl_leads w is_init s (tree.TypeDecl q g c) = subst (λ z. DeclDeclares w s.locals (tree.TypeDecl q g c) z) (sym (group_stays (type_spec_told w) s g)) behind_types
+decl_leads w is_init s (tree.VarDecl q g c) = subst (λ z. DeclDeclares w s.locals (tree.VarDecl q g c) z) (sym (group_stays (global_told w) s g))
+    behind_variables
+decl_leads w is_init s (tree.TypeDecl q g c) = subst (λ z. DeclDeclares w s.locals (tree.TypeDecl q g c) z) (sym (group_stays (type_spec_told w) s g))
+    behind_types
 decl_leads w is_init s (tree.FuncDecl q f c) = let t = function_told w (is_init f.name) in behind_one_function (t.leads s f)
 
 decl_only : (w : World) (is_init : ℕ → Bool) (s : FoundSoFar) (d : DeclTree) (after : Locals) → DeclDeclares w s.locals d after →
@@ -260,12 +270,14 @@ decl_told w is_init = record {
 
 -- files
 
-decls_stay : (w : World) (is_init : ℕ → Bool) (s : FoundSoFar) (ds : List DeclTree) (p : ℕ) → HasToken s.faults p → HasToken (check_decls w is_init s ds).faults p
+decls_stay : (w : World) (is_init : ℕ → Bool) (s : FoundSoFar) (ds : List DeclTree) (p : ℕ) → HasToken s.faults p →
+    HasToken (check_decls w is_init s ds).faults p
 unfolding check_decls
 decls_stay w is_init s [] p h = h
 decls_stay w is_init s (d ∷ ds) p h = decls_stay w is_init (check_decl w is_init s d) ds p (decl_stays w is_init s d p h)
 
-decls_found : (w : World) (is_init : ℕ → Bool) (s : FoundSoFar) (ds : List DeclTree) (p : ℕ) → HasToken (check_decls w is_init s ds).faults p → HasToken s.faults p ⊎
+decls_found : (w : World) (is_init : ℕ → Bool) (s : FoundSoFar) (ds : List DeclTree) (p : ℕ) → HasToken (check_decls w is_init s ds).faults p →
+    HasToken s.faults p ⊎
     DeclsBreakAt w is_init s.locals ds p
 unfolding check_decls
 decls_found w is_init s [] p h = inl h

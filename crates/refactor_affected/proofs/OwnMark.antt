@@ -1,5 +1,5 @@
 -- The mark of the package in the folder of a file.
-use Rattle.std.proofs.Common.{◌≡◌, inl, inr, List, ℕ, [], ◌∷◌, sym, subst}
+use Rattle.std.proofs.Common.{inl, inr, List, ℕ, [], ◌∷◌, sym, subst}
 use Rattle.std.specs.Prelude.{Bool, Contains}
 use Rattle.base_lemmas.proofs.Elements.{nothing_in, first_in, first_or_later}
 use Rattle.base_files.specs.Path.{folder}

@@ -1,5 +1,5 @@
 -- What the steps of planning beside packages with faults answer.
-use Rattle.std.specs.Prelude.{ℕ, ◌≡◌, ◌<◌, ◌↔◌, ◌⊎◌, ◌++◌, ⊤, Bool, true, false, List, [], ◌∷◌, Contains, Some, None, Result, Ok, Err, Vec, length, slice_get}
+use Rattle.std.specs.Prelude.{ℕ, ◌≡◌, ◌<◌, ◌↔◌, ◌⊎◌, ⊤, Bool, true, false, List, Contains, Some, None, Result, Ok, Err, Vec, length, slice_get}
 use Rattle.base_files.specs.Packages.{package_paths}
 use Rattle.base_files.specs.Workspace.{Workspace}
 use Rattle.base_files.specs.declared.refusal.Refusal.{Refusal}

@@ -4,7 +4,7 @@ use Rattle.std.specs.Prelude.{Option, Some, None, slice_get, slice_index_or}
 use Rattle.std.specs.List.{All, flat_map}
 use Rattle.std.proofs.lemmas.List.Elements.{All-nil, All-head, All-tail, All-append, All-map, All-weaker}
 use Rattle.std.proofs.lemmas.Option.{none-some, same_Some}
-use Rattle.go_ast.specs.Tree.{Item, FieldTree, BodyTree, Other, Struct}
+use Rattle.go_ast.specs.Tree.{Item, FieldTree, BodyTree, Other, Struct, Interface}
 use Rattle.go_scope.specs.WellFormed.{WellFormed}
 use Rattle.types_expr.specs.declared.symbol.Symbol.{Symbol}
 use Rattle.types_expr.specs.declared.world.Definition.{Definition}
@@ -34,6 +34,7 @@ record IsWritten (first : ℕ) (ds : List PlacedType) (f : PlacedField) : Type 0
 body_written : (first file : ℕ) (d : PlacedType) (ds : List PlacedType) (b : BodyTree) → d.spec.body ≡ b →
     All (IsWritten first (d ∷ ds)) (body_fields first file b)
 body_written first file d ds (Other t) e = All-nil (IsWritten first (d ∷ ds))
+body_written first file d ds (Interface k o ms c) e = All-nil (IsWritten first (d ∷ ds))
 body_written first file d ds (Struct k o fs c) e = items fs
   where
     one : (i : Item FieldTree) (n : Item ℕ) → IsWritten first (d ∷ ds) (record { definition = first; file = file; name = n.value; type_use = i.value.type_use })

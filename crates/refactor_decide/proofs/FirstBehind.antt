@@ -18,9 +18,9 @@ use Rattle.refs_binding.proofs.Folders.{begins_in_folder}
 use Rattle.refs_binding.proofs.Units.{one_package}
 use Rattle.refs_lookup.proofs.ExportedNames.{is_found}
 use Rattle.refactor_conflict.specs.declared.conflict.Conflict.{Conflict}
-use Rattle.law_renamed_scopes.proofs.OwnNames.{member_is_none, seen_exports}
-use Rattle.law_scope_conflicts.specs.Behind.{TurnsQualified}
-use Rattle.law_scope_conflicts.specs.ScopeConflicts.{FirstConflictBehind}
+use Rattle.law_renamed_workspaces.proofs.OwnNames.{member_is_none, seen_exports}
+use Rattle.law_agreement.specs.Behind.{TurnsQualified}
+use Rattle.law_agreement.specs.ScopeConflicts.{FirstConflictBehind}
 use Rattle.refactor_decide.specs.Behind.{IsFirstUse, IsUsedOutside}
 use Rattle.refactor_decide.specs.Turned.{TellsTurned}
 use Rattle.refactor_decide.specs.declared.turned.TurnedUses.{TurnedUses}

@@ -23,10 +23,10 @@ use Rattle.refactor_conflict.specs.declared.conflict.Conflict.{Conflict}
 use Rattle.refactor_scopes.specs.declared.outcomes.ScopeConflict.{ScopeConflict}
 use Rattle.refactor_scopes.specs.Conflicts.{IsConflictAt, TellsConflict}
 use Rattle.refactor_scopes.proofs.Renames.{within_by}
-use Rattle.law_renamed_scopes.proofs.OwnNames.{role_inside}
-use Rattle.law_renamed_scopes.proofs.SameNames.{left_roles}
-use Rattle.law_local_renames.proofs.NumbersInOrder.{numbers_follow}
-use Rattle.law_scope_conflicts.specs.ScopeConflicts.{FirstOwnConflict, IsOwnConflictBy, IsSameCapturer, NamesNumber}
+use Rattle.law_renamed_workspaces.proofs.OwnNames.{role_inside}
+use Rattle.law_renamed_workspaces.proofs.SameNames.{left_roles}
+use Rattle.law_renamed_workspaces.proofs.NumbersInOrder.{numbers_follow}
+use Rattle.law_agreement.specs.ScopeConflicts.{FirstOwnConflict, IsOwnConflictBy, IsSameCapturer, NamesNumber}
 use Rattle.refactor_decide.specs.Capturers.{NamesEach, NamesInPackage}
 use Rattle.refactor_decide.specs.Own.{IsPlacedIfAny, TellsOwn}
 use Rattle.refactor_decide.proofs.Written.{begins_written, written_begins}

@@ -21,11 +21,11 @@ use Rattle.refactor_rename.specs.Naming.{IsFixed, IsReservedFor}
 use Rattle.refactor_rename.specs.NewName.{IsNewName}
 use Rattle.refactor_rename.specs.RenameEdits.{AreRenameEdits}
 use Rattle.refactor_conflict.specs.Conflicts.{IsFirstConflict}
-use Rattle.law_renamed_packages.specs.Renames.{IsPlainRename}
-use Rattle.law_renamed_scopes.proofs.OwnNames.{identifies}
-use Rattle.law_known_verdicts.specs.KnownVerdicts.{IsHidden, IsHiddenIn}
-use Rattle.law_scope_conflicts.specs.ScopeRenames.{IsRenameIn}
-use Rattle.law_scope_conflicts.specs.ScopeConflicts.{FirstConflictsAreTold}
+use Rattle.law_renamed_workspaces.specs.Renames.{IsPlainRename}
+use Rattle.law_renamed_workspaces.proofs.OwnNames.{identifies}
+use Rattle.law_renamed_workspaces.specs.KnownVerdicts.{IsHidden, IsHiddenIn}
+use Rattle.law_agreement.specs.ScopeRenames.{IsRenameIn}
+use Rattle.law_agreement.specs.ScopeConflicts.{FirstConflictsAreTold}
 use Rattle.refactor_decide.specs.Deciding.{Decides}
 use Rattle.refactor_decide.specs.Own.{CanRename}
 use Rattle.refactor_decide.specs.declared.decision.ScopeDecision.{ScopeDecision}

@@ -7,7 +7,7 @@ use Rattle.law_rename.specs.Seen.{IsExportedAs}
 use Rattle.types_check.specs.Exports.{DoesExport}
 use Rattle.types_declared.specs.Laid.{is_exported}
 use Rattle.types_declared.specs.Package.{Package}
-use Rattle.law_scope_conflicts.specs.Behind.{TurnsBehind, hidden, preceded, repeated}
+use Rattle.law_agreement.specs.Behind.{TurnsBehind, hidden, preceded, repeated}
 use Rattle.refactor_decide.specs.Capturers.{CountsIfAny}
 use Rattle.refactor_decide.specs.Own.{CanRename}
 use Rattle.refactor_decide.specs.Turned.{TellsTurned, later_of}

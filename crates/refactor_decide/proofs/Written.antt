@@ -27,8 +27,8 @@ use Rattle.refs_lookup.proofs.Faultless.{no_fault_later}
 use Rattle.refactor_scopes.specs.Conflicts.{IsWritten}
 use Rattle.law_faultless.proofs.Declared.{may_within}
 use Rattle.law_faultless.proofs.MeaningfulNames.{counts_mean}
-use Rattle.law_renamed_packages.proofs.Literals.{no_name, to_string}
-use Rattle.law_renamed_scopes.proofs.Standing.{begins_there, use_stands, declared_stands, laid_literal}
+use Rattle.law_renamed_workspaces.proofs.Literals.{no_name, to_string}
+use Rattle.law_renamed_workspaces.proofs.Standing.{begins_there, use_stands, declared_stands, laid_literal}
 
 -- an identifier in the block of a file may declare
 file_may : (r : Role) (f : ℕ) → block_of r ≡ File f → may_declare r ≡ true

@@ -6,8 +6,8 @@ use Rattle.workspace_check.specs.Verdicts.{Verdicts}
 use Rattle.refs_binding.specs.Uses.{IsCheckedPackage}
 use Rattle.refactor_conflict.specs.declared.conflict.Conflict.{Conflict}
 use Rattle.refactor_rename.specs.Literals.{IsUnnamedImport}
-use Rattle.law_known_verdicts.specs.KnownVerdicts.{IsHiddenIn}
-use Rattle.law_scope_conflicts.specs.ScopeConflicts.{FirstConflictBehind, FirstOwnConflict, earlier_conflict}
+use Rattle.law_renamed_workspaces.specs.KnownVerdicts.{IsHiddenIn}
+use Rattle.law_agreement.specs.ScopeConflicts.{FirstConflictBehind, FirstOwnConflict, earlier_conflict}
 use Rattle.refactor_decide.specs.Own.{CanRename}
 use Rattle.refactor_decide.specs.declared.decision.ScopeDecision.{ScopeDecision}
 

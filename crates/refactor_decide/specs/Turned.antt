@@ -2,7 +2,7 @@
 use Rattle.std.specs.Prelude.{ℕ, ◌≡◌, List, Option, Some, None, if◌then◌else◌, nat_lt}
 use Rattle.types_check.specs.Exports.{DoesExport}
 use Rattle.types_declared.specs.Package.{Package}
-use Rattle.law_scope_conflicts.specs.Behind.{TurnsBehind}
+use Rattle.law_agreement.specs.Behind.{TurnsBehind}
 use Rattle.refactor_decide.specs.declared.turned.TurnedUses.{TurnedUses}
 
 -- Of all declarations that the package exports only that of `t` has uses that turn, and they turn as `t` says; none where none has.

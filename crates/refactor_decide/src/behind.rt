@@ -7,7 +7,7 @@ ghost use Rattle.refs_binding.specs.Indexed.{IsPackageNumber, IsPackageNumbered,
 ghost use Rattle.refs_binding.specs.declared.declaration.Declaration.TheVariants.{Declared};
 ghost use Rattle.refs_binding.specs.Uses.{IsCheckedPackage};
 ghost use Rattle.refs_binding.specs.Workspaces.{ListsFound, known_in};
-ghost use Rattle.law_scope_conflicts.specs.ScopeConflicts.{FirstConflictBehind};
+ghost use Rattle.law_agreement.specs.ScopeConflicts.{FirstConflictBehind};
 ghost use Rattle.refactor_decide.specs.Behind.{IsFirstListed, IsFirstOutside, IsFirstUse};
 ghost use Rattle.refactor_decide.specs.Capturers.{CountsIfAny, NamesEach};
 ghost use Rattle.refactor_decide.specs.Own.{CanRename};

@@ -7,8 +7,8 @@ ghost use Rattle.refs_binding.specs.Indexed.{IsPackageNumber, IsPackageNumbered,
 ghost use Rattle.refs_binding.specs.Places.{place_cmp};
 ghost use Rattle.refs_binding.specs.Workspaces.{known_in};
 ghost use Rattle.refactor_rename.specs.Literals.{IsUnnamedImport};
-ghost use Rattle.law_known_verdicts.specs.KnownVerdicts.{IsHiddenIn};
-ghost use Rattle.law_scope_conflicts.specs.ScopeConflicts.{earlier_conflict};
+ghost use Rattle.law_renamed_workspaces.specs.KnownVerdicts.{IsHiddenIn};
+ghost use Rattle.law_agreement.specs.ScopeConflicts.{earlier_conflict};
 ghost use Rattle.refactor_decide.specs.Deciding.{Decides, IsFirstOfBoth};
 ghost use Rattle.refactor_decide.specs.Own.{CanRename};
 

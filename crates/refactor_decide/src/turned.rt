@@ -4,7 +4,7 @@ ghost use Rattle.go_scope.specs.Bindings.{AllCount, IsPackageLevel};
 ghost use Rattle.types_declared.specs.Laid.{is_exported as is_exported_name};
 ghost use Rattle.types_declared.specs.PackageView.{package_of};
 ghost use Rattle.types_check.specs.Exports.{DoesExport};
-ghost use Rattle.law_known_verdicts.specs.KnownVerdicts.{IsHiddenIn};
+ghost use Rattle.law_renamed_workspaces.specs.KnownVerdicts.{IsHiddenIn};
 ghost use Rattle.refactor_decide.specs.Own.{CanRename};
 ghost use Rattle.refactor_decide.specs.Turned.{TellsTurned, later_of};
 

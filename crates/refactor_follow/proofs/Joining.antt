@@ -11,7 +11,7 @@ use Rattle.refs_binding.proofs.PlaceOrder.{place_cmp_total}
 use Rattle.refactor_conflict.specs.Firsts.{IsNotBefore}
 use Rattle.refactor_conflict.specs.declared.conflict.Conflict.{Conflict}
 use Rattle.refactor_conflict.proofs.Firsts.{not_before}
-use Rattle.law_scope_conflicts.specs.ScopeConflicts.{IsFirstBy, earlier_conflict}
+use Rattle.law_agreement.specs.ScopeConflicts.{IsFirstBy, earlier_conflict}
 
 is_less : (x b : Place) → ((place_cmp x b ≡ Less → ⊥) → ⊥) → place_cmp x b ≡ Less
 is_less x b h = elim (cases_Bool (is_lt (place_cmp x b))) [

@@ -42,15 +42,15 @@ use Rattle.law_faultless.proofs.Declared.{given, kept, may_within, new_site, old
 use Rattle.law_faultless.proofs.FilesDecided.{IsGlobal}
 use Rattle.law_faultless.proofs.Numbers.{IsKept, IsTold, OfKind, laid, plain, universal}
 use Rattle.law_faultless.proofs.Scoped.{in_order}
-use Rattle.law_renamed_packages.proofs.Literals.{no_name}
-use Rattle.law_renamed_packages.proofs.NameTokens.{named_as_spelled}
-use Rattle.law_renamed_scopes.proofs.OwnNames.{identifies, in_universe, role_inside}
-use Rattle.law_renamed_scopes.proofs.SameBindings.{imports_used}
-use Rattle.law_renamed_scopes.proofs.SameNames.{left_roles}
-use Rattle.law_renamed_scopes.proofs.Standing.{IsLaid, StandsAtName, declared_stands, laid_literal, literal_role, use_stands}
-use Rattle.law_moved_scopes.proofs.ImportTokens.{declares_name, to_plain}
-use Rattle.law_moved_scopes.proofs.NamesAt.{name_token}
-use Rattle.law_moved_scopes.proofs.NamesMove.{implied_left, implied_use}
+use Rattle.law_renamed_workspaces.proofs.Literals.{no_name}
+use Rattle.law_renamed_workspaces.proofs.NameTokens.{named_as_spelled}
+use Rattle.law_renamed_workspaces.proofs.OwnNames.{identifies, in_universe, role_inside}
+use Rattle.law_renamed_workspaces.proofs.SameBindings.{imports_used}
+use Rattle.law_renamed_workspaces.proofs.SameNames.{left_roles}
+use Rattle.law_renamed_workspaces.proofs.Standing.{IsLaid, StandsAtName, declared_stands, laid_literal, literal_role, use_stands}
+use Rattle.law_moves.proofs.ImportTokens.{declares_name, to_plain}
+use Rattle.law_moves.proofs.NamesAt.{name_token}
+use Rattle.law_moves.proofs.NamesMove.{implied_left, implied_use}
 use Rattle.refactor_move.specs.FileEdits.{IsImportUse}
 use Rattle.refactor_move.specs.Uses.{IsNameTokenAt, mark_at}
 use Rattle.refactor_follow.specs.FirstConflicts.{IsFirstOfImports}

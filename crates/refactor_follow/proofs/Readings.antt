@@ -21,8 +21,8 @@ use Rattle.workspace_check.proofs.OnePackage.{layout_formed}
 use Rattle.refs_binding.specs.Uses.{IsCheckedPackage}
 use Rattle.refs_binding.specs.Workspaces.{IsPackageAt}
 use Rattle.law_faultless.proofs.Declared.{may_within}
-use Rattle.law_renamed_scopes.proofs.GoodImports.{imports_are_good}
-use Rattle.law_moved_scopes.proofs.ImportTokens.{import_is_counted}
+use Rattle.law_renamed_workspaces.proofs.GoodImports.{imports_are_good}
+use Rattle.law_moves.proofs.ImportTokens.{import_is_counted}
 use Rattle.refactor_move.specs.FileEdits.{IsImportUse}
 use Rattle.refactor_move.specs.Following.{Follows, IsFollowingName}
 use Rattle.refactor_move.specs.MoveEdits.{IsMoveOf}

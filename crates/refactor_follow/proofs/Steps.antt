@@ -18,7 +18,7 @@ use Rattle.refs_binding.specs.Uses.{IsCheckedPackage}
 use Rattle.refs_binding.specs.Workspaces.{IsPackageAt}
 use Rattle.refs_binding.proofs.Units.{one_package}
 use Rattle.refactor_conflict.specs.declared.conflict.Conflict.{Conflict}
-use Rattle.law_scope_conflicts.specs.ScopeConflicts.{HasNoOwnConflict, IsOwnConflict, earlier_conflict}
+use Rattle.law_agreement.specs.ScopeConflicts.{HasNoOwnConflict, IsOwnConflict, earlier_conflict}
 use Rattle.refactor_decide.proofs.FirstOwn.{own_first}
 use Rattle.refactor_follow.specs.FirstConflicts.{IsConflictAmong, IsConflictBelow, IsFirstAmong, IsFirstAt, IsFirstOfImports, IsFreeAmong, IsFreeBelow}
 use Rattle.refactor_follow.specs.ImportNames.{GetsName, TellsIfNamed}

@@ -20,15 +20,15 @@ use Rattle.refactor_conflict.specs.Conflicts.{IsFirstConflict}
 use Rattle.refactor_move.specs.Following.{Follows, IsFollowingName}
 use Rattle.refactor_move.specs.Paths.{last_of}
 use Rattle.refactor_move.specs.declared.moved.Moved.{Moved}
-use Rattle.law_renamed_scopes.proofs.GoodImports.{imports_are_good}
-use Rattle.law_scope_conflicts.specs.ScopeConflicts.{HasNoOwnConflict, IsOwnConflict}
-use Rattle.law_moved_packages.specs.Moves.{IsMove}
-use Rattle.law_moved_scopes.specs.MoveConflicts.{IsFreeOfMove, IsMoveConflict, TellsFirstImportConflict}
-use Rattle.law_moved_scopes.specs.ThereMoved.{IsFollowingImport, followed_name}
-use Rattle.law_moved_scopes.proofs.ImportTokens.{import_is_counted}
-use Rattle.law_moved_scopes.proofs.ImportsFollow.{other_name}
-use Rattle.law_moved_scopes.proofs.Laws.{first, none}
-use Rattle.law_moved_scopes.proofs.NamesMove.{import_within}
+use Rattle.law_renamed_workspaces.proofs.GoodImports.{imports_are_good}
+use Rattle.law_agreement.specs.ScopeConflicts.{HasNoOwnConflict, IsOwnConflict}
+use Rattle.law_moves.specs.Moves.{IsMove}
+use Rattle.law_moves.specs.MoveConflicts.{IsFreeOfMove, IsMoveConflict, TellsFirstImportConflict}
+use Rattle.law_moves.specs.ThereMoved.{IsFollowingImport, followed_name}
+use Rattle.law_moves.proofs.ImportTokens.{import_is_counted}
+use Rattle.law_moves.proofs.ImportsFollow.{other_name}
+use Rattle.law_moves.proofs.MovedScopesLaws.{first, none}
+use Rattle.law_moves.proofs.NamesMove.{import_within}
 use Rattle.refactor_follow.specs.FirstConflicts.{IsConflictAmong, IsConflictBelow, IsFirstAmong, IsFreeAmong, IsFreeBelow}
 use Rattle.refactor_follow.specs.ImportNames.{GetsName}
 use Rattle.refactor_follow.specs.MoveConflicts.{IsFirstOfName, TellsMoveConflict}

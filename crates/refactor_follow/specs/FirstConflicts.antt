@@ -7,7 +7,7 @@ use Rattle.workspace_check.specs.Verdicts.{Verdicts}
 use Rattle.refs_binding.specs.Uses.{IsCheckedPackage}
 use Rattle.refs_binding.specs.Workspaces.{IsPackageAt}
 use Rattle.refactor_conflict.specs.declared.conflict.Conflict.{Conflict}
-use Rattle.law_scope_conflicts.specs.ScopeConflicts.{HasNoOwnConflict, IsFirstBy, IsOwnConflict}
+use Rattle.law_agreement.specs.ScopeConflicts.{HasNoOwnConflict, IsFirstBy, IsOwnConflict}
 use Rattle.refactor_follow.specs.ImportNames.{GetsName}
 
 -- The rename of an import below the number `n` has this conflict.

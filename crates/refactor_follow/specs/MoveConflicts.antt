@@ -8,8 +8,8 @@ use Rattle.workspace_check.specs.Verdicts.{Verdicts}
 use Rattle.refs_binding.specs.Uses.{IsCheckedPackage}
 use Rattle.refactor_conflict.specs.declared.conflict.Conflict.{Conflict}
 use Rattle.refactor_conflict.specs.Conflicts.{IsFirstConflict}
-use Rattle.law_scope_conflicts.specs.ScopeConflicts.{IsFirstBy}
-use Rattle.law_moved_packages.specs.Moves.{IsMove}
+use Rattle.law_agreement.specs.ScopeConflicts.{IsFirstBy}
+use Rattle.law_moves.specs.Moves.{IsMove}
 use Rattle.refactor_follow.specs.FirstConflicts.{IsConflictBelow, IsFreeBelow}
 
 -- The first conflict of the renames of all imports, without a name, of the package at this path. Each gets the name.

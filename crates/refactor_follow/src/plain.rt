@@ -42,7 +42,7 @@ fn is_string(file: &FileTree, token: usize) -> bool
     let tokens = file.pieces().tokens();
     match tokens.get(token) {
         None => false,
-        Some(piece) => is_string_class(piece.class),
+        Some(piece) => is_string_class(piece.class()),
     }
 }
 
@@ -61,7 +61,7 @@ fn is_name(file: &FileTree, token: usize) -> bool
     requires { token < length (tokens_in (source_of file.now).cut) }
     ensures { IsTrue result ↔ IsNameToken (slice_get (tokens_in (source_of file.now).cut) token) }
 {
-    file.pieces().tokens()[token].class == Class::Name
+    file.pieces().tokens()[token].class() == Class::Name
 }
 
 /// Whether a name is not the new one, and is marked exactly if it is the old one.

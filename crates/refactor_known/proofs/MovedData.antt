@@ -13,8 +13,8 @@ use Rattle.types_expr.specs.declared.world.Field.{Field as OwnField}
 use Rattle.types_expr.specs.declared.world.Method.{Method as OwnMethod}
 use Rattle.types_expr.specs.WorldView.{definition_of, definition_or_none, field_of, plain_method_of, underlying_of}
 use Rattle.types_declared.specs.ExportTablesView.{export_data_of, export_of}
-use Rattle.law_moved_symbols.specs.Moved.{PathMap, moved_symbol, moved_underlying}
-use Rattle.law_moved_types.specs.MovedPackage.{moved_definition, moved_export, moved_field, moved_method}
+use Rattle.law_changed_types.specs.Moved.{PathMap, moved_symbol, moved_underlying}
+use Rattle.law_changed_types.specs.MovedPackage.{moved_definition, moved_export, moved_field, moved_method}
 use Rattle.refactor_known.specs.MovedData.{moved_data, moved_name}
 use Rattle.refactor_known.specs.Tables.{AreRelated, HasRelated, entry_at}
 

@@ -10,7 +10,7 @@ use Rattle.workspace_check.specs.declared.finding.Finding.{Finding}
 use Rattle.workspace_check.specs.declared.known.KnownVerdict.{KnownVerdict}
 use Rattle.workspace_check.specs.KnownFindings.{is_unknown, verdict_from}
 use Rattle.workspace_check.proofs.Taking.{before_or_last}
-use Rattle.law_moved_symbols.specs.Moved.{PathMap}
+use Rattle.law_changed_types.specs.Moved.{PathMap}
 use Rattle.refactor_known.specs.MovedData.{moved_data}
 use Rattle.refactor_known.specs.MovedKnown.{IsMovedFinding, IsMovedKnown}
 

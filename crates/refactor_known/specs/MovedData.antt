@@ -1,8 +1,8 @@
 -- The export data of packages after the move of the package `from`, which may get another name.
 use Rattle.std.specs.Prelude.{ℕ, bytes_eq, cond, List, Option, option_map, unwrap_or}
 use Rattle.types_declared.specs.Package.{ExportData}
-use Rattle.law_moved_symbols.specs.Moved.{PathMap}
-use Rattle.law_moved_types.specs.MovedPackage.{moved_export, moved_definition}
+use Rattle.law_changed_types.specs.Moved.{PathMap}
+use Rattle.law_changed_types.specs.MovedPackage.{moved_export, moved_definition}
 
 -- The name after the move of the package at this path. `name`: the new name of the package that moves, if it gets one.
 abbrev pub moved_name : (from : List ℕ) (name : Option (List ℕ)) (path old : List ℕ) → List ℕ

@@ -9,7 +9,7 @@ use Rattle.workspace_check.specs.declared.finding.Finding.{Finding}
 use Rattle.workspace_check.specs.declared.known.Known.{Known}
 use Rattle.workspace_check.specs.declared.known.KnownVerdict.{KnownVerdict}
 use Rattle.workspace_check.specs.KnownFindings.{verdict_from}
-use Rattle.law_moved_symbols.specs.Moved.{PathMap, moved_use}
+use Rattle.law_changed_types.specs.Moved.{PathMap, moved_use}
 use Rattle.refactor_known.specs.MovedData.{moved_data}
 
 -- The positions of names that an import qualifies, with its path; and so after a move.

@@ -1,7 +1,7 @@
 -- The paths of packages after a move, as a map of all paths.
 use Rattle.std.specs.Prelude.{ℕ, ◌≡◌, ◌⊎◌, ◌||◌, Bool, nat_eq, bytes_eq, cond, List, [], ◌∷◌, ◌++◌, drop, length}
 use Rattle.std.specs.List.{starts_with}
-use Rattle.law_moved_symbols.specs.Moved.{PathMap}
+use Rattle.law_changed_types.specs.Moved.{PathMap}
 use Rattle.refactor_known.specs.declared.swap.Swap.{Swap}
 
 -- Whether the path is that of the folder or lies in it.

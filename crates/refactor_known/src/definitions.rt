@@ -1,7 +1,7 @@
 //! Type definitions after a move.
 ghost use Rattle.std.specs.Prelude.{◌≡◌, IfOk, map};
 ghost use Rattle.types_expr.specs.WorldView.{definition_of, field_of, plain_method_of};
-ghost use Rattle.law_moved_types.specs.MovedPackage.{moved_definition, moved_field, moved_method};
+ghost use Rattle.law_changed_types.specs.MovedPackage.{moved_definition, moved_field, moved_method};
 ghost use Rattle.refactor_known.specs.Swaps.{map_of};
 
 use crate::swap::Swap;

@@ -1,8 +1,8 @@
 //! The export data of a package after a move.
 ghost use Rattle.std.specs.Prelude.{◌≡◌, IfOk, option_copied};
 ghost use Rattle.types_declared.specs.ExportTablesView.{export_data_of, export_of, meaning_of};
-ghost use Rattle.law_moved_symbols.specs.Moved.{moved_meaning};
-ghost use Rattle.law_moved_types.specs.MovedPackage.{moved_export};
+ghost use Rattle.law_changed_types.specs.Moved.{moved_meaning};
+ghost use Rattle.law_changed_types.specs.MovedPackage.{moved_export};
 ghost use Rattle.refactor_known.specs.MovedData.{moved_data, moved_name};
 ghost use Rattle.refactor_known.specs.Swaps.{map_of};
 

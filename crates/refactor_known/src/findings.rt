@@ -2,7 +2,7 @@
 ghost use Rattle.std.specs.Prelude.{◌≡◌, IfOk, IfSome, map, option_map};
 ghost use Rattle.types_expr.specs.Found.{use_of};
 ghost use Rattle.types_info.specs.MemberUses.{uses_in};
-ghost use Rattle.law_moved_symbols.specs.Moved.{moved_symbol, moved_use};
+ghost use Rattle.law_changed_types.specs.Moved.{moved_symbol, moved_use};
 ghost use Rattle.refactor_known.specs.MovedKnown.{IsMovedFinding, listed, moved_listed};
 ghost use Rattle.refactor_known.specs.Swaps.{map_of};
 

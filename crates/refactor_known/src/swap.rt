@@ -1,6 +1,6 @@
 //! The paths of packages after a move: the folder that moves and the folder to which it moves are swapped.
 ghost use Rattle.std.specs.Prelude.{◌≡◌, ◌↔◌, ◌++◌, [], ◌∷◌, ◌⊎◌, ℕ, List, IfOk, IsTrue, MatchOption};
-ghost use Rattle.law_moved_symbols.specs.Moved.{moved_symbol};
+ghost use Rattle.law_changed_types.specs.Moved.{moved_symbol};
 ghost use Rattle.refactor_known.specs.Swaps.{IsBehind, map_of};
 
 use std::alloc::{AllocError, Global};

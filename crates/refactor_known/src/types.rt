@@ -3,7 +3,7 @@ ghost use Rattle.std.specs.Prelude.{◌≡◌, IfOk, map, option_map};
 ghost use Rattle.types_expr.specs.Types.{Defined};
 ghost use Rattle.types_expr.specs.View.{signature_of, type_of};
 ghost use Rattle.types_expr.specs.WorldView.{underlying_of};
-ghost use Rattle.law_moved_symbols.specs.Moved.{moved_signature, moved_symbol, moved_type, moved_underlying};
+ghost use Rattle.law_changed_types.specs.Moved.{moved_signature, moved_symbol, moved_type, moved_underlying};
 ghost use Rattle.refactor_known.specs.Swaps.{map_of};
 
 use crate::swap::Swap;

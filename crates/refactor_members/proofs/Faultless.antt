@@ -3,7 +3,7 @@ use Rattle.std.proofs.Common.{ℕ, suc, ◌≡◌, ◌+◌, inl, inr, List, [], 
 use Rattle.std.specs.Prelude.{Some, slice_get}
 use Rattle.std.proofs.lemmas.Option.{slice_get_within, get_or_from_slice_get}
 use Rattle.base_files.specs.Workspace.{Workspace}
-use Rattle.go_ast.specs.Tree.{Item, TypeTree, FieldTree, BodyTree, Other, Struct}
+use Rattle.go_ast.specs.Tree.{Item, TypeTree, FieldTree, BodyTree, Other, Struct, Interface}
 use Rattle.types_declared.specs.declared.fault.Fault.{Fault}
 use Rattle.base_files.specs.declared.fault_kind.FaultKind.TheVariants as kind
 use Rattle.types_declared.specs.Package.{Package, PlacedType, PlacedFunction, package_types}
@@ -36,6 +36,7 @@ record IsTypedBy (first : ℕ) (ds : List PlacedType) (f : PlacedField) : Type 0
 body_typed : (rank file : ℕ) (b : BodyTree) (f : PlacedField) → Holds (body_fields rank file b) f →
     (f.definition ≡ rank) × ((file ≡ f.file) × Holds (written_types b) f.type_use)
 body_typed rank file (Other t) f h = absurd h
+body_typed rank file (Interface k o ms c) f h = absurd h
 body_typed rank file (Struct k o fs c) f h =
     let x = holds_flat (λ (i : Item FieldTree). map
     (λ (n : Item ℕ). record { definition = rank; file = file; name = n.value; type_use = i.value.type_use }) i.value.names) fs f h in

@@ -14,10 +14,10 @@ use Rattle.refactor_conflict.specs.Conflicts.{Takes, HoldsBefore, IsConflict, Is
 use Rattle.refactor_conflict.specs.Staying.{MembersStayIn, DeclaringNamesStayIn}
 use Rattle.refactor_conflict.specs.declared.conflict.Conflict.{Conflict}
 use Rattle.refactor_conflict.proofs.KeepingFirst.{taken}
-use Rattle.law_member_conflicts.specs.AtStake.{OtherMembersStay}
-use Rattle.law_member_conflicts.specs.KeptScopes.{MemberConflictsAreOfMembers}
-use Rattle.law_member_conflicts.specs.MemberRenames.{IsMemberRename}
-use Rattle.law_kept_members.specs.NamesAfterwards.{IsCalledAfter, gets_name, keeps_name, spelled_there, MembersAreCalled, FieldNamesAfter, MethodNamesAfter}
+use Rattle.law_renamed_workspaces.specs.AtStake.{OtherMembersStay}
+use Rattle.law_renamed_workspaces.specs.KeptScopes.{MemberConflictsAreOfMembers}
+use Rattle.law_renamed_workspaces.specs.MemberRenames.{IsMemberRename}
+use Rattle.law_renamed_workspaces.specs.NamesAfterwards.{IsCalledAfter, gets_name, keeps_name, spelled_there, MembersAreCalled, FieldNamesAfter, MethodNamesAfter}
 use Rattle.refactor_members.specs.Renames.{RenamesMember}
 use Rattle.refactor_members.proofs.NamesStay.{case_field, case_method}
 

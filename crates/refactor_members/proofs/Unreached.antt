@@ -26,9 +26,9 @@ use Rattle.refs_binding.specs.Workspaces.{home_path}
 use Rattle.refs_places.specs.Outside.{declaring_path}
 use Rattle.refs_uses.specs.MemberNames.{IsOnlyName, IsNameFound}
 use Rattle.refactor_conflict.specs.Staying.{MembersStayIn, DeclaringNamesStayIn}
-use Rattle.law_kept_members.specs.Reaching.{ReachesPath, home_of}
-use Rattle.law_member_conflicts.specs.MemberRenames.{IsMemberRename}
-use Rattle.law_member_conflicts.specs.OutsidePackages.{OtherPackagesKeepMembers, UnexportedNamesStayAtHome}
+use Rattle.law_renamed_workspaces.specs.Reaching.{ReachesPath, home_of}
+use Rattle.law_renamed_workspaces.specs.MemberRenames.{IsMemberRename}
+use Rattle.law_renamed_workspaces.specs.OutsidePackages.{OtherPackagesKeepMembers, UnexportedNamesStayAtHome}
 use Rattle.refactor_members.specs.Reaching.{AreUnexportedNames, IsOutOfReach, LeavesOutOfReach}
 
 -- the path of the package of a declaration

@@ -12,7 +12,7 @@ use Rattle.refs_binding.specs.Members.{definitions_known}
 use Rattle.refs_binding.specs.Uses.{IsCheckedPackage}
 use Rattle.refactor_after.specs.MembersAfter.{IsFirst}
 use Rattle.refactor_after.specs.OldPlaces.{field_at, method_at}
-pub use Rattle.law_rename_agrees.specs.ConflictsByTables.{HasField, HasMethod}
+pub use Rattle.law_agreement.specs.ConflictsByTables.{HasField, HasMethod}
 use Rattle.refactor_members.specs.declared.member_rename.MemberRename.{MemberRename}
 use Rattle.refactor_members.specs.declared.judged_uses.PackageUses.{PackageUses}
 

@@ -4,7 +4,7 @@ use Rattle.base_files.specs.Packages.{package_paths}
 use Rattle.base_files.specs.Workspace.{Workspace}
 use Rattle.types_declared.specs.Laid.{is_exported}
 use Rattle.workspace_graph.specs.Search.{IsMarked}
-use Rattle.law_kept_members.specs.Reaching.{ReachesPath}
+use Rattle.law_renamed_workspaces.specs.Reaching.{ReachesPath}
 
 -- The present name was found, and neither it nor the new name is exported.
 pub record AreUnexportedNames (called : Option (List ℕ)) (name : List ℕ) : Type 0 where

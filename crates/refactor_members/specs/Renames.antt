@@ -24,8 +24,8 @@ use Rattle.refactor_after.specs.MembersAfter.{CountsAfter}
 use Rattle.refactor_after.specs.MembersFound.{IsRankFound}
 use Rattle.refactor_conflict.specs.BoundAfter.{IsBoundByMember}
 use Rattle.refactor_conflict.specs.Staying.{MembersStayIn, DeclaringNamesStayIn}
-use Rattle.law_kept_members.specs.NamesAfterwards.{spelled_there}
-use Rattle.law_member_conflicts.specs.AtStake.{IsAtStake}
+use Rattle.law_renamed_workspaces.specs.NamesAfterwards.{spelled_there}
+use Rattle.law_renamed_workspaces.specs.AtStake.{IsAtStake}
 use Rattle.refactor_members.specs.declared.member_rename.MemberRename.{MemberRename}
 
 -- The field of this rank is in the struct that the type definition writes. It is the renamed member `d`, or has the new name already.

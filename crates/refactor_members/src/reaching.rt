@@ -9,7 +9,7 @@ ghost use Rattle.workspace_graph.specs.Search.{IsMarked};
 ghost use Rattle.types_declared.specs.Laid.{is_exported};
 ghost use Rattle.types_declared.specs.Package.{Package as Checked};
 ghost use Rattle.refs_binding.specs.Workspaces.{known_in, IsPackageAt};
-ghost use Rattle.law_kept_members.specs.Reaching.{home_of};
+ghost use Rattle.law_renamed_workspaces.specs.Reaching.{home_of};
 ghost use Rattle.refactor_members.specs.Reaching.{AreUnexportedNames, IsOutOfReach, LeavesOutOfReach};
 
 use refs_binding::{Declaration, FaultlessWorkspace};

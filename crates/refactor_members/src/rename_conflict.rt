@@ -4,7 +4,7 @@ ghost use Rattle.base_edits.specs.EditSet.{FileChanges};
 ghost use Rattle.base_edits.specs.RevisionsOfEdits.{revision_of};
 ghost use Rattle.refs_binding.specs.Workspaces.{known_in};
 ghost use Rattle.refactor_conflict.specs.Conflicts.{IsFirstConflict};
-ghost use Rattle.law_member_conflicts.specs.MemberRenames.{IsMemberRename};
+ghost use Rattle.law_renamed_workspaces.specs.MemberRenames.{IsMemberRename};
 
 use crate::definition::definition_of;
 use crate::first::first_turned;
@@ -30,11 +30,11 @@ pub fn member_conflict(
         let known = known_in workspace.now.findings in
         IfOk result (λ told. (s : FileChanges) → IsMemberRename w known declaration.now name.now s → IsFirstConflict w known (revision_of w s) told) }
 {
-    law_kept_members::kept_members::members_are_called();
-    law_member_conflicts::member_renames::member_renames_keep_scopes();
-    law_member_conflicts::member_renames::first_member_conflict();
-    law_member_conflicts::member_renames::other_packages_keep_members();
-    law_member_conflicts::member_renames::unexported_names_stay_at_home();
+    law_renamed_workspaces::kept_members::members_are_called();
+    law_renamed_workspaces::member_renames::member_renames_keep_scopes();
+    law_renamed_workspaces::member_renames::first_member_conflict();
+    law_renamed_workspaces::member_renames::other_packages_keep_members();
+    law_renamed_workspaces::member_renames::unexported_names_stay_at_home();
     let definition = definition_of(alloc, workspace, declaration)?;
     let called = name_of_member(workspace, declaration);
     let names = NamesOfRename { called, name };

@@ -124,7 +124,8 @@ pub(crate) fn edits_of(alloc: Global, of: &MovedFile<'_>) -> Result<Vec<Edit>, A
     let tokens = file.pieces().tokens();
     let mut edits = Vec::new(alloc);
     for number in 0..tokens.len() {
-        add_edit(alloc, &mut edits, of, number, tokens[number], marks[number])?;
+        let token = tokens[number].piece();
+        add_edit(alloc, &mut edits, of, number, token, marks[number])?;
     }
     Ok(edits)
 }

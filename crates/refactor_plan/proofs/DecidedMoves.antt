@@ -21,14 +21,14 @@ use Rattle.refactor_preserve.specs.Preserved.{Preserves}
 use Rattle.refactor_conflict.specs.declared.conflict.Conflict.{Conflict}
 use Rattle.refactor_conflict.specs.ConflictRefusal.{refusal_for}
 use Rattle.refactor_conflict.specs.Conflicts.{IsFirstConflict}
-use Rattle.law_moved_packages.specs.Moves.{IsMove}
-use Rattle.law_moved_verdicts.specs.MovedFindings.{AllKnownMove}
-use Rattle.law_moved_verdicts.specs.MovedVerdicts.{FreeTargetsSwap, PackagesStayBound, SameTargetsSwap}
-use Rattle.law_moved_verdicts.proofs.Laws.{all_known}
-use Rattle.law_moved_verdicts.proofs.Swapped.{free_swap, same_target}
-use Rattle.law_move_agreement.specs.Agreement.{FirstConflictsDecideMoves, IsPlannedTarget}
-use Rattle.law_moves_decide.proofs.FromVerdicts.{swaps}
-use Rattle.law_moves_decide.proofs.Laws.{bound, decide}
+use Rattle.law_moves.specs.Moves.{IsMove}
+use Rattle.law_moves.specs.MovedFindings.{AllKnownMove}
+use Rattle.law_moves.specs.MovedVerdicts.{FreeTargetsSwap, PackagesStayBound, SameTargetsSwap}
+use Rattle.law_moves.proofs.MovedVerdictsLaws.{all_known}
+use Rattle.law_moves.proofs.Swapped.{free_swap, same_target}
+use Rattle.law_moves.specs.Agreement.{FirstConflictsDecideMoves, IsPlannedTarget}
+use Rattle.law_moves.proofs.FromVerdicts.{swaps}
+use Rattle.law_moves.proofs.MovesDecideLaws.{bound, decide}
 use Rattle.refactor_follow.specs.MoveConflicts.{TellsMoveConflict}
 use Rattle.refactor_known.specs.MovedKnown.{AreMovedKnown}
 use Rattle.refactor_known.specs.declared.swap.Swap.{Swap}

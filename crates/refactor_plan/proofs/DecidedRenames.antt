@@ -31,20 +31,20 @@ use Rattle.refactor_conflict.specs.ConflictRefusal.{refusal_for}
 use Rattle.refactor_conflict.specs.Staying.{NoneIsLost}
 use Rattle.refactor_conflict.proofs.ConflictsDiffer.{not_staying}
 use Rattle.refactor_conflict.specs.Conflicts.{IsFirstConflict}
-use Rattle.law_renamed_packages.specs.Renames.{IsPlainRename}
-use Rattle.law_renamed_scopes.proofs.OwnNames.{identifies}
-use Rattle.law_renamed_scopes.proofs.Standing.{in_package}
-use Rattle.law_kept_members.specs.NamesAfterwards.{IsMember}
-use Rattle.law_member_conflicts.specs.MemberRenames.{IsMemberRename}
-use Rattle.law_rename_agreement.specs.Agreement.{PlainRenamesAgree}
-use Rattle.law_rename_agreement.proofs.Laws.{plain_renames_agree}
-use Rattle.law_known_verdicts.specs.KnownVerdicts.{IsHidden, IsKeptRename, HiddenRenamesKeepVerdicts, OtherKnownVerdictsStay}
-use Rattle.law_known_verdicts.proofs.Laws.{all_others, hidden as all_hidden}
-use Rattle.law_scope_conflicts.specs.ScopeConflicts.{FirstConflictsAreTold}
-use Rattle.law_scope_conflicts.proofs.Whole.{first_told as conflicts_told}
-use Rattle.law_unnamed_renames.specs.UnnamedRenames.{IsUnnamedRename, UnnamedConflictsAreTold, UnnamedRenamesAgree}
-use Rattle.law_unnamed_renames.specs.UnnamedRenames.{UnnamedRenamesHaveSteps, UnnamedRenamesKeepOthers}
-use Rattle.law_unnamed_renames.proofs.Whole.{unnamed_conflicts_are_told, unnamed_renames_agree, unnamed_renames_keep_others}
+use Rattle.law_renamed_workspaces.specs.Renames.{IsPlainRename}
+use Rattle.law_renamed_workspaces.proofs.OwnNames.{identifies}
+use Rattle.law_renamed_workspaces.proofs.Standing.{in_package}
+use Rattle.law_renamed_workspaces.specs.NamesAfterwards.{IsMember}
+use Rattle.law_renamed_workspaces.specs.MemberRenames.{IsMemberRename}
+use Rattle.law_agreement.specs.PlainAgreement.{PlainRenamesAgree}
+use Rattle.law_agreement.proofs.Laws.{plain_renames_agree}
+use Rattle.law_renamed_workspaces.specs.KnownVerdicts.{IsHidden, IsKeptRename, HiddenRenamesKeepVerdicts, OtherKnownVerdictsStay}
+use Rattle.law_renamed_workspaces.proofs.KnownVerdictsLaws.{all_others, hidden as all_hidden}
+use Rattle.law_agreement.specs.ScopeConflicts.{FirstConflictsAreTold}
+use Rattle.law_agreement.proofs.Whole.{first_told as conflicts_told}
+use Rattle.law_gained_names.specs.UnnamedRenames.{IsUnnamedRename, UnnamedConflictsAreTold, UnnamedRenamesAgree}
+use Rattle.law_gained_names.specs.UnnamedRenames.{UnnamedRenamesHaveSteps, UnnamedRenamesKeepOthers}
+use Rattle.law_gained_names.proofs.UnnamedRenamesWhole.{unnamed_conflicts_are_told, unnamed_renames_agree, unnamed_renames_keep_others}
 use Rattle.refactor_decide.specs.Deciding.{Decides}
 use Rattle.refactor_decide.specs.Own.{CanRename}
 use Rattle.refactor_decide.specs.declared.decision.ScopeDecision.{ScopeDecision}

@@ -16,10 +16,10 @@ use Rattle.workspace_check.proofs.OnePackage.{layout_formed}
 use Rattle.refs_binding.specs.declared.declaration.Declaration.TheVariants.{Declared}
 use Rattle.refs_binding.specs.Binding.{IsPredeclaredNumber, by_scope}
 use Rattle.refs_binding.specs.Uses.{IsCheckedPackage, IsUseOf}
-use Rattle.law_renamed_scopes.proofs.KeptBindings.{IsPlain, lexical, plain_stands}
-use Rattle.law_renamed_scopes.proofs.OwnNames.{bound_within}
-use Rattle.law_renamed_scopes.proofs.SameBindings.{imports_used}
-use Rattle.law_renamed_scopes.proofs.SameNames.{left_roles, use_identifies}
+use Rattle.law_renamed_workspaces.proofs.KeptBindings.{IsPlain, lexical, plain_stands}
+use Rattle.law_renamed_workspaces.proofs.OwnNames.{bound_within}
+use Rattle.law_renamed_workspaces.proofs.SameBindings.{imports_used}
+use Rattle.law_renamed_workspaces.proofs.SameNames.{left_roles, use_identifies}
 
 -- a use declares in no file block
 use_no_import : (r : Role) (f : ℕ) → is_use r ≡ true → block_of r ≡ File f → ⊥

@@ -1,6 +1,6 @@
 -- The law of renames by which an import without a name gains one: each can be done in two steps.
-use Rattle.law_unnamed_renames.specs.UnnamedRenames.{UnnamedRenamesHaveSteps}
-use Rattle.law_gaining_renames.proofs.Laws.{unnamed_renames_have_steps}
+use Rattle.law_gained_names.specs.UnnamedRenames.{UnnamedRenamesHaveSteps}
+use Rattle.law_gained_names.proofs.GainingRenamesLaws.{unnamed_renames_have_steps}
 
 pub have_steps : UnnamedRenamesHaveSteps
 have_steps = unnamed_renames_have_steps

@@ -14,10 +14,10 @@ use Rattle.refs_binding.specs.declared.declaration.Declaration.TheVariants.{Pred
 use Rattle.refs_binding.specs.Binding.{BindsByMember, IsPredeclaredNumber, by_scope, by_package, by_member, by_name}
 use Rattle.refs_binding.specs.Uses.{IsCheckedPackage, IsBoundToDeclaration, BindsThroughLiteral, IsUseOf, HasDeclaration}
 use Rattle.refs_binding.proofs.Units.{one_package}
-use Rattle.law_kept_members.specs.NamesAfterwards.{IsMember}
-use Rattle.law_renamed_scopes.proofs.OwnNames.{counted, in_universe, member_is_none}
-use Rattle.law_renamed_verdicts.proofs.NamedMembers.{members_named}
-use Rattle.law_rename_agrees.proofs.UsedMembers.{used_declared}
+use Rattle.law_renamed_workspaces.specs.NamesAfterwards.{IsMember}
+use Rattle.law_renamed_workspaces.proofs.OwnNames.{counted, in_universe, member_is_none}
+use Rattle.law_renamed_workspaces.proofs.NamedMembers.{members_named}
+use Rattle.law_agreement.proofs.UsedMembers.{used_declared}
 use Rattle.refactor_plan.specs.Decided.{CountsInScopes}
 
 module _ (w : Workspace) (sound : ListsFaults w []) (known : Verdicts) (right : AreVerdicts w known) where

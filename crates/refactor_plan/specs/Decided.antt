@@ -25,8 +25,8 @@ use Rattle.refactor_rename.specs.NewName.{IsNewName}
 use Rattle.refactor_rename.specs.RenameEdits.{AreRenameEdits}
 use Rattle.refactor_conflict.specs.Conflicts.{IsFirstConflict}
 use Rattle.refactor_decide.specs.declared.decision.ScopeDecision.{ScopeDecision}
-use Rattle.law_kept_members.specs.NamesAfterwards.{IsMember}
-use Rattle.law_known_verdicts.specs.KnownVerdicts.{HoldVerdictsBut}
+use Rattle.law_renamed_workspaces.specs.NamesAfterwards.{IsMember}
+use Rattle.law_renamed_workspaces.specs.KnownVerdicts.{HoldVerdictsBut}
 
 -- The declaration `n` of the package's own scopes counts.
 pub record CountsInScopes (p : Package) (n : ℕ) : Type 0 where

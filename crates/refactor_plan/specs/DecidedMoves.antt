@@ -13,8 +13,8 @@ use Rattle.refactor_move.specs.Following.{IsFollowingName}
 use Rattle.refactor_move.specs.MoveEdits.{AreMoveEdits}
 use Rattle.refactor_known.specs.MovedKnown.{AreMovedKnown}
 use Rattle.refactor_known.specs.Swaps.{swapped}
-use Rattle.law_moved_packages.specs.Moves.{IsMove}
-use Rattle.law_move_agreement.specs.Agreement.{IsPlannedTarget}
+use Rattle.law_moves.specs.Moves.{IsMove}
+use Rattle.law_moves.specs.Agreement.{IsPlannedTarget}
 use Rattle.refactor_follow.specs.MoveConflicts.{TellsMoveConflict}
 use Rattle.refactor_follow.specs.MoveReadings.{KnowsMoveUses}
 use Rattle.refactor_follow.specs.declared.packages.MoveReading.{MoveReading}

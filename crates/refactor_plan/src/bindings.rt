@@ -2,7 +2,7 @@
 ghost use Rattle.std.specs.Prelude.{◌≡◌, IfOk};
 ghost use Rattle.types_declared.specs.PackageView.{package_of, IsIndexOf};
 ghost use Rattle.refs_binding.specs.Indexed.{IsPackageNumber, IsPackageNumbered};
-ghost use Rattle.law_kept_members.specs.NamesAfterwards.{IsMember};
+ghost use Rattle.law_renamed_workspaces.specs.NamesAfterwards.{IsMember};
 ghost use Rattle.refactor_plan.specs.Bindings.{IsRead, IsOfRead, HasScopeNumber, workspace_read, verdicts_read, path_read};
 ghost use Rattle.refactor_plan.specs.Decided.{IsLegalFor, DecidesRenames};
 

@@ -1,7 +1,7 @@
 //! What is known of the packages after a rename that the scopes before it decide, and that loses and captures nothing.
 ghost use Rattle.std.specs.Prelude.{◌≡◌, ◌≢◌, Some, slice_get, IfOk};
 ghost use Rattle.workspace_check.specs.declared.known.KnownVerdict.{KnownVerdict as Verdict};
-ghost use Rattle.law_known_verdicts.specs.KnownVerdicts.{HoldVerdictsBut};
+ghost use Rattle.law_renamed_workspaces.specs.KnownVerdicts.{HoldVerdictsBut};
 ghost use Rattle.refactor_plan.specs.Decided.{KeepsKnown, IsVerdictBut};
 
 use std::alloc::{AllocError, Global};

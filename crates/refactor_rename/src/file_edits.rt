@@ -175,7 +175,8 @@ pub fn edits_of(alloc: Global, file: &FileTree, renamed: &Renamed) -> Result<Vec
     let tokens = file.pieces().tokens();
     let mut edits = Vec::new(alloc);
     for number in 0..tokens.len() {
-        add_edits(alloc, &mut edits, file, number, tokens[number], renamed)?;
+        let token = tokens[number].piece();
+        add_edits(alloc, &mut edits, file, number, token, renamed)?;
     }
     Ok(edits)
 }

@@ -12,16 +12,16 @@ ghost use Rattle.refactor_rename.specs.Here.{OffsetsRise, ReplacesAt, AreReplace
 use base_edits::Edit;
 use base_files::{FileText, Place};
 use go_ast::FileTree;
-use go_scanner::{Class, Piece};
+use go_scanner::{Class, CompactPiece, Piece};
 use std::alloc::{AllocError, Global};
 
 /// Returns the token that begins at an offset.
-fn token_at(tokens: &[Piece], offset: usize) -> Option<Piece>
+fn token_at(tokens: &[CompactPiece], offset: usize) -> Option<Piece>
     requires { IsStrictlySortedBy nat_cmp (starts tokens.now) }
     ensures { MatchOption result ((t : Token) → Contains tokens.now t → t.span.start ≡ offset → ⊥) (λ t. Contains tokens.now t × (t.span.start ≡ offset)) }
 {
-    match tokens.binary_search_by(|token| token.span.start.cmp(&offset)) {
-        Ok(number) => Some(tokens[number]),
+    match tokens.binary_search_by(|token| token.start().cmp(&offset)) {
+        Ok(number) => Some(tokens[number].piece()),
         Err(_) => None,
     }
 }
@@ -39,7 +39,7 @@ pub(crate) fn is_identifier(token: Piece) -> bool
 /// Appends the replacement by a name of the identifier that begins at an offset, if one does.
 fn add_replacement(
     edits: &mut Vec<Edit>,
-    tokens: &[Piece],
+    tokens: &[CompactPiece],
     offset: usize,
     name: &FileText,
 ) -> Result<(), AllocError>

@@ -9,7 +9,7 @@ use Rattle.refs_binding.specs.declared.indexed.Numbered.{Numbered}
 use Rattle.refs_binding.specs.Uses.{HasDeclaration}
 use Rattle.refs_binding.specs.Workspaces.{IsFaultless, known_in}
 use Rattle.build_names.specs.Words.{NameChange}
-use Rattle.law_kept_units.specs.CarriedUnits.{AreLegiblePaths}
+use Rattle.law_objects.specs.CarriedUnits.{AreLegiblePaths}
 use Rattle.refactor_units.specs.LevelNames.{ChangesLevel, IsLevelAt}
 
 module _ (at : Numbered) where

@@ -1,6 +1,5 @@
 -- A planned rename of a package-level declaration is a plain one, and its files carry the units over with the new name.
-use Rattle.std.proofs.Common.{ℕ, ◌≡◌, List, [], ◌∷◌, refl, sym, ap, subst, ◌∙◌}
-use Rattle.std.specs.Prelude.{Ok}
+use Rattle.std.proofs.Common.{ℕ, ◌≡◌, List, [], ◌∷◌, sym, subst}
 use Rattle.base_edits.specs.EditSet.{edited}
 use Rattle.base_files.specs.Path.{folder}
 use Rattle.base_files.specs.Workspace.{Workspace}
@@ -22,9 +21,8 @@ use Rattle.refactor_rename.specs.NewName.{IsNewName}
 use Rattle.refactor_plan.specs.Plan.{IsRenamed}
 use Rattle.build_names.specs.Words.{NameChange}
 use Rattle.build_kept.specs.KnownUnits.{CarriesUnits}
-use Rattle.law_renamed_packages.specs.Renames.{IsPlainRename}
-use Rattle.law_kept_units.specs.CarriedUnits.{change_of_name}
-use Rattle.law_kept_units.proofs.Globals.{globals_carried}
+use Rattle.law_renamed_workspaces.specs.Renames.{IsPlainRename}
+use Rattle.law_objects.proofs.Globals.{globals_carried}
 use Rattle.refactor_units.specs.CarriedNames.{CarriesPlanned, CarriesRename}
 use Rattle.refactor_units.specs.LevelNames.{IsLevelAt, IsLevelNumber}
 use Rattle.refactor_units.proofs.PlainRenames.{HasOwnName, planned_plain, same_closure, used_there}

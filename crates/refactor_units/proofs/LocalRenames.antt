@@ -1,5 +1,5 @@
 -- A planned rename of a local declaration is a plain one, and its files carry all units over.
-use Rattle.std.proofs.Common.{ℕ, ◌≡◌, inl, inr, List, [], refl, sym, ap, subst, ◌∙◌}
+use Rattle.std.proofs.Common.{ℕ, ◌≡◌, inl, inr, List, [], refl, sym, subst}
 use Rattle.base_files.specs.Path.{folder}
 use Rattle.base_files.specs.Workspace.{Workspace}
 use Rattle.base_files.specs.declared.place.Place.{Place}
@@ -18,11 +18,11 @@ use Rattle.refs_lookup.proofs.Packages.{package_stays}
 use Rattle.refactor_rename.specs.Literals.{IsUnnamedImport}
 use Rattle.refactor_rename.specs.NewName.{IsNewName}
 use Rattle.refactor_plan.specs.Plan.{IsRenamed}
-use Rattle.law_known_verdicts.specs.KnownVerdicts.{IsHiddenIn, IsUnseen}
+use Rattle.law_renamed_workspaces.specs.KnownVerdicts.{IsHiddenIn, IsUnseen}
 use Rattle.build_kept.specs.KnownUnits.{CarriesUnits}
-use Rattle.law_kept_units.proofs.Carried.{local_carried}
-use Rattle.law_renamed_objects.specs.Objects.{IsUnprinted}
-use Rattle.law_renamed_packages.specs.Renames.{IsPlainRename}
+use Rattle.law_objects.proofs.Carried.{local_carried}
+use Rattle.law_objects.specs.Objects.{IsUnprinted}
+use Rattle.law_renamed_workspaces.specs.Renames.{IsPlainRename}
 use Rattle.refactor_units.specs.CarriedNames.{CarriesPlanned, CarriesRename}
 use Rattle.refactor_units.specs.LocalNames.{IsLocalAt, IsLocalNumber}
 use Rattle.refactor_units.proofs.PlainRenames.{HasOwnName, planned_plain, same_closure, used_there}

@@ -19,8 +19,8 @@ use Rattle.refactor_rename.specs.declared.renamed.Literal.{Literal}
 use Rattle.refactor_rename.specs.Literals.{IsPathLiteralOf, IsUnnamedImport}
 use Rattle.refactor_rename.specs.NewName.{IsNewName}
 use Rattle.refactor_plan.specs.Plan.{IsRenamed}
-use Rattle.law_renamed_packages.specs.Renames.{IsPlainRename}
-use Rattle.law_renamed_scopes.proofs.OwnNames.{identifies}
+use Rattle.law_renamed_workspaces.specs.Renames.{IsPlainRename}
+use Rattle.law_renamed_workspaces.proofs.OwnNames.{identifies}
 
 -- a workspace has the closures that it has
 pub same_closure : (w : Workspace) (p : List ℕ) → HasSameClosure w w p

@@ -23,13 +23,13 @@ use Rattle.refactor_plan.specs.Plan.{IsRenamed}
 use Rattle.refactor_plan.proofs.UsedMembers.{declared_counts, member_used}
 use Rattle.build_object.specs.Names.{type_name}
 use Rattle.build_unit.specs.Units.{IsCompiled}
-use Rattle.law_replaced_names.specs.Replaced.{Replaced, of_global, of_method, text_by}
-use Rattle.law_renamed_objects.specs.Objects.{HasObjectText, IsUnprinted, ReplacesNames}
-use Rattle.law_renamed_objects.proofs.Laws.{unprinted, globals, methods}
-use Rattle.law_renamed_objects.proofs.UnitTexts.{object_of_unit, object_there, one_text_of_unit, text_of_unit}
-use Rattle.law_gained_objects.specs.KeptObjects.{KeepObjects}
-use Rattle.law_gained_objects.proofs.Laws.{unnamed_renames_keep_objects}
-use Rattle.law_renamed_packages.specs.Renames.{IsPlainRename}
+use Rattle.law_objects.specs.Replaced.{Replaced, of_global, of_method, text_by}
+use Rattle.law_objects.specs.Objects.{HasObjectText, IsUnprinted, ReplacesNames}
+use Rattle.law_objects.proofs.Laws.{unprinted, globals, methods}
+use Rattle.law_objects.proofs.UnitTexts.{object_of_unit, object_there, one_text_of_unit, text_of_unit}
+use Rattle.law_objects.specs.KeptObjects.{KeepObjects}
+use Rattle.law_objects.proofs.GainedObjectsLaws.{unnamed_renames_keep_objects}
+use Rattle.law_renamed_workspaces.specs.Renames.{IsPlainRename}
 use Rattle.refactor_units.specs.PlannedObjects.{PlannedRenamesRenameObjects, RenamesBuiltObjects, RenamesInObjects, RenamesObjects, ReplacesBuiltNames}
 use Rattle.refactor_units.proofs.PlainRenames.{HasOwnName, planned_plain, used_there}
 use Rattle.refactor_units.proofs.UnnamedRenames.{named_or_not, planned_unnamed}

@@ -20,8 +20,8 @@ use Rattle.refactor_rename.specs.NewName.{IsNewName}
 use Rattle.refactor_plan.specs.Plan.{IsRenamed}
 use Rattle.refactor_plan.proofs.ImportUses.{import_used}
 use Rattle.refactor_plan.proofs.UsedMembers.{declared_counts}
-use Rattle.law_renamed_packages.specs.Renames.{IsRename}
-use Rattle.law_unnamed_renames.specs.UnnamedRenames.{IsUnnamedRename}
+use Rattle.law_renamed_workspaces.specs.Renames.{IsRename}
+use Rattle.law_gained_names.specs.UnnamedRenames.{IsUnnamedRename}
 
 -- whether a declaration is an import without a name
 

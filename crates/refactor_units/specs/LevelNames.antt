@@ -12,8 +12,8 @@ use Rattle.refs_binding.specs.declared.indexed.Numbered.{Numbered}
 use Rattle.refs_binding.specs.Uses.{IsCheckedPackage, HasDeclaration}
 use Rattle.refactor_rename.specs.Literals.{IsUnnamedImport}
 use Rattle.build_names.specs.Words.{NameChange}
-use Rattle.law_kept_units.specs.CarriedUnits.{AreLegiblePaths, change_of_name}
-use Rattle.law_kept_units.specs.Legible.{IsLegible}
+use Rattle.law_objects.specs.CarriedUnits.{AreLegiblePaths, change_of_name}
+use Rattle.law_objects.specs.Legible.{IsLegible}
 
 -- The path of the package of this number is legible.
 abbrev pub HasLegiblePath : Workspace → ℕ → Type 0

@@ -15,8 +15,8 @@ use Rattle.refs_binding.specs.Uses.{IsCheckedPackage}
 use Rattle.refactor_plan.specs.Plan.{PlansRename, ResolvesIdentifier}
 use Rattle.build_object.specs.Names.{type_name}
 use Rattle.build_unit.specs.Units.{IsCompiled}
-use Rattle.law_renamed_objects.specs.Objects.{HasObjectText, IsOwnerCalled, IsUnprinted, ReplacesNamesAt}
-use Rattle.law_replaced_names.specs.Replaced.{Replaced, of_global, of_method, text_by}
+use Rattle.law_objects.specs.Objects.{HasObjectText, IsOwnerCalled, IsUnprinted, ReplacesNamesAt}
+use Rattle.law_objects.specs.Replaced.{Replaced, of_global, of_method, text_by}
 
 -- What the rename of `d`, which makes `x` of `w`, does to the object of the package at the path. It stays where it prints no name of `d`. Else
 -- the name of `d` alone is replaced.

@@ -4,8 +4,8 @@ ghost use Rattle.std.specs.List.{list_all};
 ghost use Rattle.base_files.specs.Packages.{package_paths};
 ghost use Rattle.types_declared.specs.PackageView.{package_of};
 ghost use Rattle.refs_binding.specs.Indexed.{IsPackageNumber, IsPackageNumbered};
-ghost use Rattle.law_kept_units.specs.CarriedUnits.{AreLegiblePaths};
-ghost use Rattle.law_kept_units.specs.Legible.{is_name_byte};
+ghost use Rattle.law_objects.specs.CarriedUnits.{AreLegiblePaths};
+ghost use Rattle.law_objects.specs.Legible.{is_name_byte};
 ghost use Rattle.refactor_units.specs.LevelNames.{ChangesLevel, HasLegiblePath, IsLevelAt, IsLevelNumber};
 
 use crate::local::{is_package_level, is_unnamed};

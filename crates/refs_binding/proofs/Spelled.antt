@@ -13,10 +13,10 @@ use Rattle.go_scope.specs.SpelledFiles.{spelled_file}
 use Rattle.go_scope.specs.Packages.{ScopedPackage, scoped}
 use Rattle.go_scope.proofs.PackageRegions.{each_at}
 use Rattle.go_scope.proofs.Regions.{Each, each_append, each_map}
+use Rattle.law_tokens.proofs.EachIdentifier.{in_file}
 use Rattle.types_declared.specs.Package.{Package, spelled_at, spelled}
 use Rattle.types_info.specs.PackageOf.{package_in}
 use Rattle.workspace_check.specs.Verdicts.{Verdicts, IsPackageIn}
-use Rattle.workspace_check.proofs.PlacedDeclarations.{in_file}
 
 -- an identifier of one of the files, of which the first has that rank, has the name that its token spells
 record IsSpelledIn (rank : ℕ) (fs : List SpelledFile) (x : Site) : Type 0 where

@@ -9,7 +9,7 @@ ghost use Rattle.refs_binding.specs.Steps.{AddsPlaces, AtToken};
 
 use crate::place_key::PlaceKey;
 use go_ast::FileTree;
-use go_scanner::{Class, Piece};
+use go_scanner::{Class, CompactPiece};
 use go_scope::model::Position;
 use std::alloc::AllocError;
 use types_declared::{Index, Package};
@@ -25,12 +25,12 @@ fn is_name_class(class: Class) -> bool
 }
 
 /// Whether the token at an index is an identifier.
-fn is_name_at(tokens: &[Piece], token: usize) -> bool
+fn is_name_at(tokens: &[CompactPiece], token: usize) -> bool
     ensures { IsTrue result ↔ IsNameToken (slice_get tokens.now token) }
 {
     match tokens.get(token) {
         None => false,
-        Some(piece) => is_name_class(piece.class),
+        Some(piece) => is_name_class(piece.class()),
     }
 }
 

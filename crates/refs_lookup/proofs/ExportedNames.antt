@@ -20,7 +20,7 @@ use Rattle.types_declared.specs.Laid.{is_exported}
 use Rattle.types_resolve.specs.Scoping.{IsQualified, qualified_fault}
 use Rattle.law_tokens.specs.Order.{ComesBefore, StandInOrder}
 use Rattle.law_tokens.specs.Roles.{IsOfKind}
-use Rattle.law_tokens.specs.Tokens.{is_header_name}
+use Rattle.go_scope.specs.IdentifierTokens.{is_header_name}
 use Rattle.law_tokens.proofs.HeldBytes.{numbered_files}
 use Rattle.law_tokens.proofs.Ordered.{package_ordered, named_ordered}
 use Rattle.law_tokens.proofs.OwnPaths.{package_sources}

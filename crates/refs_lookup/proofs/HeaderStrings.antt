@@ -20,7 +20,8 @@ use Rattle.go_ast.specs.Flatten.{sign, sign_if, all_tokens, list_tokens, group_t
 use Rattle.go_ast.specs.Kinds.{kind_of, kinds_from, kinds_of}
 use Rattle.go_ast.specs.Tree.{Item, Group, single, several, ImportTree, ImportsTree, DeclTree, VarDecl, TypeDecl, FuncDecl, FileTree}
 use Rattle.workspace_graph.specs.FileImports.{paths_in, import_literals}
-use Rattle.law_tokens.specs.Tokens.{is_ident_token, is_header_name, begins_declaration, names_among, identifiers_among}
+use Rattle.go_scope.specs.IdentifierTokens.{is_ident_token, is_header_name}
+use Rattle.law_tokens.specs.Tokens.{begins_declaration, names_among, identifiers_among}
 
 -- of the identifiers among tokens
 

@@ -12,8 +12,9 @@ use Rattle.go_ast.specs.Kinds.{kinds_of}
 use Rattle.go_ast.specs.SourceFile.{SourceFile, IsSourceFile}
 use Rattle.go_ast.specs.Tree.{Item, Group, single, several, ImportTree, ImportsTree, DeclTree, VarDecl, TypeDecl, FuncDecl, FileTree}
 use Rattle.law_tokens.specs.Roles.{IsOfKind}
-use Rattle.law_tokens.specs.Tokens.{is_ident_token, is_header_name, begins_declaration, names_among, identifiers_among}
-use Rattle.law_tokens.proofs.Covers.{is_link}
+use Rattle.go_scope.specs.IdentifierTokens.{is_ident_token, is_header_name}
+use Rattle.law_tokens.specs.Tokens.{begins_declaration, names_among, identifiers_among}
+use Rattle.go_scope.proofs.Covers.{is_link}
 use Rattle.law_tokens.proofs.Links.{AreConsecutive, HasKind, kind_from}
 use Rattle.law_tokens.proofs.Places.{Marks}
 use Rattle.law_tokens.proofs.Roles.{consecutive, of_kind, by_kind}

@@ -10,7 +10,7 @@ use Rattle.go_ast.specs.declared.syntax.Kind.TheVariants as kind
 use Rattle.go_ast.specs.declared.syntax.Token.{Token}
 use Rattle.go_ast.specs.Kinds.{kinds_of}
 use Rattle.go_ast.specs.SourceFile.{SourceFile, IsSourceFile}
-use Rattle.law_tokens.specs.Tokens.{is_ident_token}
+use Rattle.go_scope.specs.IdentifierTokens.{is_ident_token}
 use Rattle.law_tokens.proofs.Links.{AreConsecutive, HasKind, kind_from}
 use Rattle.law_tokens.proofs.Roles.{consecutive, of_kind, by_kind}
 use Rattle.types_expr.specs.Judge.{MemberUse}

@@ -5,10 +5,10 @@ use Rattle.std.specs.List.{flat_map, enumerate_from}
 use Rattle.go_ast.specs.declared.syntax.Kind.TheVariants as kind
 use Rattle.go_ast.specs.Flatten.{sign, sign_if, tokens_if, all_tokens, item_tokens, list_tokens, group_tokens, name_tokens, type_tokens, field_tokens}
 use Rattle.go_ast.specs.Flatten.{body_tokens, type_spec_tokens, receiver_tokens, param_tokens, result_tokens, block_tokens, func_tokens}
-use Rattle.go_ast.specs.Flatten.{decl_tokens}
+use Rattle.go_ast.specs.Flatten.{method_tokens, decl_tokens}
 use Rattle.go_ast.specs.SourceFile.{SourceFile}
-use Rattle.go_ast.specs.Tree.{Item, Group, single, several, TypeTree, FieldTree, BodyTree, Other, Struct, TypeSpecTree, DeclTree, VarDecl, TypeDecl}
-use Rattle.go_ast.specs.Tree.{FuncDecl}
+use Rattle.go_ast.specs.Tree.{Item, Group, single, several, TypeTree, FieldTree, BodyTree, Other, Struct, Interface, TypeSpecTree, DeclTree, VarDecl}
+use Rattle.go_ast.specs.Tree.{TypeDecl, FuncDecl}
 use Rattle.go_scope.proofs.Rising.{Rises, rises_le, rises_split}
 use Rattle.types_declared.specs.Files.{group_items}
 use Rattle.types_declared.specs.Definitions.{PlacedField, body_fields, fields_from}
@@ -66,6 +66,8 @@ body_rises definition file (Struct k o fs c) a b r =
     rise_down field_place file a (suc o) (flat_map (fields_of definition file) fs) b (omega arith)
     (rise_up field_place file (suc o) (flat_map (fields_of definition file) fs) s.0 b (rises_le s.0 (sign kind.RightBrace c ∷ []) b s.1.1)
     (fields_rise definition file fs (suc o) s.0 s.1.0))
+body_rises definition file (Interface k o ms c) a b r =
+    rises_le a (sign kind.Interface k ∷ sign kind.LeftBrace o ∷ (list_tokens kind.Semicolon method_tokens ms ++ (sign kind.RightBrace c ∷ []))) b r
 
 spec_rises : (definition file : ℕ) (t : TypeSpecTree) (a b : ℕ) → Rises a (type_spec_tokens t) b →
     RiseIn field_place file a (body_fields definition file t.body) b

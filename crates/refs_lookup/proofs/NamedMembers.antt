@@ -4,8 +4,8 @@ use Rattle.std.specs.Prelude.{Contains, Some, slice_get}
 use Rattle.std.proofs.lemmas.List.Elements.{Contains-append_right}
 use Rattle.base_files.specs.Workspace.{Workspace}
 use Rattle.go_ast.specs.SourceFile.{SourceFile, source_of}
-use Rattle.go_ast.specs.Tree.{Item, Group, single, several, FieldTree, BodyTree, Other, Struct, TypeSpecTree, ReceiverTree, DeclTree, VarDecl, TypeDecl}
-use Rattle.go_ast.specs.Tree.{FuncDecl}
+use Rattle.go_ast.specs.Tree.{Item, Group, single, several, FieldTree, BodyTree, Other, Struct, Interface, TypeSpecTree, ReceiverTree, DeclTree}
+use Rattle.go_ast.specs.Tree.{VarDecl, TypeDecl, FuncDecl}
 use Rattle.go_scope.specs.declared.model.Position.{Position}
 use Rattle.go_scope.specs.declared.model.Purpose.TheVariants as purpose
 use Rattle.go_scope.specs.declared.model.Role.TheVariants.{NotLexical}
@@ -57,6 +57,7 @@ body_field definition file (Struct k o fs c) f h =
           (subst (λ q. Holds (field_name_tokens x.0.value) q) (ap (λ (z : PlacedField). z.name) n.1.1)
           (held_map (λ (i : Item ℕ). i.value) x.0.value.names n.0 n.1.0)),
     )
+body_field definition file (Interface k o ms c) f h = absurd h
 
 type_of_field : (rank : ℕ) (ds : List PlacedType) (f : PlacedField) → Holds (fields_from rank ds) f → (d : PlacedType) ×
     (Holds ds d × ((d.file ≡ f.file) × Holds (body_members d.spec.body) f.name))

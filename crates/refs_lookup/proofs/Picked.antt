@@ -4,7 +4,7 @@ use Rattle.go_ast.specs.declared.syntax.Kind.{Kind}
 use Rattle.go_ast.specs.declared.syntax.Kind.TheVariants as kind
 use Rattle.go_ast.specs.declared.syntax.Token.{Token}
 use Rattle.go_ast.specs.Flatten.{sign}
-use Rattle.law_tokens.specs.Tokens.{is_ident_token}
+use Rattle.go_scope.specs.IdentifierTokens.{is_ident_token}
 use Rattle.types_expr.specs.Types.{Meaning, Package, Broken}
 use Rattle.types_expr.specs.World.{World, Means}
 use Rattle.types_expr.specs.Judge.{MemberUse}

@@ -6,7 +6,7 @@ use Rattle.go_ast.specs.declared.syntax.Kind.TheVariants.{Colon}
 use Rattle.types_expr.specs.Types.{Package}
 use Rattle.types_expr.specs.World.{World, Means}
 use Rattle.law_tokens.specs.Roles.{IsOfKind, FollowsDot}
-use Rattle.law_tokens.specs.Tokens.{is_ident_token}
+use Rattle.go_scope.specs.IdentifierTokens.{is_ident_token}
 
 -- The token is an identifier or `_` that is bound to a package, and no dot is before it.
 pub record IsBoundToPackage (w : World) (c : CutText) (token : ℕ) : Type 0 where

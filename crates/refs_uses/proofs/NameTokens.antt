@@ -20,7 +20,8 @@ use Rattle.go_scope.specs.declared.model.Position.{Position}
 use Rattle.go_scope.specs.Named.{with_names}
 use Rattle.go_scope.specs.Packages.{ScopedPackage, scoped}
 use Rattle.law_tokens.specs.Covered.{IsIdentifierPlace, HasIdentifierAt}
-use Rattle.law_tokens.specs.Tokens.{is_ident_token, is_header_name, begins_declaration, names_among, identifiers_among}
+use Rattle.go_scope.specs.IdentifierTokens.{is_ident_token, is_header_name}
+use Rattle.law_tokens.specs.Tokens.{begins_declaration, names_among, identifiers_among}
 use Rattle.law_tokens.proofs.OwnPaths.{package_sources}
 use Rattle.law_tokens.proofs.Places.{place_has_one, named_has_one}
 use Rattle.types_declared.specs.Package.{Package}

@@ -7,7 +7,7 @@ use Rattle.std.proofs.lemmas.Bool.{cases_lt, cases_eq}
 use Rattle.std.proofs.lemmas.List.{length-set}
 use Rattle.std.proofs.lemmas.Option.{same_Some, none-some, slice_get_within, slice_get_read}
 use Rattle.go_scope.specs.WellFormed.{WellFormed}
-use Rattle.go_ast.specs.Tree.{Item, FieldTree, BodyTree, Other, Struct}
+use Rattle.go_ast.specs.Tree.{Item, FieldTree, BodyTree, Other, Struct, Interface}
 use Rattle.types_expr.specs.declared.world.Definition.{Definition}
 use Rattle.types_expr.specs.Types.{PlainType, Signature}
 use Rattle.types_expr.specs.World.{Field, Method}
@@ -59,6 +59,7 @@ bounded_items n rank file (i ∷ fs) lt = bounded_append n (named_fields rank fi
 bounded_body : (n rank file : ℕ) (b : BodyTree) → rank < n → Bounded n (body_fields rank file b)
 bounded_body n rank file (Other t) lt = bounded_none n
 bounded_body n rank file (Struct k o fs c) lt = bounded_items n rank file fs lt
+bounded_body n rank file (Interface k o ms c) lt = bounded_none n
 
 bounded_from : (n rank : ℕ) (ds : List PlacedType) → rank + length ds ≤ n → Bounded n (fields_from rank ds)
 bounded_from n rank [] le = bounded_none n

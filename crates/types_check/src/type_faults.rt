@@ -99,6 +99,8 @@ impl Typed {
         let CheckedBody { found, locals: _ } = checked;
         let FoundInFile { faults, uses } = found;
         add_tokens(&mut self.faults, file, &faults)?;
+        let mut uses = uses;
+        uses.shrink_to_fit();
         self.members.push(uses)?;
         Ok(())
     }

@@ -60,6 +60,13 @@ target_named p file tree u (Some r) names h = (
 
 -- Added links
 
+pub adds_nothing : (old : List (Vec ℕ)) (to : ℕ) (T : ℕ → Type 0) → ((a : ℕ) → T a → ⊥) → AddsLinks old old to T
+adds_nothing old to T none = record { size = refl; keeps = λ a b l. l; holds = λ a t. absurd (none a t); only = λ a b l. inl l }
+
+-- none of no type expressions has a target
+pub no_target : (p : Package) (file a : ℕ) → IsTargetOfSome p file [] a → ⊥
+no_target p file a h = let lt : h.1.0.0 < 0 = h.1.0.1 in absurd (omega arith)
+
 pub adds_as : (old new : List (Vec ℕ)) (to : ℕ) (T U : ℕ → Type 0) → ((a : ℕ) → T a → U a) → ((a : ℕ) → U a → T a) → AddsLinks old new to T →
     AddsLinks old new to U
 adds_as old new to T U from back h = record {

@@ -3,7 +3,7 @@ use Rattle.std.proofs.Common.{ℕ, ◌≡◌, ◌⊎◌, inl, inr, sym, subst, r
 use Rattle.std.specs.Prelude.{Some, None, slice_get}
 use Rattle.std.proofs.lemmas.Option.{same_Some, none-some}
 use Rattle.go_scope.specs.WellFormed.{WellFormed}
-use Rattle.go_ast.specs.Tree.{BodyTree, Other, Struct}
+use Rattle.go_ast.specs.Tree.{BodyTree, Other, Struct, Interface}
 use Rattle.types_expr.specs.declared.symbol.Symbol.{Symbol}
 use Rattle.types_expr.specs.Types.{PlainType, BasicType, Defined, Pointer, Slice, Underlying, Plain, PointerTo, SliceOf}
 use Rattle.types_expr.specs.Types.{Struct as StructOf}
@@ -15,6 +15,7 @@ use Rattle.types_declared.proofs.Naming.{one_named}
 -- a definition of the package with this body has the underlying type
 abbrev pub BodyHas : Package → (rank : ℕ) → PlacedType → BodyTree → Underlying → Type 0
 BodyHas p rank d (Struct k o fs c) u = u ≡ StructOf (symbol_in p rank)
+BodyHas p rank d (Interface k o ms c) u = ⊥
 BodyHas p rank d (Other tree) u = (t : PlainType) × (DenotesType p d.file tree t × HasUnderlying p t u)
 
 pub record OwnHas (p : Package) (rank : ℕ) (u : Underlying) : Type 0 where

@@ -1,7 +1,7 @@
 -- The type definitions of a package: their underlying types, and the fields and methods that count.
 use Rattle.std.specs.Prelude.{ℕ, suc, ◌≡◌, ◌<◌, Bool, true, is_some, List, [], ◌∷◌, ◌++◌, map, Option, Some, None, slice_get}
 use Rattle.std.specs.List.{flat_map}
-use Rattle.go_ast.specs.Tree.{TypeTree, BodyTree, Other, Struct, ReceiverTree}
+use Rattle.go_ast.specs.Tree.{TypeTree, BodyTree, Other, Struct, Interface, ReceiverTree}
 use Rattle.types_expr.specs.declared.symbol.Symbol.{Symbol}
 use Rattle.types_expr.specs.Types.{PlainType, BasicType, Defined, Pointer, Slice, Underlying, Plain, PointerTo, SliceOf, Signature}
 use Rattle.types_expr.specs.Types.{Struct as StructOf}
@@ -14,7 +14,7 @@ use Rattle.types_declared.specs.MeaningOf.{HasSignature}
 
 -- The underlying type of a type, of this package or of an imported one (the Go specification, "Underlying types"). It is found through
 -- definitions, broken or not, up to a predeclared type, a pointer, a slice or a struct. A struct is identified by the definition that
--- contains it. A type has none where its definitions form a cycle or name no type.
+-- contains it. A type has none where its definitions form a cycle, name no type, or lead to an interface.
 pub data HasUnderlying (p : Package) : PlainType → Underlying → Type 0 where
   basic : {b : _} → HasUnderlying p (BasicType b) (Plain b)
   pointer : {t : PlainType} → HasUnderlying p (Pointer t) (PointerTo t)
@@ -41,6 +41,7 @@ abbrev pub body_fields : (definition file : ℕ) → BodyTree → List PlacedFie
 body_fields definition file (Other t) = []
 body_fields definition file (Struct k o fs c) =
     flat_map (λ i. map (λ n. record { definition = definition; file = file; name = n.value; type_use = i.value.type_use }) i.value.names) fs
+body_fields definition file (Interface k o ms c) = []
 
 -- the fields of type definitions whose ranks begin at rank
 abbrev pub fields_from : ℕ → List PlacedType → List PlacedField

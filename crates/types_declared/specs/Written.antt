@@ -1,7 +1,7 @@
 -- The types that type expressions name, and broken definitions: those with a type expression that names no type or mentions a broken
 -- definition.
 use Rattle.std.specs.Prelude.{ℕ, ◌≡◌, true, List, [], ◌∷◌, map, Some, slice_get, Contains, codes}
-use Rattle.go_ast.specs.Tree.{TypeTree, Local, Imported, Pointer, Slice, BodyTree, Other, Struct}
+use Rattle.go_ast.specs.Tree.{TypeTree, Local, Imported, Pointer, Slice, BodyTree, Other, Struct, Interface}
 use Rattle.go_scope.specs.declared.model.Block.TheVariants.{Universe}
 use Rattle.go_scope.specs.Bindings.{IsBoundTo, IsImport, block_of, is_implied}
 use Rattle.go_scope.specs.Table.{IsFoundAt}
@@ -65,10 +65,11 @@ pub data DenotesType (p : Package) (file : ℕ) : TypeTree → PlainType → Typ
   pointer : {s : ℕ} {tree : TypeTree} {t : PlainType} → DenotesType p file tree t → DenotesType p file (Pointer s tree) (PointerType t)
   slice : {o c : ℕ} {tree : TypeTree} {t : PlainType} → DenotesType p file tree t → DenotesType p file (Slice o c tree) (SliceType t)
 
--- the type expressions of a definition: its type, or the types of its struct's fields
+-- The type expressions of a definition: its type, or the types of its struct's fields. No rule looks at those of an interface, which is a fault.
 abbrev pub written_types : BodyTree → List TypeTree
 written_types (Other t) = t ∷ []
 written_types (Struct k o fs c) = map (λ f. f.value.type_use) fs
+written_types (Interface k o ms c) = []
 
 -- the type expression mentions the definition of this rank: it names it, itself or under pointers and slices
 pub data Mentions (p : Package) (file : ℕ) : TypeTree → ℕ → Type 0 where

@@ -121,6 +121,7 @@ fn note_definition(
     match &definition.spec.body {
         TypeBody::Type(written) => note_type(alloc, pkg, index, links, at, written),
         TypeBody::Struct { fields, .. } => note_fields(alloc, pkg, index, links, at, fields),
+        TypeBody::Interface { .. } => Ok(()),
     }
 }
 

@@ -21,7 +21,7 @@ use Rattle.types_expr.specs.Judge.{Judged, JudgedList, ListValue, Seen, none_see
 use Rattle.types_expr.specs.Judge.{judge_literal, judge_elements, judge_type, means, select, followed, operation, value_before, prefix_of, address_of}
 use Rattle.types_expr.specs.Judge.{index_rule, call_rule, with_element, element_key, seen_after, literal_of}
 use Rattle.types_expr.specs.Found.{AddsJudged, AddsJudgedList}
-use Rattle.types_expr.proofs.Trees.{chain_tree, binary_tree, call_tree, literal_tree}
+use Rattle.types_expr.proofs.Trees.{chain_tree, named_chain_tree, binary_tree, call_tree, literal_tree}
 
 pub ok_map : {X E : Type 0} {P Q : X → Type 0} (r : Result X E) → ((x : X) → P x → Q x) → IfOk r P → IfOk r Q
 ok_map (Ok x) f p = f x p
@@ -92,6 +92,16 @@ pub chain_found : (w : World) (locals : Locals) {e : Expr} (b : _) (links : _) �
     judge w locals (expr_view e) ≡ judge_links w locals start place (judge w locals (expr_view x)) (links_in xs)
 chain_found w locals b links is x y z xs hx hy hz hxs start place hs hp = let h = chain_judged w locals b links in cc
 
+named_chain_judged : (w : World) (locals : Locals) (n : ℕ) (links : _) →
+    judge w locals (expr_view (expr.NamedChain n links)) ≡ judge_links w locals n n (means (name_meaning w locals n)) (links_in links.items)
+unfolding judge first_token place_of
+named_chain_judged w locals n links = ap (judge w locals) (named_chain_tree n links)
+
+pub named_chain_found : (w : World) (locals : Locals) {e : Expr} (n : ℕ) (links : _) → e ≡ expr.NamedChain n links → (xs : List Link) → xs ≡ links.items →
+    judge w locals (expr_view e) ≡ judge_links w locals n n (means (name_meaning w locals n)) (links_in xs)
+named_chain_found w locals n links is xs hxs = ap (λ x. judge w locals (expr_view x)) is ∙ (named_chain_judged w locals n links ∙
+    ap (λ ys. judge_links w locals n n (means (name_meaning w locals n)) (links_in ys)) (sym hxs))
+
 pub binary_found : (w : World) (locals : Locals) {e : Expr} (b : _) (rest : _) → e ≡ expr.Binary b rest → (x y : Expr) (xs : List Operand) → x ≡ b.value →
     y ≡ b.value → xs ≡ rest.items →
     (start : ℕ) → start ≡ first_token (expr_view y) →
@@ -110,10 +120,12 @@ pub selector_judged : (w : World) (locals : Locals) (s p : ℕ) {l : Link} (d n 
 unfolding judge_link link_view
 selector_judged w locals s p d n m is = ap (λ x. judge_link w locals s p (link_view x tree.no_link) m) is
 
-pub index_judged : (w : World) (locals : Locals) (s p : ℕ) {l : Link} (o : ℕ) (e : Expr) (c : ℕ) (m : Meaning) → l ≡ link.Index o e c →
-    judge_link w locals s p (link_view l tree.no_link) m ≡ index_rule w s p (expr_view e) (judge_value w locals (expr_view e)) m
+pub index_judged : (w : World) (locals : Locals) (s p : ℕ) {l : Link} (o : ℕ) (e : _) (c : ℕ) (m : Meaning) → l ≡ link.Index o e c →
+    (v : Expr) → v ≡ e.value →
+    judge_link w locals s p (link_view l tree.no_link) m ≡ index_rule w s p (expr_view v) (judge_value w locals (expr_view v)) m
 unfolding judge_link link_view
-index_judged w locals s p o e c m is = ap (λ x. judge_link w locals s p (link_view x tree.no_link) m) is
+index_judged w locals s p o e c m is v h = ap (λ x. judge_link w locals s p (link_view x tree.no_link) m) is ∙
+    ap (λ x. index_rule w s p (expr_view x) (judge_value w locals (expr_view x)) m) (sym h)
 
 call_here : (w : World) (locals : Locals) (s p o : ℕ) (xs : _) (c : ℕ) (m : Meaning) →
     judge_link w locals s p (link_view (link.Call o xs c) tree.no_link) m ≡ call_rule w s p (judge_arguments w locals (arguments_in xs.items)) m
@@ -133,7 +145,7 @@ pub links_step : (w : World) (locals : Locals) (s p : ℕ) (k : Judged) (l : Lin
     (followed k (judge_link w locals s p (link_view l tree.no_link))) (links_in rest)
 unfolding judge_links judge_link links_in link_view
 links_step w locals s p k (link.Selector d n) rest = refl
-links_step w locals s p k (link.Index o e c) rest = refl
+links_step w locals s p k (link.Index' o q e c) rest = refl
 links_step w locals s p k (link.Call' o shape row c) rest = refl
 
 pub links_end : (w : World) (locals : Locals) (s p : ℕ) (k : Judged) → judge_links w locals s p k (links_in []) ≡ k

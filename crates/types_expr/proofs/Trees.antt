@@ -22,6 +22,10 @@ pub chain_tree : (first : _) (links : _) → expr_view (expr.Chain first links) 
 unfolding expr_view
 chain_tree first links = ap (tree.Chain (expr_view first.value)) (link_row (hidden-the_row-Link-0 links) ∙ ap links_in (items_hidden-the_row-Link-0 links))
 
+pub named_chain_tree : (n : ℕ) (links : _) → expr_view (expr.NamedChain n links) ≡ tree.Chain (tree.Name n) (links_in links.items)
+unfolding expr_view
+named_chain_tree n links = ap (tree.Chain (tree.Name n)) (link_row (hidden-the_row-Link-0 links) ∙ ap links_in (items_hidden-the_row-Link-0 links))
+
 operand_row : {n : _} (row : Row_of-Operand n) → operands_view row ≡ operands_in (items-the_row-Operand n row)
 unfolding operands_view operands_in
 operand_row end_of-Operand = refl
@@ -64,9 +68,13 @@ pub chain_stands : (first : _) (links : _) → place_of (expr_view (expr.Chain f
 unfolding place_of
 chain_stands first links = ap place_of (chain_tree first links)
 
+pub named_chain_stands : (n : ℕ) (links : _) → place_of (expr_view (expr.NamedChain n links)) ≡ place_of_links n n (links_in links.items)
+unfolding place_of first_token
+named_chain_stands n links = ap place_of (named_chain_tree n links)
+
 pub place_step : (start here : ℕ) (l : Link) (rest : tree.LinkTrees) →
     place_of_links start here (link_view l rest) ≡ place_of_links start (place_after_link start (link_view l tree.no_link)) rest
 unfolding place_of_links link_view
 place_step start here (link.Selector d n) rest = refl
-place_step start here (link.Index o e c) rest = refl
+place_step start here (link.Index' o p e c) rest = refl
 place_step start here (link.Call' o shape row c) rest = refl

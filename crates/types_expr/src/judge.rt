@@ -49,6 +49,14 @@ pub fn judge<'w>(
             let at = FaultPlaces { start, place };
             chain(alloc, scope, at, meaning, links, found)
         }
+        Expr::NamedChain { name, links } => {
+            let meaning = scope.name_meaning(alloc, *name)?;
+            let at = FaultPlaces {
+                start: *name,
+                place: *name,
+            };
+            chain(alloc, scope, at, meaning, links, found)
+        }
         Expr::Binary { first, rest } => {
             let meaning = judge_value(alloc, scope, first, found)?;
             binary(alloc, scope, first_token(first), meaning, rest, found)

@@ -41,6 +41,7 @@ pub fn first_token(e: &Expr) -> usize
         Expr::Address { at, .. } => *at,
         Expr::Chain { first, .. } => first_token(first),
         Expr::Binary { first, .. } => first_token(first),
+        Expr::NamedChain { name, .. } => *name,
     }
 }
 
@@ -51,6 +52,7 @@ pub fn place_of(e: &Expr) -> usize
 {
     match e {
         Expr::Chain { first, links } => chain_place(first_token(first), links),
+        Expr::NamedChain { name, links } => chain_place(*name, links),
         _ => first_token(e),
     }
 }

@@ -14,9 +14,10 @@ use types_expr::world::Bound;
 fn copy_types(alloc: Global, types: &[GoType]) -> Result<Vec<GoType>, AllocError>
     ensures { IfOk result (λ copy. map type_of copy.items ≡ map type_of types.now) }
 {
-    let mut copy = Vec::new(alloc);
+    let mut copy = Vec::with_capacity(alloc, types.len())?;
     for own in types {
-        copy.push(own.copy(alloc)?)?;
+        let next = own.copy(alloc)?;
+        copy.push(next)?;
     }
     Ok(copy)
 }

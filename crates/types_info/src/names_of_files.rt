@@ -13,7 +13,7 @@ ghost use Rattle.types_declared.specs.PackageView.{package_of, IsIndexOf};
 
 use crate::copies::exported_bound;
 use crate::meanings::MeaningTable;
-use go_scanner::Piece;
+use go_scanner::CompactPiece;
 use go_scope::model::{Position, Purpose, Role};
 use std::alloc::{AllocError, Global};
 use types_declared::{Export, Index, Package, export_at};
@@ -141,7 +141,7 @@ fn name_at<'a>(
 }
 
 /// The tokens of a file; none where the package has no such file.
-fn tokens_of<'a>(pkg: Package<'a>, file: usize) -> &'a [Piece]
+fn tokens_of<'a>(pkg: Package<'a>, file: usize) -> &'a [CompactPiece]
     ensures { result.now ≡ tokens_at (slice_get (package_of pkg.entry).files file) }
 {
     match pkg.files.get(file) {

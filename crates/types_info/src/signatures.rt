@@ -30,7 +30,7 @@ pub fn valid_types(
     requires broken { AreBroken (package_of pkg) broken.now }
     ensures { IfOk result (λ types. AreTypesFound (package_of pkg.entry) file (map tree_of written.now) (option_map plain_types types)) }
 {
-    let mut types = Vec::new(alloc);
+    let mut types = Vec::with_capacity(alloc, written.len())?;
     for one in written {
         match valid_type(alloc, pkg, index, broken, file, one)? {
             None => return Ok(None),

@@ -51,6 +51,11 @@ pub none_from : (definition file : ℕ) (b : TypeBody) (t : _) → b ≡ body.Ty
 unfolding body_view
 none_from definition file b t e = ap (λ z. body_fields definition file (body_view z)) (sym e)
 
+pub none_of_interface : (definition file : ℕ) (b : TypeBody) (k o : ℕ) (ms : _) (c : ℕ) → b ≡ body.Interface k o ms c →
+    [] ≡ body_fields definition file (body_view b)
+unfolding body_view
+none_of_interface definition file b k o ms c e = ap (λ z. body_fields definition file (body_view z)) (sym e)
+
 pub ranked_fields : (rank : ℕ) (ds : List PlacedType) → flat_map ranked_part (enumerate_from rank ds) ≡ fields_from rank ds
 ranked_fields rank [] = refl
 ranked_fields rank (d ∷ ds) =

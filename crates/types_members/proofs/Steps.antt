@@ -8,7 +8,7 @@ use Rattle.std.proofs.Math.ListN.{length-map}
 use Rattle.std.proofs.lemmas.List.{length_push}
 use Rattle.std.proofs.lemmas.Option.{same_Some, slice_get_past, slice_get_within}
 use Rattle.go_scope.specs.WellFormed.{WellFormed}
-use Rattle.go_ast.specs.Tree.{TypeTree, Other, Struct}
+use Rattle.go_ast.specs.Tree.{TypeTree, Other, Struct, Interface}
 use Rattle.types_expr.specs.declared.symbol.Symbol.{Symbol}
 use Rattle.types_expr.specs.declared.world.Underlying.{Underlying}
 use Rattle.types_expr.specs.Types.{PlainType, Defined}
@@ -64,6 +64,10 @@ pub of_struct : (p : Package) (rank : ℕ) (d : PlacedType) (k o c : ℕ) (fs : 
     d.spec.body ≡ Struct k o fs c → u ≡ types.Struct (symbol_in p rank) →
     HasUnderlying p (Defined (symbol_in p rank)) u
 of_struct p rank d k o c fs u is written e = subst (HasUnderlying p (Defined (symbol_in p rank))) (sym e) (struct is written)
+
+pub of_interface : (p : Package) (rank : ℕ) (d : PlacedType) (k o c : ℕ) (ms : _) → slice_get (package_types p) rank ≡ Some d →
+    d.spec.body ≡ Interface k o ms c → IsStep p rank Nothing
+of_interface p rank d k o c ms is written = λ u h. subst (λ b. BodyHas p rank d b u) written (of_body p rank d u is h)
 
 -- each item of a list has a property after one more is pushed
 pub each_push : {X : Type 0} (P : ℕ → X → Type 0) (old new : List X) (n : ℕ) (x : X) → new ≡ old ++ (x ∷ []) → length old ≡ n →

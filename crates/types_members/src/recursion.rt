@@ -76,6 +76,7 @@ fn add_body(
     match body {
         TypeBody::Type(written) => add_type(found, pkg, index, file, written),
         TypeBody::Struct { fields, .. } => add_fields(found, pkg, index, file, fields),
+        TypeBody::Interface { .. } => Ok(()),
     }
 }
 

@@ -53,6 +53,7 @@ fn add_fields<'a>(
 {
     match &spec.body {
         TypeBody::Type(_) => Ok(()),
+        TypeBody::Interface { .. } => Ok(()),
         TypeBody::Struct { fields, .. } => {
             for item in fields {
                 add_names(found, definition, file, &item.value)?;

@@ -146,6 +146,7 @@ fn step_of(
 {
     match &definition.spec.body {
         TypeBody::Struct { .. } => Ok(NameStep::Ends(own_struct(pkg, rank)?)),
+        TypeBody::Interface { .. } => Ok(NameStep::Nothing),
         TypeBody::Type(written) => step_by(alloc, pkg, index, definition.file, written),
     }
 }

@@ -1,6 +1,6 @@
 -- Chains, split into the last link and the links before it.
 use Rattle.std.proofs.Common.{ℕ, ◌≡◌, Bool, true, false, ◌||◌, ◌&&◌, length, arith, List, [], ◌∷◌, ◌++◌, ap, sym, ◌∙◌, refl, if◌then◌else◌}
-use Rattle.go_ast.specs.Tree.{ExprTree, Chain, LinkTrees, selector, index, call, no_link}
+use Rattle.go_ast.specs.Tree.{ExprTree, Chain, Name, LinkTrees, selector, index, call, no_link}
 use Rattle.go_ast.specs.View.{expr_view, link_view, arguments_view}
 use Rattle.go_ast.specs.declared.tree.Expr.{Expr}
 use Rattle.go_ast.specs.declared.tree.Expr.TheVariants as expr
@@ -13,7 +13,7 @@ use Rattle.types_expr.specs.Lists.{links_in}
 use Rattle.types_expr.specs.declared.found.FoundInFile.{FoundInFile}
 use Rattle.types_expr.specs.Types.{Meaning}
 use Rattle.types_expr.specs.Found.{AddsJudged}
-use Rattle.types_expr.proofs.Trees.{chain_tree, place_step}
+use Rattle.types_expr.proofs.Trees.{chain_tree, named_chain_tree, place_step}
 use Rattle.types_expr.proofs.Equations.{links_step, links_end}
 use Rattle.types_stmt.specs.Simple.{is_end, is_statement, may_be_statement, ends_in_call, without_last}
 use Rattle.types_expr.proofs.AddedJudgements.{adds_then}
@@ -23,21 +23,21 @@ use Rattle.types_stmt.proofs.LoopProgress.{adds_as}
 not_end : (xs : List Link) (l : Link) → is_end (links_in (xs ++ (l ∷ []))) ≡ false
 unfolding links_in link_view
 not_end [] (link.Selector d n) = refl
-not_end [] (link.Index o e c) = refl
+not_end [] (link.Index' o p e c) = refl
 not_end [] (link.Call' o shape row c) = refl
 not_end (link.Selector d n ∷ xs) l = refl
-not_end (link.Index o e c ∷ xs) l = refl
+not_end (link.Index' o p e c ∷ xs) l = refl
 not_end (link.Call' o shape row c ∷ xs) l = refl
 
 pub without_last_links : (xs : List Link) (l : Link) → without_last (links_in (xs ++ (l ∷ []))) ≡ links_in xs
 unfolding links_in link_view without_last
 without_last_links [] (link.Selector d n) = refl
-without_last_links [] (link.Index o e c) = refl
+without_last_links [] (link.Index' o p e c) = refl
 without_last_links [] (link.Call' o shape row c) = refl
 without_last_links (link.Selector d n ∷ xs) l =
     ap (λ (b : Bool). if b then no_link else selector d n (without_last (links_in (xs ++ (l ∷ []))))) (not_end xs l) ∙
     ap (λ x. selector d n x) (without_last_links xs l)
-without_last_links (link.Index o e c ∷ xs) l =
+without_last_links (link.Index' o p e c ∷ xs) l =
     ap (λ (b : Bool). if b then no_link else index o (expr_view e) c (without_last (links_in (xs ++ (l ∷ []))))) (not_end xs l) ∙
     ap (λ x. index o (expr_view e) c x) (without_last_links xs l)
 without_last_links (link.Call' o shape row c ∷ xs) l =
@@ -49,7 +49,7 @@ pub ends_as_last : (xs : List Link) (l : Link) → ends_in_call (links_in (xs ++
 unfolding links_in link_view ends_in_call
 ends_as_last [] l = refl
 ends_as_last (link.Selector d n ∷ xs) l = ends_as_last xs l
-ends_as_last (link.Index o e c ∷ xs) l = ends_as_last xs l
+ends_as_last (link.Index' o p e c ∷ xs) l = ends_as_last xs l
 ends_as_last (link.Call' o shape row c ∷ xs) l = ap (λ b. b || ends_in_call (links_in (xs ++ (l ∷ [])))) (not_end xs l) ∙ ends_as_last xs l
 
 -- the judgement of links, continued from that of the links before them
@@ -59,7 +59,7 @@ pub links_append : (w : World) (ls : Locals) (start here : ℕ) (j : Judged) (xs
 unfolding links_in link_view judge_links place_of_links
 links_append w ls start here j [] ys = refl
 links_append w ls start here j (link.Selector d n ∷ xs) ys = links_append w ls start n (followed j (select w ls here n)) xs ys
-links_append w ls start here j (link.Index o e c ∷ xs) ys =
+links_append w ls start here j (link.Index' o p e c ∷ xs) ys =
     links_append w ls start start (followed j (index_rule w start here (expr_view e) (judge_value w ls (expr_view e)))) xs ys
 links_append w ls start here j (link.Call' o shape row c ∷ xs) ys =
     links_append w ls start start (followed j (call_rule w start here (judge_arguments w ls (arguments_view row)))) xs ys
@@ -69,7 +69,7 @@ pub place_behind_last : (start here : ℕ) (xs : List Link) (l : Link) →
     place_of_links start here (links_in (xs ++ (l ∷ []))) ≡ place_after_link start (link_view l no_link)
 unfolding links_in link_view place_of_links
 place_behind_last start here [] (link.Selector d n) = refl
-place_behind_last start here [] (link.Index o e c) = refl
+place_behind_last start here [] (link.Index' o p e c) = refl
 place_behind_last start here [] (link.Call' o shape row c) = refl
 place_behind_last start here (x ∷ xs) l = place_step start here x (links_in (xs ++ (l ∷ []))) ∙
     place_behind_last start (place_after_link start (link_view x no_link)) xs l
@@ -150,3 +150,8 @@ pub chain_is : {e : Expr} (first : _) (links : _) → e ≡ expr.Chain first lin
 chain_is first links is x xs hx hxs =
     ap (λ y. Chain (expr_view y) (links_in xs)) hx ∙ (ap (λ ys. Chain (expr_view first.value) (links_in ys)) hxs ∙
     (sym (chain_tree first links) ∙ ap expr_view (sym is)))
+
+pub named_chain_is : {e : Expr} (n : ℕ) (links : _) → e ≡ expr.NamedChain n links → (xs : List Link) → xs ≡ links.items →
+    Chain (expr_view (expr.Name n)) (links_in xs) ≡ expr_view e
+unfolding expr_view
+named_chain_is n links is xs hxs = ap (λ ys. Chain (Name n) (links_in ys)) hxs ∙ (sym (named_chain_tree n links) ∙ ap expr_view (sym is))

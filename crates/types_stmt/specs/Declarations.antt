@@ -1,7 +1,7 @@
 -- The check of package-level declarations and of whole files.
 use Rattle.std.specs.Prelude.{ℕ, ◌==◌, Bool, if◌then◌else◌, List, [], ◌∷◌, ◌++◌, Option, Some, None, length, map}
-use Rattle.go_ast.specs.Tree.{Item, BasicTree, Integer, String, GlobalTree, FieldTree, BodyTree, Other, Struct, TypeSpecTree, DeclTree, VarDecl, TypeDecl}
-use Rattle.go_ast.specs.Tree.{FuncDecl, FileTree}
+use Rattle.go_ast.specs.Tree.{Item, BasicTree, Integer, String, GlobalTree, FieldTree, BodyTree, Other, Struct, Interface, TypeSpecTree, DeclTree}
+use Rattle.go_ast.specs.Tree.{VarDecl, TypeDecl, FuncDecl, FileTree}
 use Rattle.types_expr.specs.declared.types.Basic.TheVariants as basic
 use Rattle.types_expr.specs.Types.{PlainType, Untyped}
 use Rattle.types_expr.specs.World.{World, no_locals}
@@ -37,7 +37,7 @@ value_faults w names t (Some v) = literal_faults w names t v.1
 unfoldable pub global_faults : World → GlobalTree → List ℕ
 global_faults w g = (judge_type w g.type_use).faults ++ value_faults w g.names (judge_type w g.type_use).type_of g.values
 
--- Types: the faults of a type definition are those of the types written in it
+-- Types: the faults of a type definition are those of the types written in it. An interface is a fault, at its keyword.
 
 -- the faults of the types of fields
 unfoldable pub field_faults : World → List (Item FieldTree) → List ℕ
@@ -48,6 +48,7 @@ field_faults w (i ∷ is) = (judge_type w i.value.type_use).faults ++ field_faul
 unfoldable pub body_faults : World → BodyTree → List ℕ
 body_faults w (Other t) = (judge_type w t).faults
 body_faults w (Struct p o fs c) = field_faults w fs
+body_faults w (Interface p o ms c) = p ∷ []
 
 -- Declarations and files
 

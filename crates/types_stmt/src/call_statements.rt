@@ -132,6 +132,10 @@ fn judge_expr_statement<'w>(
 {
     match expr {
         Expr::Chain { first, links } => judge_chain(alloc, scope, first, links, found),
+        Expr::NamedChain { name, links } => {
+            let first = Expr::Name(*name);
+            judge_chain(alloc, scope, &first, links, found)
+        }
         _ => {
             let meaning = judge(alloc, scope, expr, found)?;
             Ok(Alone {

@@ -1,5 +1,5 @@
 //! The check of package-level declarations of variables and types.
-ghost use Rattle.std.specs.Prelude.{◌≡◌, IfOk, OnOk, map, option_map};
+ghost use Rattle.std.specs.Prelude.{◌≡◌, ◌∷◌, [], IfOk, OnOk, map, option_map};
 ghost use Rattle.go_ast.specs.View.{list_view, group_view};
 ghost use Rattle.go_ast.specs.FileView.{same_index, basic_view, global_view, field_view, body_view, type_spec_view};
 ghost use Rattle.types_expr.specs.View.{type_of};
@@ -126,7 +126,15 @@ fn note_field_faults(
     Ok(())
 }
 
-/// Notes the faults of the type that a definition writes.
+/// Notes a fault at a token.
+fn note_fault(place: usize, found: &mut FoundInFile) -> Result<(), AllocError>
+    ensures { OnOk result (AddsFaultsAt (place ∷ []) found.old found.new) }
+{
+    found.faults.push(place)?;
+    Ok(())
+}
+
+/// Notes the faults of the type that a definition writes. An interface is a fault, at its keyword.
 fn note_body_faults(
     alloc: Global,
     world: &World<'_>,
@@ -141,6 +149,7 @@ fn note_body_faults(
             Ok(())
         }
         TypeBody::Struct { fields, .. } => note_field_faults(alloc, world, fields, found),
+        TypeBody::Interface { at, .. } => note_fault(*at, found),
     }
 }
 

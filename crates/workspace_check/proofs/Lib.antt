@@ -9,9 +9,6 @@ pub mod OneVerdict
 pub mod OneList
 pub mod StandsAlike
 pub mod Local
-pub mod PlacedExpressions
-pub mod PlacedStatements
-pub mod PlacedDeclarations
 pub mod PlacedSites
 pub mod MemberFiles
 pub mod FaultFiles

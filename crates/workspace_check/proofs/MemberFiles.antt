@@ -3,7 +3,7 @@ use Rattle.std.proofs.Common.{ℕ, suc, ◌≡◌, ◌<◌, List, [], ◌∷◌,
 use Rattle.std.specs.Prelude.{Some, slice_get}
 use Rattle.std.specs.List.{AllByRecursion}
 use Rattle.base_lemmas.proofs.EachElement.{all_append}
-use Rattle.go_ast.specs.Tree.{Item, FieldTree, BodyTree, Other, Struct, DeclTree, VarDecl, TypeDecl, FuncDecl}
+use Rattle.go_ast.specs.Tree.{Item, FieldTree, BodyTree, Other, Struct, Interface, DeclTree, VarDecl, TypeDecl, FuncDecl}
 use Rattle.go_ast.specs.SourceFile.{SourceFile}
 use Rattle.types_declared.specs.Files.{RankedSource, ranked_files, group_items}
 use Rattle.law_tokens.proofs.Elements.{all_got, all_flat, all_made, all_map, all_numbered}
@@ -43,6 +43,7 @@ module _ (n : ℕ) where
   fields_of rank file lt (Struct k o fs c) =
       all_made (λ (x : PlacedField). x.file < n) (named_fields rank file)
       (λ i. all_map (λ (x : PlacedField). x.file < n) (named_field rank file i) (λ name. lt) i.value.names) fs
+  fields_of rank file lt (Interface k o ms c) = tt
 
   fields_in : (rank : ℕ) (ds : List PlacedType) → AllByRecursion (λ (t : PlacedType). t.file < n) ds →
       AllByRecursion (λ (x : PlacedField). x.file < n) (fields_from rank ds)

@@ -5,7 +5,7 @@ use Rattle.std.specs.Prelude.{map}
 use Rattle.go_scope.specs.Site.{Site, TokenSpellings}
 use Rattle.go_scope.specs.FileSites.{file_sites, universe, universe_site, SpelledFile, files_sites, package_sites}
 use Rattle.go_scope.proofs.Regions.{Each, each_append}
-use Rattle.workspace_check.proofs.PlacedDeclarations.{in_file}
+use Rattle.law_tokens.proofs.EachIdentifier.{in_file}
 
 -- the files of a package
 

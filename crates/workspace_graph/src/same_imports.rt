@@ -15,7 +15,8 @@ use std::alloc::{AllocError, Global};
 fn token_of(file: &FileTree, token: usize) -> Option<Piece>
     ensures { result ≡ slice_get (tokens_in file.now.cut) token }
 {
-    file.pieces().tokens().get(token).copied()
+    let piece = file.pieces().tokens().get(token)?;
+    Some(piece.piece())
 }
 
 /// Whether a token is a string literal.

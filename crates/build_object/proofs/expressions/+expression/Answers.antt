@@ -10,7 +10,7 @@ use Rattle.build_object.specs.Expressions.{operand_of, operations, argument_line
 use Rattle.build_object.specs.Lines.{With, MakeSlice, line_if_known}
 use Rattle.build_object.specs.LineView.{line_of}
 use Rattle.build_object.specs.Making.{lines_for, mode_of, before_link}
-use Rattle.build_object.specs.Operands.{calling}
+use Rattle.build_object.specs.Operands.{calling, name_operand}
 use Rattle.build_object.proofs.Putting.{puts_none, puts_as, puts_then, puts_more}
 use Rattle.types_expr.proofs.Equations.{ok_map}
 use Rattle.build_object.proofs.Loops.{back_turn, back_end, back_start}
@@ -18,6 +18,7 @@ use Rattle.build_object.proofs.Links.{same_item, operations_turn, literal_broken
 use Rattle.build_object.proofs.Going.{puts_on, puts_from, plain_lines, grouped_lines, settled_lines, no_lines, goes_as, goes_behind_as, goes_selector}
 use Rattle.build_object.proofs.Going.{goes_index, goes_call, over_none, over_turn, over_end}
 use Rattle.build_object.proofs.Trees.{number_here, text_here, name_here, blank_here, composite_here, paren_here, prefix_here, address_here, chain_here}
+use Rattle.build_object.proofs.Trees.{named_chain_here}
 use Rattle.build_object.proofs.Trees.{binary_here, selector_here, index_here, call_here, arguments_step, arguments_end, keyed_step, keyed_end, bare_step}
 use Rattle.build_object.proofs.Trees.{bare_end, operations_end}
 use Rattle.build_object.proofs.expressions.+expression.Goals as goal
@@ -75,6 +76,14 @@ operand-returns-in_ok-want-in-Chain t c = on_ok_weaker c.operand-in-Chain.result
     (ap before_link (ap (λ z. (operand_of (source_of c.args.scope.source.now) c.args.scope.slots.now.places.items (expr_view z)).mode)
     (c.deref-in-Chain-3.ensures ∙ sym c.deref-in-Chain.ensures) ∙ sym c.mode-head.ensures)) c.in_ok-want-in-Chain.ensures q)) c.operand-in-Chain.ensures
 
+pub operand-returns-in_ok-want-in-NamedChain : goal.operand-returns-in_ok-want-in-NamedChain
+operand-returns-in_ok-want-in-NamedChain t c = on_ok_weaker c.put_name-in-NamedChain.result
+    (λ q. puts_as (ap (lines_for c.args.want)
+    (named_chain_here (source_of c.args.scope.source.now) c.args.scope.slots.now.places.items _ _ c.in-NamedChain.is _ c.deref-in-NamedChain.ensures.value) ∙
+    settled_lines c.args.want _)
+    (puts_on (name_operand (source_of c.args.scope.source.now) c.args.scope.slots.now.places.items c.in-NamedChain.name)
+    (ap before_link (sym c.name_mode-head.ensures)) c.in_ok-want-in-NamedChain.ensures q)) c.put_name-in-NamedChain.ensures
+
 pub operand-returns-in_ok-operations-in-Binary : goal.operand-returns-in_ok-operations-in-Binary
 operand-returns-in_ok-operations-in-Binary t c = on_ok_weaker c.operand-in-Binary.result
     (λ q. puts_as (ap (lines_for c.args.want)
@@ -89,14 +98,14 @@ link-returns-in-Selector t c = ok_map c.put_selector.result
 
 pub link-returns-in_ok-operand-in-Index : goal.link-returns-in_ok-operand-in-Index
 link-returns-in_ok-operand-in-Index t c = goes_as (λ o.
-    index_here (source_of c.args.scope.source.now) c.args.scope.slots.now.places.items _ _ _ o c.in-Index.is)
+    index_here (source_of c.args.scope.source.now) c.args.scope.slots.now.places.items _ _ _ o c.in-Index.is _ c.deref.ensures)
     (goes_index _ c.args.want c.in_ok-put_index-in-Index.ensures c.in_ok-operand-in-Index.ensures)
 
 pub link-returns-in_ok-arguments-in-Call : goal.link-returns-in_ok-arguments-in-Call
 link-returns-in_ok-arguments-in-Call t c = goes_as
-    (λ o. call_here (source_of c.args.scope.source.now) c.args.scope.slots.now.places.items _ _ _ o c.in-Call.is _ c.deref.ensures.value)
+    (λ o. call_here (source_of c.args.scope.source.now) c.args.scope.slots.now.places.items _ _ _ o c.in-Call.is _ c.deref-in-Call.ensures.value)
     (goes_call _ _ c.args.want (puts_as
-    (ap (λ n. calling n (mode_of c.args.mode)) (ap length c.deref.ensures.value ∙ sym (c.len.ensures ∙ c.in-Call.list.ok.0)))
+    (ap (λ n. calling n (mode_of c.args.mode)) (ap length c.deref-in-Call.ensures.value ∙ sym (c.len.ensures ∙ c.in-Call.list.ok.0)))
     c.in_ok-put_call-in-Call.ensures) c.in_ok-arguments-in-Call.ensures)
 
 pub chain-loop-i-init : goal.chain-loop-i-init

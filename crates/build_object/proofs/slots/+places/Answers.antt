@@ -1,9 +1,12 @@
 -- The answers to the goals of `slots::places`.
 use Rattle.std.proofs.Common.{◌++◌, ap, sym, ◌∙◌, append-nil}
+use Rattle.std.specs.List.{flat_map}
 use Rattle.std.proofs.lemmas.Result.{on_ok_weaker}
-use Rattle.go_ast.specs.FileView.{for_view, stmt_view, block_view, if_view, else_view}
+use Rattle.go_ast.specs.View.{group_view}
+use Rattle.go_ast.specs.FileView.{for_view, local_view, stmt_view, block_view, if_view, else_view}
 use Rattle.types_expr.specs.WorldView.{world_of}
-use Rattle.build_object.specs.Slots.{header_places, statement_places, block_places, if_places, else_places}
+use Rattle.types_declared.specs.Files.{group_items}
+use Rattle.build_object.specs.Slots.{header_places, local_places, statement_places, block_places, if_places, else_places}
 use Rattle.build_object.proofs.Loops.{rest_step, rest_end}
 use Rattle.build_object.proofs.Places.{places_of_each, each_step, each_end, block_read, if_from, added}
 use Rattle.build_object.proofs.slots.+places.Goals as goal
@@ -31,7 +34,8 @@ add_statement-returns-in-Return t c = sym (append-nil c.args.places.now.items) �
 pub add_statement-returns-in-Var : goal.add_statement-returns-in-Var
 unfolding statement_places stmt_view
 add_statement-returns-in-Var t c = on_ok_weaker c.add_locals.result
-    (λ q. q ∙ ap (λ v. c.args.places.now.items ++ statement_places (world_of c.args.world.now) (stmt_view v)) (sym c.in-Var.is)) c.add_locals.ensures
+    (λ q. q ∙ (ap (λ g. c.args.places.now.items ++ flat_map local_places (group_items (group_view local_view g))) c.deref.ensures ∙
+    ap (λ v. c.args.places.now.items ++ statement_places (world_of c.args.world.now) (stmt_view v)) (sym c.in-Var.is))) c.add_locals.ensures
 
 pub add_statement-returns-in-Simple : goal.add_statement-returns-in-Simple
 unfolding statement_places stmt_view
@@ -46,7 +50,7 @@ add_statement-returns-in-Block t c = on_ok_weaker c.add_block.result
 pub add_statement-returns-in-If : goal.add_statement-returns-in-If
 unfolding statement_places stmt_view
 add_statement-returns-in-If t c = on_ok_weaker c.add_if.result
-    (λ q. q ∙ (ap (λ z. c.args.places.now.items ++ if_places (world_of c.args.world.now) (if_view z)) c.deref.ensures ∙
+    (λ q. q ∙ (ap (λ z. c.args.places.now.items ++ if_places (world_of c.args.world.now) (if_view z)) c.deref-in-If.ensures ∙
     ap (λ v. c.args.places.now.items ++ statement_places (world_of c.args.world.now) (stmt_view v)) (sym c.in-If.is))) c.add_if.ensures
 
 pub add_statement-returns-in_ok-add_header-in-For : goal.add_statement-returns-in_ok-add_header-in-For

@@ -1,14 +1,16 @@
 -- The answers to the goals of `statements::statement`.
 use Rattle.std.proofs.Common.{◌-◌, ◌++◌, ◌∷◌, [], ap, sym, ◌∙◌, length, get_or, rules, arith, Some}
+use Rattle.std.specs.List.{flat_map}
 use Rattle.std.proofs.lemmas.Result.{on_ok_weaker}
-use Rattle.go_ast.specs.View.{exprs_view}
-use Rattle.go_ast.specs.FileView.{stmt_view, block_view, for_view, if_view, else_view}
+use Rattle.go_ast.specs.View.{exprs_view, group_view}
+use Rattle.go_ast.specs.FileView.{local_view, stmt_view, block_view, for_view, if_view, else_view}
 use Rattle.go_ast.specs.declared.tree.Stmt as stmts
 use Rattle.go_ast.specs.declared.tree.IfStmt as ifs
+use Rattle.types_declared.specs.Files.{group_items}
 use Rattle.build_object.specs.Lines.{Return}
 use Rattle.build_object.specs.LineView.{lines_in}
 use Rattle.build_object.specs.SourceView.{source_of}
-use Rattle.build_object.specs.Statements.{for_condition, for_post, statement_lines, lines_of_values, if_lines, else_lines}
+use Rattle.build_object.specs.Statements.{for_condition, for_post, local_lines, statement_lines, lines_of_values, if_lines, else_lines}
 use Rattle.build_object.specs.ExitsView.{exits_of, lines_of_each}
 use Rattle.build_object.proofs.Putting.{puts_none, puts_as, puts_then, puts_length}
 use Rattle.build_object.proofs.Loops.{back_end, back_start}
@@ -26,7 +28,9 @@ pub statement-returns-in-Var : goal.statement-returns-in-Var
 unfolding statement_lines stmt_view
 statement-returns-in-Var t c = on_ok_weaker c.locals.result
     (λ q. puts_as (ap (λ v. statement_lines (source_of c.args.scope.source.now) c.args.scope.slots.now.places.items c.args.results
-    (exits_of c.args.marks (length (lines_in c.args.code.now))) (stmt_view v)) c.in-Var.is) q) c.locals.ensures
+    (exits_of c.args.marks (length (lines_in c.args.code.now))) (stmt_view v)) c.in-Var.is ∙
+    ap (λ g. flat_map (local_lines (source_of c.args.scope.source.now) c.args.scope.slots.now.places.items) (group_items (group_view local_view g)))
+    (sym c.deref.ensures)) q) c.locals.ensures
 
 pub statement-returns-in-Simple : goal.statement-returns-in-Simple
 unfolding statement_lines stmt_view
@@ -46,7 +50,7 @@ statement-returns-in-If t c = on_ok_weaker c.branches.result
     (λ q. puts_as (ap (λ v. statement_lines (source_of c.args.scope.source.now) c.args.scope.slots.now.places.items c.args.results
     (exits_of c.args.marks (length (lines_in c.args.code.now))) (stmt_view v)) c.in-If.is ∙
     ap (λ z. if_lines (source_of c.args.scope.source.now) c.args.scope.slots.now.places.items c.args.results
-    (exits_of c.args.marks (length (lines_in c.args.code.now))) (if_view z)) (sym c.deref.ensures)) q) c.branches.ensures
+    (exits_of c.args.marks (length (lines_in c.args.code.now))) (if_view z)) (sym c.deref-in-If.ensures)) q) c.branches.ensures
 
 pub statement-returns-in-Break : goal.statement-returns-in-Break
 unfolding statement_lines stmt_view

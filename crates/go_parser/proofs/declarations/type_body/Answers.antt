@@ -1,7 +1,7 @@
 -- The answers to the goals of `declarations::type_body`.
 use Rattle.std.proofs.Common.{sym, ◌∙◌}
 use Rattle.go_parser.specs.Machine.{first, last, later}
-use Rattle.go_parser.proofs.MachineSteps.{exits, fails_first, fails_later, fails_rule, read_as, read_rule, read_then, read_to_close}
+use Rattle.go_parser.proofs.MachineSteps.{exits, fails_first, fails_later, fails_rule, read_as, read_rule, read_then, read_to_close, tail_rule}
 use Rattle.go_parser.proofs.SpelledDeclarations.{struct_spelled, type_body_spelled}
 use Rattle.go_parser.proofs.FormedParts.{struct_formed, type_formed}
 use Rattle.go_parser.proofs.declarations.type_body.Goals as goal
@@ -24,13 +24,18 @@ returns-then-at-clause-exact c = read_as (read_rule (first (sym c.at.ensures ∙
     (read_then c.in_ok-at.ensures (read_then c.in_ok-open.ensures.read (read_to_close c.in_ok-open.ensures.deeper c.in_ok-fields.ensures.exact))))
     (sym (struct_spelled _ _ _ _))
 
+pub returns-then-at-2-clause-exact : goal.returns-then-at-2-clause-exact
+returns-then-at-2-clause-exact c = tail_rule _ _ _ _ _ _ c.interface_body.result
+    (later (sym c.at.ensures ∙ c.if-at.false) (first (sym c.at-2.ensures ∙ c.if-at-2.true))) c.interface_body.ensures.exact
+
 pub returns-in_err-type_expr-clause-exact : goal.returns-in_err-type_expr-clause-exact
 returns-in_err-type_expr-clause-exact c = exits _ _ _ _ c.in_err-type_expr.field-0.0 c.from_residual-in_err-type_expr.result
     c.from_residual-in_err-type_expr.ensures.1
-    (fails_rule (later (sym c.at.ensures ∙ c.if-at.false) last) c.in_err-type_expr.ensures)
+    (fails_rule (later (sym c.at.ensures ∙ c.if-at.false) (later (sym c.at-2.ensures ∙ c.if-at-2.false) last)) c.in_err-type_expr.ensures)
 
 pub returns-clause-exact : goal.returns-clause-exact
-returns-clause-exact c = read_as (read_rule (later (sym c.at.ensures ∙ c.if-at.false) last) c.in_ok-type_expr.ensures) (sym (type_body_spelled _))
+returns-clause-exact c = read_as (read_rule (later (sym c.at.ensures ∙ c.if-at.false) (later (sym c.at-2.ensures ∙ c.if-at-2.false) last))
+    c.in_ok-type_expr.ensures) (sym (type_body_spelled _))
 
 pub returns-then-at-clause-formed : goal.returns-then-at-clause-formed
 returns-then-at-clause-formed c = struct_formed _ _ _ _ c.in_ok-fields.ensures.formed

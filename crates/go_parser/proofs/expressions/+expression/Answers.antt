@@ -13,7 +13,7 @@ use Rattle.go_parser.specs.Grouping.{Each, IsLink, IsUnary, IsOperand, is_slice,
 use Rattle.go_ast.specs.declared.tree.Element.{Element}
 use Rattle.go_ast.specs.declared.tree.ExprItem.{ExprItem}
 use Rattle.go_parser.proofs.Grouping.{so_far_none, so_far_push, each_push, composite_grouped, name_grouped, prefix_grouped, address_grouped, paren_grouped}
-use Rattle.go_parser.proofs.Grouping.{chain_grouped, binary_grouped, binary_strength, literal_wf, literal_typed, selector_wf, index_wf, call_wf, IsJoined}
+use Rattle.go_parser.proofs.Grouping.{binary_grouped, binary_strength, literal_wf, literal_typed, selector_wf, index_wf, call_wf, IsJoined}
 use Rattle.go_parser.proofs.Grouping.{IsSeparatedSoFar, named_not_in_header, not_zero, operator_strength}
 use Rattle.go_parser.specs.Spelling.{expr_spelled, literal_spelled, link_spelled, expr_item_spelled, element_spelled}
 use Rattle.go_parser.proofs.MachineSteps.{exits, fails_first, fails_later, fails_rule, fails_leads, fails_more, fails_after, read_then, read_rule}
@@ -24,7 +24,7 @@ use Rattle.go_parser.proofs.Passages.{unary_literal, unary_name, address_name, a
 use Rattle.go_parser.proofs.Lengths.{expr_some, element_some, read_no_longer, read_shorter, leads_no_longer, leads_shorter, separator_no_longer}
 use Rattle.go_parser.proofs.Strengths.{some_operator, as_expression}
 use Rattle.go_parser.proofs.Spelled.{all_tokens_push, no_tokens, none_tokens, name_tokens, composite_tokens, address_tokens, paren_tokens, prefix_tokens}
-use Rattle.go_parser.proofs.Spelled.{chain_tokens, binary_tokens, selector_tokens, index_tokens, call_tokens, literal_row_tokens, operand_spelled}
+use Rattle.go_parser.proofs.Spelled.{binary_tokens, selector_tokens, index_tokens, call_tokens, literal_row_tokens, operand_spelled}
 use Rattle.go_parser.proofs.expressions.+expression.Goals as goal
 
 pub addressed-returns-in_err-literal_type-clause-exact : goal.addressed-returns-in_err-literal_type-clause-exact
@@ -356,8 +356,7 @@ pub chain-returns-clause-exact : goal.chain-returns-clause-exact
 chain-returns-clause-exact t c = continued_by (leads_to_end c.links.invariant.leads
     (later (c.begins_link.ensures.dot c.links-test.false)
     (later (c.begins_link.ensures.bracket c.links-test.false) (later (c.begins_link.ensures.paren c.links-test.false) last))))
-    (ap (λ x. x ++ all_tokens link_spelled c.links.links.items)
-    (ap expr_tokens (sym c.links.invariant.kept) ∙ ap expr_spelled (sym c.in_ok-first.ensures.ok)) ∙ sym (chain_tokens _ _))
+    (ap (λ x. x ++ all_tokens link_spelled c.links.links.items) (ap expr_tokens (sym c.links.invariant.kept)) ∙ sym c.in_ok-whole.ensures.tokens)
 
 pub link-returns-in_err-dot-clause-exact : goal.link-returns-in_err-dot-clause-exact
 link-returns-in_err-dot-clause-exact t c = exits _ _ _ _ c.in_err-dot.field-0.0 c.from_residual.result c.from_residual.ensures.1
@@ -375,22 +374,23 @@ pub link-returns-in_err-open-clause-exact : goal.link-returns-in_err-open-clause
 link-returns-in_err-open-clause-exact t c = exits _ _ _ _ c.in_err-open.field-0.0 c.from_residual-in_err-open.result c.from_residual-in_err-open.ensures.1
     (fails_rule (later (sym c.at.ensures ∙ c.if-at.false) (first (sym c.at-2.ensures ∙ c.if-at-2.true))) (fails_first c.in_err-open.ensures))
 
-pub link-returns-in_err-index-clause-exact : goal.link-returns-in_err-index-clause-exact
-link-returns-in_err-index-clause-exact t c = exits _ _ _ _ c.in_err-index.field-0.0 c.from_residual-in_err-index.result c.from_residual-in_err-index.ensures.1
+pub link-returns-in_err-inner-clause-exact : goal.link-returns-in_err-inner-clause-exact
+link-returns-in_err-inner-clause-exact t c = exits _ _ _ _ c.in_err-inner.field-0.0 c.from_residual-in_err-inner.result c.from_residual-in_err-inner.ensures.1
     (fails_rule (later (sym c.at.ensures ∙ c.if-at.false) (first (sym c.at-2.ensures ∙ c.if-at-2.true)))
-    (fails_later c.in_ok-open.ensures.read (fails_first c.in_err-index.ensures.exact)))
+    (fails_later c.in_ok-open.ensures.read (fails_first c.in_err-inner.ensures.exact)))
 
 pub link-returns-in_err-close-clause-exact : goal.link-returns-in_err-close-clause-exact
 link-returns-in_err-close-clause-exact t c = exits _ _ _ _ c.in_err-close.field-0.0 c.from_residual-in_err-close.result c.from_residual-in_err-close.ensures.1
     (fails_rule (later (sym c.at.ensures ∙ c.if-at.false) (first (sym c.at-2.ensures ∙ c.if-at-2.true)))
-    (fails_later c.in_ok-open.ensures.read (fails_later c.in_ok-index.ensures.exact (fails_first c.in_err-close.ensures))))
+    (fails_later c.in_ok-open.ensures.read (fails_later c.in_ok-inner.ensures.exact (fails_first c.in_err-close.ensures))))
 
 pub link-returns-then-at-2-clause-exact : goal.link-returns-then-at-2-clause-exact
 link-returns-then-at-2-clause-exact t c = leads_as
     (leads_rule (later (sym c.at.ensures ∙ c.if-at.false) (first (sym c.at-2.ensures ∙ c.if-at-2.true)))
     (leads_then c.in_ok-open.ensures.read
-    (leads_then c.in_ok-index.ensures.exact (leads_then c.in_ok-close.ensures (leads_close c.in_ok-open.ensures.deeper leads_here)))))
-    (sym (index_tokens _ _ _))
+    (leads_then c.in_ok-inner.ensures.exact (leads_then c.in_ok-close.ensures (leads_close c.in_ok-open.ensures.deeper leads_here)))))
+    (ap (λ e. sign kind.LeftBracket c.in_ok-open.open ∷ (expr_spelled e ++ (sign kind.RightBracket c.in_ok-close.close ∷ [])))
+    (sym c.in_ok-index.ensures.ok) ∙ sym (index_tokens _ _ _))
 
 pub link-returns-in_err-open-2-clause-exact : goal.link-returns-in_err-open-2-clause-exact
 link-returns-in_err-open-2-clause-exact t c = exits _ _ _ _ c.in_err-open-2.field-0.0 c.from_residual-in_err-open-2.result
@@ -521,14 +521,15 @@ pub link-returns-then-at-clause-grouped : goal.link-returns-then-at-clause-group
 link-returns-then-at-clause-grouped t c = selector_wf _ _
 
 pub link-returns-then-at-2-clause-grouped : goal.link-returns-then-at-2-clause-grouped
-link-returns-then-at-2-clause-grouped t c = index_wf _ _ _ c.in_ok-index.ensures.grouped
+link-returns-then-at-2-clause-grouped t c =
+    index_wf _ _ _ (subst (λ e. IsExprIn false (expr_view e)) (sym c.in_ok-index.ensures.ok) c.in_ok-inner.ensures.grouped)
 
 pub link-returns-clause-grouped : goal.link-returns-clause-grouped
 link-returns-clause-grouped t c = call_wf _ _ _ c.in_ok-arguments.ensures.grouped
 
 pub chain-returns-clause-grouped : goal.chain-returns-clause-grouped
-chain-returns-clause-grouped t c = chain_grouped c.args.header _ _
-    (subst (IsOperand c.args.header) (sym c.links.invariant.kept ∙ ap expr_view (sym c.in_ok-first.ensures.ok)) c.requires) c.links.invariant.grouped
+chain-returns-clause-grouped t c = c.in_ok-whole.ensures.grouped c.args.header
+    (subst (IsOperand c.args.header) (sym c.links.invariant.kept) c.requires) c.links.invariant.grouped
     (λ e. not_zero (vec_len c.links.links) (sym c.is_empty.ensures ∙ c.if-is_empty.false) (c.links.links.ok.0 ∙ ap length e))
 
 pub binary-returns-clause-grouped : goal.binary-returns-clause-grouped

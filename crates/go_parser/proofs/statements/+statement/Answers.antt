@@ -4,7 +4,8 @@ use Rattle.go_ast.specs.declared.syntax.Kind.TheVariants as kind
 use Rattle.go_ast.specs.Grammar.{A, Close, MoreStatements, One, Statement, is}
 use Rattle.go_parser.specs.Machine.{first, last, later}
 use Rattle.go_ast.specs.Flatten.{sign}
-use Rattle.go_parser.specs.Spelling.{block_spelled, for_spelled, if_spelled}
+use Rattle.go_parser.specs.ListSpelling.{group_spelled}
+use Rattle.go_parser.specs.Spelling.{block_spelled, for_spelled, if_spelled, local_spelled}
 use Rattle.go_parser.proofs.MachineSteps.{exits, fails_first, fails_later, fails_leads, fails_rule, read_as, read_end, read_rule, read_then, read_to_close}
 use Rattle.go_parser.proofs.MachineSteps.{tail_rule}
 use Rattle.go_parser.proofs.StatementSteps.{continued, item_shorter, leads_item, leads_more, leads_none, leads_push, read_continued}
@@ -15,8 +16,9 @@ use Rattle.go_parser.proofs.ListedSteps.{listed_false, listed_none, listed_push}
 use Rattle.go_parser.proofs.SpelledStatements.{block_spelled_as, block_stmt_spelled, else_block_spelled, else_if_spelled, for_stmt_spelled, if_spelled_as}
 use Rattle.go_parser.proofs.SpelledStatements.{if_stmt_spelled, no_else_spelled, var_spelled, block_item_spelled}
 use Rattle.std.proofs.Common.{arith, length, ◌≤◌, subst}
-use Rattle.go_ast.specs.WellFormed.{IsFor, IsIf}
-use Rattle.go_ast.specs.FileView.{for_view, if_view}
+use Rattle.go_ast.specs.WellFormed.{IsFor, IsGroup, IsIf, IsLocal}
+use Rattle.go_ast.specs.FileView.{for_view, if_view, local_view}
+use Rattle.go_ast.specs.View.{group_view}
 use Rattle.go_parser.proofs.Lists.{items_rest}
 use Rattle.go_parser.proofs.MachineSteps.{fails_after}
 use Rattle.go_parser.proofs.MachineSteps.{fails_more}
@@ -73,14 +75,15 @@ pub statement-returns-in_err-var-clause-exact : goal.statement-returns-in_err-va
 statement-returns-in_err-var-clause-exact t c = exits _ _ _ _ c.in_err-var.field-0.0 c.from_residual.result c.from_residual.ensures.1
     (fails_rule (first (sym c.at.ensures ∙ c.if-at.true)) (fails_first c.in_err-var.ensures))
 
-pub statement-returns-in_err-group-clause-exact : goal.statement-returns-in_err-group-clause-exact
-statement-returns-in_err-group-clause-exact t c = exits _ _ _ _ c.in_err-group.field-0.0 c.from_residual-in_err-group.result
-    c.from_residual-in_err-group.ensures.1
-    (fails_rule (first (sym c.at.ensures ∙ c.if-at.true)) (fails_later c.in_ok-var.ensures c.in_err-group.ensures.exact))
+pub statement-returns-in_err-locals-clause-exact : goal.statement-returns-in_err-locals-clause-exact
+statement-returns-in_err-locals-clause-exact t c = exits _ _ _ _ c.in_err-locals.field-0.0 c.from_residual-in_err-locals.result
+    c.from_residual-in_err-locals.ensures.1
+    (fails_rule (first (sym c.at.ensures ∙ c.if-at.true)) (fails_later c.in_ok-var.ensures c.in_err-locals.ensures.exact))
 
 pub statement-returns-then-at-clause-exact : goal.statement-returns-then-at-clause-exact
 statement-returns-then-at-clause-exact t c = read_as
-    (read_rule (first (sym c.at.ensures ∙ c.if-at.true)) (read_then c.in_ok-var.ensures c.in_ok-group.ensures.exact)) (sym (var_spelled _ _))
+    (read_rule (first (sym c.at.ensures ∙ c.if-at.true)) (read_then c.in_ok-var.ensures c.in_ok-locals.ensures.exact))
+    (ap (λ g. sign kind.Var c.in_ok-var.var ∷ group_spelled (λ x. local_spelled x) g) (sym c.in_ok-group.ensures.ok) ∙ sym (var_spelled _ _))
 
 pub statement-returns-in_err-inner-clause-exact : goal.statement-returns-in_err-inner-clause-exact
 statement-returns-in_err-inner-clause-exact t c = exits _ _ _ _ c.in_err-inner.field-0.0 c.from_residual-in_err-inner.result
@@ -201,7 +204,8 @@ pub block-returns-clause-formed : goal.block-returns-clause-formed
 block-returns-clause-formed t c = block_formed _ _ _ (listed_false _ _ _ _ c.statements.invariant.formed c.statements-test.false)
 
 pub statement-returns-then-at-clause-formed : goal.statement-returns-then-at-clause-formed
-statement-returns-then-at-clause-formed t c = var_formed _ _ c.in_ok-group.ensures.formed
+statement-returns-then-at-clause-formed t c = var_formed _ _
+    (subst (λ g. IsGroup (λ l. IsLocal (local_view l)) (group_view (λ y. y) g)) (sym c.in_ok-group.ensures.ok) c.in_ok-locals.ensures.formed)
 
 pub statement-returns-then-at-2-clause-formed : goal.statement-returns-then-at-2-clause-formed
 statement-returns-then-at-2-clause-formed t c = block_stmt_formed _ c.in_ok-inner.ensures.formed

@@ -32,6 +32,7 @@ use Rattle.std.specs.contracts.marker.PhantomData as Mark
 use Rattle.std.specs.contracts.vec.Vec as Vec
 use Rattle.go_scanner.proofs.Walks.{none, one, one_made}
 use Rattle.go_scanner.specs.CutText.{HasTokens}
+use Rattle.go_scanner.specs.contracts.compact_piece.CompactPiece as Compact
 use Rattle.go_scanner.specs.contracts.piece.Piece as Piece
 use Rattle.go_scanner.specs.contracts.trail.Trail as Trail
 use Rattle.go_scanner.specs.contracts.trail.pieces_of as F
@@ -39,7 +40,7 @@ use Rattle.go_scanner.proofs.trail.pieces_of.Statement.{statement}
 use Rattle.go_scanner.proofs.trail.pieces_of.Code as code
 
 abbrev tokens : RattleType
-tokens = Vec.the_row Piece.the_row Global.the_row Allocator.ghosts
+tokens = Vec.the_row Compact.the_row Global.the_row Allocator.ghosts
 
 abbrev stayed : Stays F.ended.signature.params F.ended.kept
 stayed = (

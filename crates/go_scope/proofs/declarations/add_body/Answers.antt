@@ -3,7 +3,7 @@ use Rattle.std.proofs.Common.{ap, sym, arith}
 use Rattle.go_scope.specs.IdentifierViews.{as_source}
 use Rattle.go_scope.proofs.Adding.{adds_as, call_adds, each_step, each_all}
 use Rattle.go_scope.specs.FileSites.{body_sites}
-use Rattle.go_scope.proofs.FileParts.{field_part, struct_from}
+use Rattle.go_scope.proofs.FileParts.{field_part, struct_from, interface_from}
 use Rattle.go_ast.specs.FileView.{body_view}
 use Rattle.go_scope.proofs.declarations.add_body.Goals as goal
 
@@ -20,3 +20,8 @@ pub loop-item-preserved : goal.loop-item-preserved
 loop-item-preserved c =
     each_step (field_part (as_source c.args.source.now)) c.deref-item-items.result.now c.loop-item.item-index c.item-item.result (omega arith)
     c.item-item.is c.loop-item.invariant c.in_ok-add_field-in-Struct.ensures
+
+pub returns-in-Interface : goal.returns-in-Interface
+returns-in-Interface c = call_adds _ _ c.add_methods.result c.add_methods.ensures
+    (interface_from _ c.args.body.now c.in-Interface.at c.in-Interface.«open» c.in-Interface.methods c.in-Interface.close _ c.in-Interface.is
+    c.deref.ensures.value)

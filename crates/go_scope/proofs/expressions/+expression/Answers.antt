@@ -2,8 +2,9 @@
 use Rattle.std.proofs.Common.{ap, sym, ◌∙◌, arith}
 use Rattle.go_scope.specs.ExpressionSites.{expr_sites, literal_sites, link_sites}
 use Rattle.go_scope.specs.IdentifierViews.{as_source}
-use Rattle.go_scope.proofs.Adding.{adds_none, adds_as, adds_then, call_adds, each_step, each_all}
+use Rattle.go_scope.proofs.Adding.{adds_none, adds_as, adds_then, call_adds, then_adds, each_step, each_all}
 use Rattle.go_scope.proofs.Parts.{leaf_none, link_part, operand_part, argument_part, element_part, chain_from, binary_from, call_from, index_from, literal_read}
+use Rattle.go_scope.proofs.Parts.{named_chain_from}
 use Rattle.go_ast.specs.View.{expr_view, literal_view, link_view}
 use Rattle.go_scope.proofs.expressions.+expression.Goals as goal
 
@@ -44,11 +45,17 @@ add_expr-returns-in-Address t c =
     (ap (λ l. literal_sites (as_source c.args.source.now) (literal_view l)) c.deref-in-Address.ensures ∙
     ap (λ v. expr_sites (as_source c.args.source.now) (expr_view v)) (sym c.in-Address.is))
 
-pub add_expr-returns-after-loop-link : goal.add_expr-returns-after-loop-link
-add_expr-returns-after-loop-link t c =
-    adds_as (adds_then c.in_ok-add_expr-in-Chain.ensures
-    (each_all (link_part (as_source c.args.source.now)) c.deref-link-items.result.now c.loop-link.link-index (omega arith) c.loop-link.invariant))
-    (chain_from _ _ c.in-Chain.first c.in-Chain.links _ _ c.in-Chain.is c.deref-in-Chain.ensures c.deref-link-items.ensures.value)
+pub add_expr-returns-in_ok-add_expr-in-Chain : goal.add_expr-returns-in_ok-add_expr-in-Chain
+add_expr-returns-in_ok-add_expr-in-Chain t c = then_adds _ _ c.add_links.result c.in_ok-add_expr-in-Chain.ensures c.add_links.ensures
+    (chain_from _ _ c.in-Chain.first c.in-Chain.links _ _ c.in-Chain.is c.deref-in-Chain.ensures c.deref-in-Chain-2.ensures.value)
+
+pub add_expr-returns-in_ok-add-in-NamedChain : goal.add_expr-returns-in_ok-add-in-NamedChain
+unfolding expr_sites
+add_expr-returns-in_ok-add-in-NamedChain t c = then_adds _ _ c.add_links-in-NamedChain.result c.in_ok-add-in-NamedChain.ensures
+    c.add_links-in-NamedChain.ensures (named_chain_from _ _ c.in-NamedChain.name c.in-NamedChain.links _ c.in-NamedChain.is c.deref-in-NamedChain.ensures.value)
+
+pub add_links-returns : goal.add_links-returns
+add_links-returns t c = each_all (link_part (as_source c.args.source.now)) c.args.links.now c.loop-link.link-index (omega arith) c.loop-link.invariant
 
 pub add_expr-returns-after-loop-operand : goal.add_expr-returns-after-loop-operand
 add_expr-returns-after-loop-operand t c =
@@ -71,7 +78,7 @@ add_link-returns-in-Selector t c = call_adds _ _ c.add.result c.add.ensures (ap 
 
 pub add_link-returns-in-Index : goal.add_link-returns-in-Index
 add_link-returns-in-Index t c = call_adds _ _ c.add_expr.result c.add_expr.ensures
-    (index_from _ _ c.in-Index.open c.in-Index.index c.in-Index.close c.in-Index.is)
+    (index_from _ _ c.in-Index.open c.in-Index.index c.in-Index.close _ c.in-Index.is c.deref.ensures)
 
 pub add_link-returns-after-loop-argument : goal.add_link-returns-after-loop-argument
 add_link-returns-after-loop-argument t c =
@@ -85,10 +92,10 @@ add_literal-returns t c =
     c.loop-element.element-index (omega arith) c.loop-element.invariant))
     (literal_read _ c.args.literal.now _ c.deref-element-items.ensures.value)
 
-pub add_expr-loop-link-preserved : goal.add_expr-loop-link-preserved
-add_expr-loop-link-preserved t c =
-    each_step (link_part (as_source c.args.source.now)) c.deref-link-items.result.now c.loop-link.link-index c.link-item.result (omega arith)
-    c.link-item.is c.loop-link.invariant c.in_ok-add_link-in-Chain.ensures
+pub add_links-loop-link-preserved : goal.add_links-loop-link-preserved
+add_links-loop-link-preserved t c =
+    each_step (link_part (as_source c.args.source.now)) c.args.links.now c.loop-link.link-index c.link-item.result (omega arith)
+    c.link-item.is c.loop-link.invariant c.in_ok-add_link.ensures
 
 pub add_expr-loop-operand-preserved : goal.add_expr-loop-operand-preserved
 add_expr-loop-operand-preserved t c =

@@ -5,8 +5,8 @@ use Rattle.go_scope.specs.IdentifierViews.{as_source, AddsTo}
 use Rattle.go_scope.proofs.Parts.{link_part, operand_part, argument_part, element_part}
 use Rattle.go_scope.proofs.expressions.+expression.Given as goal
 
-abbrev pub invariant-add_expr-loop-link : goal.invariant-add_expr-loop-link
-invariant-add_expr-loop-link l = AddsTo l.initial.found.items l.found.items (flat_map (link_part (as_source l.source)) (take l.link-index l.link-items))
+abbrev pub invariant-add_links-loop-link : goal.invariant-add_links-loop-link
+invariant-add_links-loop-link l = AddsTo l.initial.found.items l.found.items (flat_map (link_part (as_source l.source)) (take l.link-index l.links))
 
 abbrev pub invariant-add_expr-loop-operand : goal.invariant-add_expr-loop-operand
 invariant-add_expr-loop-operand l = AddsTo l.initial.found.items l.found.items

@@ -1,14 +1,14 @@
 -- The answers to the goals of `statements::statement`.
 use Rattle.std.proofs.Common.{ap, sym, ◌∙◌, arith}
 use Rattle.go_scope.specs.ExpressionSites.{exprs_sites}
-use Rattle.go_scope.specs.StatementSites.{statement_sites, if_sites, else_sites}
+use Rattle.go_scope.specs.StatementSites.{group_sites, local_sites, statement_sites, if_sites, else_sites}
 use Rattle.go_scope.specs.IdentifierViews.{as_source}
 use Rattle.go_scope.proofs.Adding.{adds_none, adds_as, call_adds, then_adds, three_then_adds, each_step, each_all}
 use Rattle.go_scope.proofs.StatementParts.{for_from, block_read, if_from}
 use Rattle.go_scope.specs.declared.model.Block.TheVariants as blocks
 use Rattle.go_ast.specs.declared.tree.BlockStmt.{out-BlockStmt}
-use Rattle.go_ast.specs.View.{exprs_view}
-use Rattle.go_ast.specs.FileView.{stmt_view, if_view, else_view}
+use Rattle.go_ast.specs.View.{exprs_view, group_view}
+use Rattle.go_ast.specs.FileView.{local_view, stmt_view, if_view, else_view}
 use Rattle.go_scope.proofs.statements.+statement.Goals as goal
 
 pub add_statement-returns-in-Empty : goal.add_statement-returns-in-Empty
@@ -29,7 +29,8 @@ add_statement-returns-in-Continue t c = adds_as (adds_none c.args.found.now.item
 pub add_statement-returns-in-Var : goal.add_statement-returns-in-Var
 unfolding statement_sites stmt_view
 add_statement-returns-in-Var t c = call_adds _ _ c.add_locals.result c.add_locals.ensures
-    (ap (λ v. statement_sites (as_source c.args.source.now) c.args.block c.args.following (stmt_view v)) (sym c.in-Var.is))
+    (ap (λ g. group_sites (local_sites (as_source c.args.source.now) c.args.block) c.args.following (group_view local_view g)) c.deref.ensures ∙
+    ap (λ v. statement_sites (as_source c.args.source.now) c.args.block c.args.following (stmt_view v)) (sym c.in-Var.is))
 
 pub add_statement-returns-in-Simple : goal.add_statement-returns-in-Simple
 unfolding statement_sites stmt_view
@@ -44,7 +45,7 @@ add_statement-returns-in-Block t c = call_adds _ _ c.add_block.result c.add_bloc
 pub add_statement-returns-in-If : goal.add_statement-returns-in-If
 unfolding statement_sites stmt_view
 add_statement-returns-in-If t c =
-    call_adds _ _ c.add_if.result c.add_if.ensures (ap (λ z. if_sites (as_source c.args.source.now) c.args.following (if_view z)) c.deref.ensures ∙
+    call_adds _ _ c.add_if.result c.add_if.ensures (ap (λ z. if_sites (as_source c.args.source.now) c.args.following (if_view z)) c.deref-in-If.ensures ∙
     ap (λ v. statement_sites (as_source c.args.source.now) c.args.block c.args.following (stmt_view v)) (sym c.in-If.is))
 
 pub add_statement-returns-in-Return : goal.add_statement-returns-in-Return

@@ -1,5 +1,5 @@
 -- What was planned in the part, as an answer for the whole workspace.
-use Rattle.std.proofs.Common.{◌≡◌, sym, subst}
+use Rattle.std.proofs.Common.{sym, subst}
 use Rattle.std.specs.Prelude.{Ok, Err}
 use Rattle.base_files.specs.declared.refusal.Refusal.{Refusal}
 use Rattle.workspace_check.specs.KnownFindings.{verdicts_by}

@@ -4,7 +4,7 @@ use Rattle.std.specs.Prelude.{Err}
 use Rattle.base_files.specs.declared.refusal.Refusal.{Refusal}
 use Rattle.workspace_snapshot.specs.declared.change.ChangeKind.TheVariants.{Rename}
 use Rattle.refactor_conflict.specs.declared.conflict.Conflict.{Conflict}
-use Rattle.law_rename_edits.proofs.Whole.{edits_exist}
+use Rattle.law_gained_names.proofs.Whole.{edits_exist}
 use Rattle.refactor_plan.specs.Bindings.{path_read}
 use Rattle.refactor_plan.specs.Decided.{DecidesRename}
 use Rattle.refactor_plan.specs.Proposals.{proposed_snapshot, proposed_verdicts}

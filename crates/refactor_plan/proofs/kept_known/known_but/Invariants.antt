@@ -1,6 +1,6 @@
 -- The invariants of the loops of `kept_known::known_but`.
 use Rattle.std.proofs.Common.{◌≡◌, length}
-use Rattle.law_known_verdicts.specs.KnownVerdicts.{HoldVerdictsBut}
+use Rattle.law_renamed_workspaces.specs.KnownVerdicts.{HoldVerdictsBut}
 use Rattle.refactor_plan.proofs.kept_known.known_but.Given as goal
 
 abbrev pub invariant-loop-number : goal.invariant-loop-number

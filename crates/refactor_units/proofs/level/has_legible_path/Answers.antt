@@ -1,7 +1,7 @@
 -- The path of the package is that of its number.
-use Rattle.std.proofs.Common.{◌≡◌, List, ℕ, sym, subst, ◌∙◌}
+use Rattle.std.proofs.Common.{◌≡◌, sym, subst, ◌∙◌}
 use Rattle.std.proofs.lemmas.Option.{same_Some}
-use Rattle.law_kept_units.specs.Legible.{IsLegible}
+use Rattle.law_objects.specs.Legible.{IsLegible}
 use Rattle.refactor_units.proofs.level.has_legible_path.Goals as goal
 
 pub returns : goal.returns

@@ -2,7 +2,7 @@
 use Rattle.std.proofs.Common.{◌≡◌, ◌∙◌}
 use Rattle.types_declared.specs.PackageView.{package_of}
 use Rattle.build_names.specs.Words.{NameChange}
-use Rattle.law_kept_units.specs.CarriedUnits.{change_of_name}
+use Rattle.law_objects.specs.CarriedUnits.{change_of_name}
 use Rattle.refactor_units.proofs.level.level_name.Goals as goal
 
 pub name-requires : goal.name-requires

@@ -8,7 +8,7 @@ use Rattle.refs_binding.specs.declared.indexed.Numbered.{Numbered}
 use Rattle.refs_binding.specs.Uses.{HasDeclaration}
 use Rattle.refs_binding.specs.WorkspaceFindings.{WorkspaceFindings}
 use Rattle.refs_binding.specs.Workspaces.{known_in}
-use Rattle.law_kept_units.specs.CarriedUnits.{AreLegiblePaths}
+use Rattle.law_objects.specs.CarriedUnits.{AreLegiblePaths}
 use Rattle.refactor_units.specs.LevelNames.{ChangesLevel, IsLevelAt}
 use Rattle.refactor_units.proofs.LevelAt.{level_there}
 use Rattle.refactor_units.proofs.level.level_name_at.Goals as goal

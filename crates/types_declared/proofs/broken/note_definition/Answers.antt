@@ -7,7 +7,7 @@ use Rattle.go_ast.specs.FileView.{body_view}
 use Rattle.types_declared.specs.PackageView.{package_of}
 use Rattle.types_declared.specs.Written.{written_types}
 use Rattle.types_declared.specs.Broken.{AddsLinks, IsTarget, IsTargetOfSome}
-use Rattle.types_declared.proofs.Mentioning.{field_types, adds_as, some_one, one_some}
+use Rattle.types_declared.proofs.Mentioning.{field_types, adds_as, adds_nothing, no_target, some_one, one_some}
 use Rattle.types_declared.proofs.broken.note_definition.Goals as goal
 
 pub returns-in-Type : goal.returns-in-Type
@@ -31,3 +31,11 @@ returns-in-Struct c =
     (IsTargetOfSome p file (written_types (body_view b))))) (sym c.in-Struct.is)
     (subst (λ fs. OnOk c.note_fields.result (AddsLinks c.args.links.now.items c.note_fields.new.links.items c.args.rank
     (IsTargetOfSome p file (field_types fs)))) c.deref.ensures.value c.note_fields.ensures)
+
+pub returns-in-Interface : goal.returns-in-Interface
+unfolding body_view
+returns-in-Interface c =
+    let p = package_of c.args.pkg in
+    let file = c.args.definition.now.file in
+    adds_nothing c.args.links.now.items c.args.rank (IsTargetOfSome p file (written_types (body_view c.args.definition.now.spec.now.body)))
+    (λ a h. no_target p file a (subst (λ b. IsTargetOfSome p file (written_types (body_view b)) a) c.in-Interface.is h))

@@ -6,8 +6,9 @@ use Rattle.go_ast.specs.Tree.{no_link}
 use Rattle.go_ast.specs.View.{expr_view, link_view, key_view, type_view}
 use Rattle.go_ast.specs.declared.tree.CompositeLit.{out-CompositeLit}
 use Rattle.types_expr.specs.Judge.{ListValue, followed, as_value, judge, judge_value, judge_link, judge_links, judge_operands, judge_arguments, judge_elements}
-use Rattle.types_expr.specs.Judge.{index_of, JudgedElements, judge_type, with_element, element_key, call_of, operation, prefix_of, address_of, none_seen}
+use Rattle.types_expr.specs.Judge.{index_of, JudgedElements, judge_type, with_element, element_key, call_of, operation, prefix_of, address_of, means, none_seen}
 use Rattle.types_expr.specs.Places.{place_of}
+use Rattle.types_expr.specs.World.{name_meaning}
 use Rattle.types_expr.specs.View.{type_of, kind_of}
 use Rattle.types_expr.specs.WorldView.{world_of}
 use Rattle.types_expr.specs.Lists.{links_in, operands_in, arguments_in, elements_in}
@@ -19,6 +20,7 @@ use Rattle.types_expr.proofs.AddedJudgements.{reached_elements_as, adds_literal}
 use Rattle.types_expr.proofs.Equations.{ok_map, adds_as, list_as, number_judged, text_judged, name_judged, blank_judged, composite_judged, paren_judged}
 use Rattle.types_expr.proofs.Equations.{prefix_judged, address_judged, chain_found, binary_found, selector_judged, index_judged, call_judged, links_step}
 use Rattle.types_expr.proofs.Equations.{links_end, operands_step, operands_end, arguments_step, arguments_end, elements_step, elements_end, literal_found}
+use Rattle.types_expr.proofs.Equations.{named_chain_found}
 use Rattle.types_expr.proofs.judge.+judging.Goals as goal
 
 pub arguments-loop-argument-init : goal.arguments-loop-argument-init
@@ -122,9 +124,9 @@ judge_link-returns-in-Selector t c = ok_map c.select.result
 
 pub judge_link-returns-in_ok-values-in-Call : goal.judge_link-returns-in_ok-values-in-Call
 judge_link-returns-in_ok-values-in-Call t c = ok_map c.call.result
-    (λ m a. adds_as (call_judged (world_of c.args.scope.world.now) (locals_of c.args.scope.locals.now) _ _ _ _ _ _ c.in-Call.is _ c.deref.ensures.value)
+    (λ m a. adds_as (call_judged (world_of c.args.scope.world.now) (locals_of c.args.scope.locals.now) _ _ _ _ _ _ c.in-Call.is _ c.deref-in-Call.ensures.value)
     (adds_values (λ vs. call_of (world_of c.args.scope.world.now) c.args.at.start c.args.at.place vs (meaning_of c.args.meaning))
-    (list_as refl (ap (map list_value) c.deref-in-Call.ensures.value) c.in_ok-values-in-Call.ensures) a)) c.call.ensures
+    (list_as refl (ap (map list_value) c.deref-in-Call-2.ensures.value) c.in_ok-values-in-Call.ensures) a)) c.call.ensures
 
 pub judge-returns-in_ok-meaning-in-Chain : goal.judge-returns-in_ok-meaning-in-Chain
 judge-returns-in_ok-meaning-in-Chain t c =
@@ -136,6 +138,16 @@ judge-returns-in_ok-meaning-in-Chain t c =
     c.deref-in-Chain-3.result.now _ c.deref-in-Chain.ensures c.deref-in-Chain-2.ensures c.deref-in-Chain-3.ensures c.deref-in-Chain-4.ensures.value _ _
     c.first_token-start.ensures c.place_of-place.ensures in
     ok_map c.chain.result (λ m a. adds_as e (a.after _ _ c.in_ok-meaning-in-Chain.ensures)) c.chain.ensures
+
+pub judge-returns-in_ok-meaning-in-NamedChain : goal.judge-returns-in_ok-meaning-in-NamedChain
+judge-returns-in_ok-meaning-in-NamedChain t c =
+    let w = world_of c.args.scope.world.now in
+    let ls = locals_of c.args.scope.locals.now in
+    let n = c.in-NamedChain.name in
+    let e : judge w ls (expr_view c.args.e.now) ≡ judge_links w ls n n (means (name_meaning w ls n)) (links_in c.deref-in-NamedChain.result.now) =
+    named_chain_found w ls n c.in-NamedChain.links c.in-NamedChain.is _ c.deref-in-NamedChain.ensures.value in
+    ok_map c.chain-in-NamedChain.result (λ m a. adds_as e (a.after _ _ (adds_meaning c.args.found.now c.in_ok-meaning-in-NamedChain.ensures)))
+    c.chain-in-NamedChain.ensures
 
 pub judge-returns-in_ok-meaning-in-Binary : goal.judge-returns-in_ok-meaning-in-Binary
 judge-returns-in_ok-meaning-in-Binary t c =
@@ -195,14 +207,17 @@ judge-returns-in_ok-meaning-in-Address t c = ok_map c.into_address.result
     (adds_then address_of c.in_ok-meaning-in-Address.ensures (adds_as (sym e) (adds_meaning _ refl)))) c.into_address.ensures
 
 pub judge_link-returns-in_ok-value-in-Index : goal.judge_link-returns-in_ok-value-in-Index
-judge_link-returns-in_ok-value-in-Index t c = ok_map c.index.result
-    (λ m a. adds_as (index_judged (world_of c.args.scope.world.now) (locals_of c.args.scope.locals.now) _ _ _ _ _ _ c.in-Index.is)
-    (adds_then (λ s. followed (judge_value (world_of c.args.scope.world.now) (locals_of c.args.scope.locals.now) (expr_view c.in-Index.index))
-    (index_of (world_of c.args.scope.world.now) c.args.at.start (place_of (expr_view c.in-Index.index)) s)) c.in_ok-operand-in-Index.ensures
-    (adds_then (index_of (world_of c.args.scope.world.now) c.args.at.start (place_of (expr_view c.in-Index.index))
+judge_link-returns-in_ok-value-in-Index t c =
+    let inside = expr_view c.deref.result.now in
+    let stands = c.place_of-place.ensures ∙ ap (λ e. place_of (expr_view e)) (c.deref-in-Index.ensures ∙ sym c.deref.ensures) in
+    ok_map c.index.result
+    (λ m a. adds_as (index_judged (world_of c.args.scope.world.now) (locals_of c.args.scope.locals.now) _ _ _ _ _ _ c.in-Index.is _ c.deref.ensures)
+    (adds_then (λ s. followed (judge_value (world_of c.args.scope.world.now) (locals_of c.args.scope.locals.now) inside)
+    (index_of (world_of c.args.scope.world.now) c.args.at.start (place_of inside) s)) c.in_ok-operand-in-Index.ensures
+    (adds_then (index_of (world_of c.args.scope.world.now) c.args.at.start (place_of inside)
     (meaning_of c.in_ok-operand-in-Index.operand)) c.in_ok-value-in-Index.ensures
     (adds_as (ap (λ p. index_of (world_of c.args.scope.world.now) c.args.at.start p (meaning_of c.in_ok-operand-in-Index.operand)
-    (meaning_of c.in_ok-value-in-Index.value)) (sym c.place_of-place.ensures)) a)))) c.index.ensures
+    (meaning_of c.in_ok-value-in-Index.value)) (sym stands)) a)))) c.index.ensures
 
 pub literal-returns : goal.literal-returns
 literal-returns t c = ok_map c.literal_meaning.result

@@ -8,7 +8,7 @@ use Rattle.types_declared.specs.PackageView.{package_of}
 use Rattle.types_declared.specs.Written.{written_types}
 use Rattle.types_members.specs.Recursion.{AddsItems, IsBareName, HasBareName}
 use Rattle.types_declared.proofs.Mentioning.{field_types}
-use Rattle.types_members.proofs.Holding.{items_as, one_alone, alone_one}
+use Rattle.types_members.proofs.Holding.{items_as, items_none, one_of_none, one_alone, alone_one}
 use Rattle.types_members.proofs.recursion.add_body.Goals as goal
 
 pub returns-in-Type : goal.returns-in-Type
@@ -32,3 +32,11 @@ returns-in-Struct c =
     (sym c.in-Struct.is)
     (subst (λ fs. OnOk c.add_fields.result (AddsItems c.args.found.now.items c.add_fields.new.found.items (HasBareName p file (field_types fs))))
     c.deref.ensures.value c.add_fields.ensures)
+
+pub returns-in-Interface : goal.returns-in-Interface
+unfolding body_view
+returns-in-Interface c =
+    let p = package_of c.args.pkg in
+    let file = c.args.file in
+    items_none c.args.found.now.items (HasBareName p file (written_types (body_view c.args.body.now)))
+    (λ r h. one_of_none p file r (subst (λ b. HasBareName p file (written_types (body_view b)) r) c.in-Interface.is h))

@@ -2,11 +2,11 @@
 use Rattle.std.proofs.Common.{ap}
 use Rattle.std.proofs.lemmas.Result.{IfOk-weaker}
 use Rattle.go_ast.specs.View.{type_view, list_view}
-use Rattle.go_ast.specs.FileView.{body_view, field_view, type_spec_view}
+use Rattle.go_ast.specs.FileView.{body_view, field_view, method_view, type_spec_view}
 use Rattle.types_expr.specs.WorldView.{underlying_of}
 use Rattle.types_declared.specs.DeclaredView.{type_of}
 use Rattle.types_declared.specs.PackageView.{package_of}
-use Rattle.types_members.proofs.Steps.{of_type, of_struct}
+use Rattle.types_members.proofs.Steps.{of_type, of_struct, of_interface}
 use Rattle.types_members.proofs.underlying.step_of.Goals as goal
 
 pub returns-in-Type : goal.returns-in-Type
@@ -22,3 +22,9 @@ returns-in_ok-own_struct-in-Struct c =
     of_struct (package_of c.args.pkg) c.args.rank (type_of c.args.definition.now) c.in-Struct.at c.in-Struct.«open» c.in-Struct.close
     (list_view field_view c.in-Struct.fields.items)
     (underlying_of c.in_ok-own_struct-in-Struct.field-0) c.requires.definition (ap body_view c.in-Struct.is) c.in_ok-own_struct-in-Struct.ensures
+
+pub returns-in-Interface : goal.returns-in-Interface
+unfolding body_view type_spec_view
+returns-in-Interface c =
+    of_interface (package_of c.args.pkg) c.args.rank (type_of c.args.definition.now) c.in-Interface.at c.in-Interface.«open» c.in-Interface.close
+    (list_view method_view c.in-Interface.methods.items) c.requires.definition (ap body_view c.in-Interface.is)

@@ -4,7 +4,7 @@ use Rattle.types_expr.specs.Judge.{judge}
 use Rattle.types_expr.specs.WorldView.{world_of}
 use Rattle.types_expr.specs.Found.{locals_of}
 use Rattle.types_stmt.specs.Simple.{is_statement}
-use Rattle.types_stmt.proofs.Chains.{chain_is}
+use Rattle.types_stmt.proofs.Chains.{chain_is, named_chain_is}
 use Rattle.types_expr.proofs.Equations.{ok_map}
 use Rattle.types_stmt.proofs.LoopProgress.{adds_as}
 use Rattle.types_stmt.proofs.call_statements.judge_expr_statement.Goals as goal
@@ -18,3 +18,15 @@ pub returns-in-Chain-clause-stands : goal.returns-in-Chain-clause-stands
 returns-in-Chain-clause-stands c =
     ok_map c.judge_chain.result (λ a q. q ∙ ap (is_statement (world_of c.args.scope.world.now) (locals_of c.args.scope.locals.now))
     (chain_is c.in-Chain.first c.in-Chain.links c.in-Chain.is _ _ c.deref.ensures c.deref-in-Chain.ensures.value)) c.judge_chain.ensures.stands
+
+pub returns-in-NamedChain-clause-found : goal.returns-in-NamedChain-clause-found
+returns-in-NamedChain-clause-found c =
+    ok_map c.judge_chain-in-NamedChain.result (λ a q. adds_as q (ap (judge (world_of c.args.scope.world.now) (locals_of c.args.scope.locals.now))
+    (named_chain_is c.in-NamedChain.name c.in-NamedChain.links c.in-NamedChain.is _ c.deref-in-NamedChain.ensures.value)))
+    c.judge_chain-in-NamedChain.ensures.found
+
+pub returns-in-NamedChain-clause-stands : goal.returns-in-NamedChain-clause-stands
+returns-in-NamedChain-clause-stands c =
+    ok_map c.judge_chain-in-NamedChain.result (λ a q. q ∙ ap (is_statement (world_of c.args.scope.world.now) (locals_of c.args.scope.locals.now))
+    (named_chain_is c.in-NamedChain.name c.in-NamedChain.links c.in-NamedChain.is _ c.deref-in-NamedChain.ensures.value))
+    c.judge_chain-in-NamedChain.ensures.stands

@@ -19,3 +19,9 @@ returns-in-Struct c =
     on_ok_weaker c.note_field_faults.result (λ n. notes_as n
     (ap (λ xs. field_faults (world_of c.args.world.now) (list_view field_view xs)) c.deref.ensures.value ∙
     ap (λ v. body_faults (world_of c.args.world.now) (body_view v)) (sym c.in-Struct.is))) c.note_field_faults.ensures
+
+pub returns-in-Interface : goal.returns-in-Interface
+unfolding body_faults body_view
+returns-in-Interface c =
+    on_ok_weaker c.note_fault.result
+    (λ n. notes_as n (ap (λ v. body_faults (world_of c.args.world.now) (body_view v)) (sym c.in-Interface.is))) c.note_fault.ensures

@@ -11,5 +11,7 @@ returns-in_ok-value-in-InterpretedString c =
     let fits = subst (λ (v : CutText). c.args.token < length (tokens_in v)) (sym c.self.view_is) c.requires in
     let v : CutText = record { text = c.self.inside.file; pieces = c.self.inside.pieces.items } in
     let found = token_read v c.self.inside.tokens.items c.args.token c.index.result.now c.self.invariant fits c.index.ensures in
-    let at = found.at ∙ ap (λ (w : CutText). token_at w c.args.token) c.self.view_is in
-    (subst (λ (t : Piece). IsStringClass t.class) at c.in-InterpretedString.is, rw (← c.text.ensures.bytes) c.in_ok-value-in-InterpretedString.ensures)
+    let at = found.at ∙ ap (λ (w : CutText). token_at w c.args.token) c.self.view_is in (
+      subst (λ (t : Piece). IsStringClass t.class) at (subst IsStringClass c.class.ensures c.in-InterpretedString.is),
+      rw (← c.text.ensures.bytes) c.in_ok-value-in-InterpretedString.ensures,
+    )

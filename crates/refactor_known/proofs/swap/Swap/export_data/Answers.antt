@@ -2,7 +2,7 @@
 use Rattle.std.proofs.Common.{map, ap, ◌∙◌}
 use Rattle.std.specs.Prelude.{option_copied}
 use Rattle.types_expr.specs.WorldView.{definition_of}
-use Rattle.law_moved_types.specs.MovedPackage.{moved_definition}
+use Rattle.law_changed_types.specs.MovedPackage.{moved_definition}
 use Rattle.refactor_known.specs.MovedData.{moved_name}
 use Rattle.refactor_known.specs.Swaps.{map_of}
 use Rattle.refactor_known.proofs.MovedData.{data_is}

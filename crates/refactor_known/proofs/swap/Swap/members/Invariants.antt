@@ -1,7 +1,7 @@
 -- The invariants of the loops of `swap::Swap::members`.
 use Rattle.std.proofs.Common.{◌≡◌, map, take}
 use Rattle.types_info.specs.MemberUses.{uses_in}
-use Rattle.law_moved_symbols.specs.Moved.{moved_use}
+use Rattle.law_changed_types.specs.Moved.{moved_use}
 use Rattle.refactor_known.specs.Swaps.{map_of}
 use Rattle.refactor_known.proofs.swap.Swap.members.Given as goal
 

@@ -1,7 +1,7 @@
 -- The invariants of the loops of `swap::Swap::types`.
 use Rattle.std.proofs.Common.{◌≡◌, map, take}
 use Rattle.types_expr.specs.View.{type_of}
-use Rattle.law_moved_symbols.specs.Moved.{moved_type}
+use Rattle.law_changed_types.specs.Moved.{moved_type}
 use Rattle.refactor_known.specs.Swaps.{map_of}
 use Rattle.refactor_known.proofs.swap.Swap.types.Given as goal
 

@@ -1,7 +1,7 @@
 -- The invariants of the loops of `swap::Swap::uses`.
 use Rattle.std.proofs.Common.{◌≡◌, map, take}
 use Rattle.types_expr.specs.Found.{use_of}
-use Rattle.law_moved_symbols.specs.Moved.{moved_use}
+use Rattle.law_changed_types.specs.Moved.{moved_use}
 use Rattle.refactor_known.specs.Swaps.{map_of}
 use Rattle.refactor_known.proofs.swap.Swap.uses.Given as goal
 

@@ -2,11 +2,12 @@
 use Rattle.std.proofs.Common.{◌+◌, ap, sym, ◌∙◌, drop, map}
 use Rattle.std.proofs.Math.ListN.{drop_of_length-le}
 use Rattle.std.proofs.lemmas.Result.{on_ok_weaker}
-use Rattle.go_ast.specs.View.{expr_view, exprs_view}
-use Rattle.go_ast.specs.FileView.{for_view, stmt_view, block_view, if_view, else_view}
+use Rattle.go_ast.specs.View.{expr_view, exprs_view, group_view}
+use Rattle.go_ast.specs.FileView.{for_view, local_view, stmt_view, block_view, if_view, else_view}
 use Rattle.go_ast.specs.declared.tree.IfStmt.{out-IfStmt}
 use Rattle.types_expr.specs.WorldView.{world_of}
-use Rattle.types_stmt.specs.Simple.{check_condition}
+use Rattle.types_stmt.specs.Checked.{check_group}
+use Rattle.types_stmt.specs.Simple.{check_condition, check_local}
 use Rattle.types_stmt.specs.Statements.{check_return, check_for_header, check_statement, check_block, check_if, check_else}
 use Rattle.types_stmt.specs.View.{checked_of, target_of}
 use Rattle.types_stmt.proofs.Blocks.{check_each, each_step, each_end, block_read, if_from}
@@ -31,8 +32,9 @@ check_statement-returns-in-Continue t c = ap (λ v.
 pub check_statement-returns-in-Var : goal.check_statement-returns-in-Var
 unfolding check_statement stmt_view
 check_statement-returns-in-Var t c = on_ok_weaker c.check_local_group.result
-    (λ q. q ∙ ap (λ v. check_statement (world_of c.args.world.now) (map target_of c.args.results.now) (checked_of c.args.self.now) (stmt_view v))
-    (sym c.in-Var.is)) c.check_local_group.ensures
+    (λ q. q ∙ (ap (λ g. check_group (check_local (world_of c.args.world.now)) (checked_of c.args.self.now) (group_view local_view g)) c.deref.ensures ∙
+    ap (λ v. check_statement (world_of c.args.world.now) (map target_of c.args.results.now) (checked_of c.args.self.now) (stmt_view v))
+    (sym c.in-Var.is))) c.check_local_group.ensures
 
 pub check_statement-returns-in-Simple : goal.check_statement-returns-in-Simple
 unfolding check_statement stmt_view
@@ -49,7 +51,8 @@ check_statement-returns-in-Block t c = on_ok_weaker c.check_block.result
 pub check_statement-returns-in-If : goal.check_statement-returns-in-If
 unfolding check_statement stmt_view
 check_statement-returns-in-If t c = on_ok_weaker c.check_if.result
-    (λ q. q ∙ (ap (λ z. check_if (world_of c.args.world.now) (map target_of c.args.results.now) (checked_of c.args.self.now) (if_view z)) c.deref.ensures ∙
+    (λ q. q ∙ (ap (λ z. check_if (world_of c.args.world.now) (map target_of c.args.results.now) (checked_of c.args.self.now) (if_view z))
+    c.deref-in-If.ensures ∙
     ap (λ v. check_statement (world_of c.args.world.now) (map target_of c.args.results.now) (checked_of c.args.self.now) (stmt_view v))
     (sym c.in-If.is))) c.check_if.ensures
 

@@ -21,18 +21,20 @@ returns-in-Step c = on_ok_weaker c.check_step.result
 pub returns-in-Update : goal.returns-in-Update
 unfolding check_simple simple_view
 returns-in-Update c =
-    on_ok_weaker c.check_update.result (λ q. q ∙ (ap (λ o.
-    check_update (world_of c.args.world.now) (checked_of c.args.self.now) o (expr_view c.in-Update.left) (expr_view c.in-Update.right))
-    c.binary_of.ensures ∙ ap (λ v. check_simple (world_of c.args.world.now) (checked_of c.args.self.now) (simple_view v)) (sym c.in-Update.is)))
+    on_ok_weaker c.check_update.result (λ q. q ∙ (ap (λ e.
+    check_update (world_of c.args.world.now) (checked_of c.args.self.now) c.binary_of.result (expr_view c.in-Update.left) (expr_view e)) c.deref.ensures ∙
+    (ap (λ o. check_update (world_of c.args.world.now) (checked_of c.args.self.now) o (expr_view c.in-Update.left) (expr_view c.in-Update.right.value))
+    c.binary_of.ensures ∙ ap (λ v. check_simple (world_of c.args.world.now) (checked_of c.args.self.now) (simple_view v)) (sym c.in-Update.is))))
     c.check_update.ensures
 
 pub returns-in-Assign : goal.returns-in-Assign
 unfolding check_simple simple_view
 returns-in-Assign c =
     on_ok_weaker c.check_assign.result (λ q. q ∙ (ap (λ xs.
-    check_assign (world_of c.args.world.now) (checked_of c.args.self.now) (exprs_view xs) (exprs_view c.deref-in-Assign.result.now)) c.deref.ensures.value
+    check_assign (world_of c.args.world.now) (checked_of c.args.self.now) (exprs_view xs) (exprs_view c.deref-in-Assign-2.result.now))
+    c.deref-in-Assign.ensures.value
     ∙ (ap (λ ys. check_assign (world_of c.args.world.now) (checked_of c.args.self.now) (exprs_view c.in-Assign.left.items) (exprs_view ys))
-    c.deref-in-Assign.ensures.value ∙
+    c.deref-in-Assign-2.ensures.value ∙
     ap (λ v. check_simple (world_of c.args.world.now) (checked_of c.args.self.now) (simple_view v)) (sym c.in-Assign.is)))) c.check_assign.ensures
 
 pub returns-in-Define : goal.returns-in-Define

@@ -1,6 +1,0 @@
--- The answers to the goals of `part_plans::moves_are_planned_in_part`.
-use Rattle.law_affected.proofs.PlannedInPart.{moves_in_part}
-use Rattle.law_affected.proofs.part_plans.moves_are_planned_in_part.Goals as goal
-
-pub returns : goal.returns
-returns c = moves_in_part

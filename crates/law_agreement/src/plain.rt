@@ -1,0 +1,19 @@
+//! Laws of plain renames that lose and capture no identifier.
+ghost use Rattle.law_renamed_workspaces.specs.KnownAfter.{LocalRenamesHaveVerdicts, LocalRenamesKeepKnown, LocalRenamesKeepVerdicts};
+ghost use Rattle.law_agreement.specs.Agreement.{PlainNoneLostPreserves};
+
+/// Such a rename preserves bindings.
+pub fn none_lost_preserves()
+    ensures { PlainNoneLostPreserves }
+{}
+
+/// If the declaration is a local one, the edited workspace has verdicts.
+pub fn local_renames_have_verdicts()
+    ensures { LocalRenamesHaveVerdicts }
+{}
+
+/// Then a known verdict on a package is right of the edited workspace, and so are all known verdicts, by package number.
+pub fn local_renames_keep_verdicts()
+    ensures one { LocalRenamesKeepKnown }
+    ensures all { LocalRenamesKeepVerdicts }
+{}

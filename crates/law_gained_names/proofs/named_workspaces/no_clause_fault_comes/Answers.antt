@@ -1,0 +1,6 @@
+-- The answer to the goal of `named_workspaces::no_clause_fault_comes`.
+use Rattle.law_gained_names.proofs.Outer.{no_clause_fault_comes}
+use Rattle.law_gained_names.proofs.named_workspaces.no_clause_fault_comes.Goals as goal
+
+pub returns : goal.returns
+returns c = no_clause_fault_comes

@@ -1,6 +1,0 @@
--- The answer to the goal of `objects::gained_names_keep_objects`.
-use Rattle.law_gained_objects.proofs.ObjectsAfter.{gained_names_keep_objects}
-use Rattle.law_gained_objects.proofs.objects.gained_names_keep_objects.Goals as goal
-
-pub returns : goal.returns
-returns c = gained_names_keep_objects

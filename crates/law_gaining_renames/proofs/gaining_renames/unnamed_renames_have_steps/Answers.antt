@@ -1,6 +1,0 @@
--- The answer to the goal of `gaining_renames::unnamed_renames_have_steps`.
-use Rattle.law_gaining_renames.proofs.Laws.{unnamed_renames_have_steps}
-use Rattle.law_gaining_renames.proofs.gaining_renames.unnamed_renames_have_steps.Goals as goal
-
-pub returns : goal.returns
-returns c = unnamed_renames_have_steps

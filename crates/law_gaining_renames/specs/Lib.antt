@@ -1,1 +1,0 @@
--- The definitions of this crate: none.

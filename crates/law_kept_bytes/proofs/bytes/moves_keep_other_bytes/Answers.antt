@@ -1,6 +1,0 @@
--- The answer to the goal of `bytes::moves_keep_other_bytes`.
-use Rattle.law_kept_bytes.proofs.Moves.{moves_keep}
-use Rattle.law_kept_bytes.proofs.bytes.moves_keep_other_bytes.Goals as goal
-
-pub returns : goal.returns
-returns c = moves_keep

@@ -1,6 +1,0 @@
--- The answers to the goals of `kept_members::members_stay`.
-use Rattle.law_kept_members.proofs.ScopeRenames.{fields_stay, methods_stay, members_stay}
-use Rattle.law_kept_members.proofs.kept_members.members_stay.Goals as goal
-
-pub returns : goal.returns
-returns c = record { fields = fields_stay; methods = methods_stay; members = members_stay }

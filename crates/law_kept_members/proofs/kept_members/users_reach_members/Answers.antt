@@ -1,6 +1,0 @@
--- The answer to the goal of `kept_members::users_reach_members`.
-use Rattle.law_kept_members.proofs.UsersReach.{users_reach}
-use Rattle.law_kept_members.proofs.kept_members.users_reach_members.Goals as goal
-
-pub returns : goal.returns
-returns c = users_reach

@@ -1,6 +1,0 @@
--- The answers to the goals of `texts::legible_texts_follow`.
-use Rattle.law_kept_units.proofs.LegibleTexts.{texts_follow}
-use Rattle.law_kept_units.proofs.texts.legible_texts_follow.Goals as goal
-
-pub returns : goal.returns
-returns c = texts_follow

@@ -1,6 +1,0 @@
--- The answers to the goals of `units::global_renames_carry_units`.
-use Rattle.law_kept_units.proofs.Globals.{globals_carried}
-use Rattle.law_kept_units.proofs.units.global_renames_carry_units.Goals as goal
-
-pub returns : goal.returns
-returns c = globals_carried

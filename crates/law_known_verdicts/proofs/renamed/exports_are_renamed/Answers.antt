@@ -1,6 +1,0 @@
--- The answer to the goal of `renamed::exports_are_renamed`.
-use Rattle.law_known_verdicts.proofs.RenamedLaws.{exports_are_renamed}
-use Rattle.law_known_verdicts.proofs.renamed.exports_are_renamed.Goals as goal
-
-pub returns : goal.returns
-returns c = exports_are_renamed

@@ -1,6 +1,0 @@
--- The answer to the goal of `renamed::methods_are_renamed`.
-use Rattle.law_known_verdicts.proofs.RenamedLaws.{methods_are_renamed}
-use Rattle.law_known_verdicts.proofs.renamed.methods_are_renamed.Goals as goal
-
-pub returns : goal.returns
-returns c = methods_are_renamed

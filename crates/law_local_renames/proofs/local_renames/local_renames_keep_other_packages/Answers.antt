@@ -1,8 +1,0 @@
--- The answers to the goals of `local_renames::local_renames_keep_other_packages`.
-use Rattle.law_local_renames.proofs.KeptSelectors.{selectors}
-use Rattle.law_local_renames.proofs.KeptExports.{exports_stay}
-use Rattle.law_local_renames.proofs.KeptScopes.{others_keep}
-use Rattle.law_local_renames.proofs.local_renames.local_renames_keep_other_packages.Goals as goal
-
-pub returns : goal.returns
-returns c = record { scopes = others_keep; exports = exports_stay; selectors = selectors }

@@ -1,6 +1,0 @@
--- The answer to the goal of `member_renames::other_packages_keep_members`.
-use Rattle.law_member_conflicts.proofs.OthersStay.{outside}
-use Rattle.law_member_conflicts.proofs.member_renames.other_packages_keep_members.Goals as goal
-
-pub returns : goal.returns
-returns c = outside

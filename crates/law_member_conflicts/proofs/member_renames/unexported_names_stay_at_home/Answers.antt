@@ -1,6 +1,0 @@
--- The answer to the goal of `member_renames::unexported_names_stay_at_home`.
-use Rattle.law_member_conflicts.proofs.OthersStay.{hidden}
-use Rattle.law_member_conflicts.proofs.member_renames.unexported_names_stay_at_home.Goals as goal
-
-pub returns : goal.returns
-returns c = hidden

@@ -1,6 +1,0 @@
--- The answers to the goals of `member_uses::files_ask_for_their_uses`.
-use Rattle.law_member_uses.proofs.FileUses.{files_ask}
-use Rattle.law_member_uses.proofs.member_uses.files_ask_for_their_uses.Goals as goal
-
-pub returns : goal.returns
-returns c = files_ask

@@ -1,6 +1,0 @@
--- The answer to the goal of `agreement::move_conflicts_are_told`.
-use Rattle.law_move_agreement.proofs.Laws.{tells}
-use Rattle.law_move_agreement.proofs.agreement.move_conflicts_are_told.Goals as goal
-
-pub returns : goal.returns
-returns c = tells

@@ -1,6 +1,0 @@
--- The answer to the goal of `kept::moves_keep_members`.
-use Rattle.law_moved_members.proofs.Laws.{moves_keep_members}
-use Rattle.law_moved_members.proofs.kept.moves_keep_members.Goals as goal
-
-pub returns : goal.returns
-returns c = moves_keep_members

@@ -1,9 +1,0 @@
--- The answers to the goals of `paths::packages_move`.
-use Rattle.law_moved_packages.proofs.MovedFiles.{paths_move, package_files_move}
-use Rattle.law_moved_packages.proofs.paths.packages_move.Goals as goal
-
-pub returns-clause-paths : goal.returns-clause-paths
-returns-clause-paths c = paths_move
-
-pub returns-clause-files : goal.returns-clause-files
-returns-clause-files c = package_files_move

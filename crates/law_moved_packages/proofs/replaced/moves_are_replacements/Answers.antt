@@ -1,6 +1,0 @@
--- The answer to the goal of `replaced::moves_are_replacements`.
-use Rattle.law_moved_packages.proofs.MoveEdits.{moves_are}
-use Rattle.law_moved_packages.proofs.replaced.moves_are_replacements.Goals as goal
-
-pub returns : goal.returns
-returns c = moves_are

@@ -1,6 +1,0 @@
--- The answer to the goal of `replaced::replaced_files_keep_trees`.
-use Rattle.law_moved_packages.proofs.NewTokens.{files_keep_trees}
-use Rattle.law_moved_packages.proofs.replaced.replaced_files_keep_trees.Goals as goal
-
-pub returns : goal.returns
-returns c = files_keep_trees

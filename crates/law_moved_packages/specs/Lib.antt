@@ -1,4 +1,0 @@
--- The definitions of this crate.
-pub mod Moves
-pub mod Replacements
-pub mod MovedPackages

@@ -1,6 +1,0 @@
--- The answers to the goals of `moves::expressions_move`.
-use Rattle.law_moved_symbols.proofs.FoundMove.{expressions_move}
-use Rattle.law_moved_symbols.proofs.moves.expressions_move.Goals as goal
-
-pub returns : goal.returns
-returns c = expressions_move

@@ -1,6 +1,0 @@
--- The answers to the goals of `moves::files_move`.
-use Rattle.law_moved_symbols.proofs.FilesMove.{files_move}
-use Rattle.law_moved_symbols.proofs.moves.files_move.Goals as goal
-
-pub returns : goal.returns
-returns c = files_move

@@ -1,6 +1,0 @@
--- The answers to the goals of `moves::statements_move`.
-use Rattle.law_moved_symbols.proofs.FilesMove.{statements_move}
-use Rattle.law_moved_symbols.proofs.moves.statements_move.Goals as goal
-
-pub returns : goal.returns
-returns c = statements_move

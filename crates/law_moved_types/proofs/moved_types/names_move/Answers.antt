@@ -1,6 +1,0 @@
--- The answers to the goals of `moved_types::names_move`.
-use Rattle.law_moved_types.proofs.Worlds.{names_move}
-use Rattle.law_moved_types.proofs.moved_types.names_move.Goals as goal
-
-pub returns : goal.returns
-returns c = names_move

@@ -1,6 +1,0 @@
--- The answers to the goals of `known::all_known_move`.
-use Rattle.law_moved_verdicts.proofs.Laws.{all_known}
-use Rattle.law_moved_verdicts.proofs.known.all_known_move.Goals as goal
-
-pub returns : goal.returns
-returns c = all_known

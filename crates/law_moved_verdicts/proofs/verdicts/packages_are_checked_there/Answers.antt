@@ -1,6 +1,0 @@
--- The answers to the goals of `verdicts::packages_are_checked_there`.
-use Rattle.law_moved_verdicts.proofs.Laws.{packages}
-use Rattle.law_moved_verdicts.proofs.verdicts.packages_are_checked_there.Goals as goal
-
-pub returns : goal.returns
-returns c = packages

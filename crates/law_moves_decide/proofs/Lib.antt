@@ -1,3 +1,0 @@
--- The lemmas of this crate.
-pub mod FromVerdicts
-pub mod Laws

@@ -1,6 +1,0 @@
--- The answer to the goal of `decided::first_conflicts_decide_moves`.
-use Rattle.law_moves_decide.proofs.Laws.{decide}
-use Rattle.law_moves_decide.proofs.decided.first_conflicts_decide_moves.Goals as goal
-
-pub returns : goal.returns
-returns c = decide

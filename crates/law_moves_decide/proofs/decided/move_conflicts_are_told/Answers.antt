@@ -1,6 +1,0 @@
--- The answer to the goal of `decided::move_conflicts_are_told`.
-use Rattle.law_moves_decide.proofs.Laws.{told}
-use Rattle.law_moves_decide.proofs.decided.move_conflicts_are_told.Goals as goal
-
-pub returns : goal.returns
-returns c = told

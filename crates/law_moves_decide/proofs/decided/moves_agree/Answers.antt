@@ -1,6 +1,0 @@
--- The answer to the goal of `decided::moves_agree`.
-use Rattle.law_moves_decide.proofs.Laws.{agree}
-use Rattle.law_moves_decide.proofs.decided.moves_agree.Goals as goal
-
-pub returns : goal.returns
-returns c = agree

@@ -1,6 +1,0 @@
--- The answer to the goal of `named_workspaces::gained_names_add_no_fault`.
-use Rattle.law_named_workspaces.proofs.Whole.{gained_names_add_no_fault}
-use Rattle.law_named_workspaces.proofs.named_workspaces.gained_names_add_no_fault.Goals as goal
-
-pub returns : goal.returns
-returns c = gained_names_add_no_fault

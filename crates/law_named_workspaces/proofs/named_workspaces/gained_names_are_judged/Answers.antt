@@ -1,6 +1,0 @@
--- The answer to the goal of `named_workspaces::gained_names_are_judged`.
-use Rattle.law_named_workspaces.proofs.Judged.{gained_names_are_judged}
-use Rattle.law_named_workspaces.proofs.named_workspaces.gained_names_are_judged.Goals as goal
-
-pub returns : goal.returns
-returns c = gained_names_are_judged

@@ -1,6 +1,0 @@
--- The answer to the goal of `named_workspaces::gained_names_bring_no_fault`.
-use Rattle.law_named_workspaces.proofs.Judged.{gained_names_bring_no_fault}
-use Rattle.law_named_workspaces.proofs.named_workspaces.gained_names_bring_no_fault.Goals as goal
-
-pub returns : goal.returns
-returns c = gained_names_bring_no_fault

@@ -1,0 +1,78 @@
+-- Objects print the same names of a package, and the positions of its fields stay, where its tokens get new numbers and keep their bytes.
+use Rattle.std.proofs.Common.{ℕ, suc, ◌≡◌, ◌+◌, Bool, if◌then◌else◌, List, [], ◌∷◌, ◌++◌, Option, Some, None, option_map, map, refl, ap, sym, ◌∙◌}
+use Rattle.std.specs.List.{flat_map}
+use Rattle.std.proofs.Math.Path.{ap₂}
+use Rattle.std.proofs.lemmas.List.{map-append}
+use Rattle.go_ast.specs.SourceFile.{SourceFile}
+use Rattle.go_ast.specs.Tree.{Item, FieldTree, BodyTree, Other, Struct, Interface, ReceiverTree}
+use Rattle.types_declared.specs.Package.{PlacedType, PlacedFunction, declared_types, declared_functions}
+use Rattle.build_object.specs.Lines.{Initializer, Method}
+use Rattle.build_object.specs.Names.{spelled_in, name_of_type, type_names, is_named_init, is_initializer, function_named, function_called}
+use Rattle.build_object.specs.Names.{initializers_with, functions_behind, function_names, positions_from, names_of_fields, body_positions}
+use Rattle.build_object.specs.Names.{type_positions, field_positions}
+use Rattle.law_rename.specs.Renumbered.{items_by, item_by, body_by, field_by, receiver_by}
+use Rattle.law_changed_types.specs.RenumberedPackage.{AreRenumberedFiles}
+use Rattle.law_changed_types.proofs.RenumberedTypesListed.{new_type, new_function, types_by, functions_by}
+
+module _ (t : ℕ → ℕ → ℕ) (fs gs : List SourceFile) (spelled : (file n : ℕ) → spelled_in gs file (t file n) ≡ spelled_in fs file n) (path : List ℕ) where
+  same_types : (ds : List PlacedType) → map (name_of_type path gs) (map (new_type t) ds) ≡ map (name_of_type path fs) ds
+  same_types [] = refl
+  same_types (d ∷ ds) = ap₂ (λ name rest. record { path = path; name = name } ∷ rest) (spelled d.file d.spec.name) (same_types ds)
+
+  named_init : (file : ℕ) (r : Option ReceiverTree) (name : List ℕ) → is_named_init (option_map (receiver_by (t file)) r) name ≡ is_named_init r name
+  named_init file None name = refl
+  named_init file (Some r) name = refl
+
+  same_init : (f : PlacedFunction) → is_initializer gs (new_function t f) ≡ is_initializer fs f
+  same_init f =
+      named_init f.file f.function.receiver (spelled_in gs f.file (t f.file f.function.name))
+      ∙ ap (is_named_init f.function.receiver) (spelled f.file f.function.name)
+
+  named_function : (file : ℕ) (r : Option ReceiverTree) (name : List ℕ) →
+      function_named path gs file (option_map (receiver_by (t file)) r) name ≡ function_named path fs file r name
+  named_function file None name = refl
+  named_function file (Some r) name =
+      ap (λ own. Method (record { path = path; name = own }) name) (spelled file r.type_name)
+
+  same_called : (f : PlacedFunction) → function_called path gs (new_function t f) ≡ function_called path fs f
+  same_called f =
+      named_function f.file f.function.receiver (spelled_in gs f.file (t f.file f.function.name))
+      ∙ ap (function_named path fs f.file f.function.receiver) (spelled f.file f.function.name)
+
+  same_functions : (k : ℕ) (xs : List PlacedFunction) → functions_behind path gs k (map (new_function t) xs) ≡ functions_behind path fs k xs
+  same_functions k [] = refl
+  same_functions k (f ∷ xs) =
+      ap₂ (λ a rest. a ∷ rest)
+      (ap₂ (λ (b : Bool) called. if b then Initializer path k else called) (same_init f) (same_called f))
+      (ap (λ (b : Bool). functions_behind path gs (if b then k + 1 else k) (map (new_function t) xs)) (same_init f)
+      ∙ same_functions (initializers_with fs k f) xs)
+
+  -- fields
+
+  same_positions : (g : ℕ → ℕ) (n : ℕ) (is : List (Item ℕ)) → positions_from n (items_by g g is) ≡ positions_from n is
+  same_positions g n [] = refl
+  same_positions g n (i ∷ is) = ap (λ rest. n ∷ rest) (same_positions g (suc n) is)
+
+  field_names : (g : ℕ → ℕ) (xs : List (Item FieldTree)) → names_of_fields (items_by g (field_by g) xs) ≡ items_by g g (names_of_fields xs)
+  field_names g [] = refl
+  field_names g (x ∷ xs) =
+      ap (λ rest. items_by g g x.value.names ++ rest) (field_names g xs) ∙ sym (map-append (item_by g g) x.value.names (names_of_fields xs))
+
+  same_body : (g : ℕ → ℕ) (b : BodyTree) → body_positions (body_by g b) ≡ body_positions b
+  same_body g (Other x) = refl
+  same_body g (Interface k o ms c) = refl
+  same_body g (Struct k o xs c) = ap (positions_from 0) (field_names g xs) ∙ same_positions g 0 (names_of_fields xs)
+
+  positions_of : (ds : List PlacedType) → flat_map type_positions (map (new_type t) ds) ≡ flat_map type_positions ds
+  positions_of [] = refl
+  positions_of (d ∷ ds) = ap₂ (λ a rest. a ++ rest) (same_body (t d.file) d.spec.body) (positions_of ds)
+
+  module _ (are : AreRenumberedFiles t 0 fs gs) where
+    pub types_kept : type_names path gs ≡ type_names path fs
+    types_kept = ap (λ ds. map (name_of_type path gs) ds) (types_by t fs gs are) ∙ same_types (declared_types fs)
+
+    pub functions_kept : function_names path gs ≡ function_names path fs
+    functions_kept = ap (λ xs. functions_behind path gs 0 xs) (functions_by t fs gs are) ∙ same_functions 0 (declared_functions fs)
+
+    pub positions_kept : field_positions gs ≡ field_positions fs
+    positions_kept = ap (λ ds. flat_map type_positions ds) (types_by t fs gs are) ∙ positions_of (declared_types fs)

@@ -1,2 +1,0 @@
--- In a workspace without faults each package that is checked has the scopes that it has without checking.
-pub use Rattle.law_scoped_packages.proofs.FaultlessScopes.{faultless, data_of, is_scoped, faultless_scoped}

@@ -1,6 +1,0 @@
--- The answer to the goal of `agreement::one_first_conflict_is_told`.
-use Rattle.law_rename_agrees.proofs.OneAnswer.{one_answer}
-use Rattle.law_rename_agrees.proofs.agreement.one_first_conflict_is_told.Goals as goal
-
-pub returns : goal.returns
-returns c = one_answer

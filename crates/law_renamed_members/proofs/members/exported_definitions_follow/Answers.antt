@@ -1,8 +1,0 @@
--- The answer to the goal of `members::exported_definitions_follow`.
-use Rattle.law_same_bindings.proofs.Alike.{of_bound}
-use Rattle.law_renamed_members.proofs.DefinitionsAfter.{exported_definition}
-use Rattle.law_renamed_members.proofs.members.exported_definitions_follow.Goals as goal
-
-pub returns : goal.returns
-returns c = λ w known r p q is relaid alike seen i j before after rank.
-    exported_definition w known r p q is relaid (of_bound p q alike) seen i j before after rank

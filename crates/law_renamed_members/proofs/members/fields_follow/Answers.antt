@@ -1,6 +1,0 @@
--- The answer to the goal of `members::fields_follow`.
-use Rattle.law_renamed_members.proofs.CountingMembers.{counting_field}
-use Rattle.law_renamed_members.proofs.members.fields_follow.Goals as goal
-
-pub returns : goal.returns
-returns c = λ w known r p q is relaid definition name rank. counting_field w known r p q is relaid definition name rank

@@ -1,8 +1,0 @@
--- The answer to the goal of `members::methods_follow`.
-use Rattle.law_same_bindings.proofs.Alike.{of_bound}
-use Rattle.law_renamed_members.proofs.CountingMembers.{counting_method}
-use Rattle.law_renamed_members.proofs.members.methods_follow.Goals as goal
-
-pub returns : goal.returns
-returns c = λ w known r p q is relaid alike seen definition name rank h.
-    counting_method w known r p q is relaid (of_bound p q alike) seen definition name rank h

@@ -1,6 +1,0 @@
--- The answer to the goal of `objects::method_renames_replace_names`.
-use Rattle.law_renamed_objects.proofs.Laws.{methods}
-use Rattle.law_renamed_objects.proofs.objects.method_renames_replace_names.Goals as goal
-
-pub returns : goal.returns
-returns c = methods

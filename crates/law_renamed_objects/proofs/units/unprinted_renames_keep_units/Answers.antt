@@ -1,6 +1,0 @@
--- The answer to the goal of `units::unprinted_renames_keep_units`.
-use Rattle.law_renamed_objects.proofs.UnitsStay.{units_stay}
-use Rattle.law_renamed_objects.proofs.units.unprinted_renames_keep_units.Goals as goal
-
-pub returns : goal.returns
-returns c = units_stay

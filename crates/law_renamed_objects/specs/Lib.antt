@@ -1,3 +1,0 @@
--- The definitions of this crate.
-pub mod Objects
-pub mod KeptUnits

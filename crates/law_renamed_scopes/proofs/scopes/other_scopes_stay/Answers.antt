@@ -1,6 +1,0 @@
--- The answers to the goals of `scopes::other_scopes_stay`.
-use Rattle.law_renamed_scopes.proofs.Renamed.{others_stay}
-use Rattle.law_renamed_scopes.proofs.scopes.other_scopes_stay.Goals as goal
-
-pub returns : goal.returns
-returns c = others_stay

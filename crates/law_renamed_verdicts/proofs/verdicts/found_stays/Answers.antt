@@ -1,6 +1,0 @@
--- The answer to the goal of `verdicts::found_stays`.
-use Rattle.law_renamed_verdicts.proofs.Laws.{found}
-use Rattle.law_renamed_verdicts.proofs.verdicts.found_stays.Goals as goal
-
-pub returns : goal.returns
-returns c = found

@@ -1,6 +1,0 @@
--- The answer to the goal of `verdicts::no_fault_comes`.
-use Rattle.law_renamed_verdicts.proofs.Laws.{no_fault}
-use Rattle.law_renamed_verdicts.proofs.verdicts.no_fault_comes.Goals as goal
-
-pub returns : goal.returns
-returns c = no_fault

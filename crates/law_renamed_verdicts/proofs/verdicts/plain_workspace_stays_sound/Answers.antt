@@ -1,6 +1,0 @@
--- The answer to the goal of `verdicts::plain_workspace_stays_sound`.
-use Rattle.law_renamed_verdicts.proofs.Laws.{whole}
-use Rattle.law_renamed_verdicts.proofs.verdicts.plain_workspace_stays_sound.Goals as goal
-
-pub returns : goal.returns
-returns c = whole

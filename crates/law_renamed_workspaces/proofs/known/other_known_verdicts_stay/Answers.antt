@@ -1,0 +1,6 @@
+-- The answer to the goal of `known::other_known_verdicts_stay`.
+use Rattle.law_renamed_workspaces.proofs.KnownVerdictsLaws.{all_others}
+use Rattle.law_renamed_workspaces.proofs.known.other_known_verdicts_stay.Goals as goal
+
+pub returns : goal.returns
+returns c = all_others

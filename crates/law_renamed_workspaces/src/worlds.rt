@@ -1,0 +1,18 @@
+//! Laws of the worlds that files are judged by after a rename.
+ghost use Rattle.law_renamed_workspaces.specs.SameWorlds.{WorldsStay};
+ghost use Rattle.law_renamed_workspaces.specs.StayingMembers.{DeclaredMembersStay, UsedMembersStay};
+
+/// Where no identifier is lost or captured, the world of a file answers as before whatever judging the file asks.
+pub fn worlds_stay()
+    ensures { WorldsStay }
+{}
+
+/// Where no identifier is lost or captured, each identifier that declares a field or method declares it after the rename.
+pub fn declared_members_stay()
+    ensures { DeclaredMembersStay }
+{}
+
+/// Where no identifier is lost or captured, each use of a member names the same member after the rename.
+pub fn used_members_stay()
+    ensures { UsedMembersStay }
+{}

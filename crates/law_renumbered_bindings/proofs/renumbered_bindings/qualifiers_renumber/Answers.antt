@@ -1,6 +1,0 @@
--- The answer to the goal of `renumbered_bindings::qualifiers_renumber`.
-use Rattle.law_renumbered_bindings.proofs.Qualifiers.{qualifiers_renumber}
-use Rattle.law_renumbered_bindings.proofs.renumbered_bindings.qualifiers_renumber.Goals as goal
-
-pub returns : goal.returns
-returns c = qualifiers_renumber

@@ -1,4 +1,0 @@
--- The lemmas of this crate.
-pub mod Exported
-pub mod Members
-pub mod Laws

@@ -1,6 +1,0 @@
--- The answers to the goals of `renumbered_findings::exports_renumber`.
-use Rattle.law_renumbered_findings.proofs.Laws.{exports_renumber}
-use Rattle.law_renumbered_findings.proofs.renumbered_findings.exports_renumber.Goals as goal
-
-pub returns : goal.returns
-returns c = exports_renumber

@@ -1,6 +1,0 @@
--- The answers to the goals of `renumbered_findings::no_type_fault_comes`.
-use Rattle.law_renumbered_findings.proofs.Laws.{no_type_fault_comes}
-use Rattle.law_renumbered_findings.proofs.renumbered_findings.no_type_fault_comes.Goals as goal
-
-pub returns : goal.returns
-returns c = no_type_fault_comes

@@ -1,6 +1,0 @@
--- The answers to the goals of `renumbered_types::meanings_renumber`.
-use Rattle.law_renumbered_types.proofs.Laws.{meanings_renumber}
-use Rattle.law_renumbered_types.proofs.renumbered_types.meanings_renumber.Goals as goal
-
-pub returns : goal.returns
-returns c = meanings_renumber

@@ -1,6 +1,0 @@
--- The answers to the goals of `renumbered_types::names_renumber`.
-use Rattle.law_renumbered_types.proofs.Laws.{names_renumber}
-use Rattle.law_renumbered_types.proofs.renumbered_types.names_renumber.Goals as goal
-
-pub returns : goal.returns
-returns c = names_renumber

@@ -1,6 +1,0 @@
--- The answers to the goals of `renumbered_types::underlying_renumber`.
-use Rattle.law_renumbered_types.proofs.Laws.{underlying_renumber}
-use Rattle.law_renumbered_types.proofs.renumbered_types.underlying_renumber.Goals as goal
-
-pub returns : goal.returns
-returns c = underlying_renumber

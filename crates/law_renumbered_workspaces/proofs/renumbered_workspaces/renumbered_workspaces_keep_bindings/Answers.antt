@@ -1,6 +1,0 @@
--- The answers to the goals of `renumbered_workspaces::renumbered_workspaces_keep_bindings`.
-use Rattle.law_renumbered_workspaces.proofs.Keeping.{renumbered_workspaces_are_steps, renumbered_workspaces_keep_bindings}
-use Rattle.law_renumbered_workspaces.proofs.renumbered_workspaces.renumbered_workspaces_keep_bindings.Goals as goal
-
-pub returns : goal.returns
-returns c = record { bindings = renumbered_workspaces_keep_bindings; steps = renumbered_workspaces_are_steps }

@@ -1,3 +1,0 @@
--- The definitions of this crate.
-pub mod Replaced
-pub mod SourcesBy

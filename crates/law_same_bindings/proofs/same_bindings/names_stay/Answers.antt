@@ -1,9 +1,0 @@
--- The answer to the goal of `same_bindings::names_stay`.
-use Rattle.law_same_bindings.proofs.Alike.{of_bound, turned}
-use Rattle.law_same_bindings.proofs.Meanings.{name}
-use Rattle.law_same_bindings.proofs.same_bindings.names_stay.Goals as goal
-
-pub returns : goal.returns
-returns c = λ p q bound file token b.
-    let a = of_bound p q bound in
-    (name p q a file token b, name q p (turned p q a) file token b)

@@ -1,7 +1,0 @@
--- The answers to the goals of `scoped_packages::faultless_packages_are_scoped`.
-use Rattle.law_scoped_packages.proofs.FaultlessScopes.{faultless_scoped}
-use Rattle.law_scoped_packages.proofs.MovedTokens.{have_places}
-use Rattle.law_scoped_packages.proofs.scoped_packages.faultless_packages_are_scoped.Goals as goal
-
-pub returns : goal.returns
-returns c = record { scopes = faultless_scoped; places = have_places }

@@ -1,6 +1,0 @@
--- The answer to the goal of `unnamed_renames::unnamed_renames_agree`.
-use Rattle.law_unnamed_renames.proofs.Whole.{unnamed_renames_agree}
-use Rattle.law_unnamed_renames.proofs.unnamed_renames.unnamed_renames_agree.Goals as goal
-
-pub returns : goal.returns
-returns c = unnamed_renames_agree
