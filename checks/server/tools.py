@@ -514,6 +514,25 @@ def strange_journals():
             same(folder.texts(), dict(sorted((FILES | {".gorefd-commit": text}).items())))
 
 
+def links_in_journals():
+    """A journal that names a path behind a symbolic link to a folder is told, and nothing is moved from there or to there. Nor is a folder moved
+    to such a path."""
+    journals = ("link/kept\nmine\n", "tax\nlink/tax\n", "link/kept/file\n\n\n")
+    strange = ".gorefd-commit: this is no journal of a run: remove it"
+    for journal in (*journals, None):
+        with Folder(FILES) as folder, Folder({"kept/file": "mine"}) as elsewhere:
+            (folder.top / "link").symlink_to(elsewhere.top)
+            if journal:
+                (folder.top / ".gorefd-commit").write_text(f"{journal}{MARK}\n")
+                same(folder.told("rename", "tax/tax.go:4:5", "Share"), (1, "", f"gorefd: {strange}\n"))
+                (folder.top / ".gorefd-commit").unlink()
+            else:
+                same(folder.told("move", "tax", "link/tax"), (1, "", "gorefd: link/tax: a folder above it is a symbolic link\n"))
+            same(elsewhere.texts(), {"kept/file": "mine"})
+            (folder.top / "link").unlink()
+            same(folder.texts(), dict(sorted(FILES.items())))
+
+
 LOW = "package a\n\nvar Rate int = 2\n\nfunc Net(n int) int {\n\treturn n + Rate\n}\n"
 LOW_NET = LOW.replace("Net", "Gross")
 ABOVE = {"low/a/a.go": LOW, beside("low/a/a.go"): LOW.replace("Rate", "Share")}
@@ -687,6 +706,7 @@ CHECKS = (
     moves_finished,
     changed_after_cut_off,
     strange_journals,
+    links_in_journals,
     cut_off_above,
     killed,
     changed_meanwhile,

@@ -243,11 +243,18 @@ impl Opened {
     {
         let alloc = rt.alloc();
         let notes = self.notes.as_slice();
+        let outcome = written_outcome(alloc, notes, rewrites)?;
         let mut done = Vec::new(alloc);
         match write_all(rt, writing, &mut done) {
-            Ok(()) => Ok(written_outcome(alloc, notes, rewrites)?),
-            Err(ToolFault::Memory) => Err(ToolFault::Memory),
-            Err(ToolFault::Told(why)) => { Ok(cut_off_outcome(alloc, notes, done, why.as_str())?) }
+            Ok(()) => Ok(outcome),
+            Err(ToolFault::Memory) => {
+                drop(outcome);
+                Err(ToolFault::Memory)
+            }
+            Err(ToolFault::Told(why)) => {
+                drop(outcome);
+                Ok(cut_off_outcome(alloc, notes, done, why.as_str())?)
+            }
         }
     }
 }

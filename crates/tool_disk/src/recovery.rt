@@ -2,39 +2,47 @@
 //! are put in place at another. In the second case the run is finished, and in the first taken back.
 use crate::fault::{ToolFault, told};
 use crate::paths::is_mark;
-use crate::steps::{COMMIT, PREPARE, journal_there, remove_journal};
+use crate::steps::{COMMIT, PREPARE, journal_there, lies_behind_link, remove_journal};
 use crate::writing::{DiskRun, finish, remove_all_beside};
 use base_files::{Path, Refusal};
 use std::alloc::{AllocError, Global};
 use std::rt::Files;
 use tool_text::read_lines;
 
-/// Whether a text is a path below the folder.
-fn is_below(alloc: Global, path: &str) -> Result<bool, ToolFault> {
-    match Path::read(alloc, path, 1) {
-        Ok(_) => Ok(true),
+/// Whether a text is a path below the folder, and leads to no other place.
+fn is_below<R: Files + AllocGlobal>(rt: &R, root: &str, path: &str) -> Result<bool, ToolFault> {
+    match Path::read(rt.alloc(), path, 1) {
+        Ok(_) => Ok(!lies_behind_link(rt, root, path)?),
         Err(Refusal::Memory) => Err(ToolFault::Memory),
         Err(_) => Ok(false),
     }
 }
 
 /// Whether a run moves no folder, or one below the folder to a path below it.
-fn moves_below(alloc: Global, run: &DiskRun<'_>) -> Result<bool, ToolFault> {
+fn moves_below<R: Files + AllocGlobal>(
+    rt: &R,
+    root: &str,
+    run: &DiskRun<'_>,
+) -> Result<bool, ToolFault> {
     if run.from.is_empty() {
         Ok(run.to.is_empty())
     } else {
-        Ok(is_below(alloc, run.from)? && is_below(alloc, run.to)?)
+        Ok(is_below(rt, root, run.from)? && is_below(rt, root, run.to)?)
     }
 }
 
 /// Whether all paths of a run lie below the folder.
-fn are_below(alloc: Global, run: &DiskRun<'_>) -> Result<bool, ToolFault> {
+fn are_below<R: Files + AllocGlobal>(
+    rt: &R,
+    root: &str,
+    run: &DiskRun<'_>,
+) -> Result<bool, ToolFault> {
     for path in &run.paths {
-        if !is_below(alloc, *path)? {
+        if !is_below(rt, root, *path)? {
             return Ok(false);
         }
     }
-    moves_below(alloc, run)
+    moves_below(rt, root, run)
 }
 
 /// The texts of lines, or `None` where one is not UTF-8.
@@ -80,10 +88,14 @@ fn read_run<'a>(alloc: Global, text: &'a [u8]) -> Result<Option<DiskRun<'a>>, Al
 }
 
 /// The run of a journal all of whose paths lie below the folder, or `None` where the text is not the whole of one.
-fn run_below<'a>(alloc: Global, text: &'a [u8]) -> Result<Option<DiskRun<'a>>, ToolFault> {
-    match read_run(alloc, text)? {
+fn run_below<'a, R: Files + AllocGlobal>(
+    rt: &R,
+    root: &str,
+    text: &'a [u8],
+) -> Result<Option<DiskRun<'a>>, ToolFault> {
+    match read_run(rt.alloc(), text)? {
         Some(run) => {
-            if are_below(alloc, &run)? {
+            if are_below(rt, root, &run)? {
                 Ok(Some(run))
             } else {
                 Ok(None)
@@ -110,7 +122,7 @@ fn finish_run<R: Files + AllocGlobal>(
     notes: &mut Vec<u8>,
 ) -> Result<(), ToolFault> {
     let alloc = rt.alloc();
-    let Some(run) = run_below(alloc, text)? else {
+    let Some(run) = run_below(rt, root, text)? else {
         return Err(told(alloc, COMMIT, "this is no journal of a run: remove it"));
     };
     finish(rt, root, &run)?;
@@ -126,7 +138,7 @@ fn take_back_run<R: Files + AllocGlobal>(
     text: &[u8],
     notes: &mut Vec<u8>,
 ) -> Result<(), ToolFault> {
-    if let Some(run) = run_below(rt.alloc(), text)? {
+    if let Some(run) = run_below(rt, root, text)? {
         remove_all_beside(rt, root, &run)?;
         let what = ": old: a run that was cut off is taken back\n";
         note_all(notes, run.paths.as_slice(), what)?;

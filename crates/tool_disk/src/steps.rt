@@ -29,6 +29,33 @@ pub(crate) fn real_path<R: Files + AllocGlobal>(
     Ok(text)
 }
 
+/// Whether a symbolic link stands at a path. None does where nothing stands.
+fn is_link<R: Files + AllocGlobal>(rt: &R, path: &str) -> Result<bool, ToolFault> {
+    match fs::symlink_metadata(rt, path) {
+        Ok(data) => Ok(data.is_symlink()),
+        Err(error) if error.kind() == ErrorKind::NotFound => Ok(false),
+        Err(error) => at(rt.alloc(), path, Err(error)),
+    }
+}
+
+/// Whether a folder above a path, below the root, is a symbolic link. Such a path may lead out of the root.
+pub(crate) fn lies_behind_link<R: Files + AllocGlobal>(
+    rt: &R,
+    root: &str,
+    path: &str,
+) -> Result<bool, ToolFault> {
+    let alloc = rt.alloc();
+    let mut folder = below(alloc, root, "")?;
+    for name in path.split('/') {
+        // (the root itself may be one: a slash is behind it)
+        if is_link(rt, folder.as_str())? {
+            return Ok(true);
+        }
+        folder = below(alloc, folder.as_str(), name)?;
+    }
+    Ok(false)
+}
+
 /// Gives a new file the owner and the group of another one, where they differ, and its permissions.
 fn give_same<R: Files, F: OpenFile>(
     rt: &R,

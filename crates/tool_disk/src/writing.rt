@@ -10,8 +10,8 @@ ghost use Rattle.tool_disk.specs.Writes.{NotesOne, NotesPlaced, paths_of};
 use crate::fault::{ToolFault, at, told};
 use crate::paths::{below, beside, folder_and_name};
 use crate::steps::{
-    COMMIT, PREPARE, is_later, next_mark, real_path, remove_journal, sync, sync_above, sync_folder,
-    write_new,
+    COMMIT, PREPARE, is_later, lies_behind_link, next_mark, real_path, remove_journal, sync,
+    sync_above, sync_folder, write_new,
 };
 use std::alloc::{AllocError, Global};
 use std::fs;
@@ -226,6 +226,19 @@ fn refuse_later<R: Files + AllocGlobal>(
     }
 }
 
+/// Refuses a new path of a folder that may lead to another place.
+fn refuse_elsewhere<R: Files + AllocGlobal>(
+    rt: &R,
+    writing: FolderWriting<'_>,
+) -> Result<(), ToolFault> {
+    if lies_behind_link(rt, writing.root, writing.to)? {
+        let why = "a folder above it is a symbolic link";
+        Err(told(rt.alloc(), writing.to, why))
+    } else {
+        Ok(())
+    }
+}
+
 /// Refuses a new path of a folder at which something stands.
 fn refuse_taken<R: Files + AllocGlobal>(
     rt: &R,
@@ -288,6 +301,7 @@ fn prepare<R: Files + AllocGlobal>(
     writing: FolderWriting<'_>,
     run: &DiskRun<'_>,
 ) -> Result<(), ToolFault> {
+    refuse_elsewhere(rt, writing)?;
     refuse_taken(rt, writing)?;
     for file in writing.read {
         refuse_link(rt, writing, file.path)?;
