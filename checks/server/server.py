@@ -11,6 +11,7 @@ import tempfile
 import threading
 
 DEADLINE = 60
+TOLD = re.compile(rb"gorefd: (?:serving [^\n]*|ended, (?:0|[1-9][0-9]*) entries)\n")
 A = b"package a\n\nvar x int\n\nfunc F(y int) int {\n\treturn x + y\n}\n"
 OBJECT = b"object a a\nvar a#x int\nfunc a#F (int) (int) 1 5\nglobal a#x\nlocal 0\nop +\nret 1\nend\n"
 PROGRAM = []
@@ -44,7 +45,12 @@ def run(words, limits=(), **streams):
     # (a child that does nothing before it becomes the program is made faster)
     begin = limited(limits) if limits else None
     ran = subprocess.run(PROGRAM + words, stderr=subprocess.PIPE, timeout=DEADLINE, preexec_fn=begin, **streams)
-    return ran.returncode, ran.stdout, ran.stderr
+    return ran.returncode, ran.stdout, untold(ran.stderr)
+
+
+def untold(err):
+    """What was written on standard error beside the lines by which a server tells its start and its end."""
+    return TOLD.sub(b"", err)
 
 
 def stands(path, process=None):
@@ -69,11 +75,11 @@ def connect(path, process=None):
 class Server:
     """A server on a socket of its own, in a folder of its own."""
 
-    def __init__(self, workers=1, sessions=1, stop_after=None, umask=0o022, limits=(), environment=None, before=()):
-        """The words before those of the program are those of a command that runs it."""
+    def __init__(self, workers=1, sessions=1, stop_after=None, umask=0o022, limits=(), environment=None, before=(), more=()):
+        """The words before those of the program are those of a command that runs it; more words are options of `serve`."""
         self.folder = tempfile.TemporaryDirectory()
         self.path = os.path.join(self.folder.name, "s")
-        words = [*before, *PROGRAM, *serve_words(self.path, workers, sessions, stop_after)]
+        words = [*before, *PROGRAM, *serve_words(self.path, workers, sessions, stop_after), *more]
         options = {"stdout": subprocess.PIPE, "stderr": subprocess.PIPE, "env": os.environ | (environment or {})}
         self.is_group = bool(before)
         self.process = subprocess.Popen(words, preexec_fn=limited(limits, umask), start_new_session=self.is_group, **options)
@@ -96,9 +102,9 @@ class Server:
         return connect(self.path, self.process)
 
     def ended(self):
-        """The status, and what it wrote."""
+        """The status, and what it wrote, without the lines that tell its start and its end."""
         out, err = self.process.communicate(timeout=DEADLINE)
-        return self.process.returncode, out, err
+        return self.process.returncode, out, untold(err)
 
 
 class Client:

@@ -12,7 +12,7 @@ import subprocess
 import tempfile
 import threading
 
-from checks.server.server import PROGRAM, Server, connect, limited, run, same, serve_words, settles, together
+from checks.server.server import DEADLINE, PROGRAM, Server, connect, limited, put, run, same, serve_words, settles, together
 
 MORE = "\n\nFor more information, try '--help'.\n"
 RUN = "\n\nUsage: gorefd run" + MORE
@@ -25,6 +25,7 @@ Usage: gorefd <COMMAND>
 Commands:
   run     Serves one session from standard input to standard output
   serve   Serves sessions to those who connect to a Unix socket, and builds packages beside them
+  stop    Ends a server, and returns once it has ended
   rename  Gives what is declared or used at a place another name, in all files of a folder
   move    Gives the folder of a package another path, and changes its imports
   faults  Lists the faults of the Go files of a folder
@@ -47,10 +48,11 @@ SERVE_HELP = """Serves sessions to those who connect to a Unix socket, and build
 Usage: gorefd serve [OPTIONS] --socket <PATH> --workers <N> --sessions <M>
 
 Options:
-      --socket <PATH>   Where the socket is made; nothing may stand there
+      --socket <PATH>   The path of the server's socket
       --workers <N>     How many threads build packages, 1 to 16
       --sessions <M>    How many threads serve connections, 1 to 32
       --stop-after <K>  Ends after K connections, 1 to 1000000; else it does not end
+      --idle <SECONDS>  Ends a session whose client sends or reads nothing for so long, 1 to 1000000
   -h, --help            Print help
 """
 GOOD = serve_words("s")
@@ -84,7 +86,7 @@ def numbers(name, placeholder, most):
 
 
 BAD = [
-    ([], "error: 'gorefd' requires a subcommand but one was not provided\n  [subcommands: run, serve, rename, move, faults, uses]" + ALL),
+    ([], "error: 'gorefd' requires a subcommand but one was not provided\n  [subcommands: run, serve, stop, rename, move, faults, uses]" + ALL),
     (["frob"], "error: unrecognized subcommand 'frob'" + ALL),
     ([""], "error: unrecognized subcommand ''" + ALL),
     (["help"], "error: unrecognized subcommand 'help'" + ALL),
@@ -99,6 +101,7 @@ BAD = [
     *numbers("--workers", "<N>", 16),
     *numbers("--sessions", "<M>", 32),
     *numbers("--stop-after", "<K>", 1_000_000),
+    *numbers("--idle", "<SECONDS>", 1_000_000),
 ]
 UNREAD = [[b"\xff"], ["serve", "--socket", b"\xff"]]
 
@@ -155,6 +158,43 @@ def is_loaded(told):
     return 0 <= told[0] < 127
 
 
+def told_start_and_end():
+    """A server tells its start and its end on standard error, each by a line."""
+    with Server(1, 1, 1) as server:
+        server.connect().end()
+        _, err = server.process.communicate(timeout=DEADLINE)
+        same(err, b"gorefd: serving %s\ngorefd: ended, 0 entries\n" % server.path.encode())
+
+
+def foreign_locks():
+    """Where no file stands at the path of the lock, but a folder or a link, or a file that others may write, there is no server."""
+    with tempfile.TemporaryDirectory() as folder:
+        path, target = os.path.join(folder, "s"), os.path.join(folder, "target")
+        lock = path + ".lock"
+        with open(target, "wb") as file:
+            file.write(b"kept")
+        os.chmod(target, 0o600)
+
+        def refused():
+            same(run(serve_words(path, 1, 1, 1)), (1, b"", b"gorefd: socket fault\n"))
+            same(os.path.lexists(path), False)
+
+        os.mkdir(lock)
+        refused()
+        os.rmdir(lock)
+        os.symlink(target, lock)
+        refused()
+        os.unlink(lock)
+        os.link(target, lock)
+        refused()
+        os.unlink(lock)
+        with open(lock, "wb"):
+            os.chmod(lock, 0o666)
+        refused()
+        with open(target, "rb") as file:
+            same(file.read(), b"kept")
+
+
 def wanting_memory():
     """With too little memory `run` and `serve` tell so and end with status 1; with a little more `run` answers, also by `no 1 0`."""
     faults = 0
@@ -172,16 +212,22 @@ def wanting_memory():
     return f"at {faults} limits"
 
 
-def none_accepted():
-    """Where a connection cannot be accepted, since no more files may be open, the server ends, and the socket stays."""
-    with Server(1, 1, 1, limits=[(resource.RLIMIT_NOFILE, 4)]) as served:
-        served.stands()
+def accepted_later():
+    """Where a connection cannot be accepted, since no more files may be open, it is accepted once one is closed."""
+    with Server(1, 2, 2, limits=[(resource.RLIMIT_NOFILE, 7)]) as server:
+        first = server.connect()
+        same(first.number(), 0)
+        second = server.connect()
+        second.send(b"look\n")
+        second.socket.settimeout(0.5)
         try:
-            served.connect().close()
-        except OSError:
-            pass
-        same(served.ended(), (1, b"", b"gorefd: socket fault\n"))
-        same(os.listdir(served.folder.name), ["s"])
+            raise AssertionError(f"told {second.socket.recv(1)!r}")
+        except TimeoutError:
+            second.socket.settimeout(DEADLINE)
+        first.end()
+        same(second.reply(), (b"ok 0", b"undo 0 redo 0\n"))
+        second.end()
+        settles(server)
 
 
 def untold_end():
@@ -195,7 +241,8 @@ def untold_end():
 
 
 def taken_paths():
-    """Where anything stands at the path, or at the one beside it at which the socket is made, there is no server, and it stays."""
+    """Where anything stands at the path but a socket that nobody serves, or at the one beside it at which the socket is made, there is no
+    server, and it stays."""
     with tempfile.TemporaryDirectory() as folder:
         place = lambda name: os.path.join(folder, name)
         listeners = []
@@ -210,12 +257,14 @@ def taken_paths():
             else:
                 listener = socket.socket(socket.AF_UNIX, socket.SOCK_STREAM)
                 listener.bind(place(name))
+                listener.listen()
                 listeners.append(listener)
 
         def seen():
             return {
                 name: (os.lstat(place(name)).st_ino, os.lstat(place(name)).st_mode, os.lstat(place(name)).st_mtime_ns)
                 for name in os.listdir(folder)
+                if not name.endswith(".lock")
             }
 
         kinds = ("file", "folder", "link", "socket")
@@ -238,17 +287,20 @@ def taken_paths():
             listener.close()
 
 
+IN_USE = (1, b"", b"gorefd: another server is at work at this path\n")
+
+
 def second_server():
-    """A second server at the same path is refused, and the first goes on; what it leaves refuses a third."""
+    """A second server at the same path is refused, and the first goes on. At its end the socket is gone, and a third may serve there."""
     with Server(1, 1, 2) as first:
         client = first.connect()
-        same(run(serve_words(first.path)), (1, b"", b"gorefd: socket fault\n"))
+        same(run(serve_words(first.path)), IN_USE)
         same(client.number(), 0)
         client.end()
         first.connect().end()
         settles(first)
-        same(stat.S_ISSOCK(os.stat(first.path).st_mode), True)
-        same(run(serve_words(first.path)), (1, b"", b"gorefd: socket fault\n"))
+        same(os.listdir(first.folder.name), ["s.lock"])
+        together(lambda: same(run(serve_words(first.path, 1, 1, 1)), (0, b"settled 0\n", b"")), lambda: connect(first.path).end())
 
 
 def servers_at_once():
@@ -266,8 +318,67 @@ def servers_at_once():
             connect(path).end()
 
         together(*[serve] * 8, come)
-        same(sorted(told)[1:], [(1, b"", b"gorefd: socket fault\n")] * 7)
-        same((sorted(told)[0][0], sorted(told)[0][2], os.listdir(folder)), (0, b"", ["s"]))
+        same(sorted(told)[1:], [IN_USE] * 7)
+        same((sorted(told)[0][0], sorted(told)[0][2], os.listdir(folder)), (0, b"", ["s.lock"]))
+
+
+def after_a_kill():
+    """A socket that a killed server left is replaced."""
+    with Server(1, 1, 1) as server:
+        server.connect().close()
+        server.process.kill()
+        server.process.communicate()
+        same(stat.S_ISSOCK(os.stat(server.path).st_mode), True)
+        together(lambda: same(run(serve_words(server.path, 1, 1, 1)), (0, b"settled 0\n", b"")), lambda: comes(server.path))
+
+
+def comes(path):
+    """Connects once somebody serves there, and ends the session."""
+    for _ in range(DEADLINE * 100):
+        try:
+            return connect(path).end()
+        except ConnectionRefusedError:
+            threading.Event().wait(0.01)
+    raise AssertionError("nobody serves")
+
+
+def stopped():
+    """`gorefd stop` has a server accept no more, and returns when its sessions have ended. The server settles, and its socket is gone."""
+    with Server(2, 2) as server:
+        client, told = server.connect(), []
+        same(client.number(), 0)
+
+        def stop():
+            told.append(run(["stop", "--socket", server.path]))
+
+        def goes_on():
+            for _ in range(20):
+                same(client.number(), 0)
+                threading.Event().wait(0.01)
+            same(told, [])
+            client.end()
+
+        together(stop, goes_on)
+        same((told, settles(server)), ([(0, b"", b"")], 21))
+        same(os.listdir(server.folder.name), ["s.lock"])
+        same(run(["stop", "--socket", server.path]), (1, b"", b"gorefd: no server is at work at this path\n"))
+
+
+def silent_clients():
+    """A client that sends nothing for three seconds is let go, and so is one that reads nothing. Who waits for packages is not."""
+    with Server(1, 1, 3, more=["--idle", "3"]) as server:
+        silent = server.connect()
+        same(silent.number(), 0)
+        same(silent.rest(), b"")
+        deaf = server.connect()
+        same(deaf.ask(put(0, "a/a.txt", b"x" * 1_000_000)), (b"ok 1", b""))
+        deaf.send(b"cat a/a.txt\n" * 20)
+        last = server.connect()
+        same(last.number(), 1)
+        last.end()
+        for client in (silent, deaf):
+            client.close()
+        server.ended()
 
 
 NO_OTHER = b"no other user"
@@ -308,7 +419,7 @@ def owner_alone():
             others.add(as_another(served.path))
             client.close()
             settles(served)
-            same(os.listdir(served.folder.name), ["s"])
+            same(os.listdir(served.folder.name), ["s.lock"])
     same(others <= {b"PermissionError", NO_OTHER}, True)
     return "no other user tried" if NO_OTHER in others else "another user was refused"
 
@@ -340,11 +451,16 @@ CHECKS = (
     helps,
     one_session,
     wanting_memory,
-    none_accepted,
+    accepted_later,
     untold_end,
     taken_paths,
     second_server,
     servers_at_once,
+    after_a_kill,
+    stopped,
+    silent_clients,
+    told_start_and_end,
+    foreign_locks,
     owner_alone,
     owner_enters,
 )

@@ -10,7 +10,7 @@ import sys
 import tempfile
 
 from checks import TOP
-from checks.server.server import A, DEADLINE, OBJECT, PROGRAM, Server, connect, put, run, same, stands
+from checks.server.server import A, DEADLINE, OBJECT, PROGRAM, Server, connect, put, run, same, stands, untold
 
 README = (TOP / "README.md").read_text()
 PROTOCOL = (TOP / "docs" / "PROTOCOL.md").read_text()
@@ -54,7 +54,7 @@ class Folder:
 def told_by_shell(script, folder):
     """What a script of the documents writes, with E for how long the journal is told to be, which comes last."""
     ran = subprocess.run(["bash", "-e", "-c", script], cwd=folder, capture_output=True, timeout=DEADLINE, text=True)
-    same((ran.returncode, ran.stderr), (0, ""))
+    same((ran.returncode, untold(ran.stderr.encode())), (0, b""))
     lines = ran.stdout.splitlines()
     ends = [line for line in lines if re.fullmatch("settled [1-9][0-9]*", line)]
     same(len(ends), 1)
@@ -113,7 +113,7 @@ def typed_story(session):
                     for each in sessions.values():
                         each.close()
                     out, err = server.communicate(timeout=DEADLINE)
-                    same((server.returncode, re.sub(rb"[1-9][0-9]*", b"E", out), err), (0, wanted, b""))
+                    same((server.returncode, re.sub(rb"[1-9][0-9]*", b"E", out), untold(err)), (0, wanted, b""))
                     continue
                 sessions[who].type("".join(line + "\n" for line in spans(typed)).encode())
                 same((typed, sessions[who].see(len(wanted))), (typed, wanted))
@@ -198,9 +198,10 @@ def documented_sessions():
 def documented_ends():
     """docs/PROTOCOL.md tells of each exit status, with each text on standard error."""
     faults = {"memory fault", "read fault", "write fault", "turns fault", "socket fault", "unsettled"}
+    faults |= {"another server is at work at this path", "no server is at work at this path"}
     told = {}
     for status, texts, *_ in rows(section(PROTOCOL, "How the program ends")):
-        told.setdefault(status, set()).update(text.removeprefix("gorefd: ") for text in spans(texts))
+        told.setdefault(status, set()).update(text.removeprefix("gorefd: ") for text in spans(texts) if text != "gorefd: ")
     same(told, {"0": set(), "1": faults, "2": set()})
 
 

@@ -14,7 +14,7 @@ use base_files::Limits;
 use fault::ProgramFault;
 use server_session::{SessionFault, session_alone};
 use server_shared::OpenGate;
-use server_socket::serve;
+use server_socket::{StopFault, serve, stop};
 use server_words::{RequestFault, Words, read_request};
 use std::alloc::Global;
 use std::env::Env;
@@ -68,6 +68,17 @@ fn print_settled<R: Print + Eprint>(rt: &R, entries: u64) -> ExitCode
     match println!(rt; "settled {entries}") {
         Ok(()) => ExitCode::SUCCESS,
         Err(_) => ended(rt, ProgramFault::Write),
+    }
+}
+
+/// Prints nothing where a server was ended, and else why none was. Returns the exit status.
+fn print_stopped(rt: &impl Eprint, came: Result<(), StopFault>) -> ExitCode
+    ensures within { exit_status result ≤ 1 }
+    ensures failed { IfErr came (λ _. exit_status result ≡ 1) }
+{
+    match came {
+        Ok(()) => ExitCode::SUCCESS,
+        Err(fault) => ended(rt, fault),
     }
 }
 
@@ -174,6 +185,7 @@ fn main(rt: HostRuntime) -> ExitCode {
             Ok(entries) => print_settled(&rt, entries),
             Err(fault) => ended(&rt, fault),
         },
+        Ok(Words::Stop(words)) => print_stopped(&rt, stop(&rt, words.socket)),
         Ok(Words::Rename(options)) => print_command(&rt, rename(&rt, &options)),
         Ok(Words::Move(options)) => print_command(&rt, move_package(&rt, &options)),
         Ok(Words::Uses(options)) => print_command(&rt, list_uses(&rt, &options)),

@@ -7,7 +7,7 @@ use Rattle.build_names.specs.Words.{NameChange}
 use Rattle.build_kept.specs.KnownUnits.{CarriesUnits}
 use Rattle.refactor_affected.specs.Renames.{PlansAffectedRename}
 use Rattle.refactor_units.specs.CarriedNames.{CarriesPlanned}
-use Rattle.law_affected.proofs.SoundPlans.{sound_renames}
+use Rattle.law_plans.proofs.SoundPlans.{sound_renames}
 
 -- without faults the rename is planned as in any workspace without faults
 pub carries_along : (snapshot : Snapshot) (path : List ℕ) (offset : ℕ) (name : List ℕ) (cs : List NameChange) (change : Change) →

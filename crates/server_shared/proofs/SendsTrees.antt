@@ -14,9 +14,11 @@ use Rattle.go_ast.specs.contracts.tree.SimpleStmt.{the_row as simple}
 use Rattle.go_ast.specs.contracts.tree.IfInit.{the_row as if_init}
 use Rattle.go_ast.specs.contracts.tree.ForHeader.{the_row as header}
 use Rattle.go_ast.specs.contracts.tree.VarSpec.{the_row as var_spec}
-use Rattle.go_ast.specs.contracts.tree.TypeSpec.{the_row as type_spec}
 use Rattle.go_ast.specs.contracts.tree.Param.{the_row as param}
 use Rattle.go_ast.specs.contracts.tree.Results.{the_row as results}
+use Rattle.go_ast.specs.contracts.tree.MethodSpec.{the_row as method_spec}
+use Rattle.go_ast.specs.contracts.tree.TypeBody.{the_row as type_body, enum as body_enum}
+use Rattle.go_ast.specs.contracts.tree.TypeSpec.{the_row as type_spec, the_type as type_spec_type}
 use Rattle.go_ast.specs.contracts.tree.FuncDecl.{the_row as func_decl}
 use Rattle.go_ast.specs.contracts.tree.Decl.{the_row as decl}
 use Rattle.go_ast.specs.contracts.file_tree.FileTreeParts.{the_row as file_parts}
@@ -30,6 +32,7 @@ use Rattle.go_ast.specs.contracts.tree.Decl.{enum as decl_enum}
 use Rattle.base_files.proofs.path.Path.TheSendSync.{the_send as Path-send, the_sync as Path-sync}
 use Rattle.base_files.proofs.file_text.FileText.TheSendSync.{the_send as FileText-send, the_sync as FileText-sync}
 use Rattle.go_scanner.proofs.piece.Piece.TheSendSync.{the_send as Piece-send, the_sync as Piece-sync}
+use Rattle.go_scanner.proofs.compact_piece.CompactPiece.TheSendSync.{the_send as CompactPiece-send, the_sync as CompactPiece-sync}
 use Rattle.go_ast.proofs.tree.Receiver.TheSendSync.{the_send as Receiver-send, the_sync as Receiver-sync}
 use Rattle.go_ast.proofs.tree.ImportDecl.TheSendSync.{the_send as ImportDecl-send, the_sync as ImportDecl-sync}
 use Rattle.go_ast.proofs.tree.Ident.TheSendSync.{the_send as Ident-send, the_sync as Ident-sync}
@@ -132,12 +135,6 @@ var_spec_sent = search (owned) depth 30 fits 50000
 pub var_spec_shared : IsSync var_spec
 var_spec_shared = search (owned) depth 30 fits 50000
 
-pub type_spec_sent : IsSend type_spec
-type_spec_sent = search owned depth 30 fits 50000
-
-pub type_spec_shared : IsSync type_spec
-type_spec_shared = search owned depth 30 fits 50000
-
 pub param_sent : IsSend param
 param_sent = search (owned) depth 30 fits 50000
 
@@ -149,6 +146,54 @@ results_sent = search (owned) depth 30 fits 50000
 
 pub results_shared : IsSync results
 results_shared = search (owned) depth 30 fits 50000
+
+pub method_spec_sent : IsSend method_spec
+method_spec_sent = search (owned, param_sent) depth 30 fits 50000
+
+pub method_spec_shared : IsSync method_spec
+method_spec_shared = search (owned, param_shared) depth 30 fits 50000
+
+pub type_body_sent : IsSend type_body
+type_body_sent = variants_send body_enum (
+  search owned depth 30 fits 50000,
+  (
+    search owned depth 30 fits 50000,
+    (
+      search (owned, method_spec_sent) depth 30 fits 50000,
+      tt,
+    ),
+  ),
+)
+
+pub type_body_shared : IsSync type_body
+type_body_shared = variants_sync body_enum (
+  search owned depth 30 fits 50000,
+  (
+    search owned depth 30 fits 50000,
+    (
+      search (owned, method_spec_shared) depth 30 fits 50000,
+      tt,
+    ),
+  ),
+)
+
+pub type_spec_sent : IsSend type_spec
+type_spec_sent = declared_send type_spec_type (
+  search owned depth 30 fits 50000,
+  (
+    search (owned, type_body_sent) depth 30 fits 50000,
+    tt,
+  ),
+)
+
+pub type_spec_shared : IsSync type_spec
+type_spec_shared = declared_sync type_spec_type (
+  search owned depth 30 fits 50000,
+  (
+    search (owned, type_body_shared) depth 30 fits 50000,
+    tt,
+  ),
+)
 
 pub simple_field_sent : IsSend (simple_field).row
 simple_field_sent = enum_send (shape simple_type) (
@@ -303,10 +348,10 @@ decl_shared = variants_sync decl_enum (
 )
 
 pub pieces_sent : IsSend pieces
-pieces_sent = search (owned, Piece-send, trail_sent) depth 30 fits 50000
+pieces_sent = search (owned, Piece-send, CompactPiece-send, trail_sent) depth 30 fits 50000
 
 pub pieces_shared : IsSync pieces
-pieces_shared = search (owned, Piece-send, Piece-sync, trail_shared) depth 30 fits 50000
+pieces_shared = search (owned, Piece-send, CompactPiece-sync, trail_shared) depth 30 fits 50000
 
 pub file_sent : IsSend file
 file_sent = search (owned, decl_sent) depth 30 fits 50000

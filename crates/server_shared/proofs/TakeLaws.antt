@@ -1,5 +1,5 @@
 -- A Take that has a Job, as a worker sees it.
-use Rattle.std.proofs.Common.{◌≡◌, true, false, not, Bool, IsTrue, Option, Some, None, MatchOption, Result, Ok, Err, refl}
+use Rattle.std.proofs.Common.{true, false, not, Bool, IsTrue, Option, Some, None, MatchOption, Result, Ok, Err, refl}
 use Rattle.std.proofs.lemmas.Bool.{false≢true}
 use Rattle.base_files.specs.declared.refusal.Refusal.{Refusal}
 use Rattle.build_unit.specs.declared.job.JobRecord.{JobRecord}

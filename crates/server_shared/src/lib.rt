@@ -2,7 +2,8 @@
 //!
 //! Crates above rely on: `Locked::step` makes one step of the book, whose entry has the index of the receipt. `Shared::call` makes one such
 //! step, and the seat keeps the receipt. `FreeSeats` has as many seats as `Shared::new` was asked for, and `take` always has one where one
-//! is left. `settle` returns Ok exactly where the receipts of the seats are the entries that the journal gained (`IsSettled`). `worker` makes only the events of its turns, and in each turn hands in the Job that it took (`TakesTurn`).
+//! is left. `settle` returns Ok exactly where the receipts of the seats are the entries that the journal gained (`IsSettled`). `worker`
+//! makes only the events of its turns, and in each turn hands in the Job that it took (`TakesTurn`).
 #![tactic(auto)]
 
 mod caller;

@@ -8,7 +8,7 @@ use Rattle.server_shared.specs.SettledBook.{book_in}
 use Rattle.server_shared.specs.LimitNumbers.{full_limits, limit_numbers}
 use Rattle.server_shared.specs.Settled.{IsSettled, receipt_count}
 use Rattle.server_socket.specs.declared.fault.ServeFault.{ServeFault}
-use Rattle.server_socket.specs.declared.fault.ServeFault.TheVariants.{Memory, Socket, Unsettled}
+use Rattle.server_socket.specs.declared.fault.ServeFault.TheVariants.{InUse, Memory, Socket, Unsettled}
 use Rattle.server_socket.specs.Returned.{AreReturned}
 use Rattle.server_socket.specs.Served.{IsHandedBack, Serves, Settles}
 
@@ -19,12 +19,14 @@ served workers sessions seats (Ok entries) all h = (seats, all, h)
 served workers sessions seats (Err Unsettled) all h = (seats, all, h)
 served workers sessions seats (Err Memory) all h = tt
 served workers sessions seats (Err Socket) all h = tt
+served workers sessions seats (Err InUse) all h = tt
 
 -- another fault
 pub not_served : (workers sessions : ℕ) (fault : ServeFault) → (fault ≡ Unsettled → ⊥) → Serves workers sessions (Err fault)
 not_served workers sessions Unsettled other = absurd (other refl)
 not_served workers sessions Memory other = tt
 not_served workers sessions Socket other = tt
+not_served workers sessions InUse other = tt
 
 not_both : (settled : Result Machine Leftover) → IsErr settled → IsOk settled → ⊥
 not_both (Ok book) bad good = cc

@@ -7,7 +7,7 @@ use Rattle.server_shared.specs.LimitNumbers.{full_limits, limit_numbers}
 use Rattle.server_shared.specs.Settled.{IsSettled, receipt_count}
 use Rattle.server_socket.specs.Returned.{AreReturned}
 use Rattle.server_socket.specs.declared.fault.ServeFault.{ServeFault}
-use Rattle.server_socket.specs.declared.fault.ServeFault.TheVariants.{Memory, Socket, Unsettled}
+use Rattle.server_socket.specs.declared.fault.ServeFault.TheVariants.{InUse, Memory, Socket, Unsettled}
 
 -- The book that was shared by so many seats comes back with these receipts, and with the limits of these numbers. Its content is the replay
 -- of its journal. The journal has an entry for each receipt, and no other where the receipts are those of all seats.
@@ -24,9 +24,10 @@ Settles parts limits seats (Ok entries) =
 Settles parts limits seats (Err Unsettled) = (book : Machine) × IsHandedBack parts limits seats book × ¬ (IsSettled 0 book.journal seats)
 Settles parts limits seats (Err Memory) = ⊥
 Settles parts limits seats (Err Socket) = ⊥
+Settles parts limits seats (Err InUse) = ⊥
 
 -- The book was settled with all its seats, those of so many workers and of so many threads of sessions, and this is its outcome. It has the
--- greatest limits, so that its journal has 1,000,000 entries at most. A fault of memory or of the socket says nothing.
+-- greatest limits, so that its journal has 1,000,000 entries at most. Any other fault says nothing.
 abbrev pub Serves : (workers sessions : ℕ) → Result ℕ ServeFault → Type 0
 Serves workers sessions (Ok entries) =
     (seats : List (List Receipt)) × AreReturned 1000000 workers sessions seats × Settles (workers + sessions) full_limits seats (Ok entries)
@@ -34,3 +35,4 @@ Serves workers sessions (Err Unsettled) =
     (seats : List (List Receipt)) × AreReturned 1000000 workers sessions seats × Settles (workers + sessions) full_limits seats (Err Unsettled)
 Serves workers sessions (Err Memory) = ⊤
 Serves workers sessions (Err Socket) = ⊤
+Serves workers sessions (Err InUse) = ⊤

@@ -10,9 +10,12 @@ pub enum ServeFault {
     /// Memory was wanting at the start, or a thread could not be made.
     #[error("memory fault")]
     Memory,
-    /// The socket could not be made, or a connection could not be accepted.
+    /// The socket could not be made.
     #[error("socket fault")]
     Socket,
+    /// Another server is at work at the socket's path.
+    #[error("another server is at work at this path")]
+    InUse,
     /// The journal's entries are not exactly those of the receipts of all seats.
     #[error("unsettled")]
     Unsettled,

@@ -5,12 +5,14 @@
 #![tactic(auto)]
 
 mod fault;
+mod held_path;
 mod held_seats;
 mod returned;
 mod seat_desk;
 mod serving;
 mod session;
 mod socket;
+mod stopping;
 mod threads;
 mod turns;
 
@@ -18,3 +20,4 @@ pub use fault::ServeFault;
 pub use seat_desk::SeatDesk;
 pub use serving::serve;
 pub use session::{Connection, session_at_seat};
+pub use stopping::{StopFault, stop};

@@ -6,9 +6,10 @@ ghost use Rattle.server_socket.specs.Returned.{AreReturned};
 ghost use Rattle.server_socket.specs.Served.{Serves, Settles};
 
 use crate::fault::ServeFault;
+use crate::held_path::{HeldPath, hold};
 use crate::held_seats::{SessionSeat, WorkerSeat};
 use crate::returned::Seats;
-use crate::socket::listen;
+use crate::socket::{clear, listen};
 use crate::threads::{Running, run};
 use crate::turns::Turns;
 use base_files::Limits;
@@ -16,12 +17,16 @@ use history_book::Book;
 use server_shared::{FreeSeats, Gate, Opening, Seat, Shared, Unsettled};
 use server_words::ServeOptions;
 use std::alloc::{AllocError, Global};
+use std::fs;
+use std::fs::File;
 use std::marker::Brand;
 use std::net::Net;
+use std::os::unix::net::UnixListener;
 use std::rt::Files;
 use std::sync::Wait;
 use std::sync::ledger::Blank;
 use std::thread::Threads;
+use std::time::Clock;
 
 /// How many threads serve sessions or build packages. Each has a seat of its own.
 fn threads_of(words: &ServeOptions<'_>) -> u64
@@ -139,7 +144,7 @@ fn all_seats<L: Opening>(
 }
 
 /// Runs the threads of a server to their end. Returns the seats of those that were made.
-fn serve_by<L: Opening + Send + Sync, R: Threads + Wait + Sync, G: Gate + Sync>(
+fn serve_by<L: Opening + Send + Sync, R: Threads + Wait + Clock + Sync, G: Gate + Sync>(
     rt: &R,
     alloc: Global,
     shared: &Shared<L>,
@@ -148,17 +153,12 @@ fn serve_by<L: Opening + Send + Sync, R: Threads + Wait + Sync, G: Gate + Sync>(
 ) -> Result<Seats<L>, ServeFault>
     ensures { IfErr result (λ fault. fault ≢ ServeFault.Unsettled) }
 {
-    let back = run(rt, alloc, shared, seats, &running);
-    let Running { gate: _, turns } = running;
-    if turns.has_failed() {
-        return Err(ServeFault::Socket);
-    }
-    Ok(back?)
+    Ok(run(rt, alloc, shared, seats, &running)?)
 }
 
 /// Serves sessions over a shared book to their end. Returns the seats of all threads, with what was called at them. The list of these seats
 /// is made before the first thread is.
-fn serve_over<L: Opening + Send + Sync, R: Threads + Wait + Sync, G: Gate + Sync>(
+fn serve_over<L: Opening + Send + Sync, R: Threads + Wait + Clock + Sync, G: Gate + Sync>(
     rt: &R,
     alloc: Global,
     shared: &Shared<L>,
@@ -177,7 +177,7 @@ fn serve_over<L: Opening + Send + Sync, R: Threads + Wait + Sync, G: Gate + Sync
 }
 
 /// Serves sessions over a new book with this ledger.
-fn serve_in<L: Opening + Send + Sync, R: Threads + Wait + Sync, G: Gate + Sync>(
+fn serve_in<L: Opening + Send + Sync, R: Threads + Wait + Clock + Sync, G: Gate + Sync>(
     rt: &R,
     alloc: Global,
     words: &ServeOptions<'_>,
@@ -205,18 +205,60 @@ fn serve_in<L: Opening + Send + Sync, R: Threads + Wait + Sync, G: Gate + Sync>(
     }
 }
 
-/// Serves sessions on a socket, and returns the length of the journal at the end. It ends once `stop_after` connections have ended; without
-/// that number it doesn't end. The gate hears of each worker's progress.
-pub fn serve<R: Threads + Wait + Net + Files + AllocGlobal + Sync, G: Gate + Sync>(
+/// Makes the socket of a path that is held. Fails where the file of the lock is another user's.
+fn listen_alone<R: Net + Files<File = File>>(
     rt: &R,
-    words: &ServeOptions<'_>,
-    gate: &G,
-) -> Result<u64, ServeFault>
+    alloc: Global,
+    path: &str,
+    held: &HeldPath,
+) -> Result<UnixListener, ServeFault>
+    ensures { IfErr result (λ fault. fault ≢ ServeFault.Unsettled) }
+{
+    clear(rt, path);
+    let listener = listen(rt, alloc, path)?;
+    match held.has_owner_of(rt, path) {
+        Ok(true) => Ok(listener),
+        _ => {
+            let _ = fs::remove_file(rt, path);
+            Err(ServeFault::Socket)
+        }
+    }
+}
+
+/// Tells on standard error that a server ended, and how many entries its journal had.
+fn tell_end(rt: &impl Eprint, served: &Result<u64, ServeFault>) {
+    if let Ok(entries) = served {
+        let _ = eprintln!(rt; "gorefd: ended, {entries} entries");
+    }
+}
+
+/// Serves sessions on a socket whose path is held.
+fn serve_held<
+    R: Threads + Wait + Clock + Net + Files<File = File> + Eprint + AllocGlobal + Sync,
+    G: Gate + Sync,
+>(rt: &R, words: &ServeOptions<'_>, gate: &G, held: &HeldPath) -> Result<u64, ServeFault>
     ensures { Serves words.now.workers words.now.sessions result }
 {
     let alloc = rt.alloc();
-    let listener = listen(rt, alloc, words.socket)?;
-    let turns = Turns::new(listener, words.stop_after);
+    let listener = listen_alone(rt, alloc, words.socket, held)?;
+    let turns = Turns::new(listener, held.share()?, words);
     let blank = Blank::new(threads_of(words));
-    serve_in::<Brand, R, G>(rt, alloc, words, gate, turns, blank)
+    let _ = eprintln!(rt; "gorefd: serving {}", words.socket);
+    let served = serve_in::<Brand, R, G>(rt, alloc, words, gate, turns, blank);
+    let _ = fs::remove_file(rt, words.socket);
+    tell_end(rt, &served);
+    served
+}
+
+/// Serves sessions on a socket, and returns the length of the journal at the end. It ends once `stop_after` connections have ended, or where
+/// `gorefd stop` asks for its end. Its path is held meanwhile, and at the end the socket is taken away. It tells its start and its end on
+/// standard error. The gate hears of each worker's progress.
+pub fn serve<
+    R: Threads + Wait + Clock + Net + Files<File = File> + Eprint + AllocGlobal + Sync,
+    G: Gate + Sync,
+>(rt: &R, words: &ServeOptions<'_>, gate: &G) -> Result<u64, ServeFault>
+    ensures { Serves words.now.workers words.now.sessions result }
+{
+    let held = hold(rt, rt.alloc(), words.socket)?;
+    serve_held(rt, words, gate, &held)
 }

@@ -1,13 +1,13 @@
-//! Makes the socket. Only its owner can connect, from its first moment on, and nothing at its path is replaced. It is made in a folder that
-//! only its owner can enter, and linked to its path from there.
+//! Makes the socket. Only its owner can connect, from its first moment on. At its path nothing is replaced but a socket to which nobody can
+//! connect. It is made in a folder that only its owner can enter, and linked to its path from there.
 ghost use Rattle.std.specs.Prelude.{◌≢◌, IfErr};
 
 use crate::fault::ServeFault;
 use std::alloc::Global;
 use std::fs::{DirBuilder, Permissions};
 use std::net::Net;
-use std::os::unix::fs::{DirBuilderExt, PermissionsExt};
-use std::os::unix::net::UnixListener;
+use std::os::unix::fs::{DirBuilderExt, FileTypeExt, PermissionsExt};
+use std::os::unix::net::{UnixListener, UnixStream};
 use std::rt::Files;
 use std::{fs, io};
 
@@ -50,6 +50,24 @@ fn listen_in<R: Files + Net>(
     match listen_at(rt, made.as_str(), path) {
         Ok(listener) => Ok(listener),
         Err(_) => Err(ServeFault::Socket),
+    }
+}
+
+/// Whether what stands at `path` is a socket that nobody serves: no one can connect to it.
+fn is_unserved<R: Files + Net>(rt: &R, path: &str) -> bool {
+    match fs::symlink_metadata(rt, path) {
+        Ok(data) if data.file_type().is_socket() => match UnixStream::connect(rt, path) {
+            Ok(_) => false,
+            Err(fault) => fault.kind() == io::ErrorKind::ConnectionRefused,
+        },
+        _ => false,
+    }
+}
+
+/// Removes a socket that nobody serves from `path`. All else stays there.
+pub(crate) fn clear<R: Files + Net>(rt: &R, path: &str) {
+    if is_unserved(rt, path) {
+        let _ = fs::remove_file(rt, path);
     }
 }
 

@@ -14,6 +14,7 @@ use std::io::{BufReader, BufWriter};
 use std::os::unix::net::UnixStream;
 use std::sync::Wait;
 use std::thread::{Builder, JoinHandle, Threads};
+use std::time::Clock;
 use std::{io, thread};
 
 /// The stack of each thread, in bytes, whatever limit the server was started with. It is four times what a file at the limit of nesting
@@ -43,7 +44,7 @@ fn serve_connection<L: Opening, R: Wait>(
 }
 
 /// Serves one connection after another, until no more are accepted.
-fn take_turns<L: Opening, R: Wait>(
+fn take_turns<L: Opening, R: Wait + Clock>(
     rt: &R,
     alloc: Global,
     shared: &Shared<L>,
@@ -64,7 +65,7 @@ fn take_turns<L: Opening, R: Wait>(
 }
 
 /// Serves one connection after another at a seat, and returns the seat.
-fn serve_at<L: Opening, R: Wait>(
+fn serve_at<L: Opening, R: Wait + Clock>(
     rt: &R,
     alloc: Global,
     shared: &Shared<L>,
@@ -108,7 +109,7 @@ fn all_joined<R: Threads, T: Drop>(
 
 /// Serves sessions in one thread for each seat, until no more are accepted, and returns the seats. No thread accepts before all are made.
 /// Where a thread could not be made, none accepts. The list that is returned is made before the first thread is.
-fn serve_sessions<L: Opening + Send + Sync, R: Threads + Wait + Sync>(
+fn serve_sessions<L: Opening + Send + Sync, R: Threads + Wait + Clock + Sync>(
     rt: &R,
     alloc: Global,
     shared: &Shared<L>,
@@ -145,7 +146,7 @@ pub(crate) struct Running<'a, G> {
 
 /// Builds packages in one thread for each seat of a worker, and serves sessions in the others, until no more are accepted. Returns the
 /// seats of the threads that were made.
-pub(crate) fn run<L: Opening + Send + Sync, R: Threads + Wait + Sync, G: Gate + Sync>(
+pub(crate) fn run<L: Opening + Send + Sync, R: Threads + Wait + Clock + Sync, G: Gate + Sync>(
     rt: &R,
     alloc: Global,
     shared: &Shared<L>,

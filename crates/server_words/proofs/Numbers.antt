@@ -1,9 +1,9 @@
 -- The result of a typed getter of the parser for an option with a number.
-use Rattle.std.proofs.Common.{◌≡◌, ◌∙◌, ◌<◌, ◌≤◌, ◌^◌, ℕ, List, Option, None, Some, Result, Ok, Err, sym, refl, codes, arith}
+use Rattle.std.proofs.Common.{◌≡◌, ◌∙◌, ◌<◌, ◌≤◌, ◌^◌, ℕ, List, Option, None, Some, Result, Ok, Err, sym, refl, arith}
 use Rattle.std.specs.Str.Parse.{ParsesUnsigned}
 use Rattle.clap.specs.Matches.{ReadsOne}
 use Rattle.clap.specs.Words.{Row, Text, first_of, one_of}
-use Rattle.server_words.specs.CommandRequests.{IsOptionNumber, IsStopAfter}
+use Rattle.server_words.specs.CommandRequests.{IsOptionNumber, IsOptional}
 
 module _ {E : Type 0} (G : List ℕ → Result ℕ E → Type 0) (only : (u : List ℕ) (x : Result ℕ E) → G u x → ParsesUnsigned 32 10 u x)
     (option : Text) (rows : List Row) (most : ℕ) (o : Option Text) (at : o ≡ one_of option rows) where
@@ -29,11 +29,11 @@ module _ {E : Type 0} (G : List ℕ → Result ℕ E → Type 0) (only : (u : Li
       let is = h.3 in
       only h.0 (Err failed.0) failed.1 (h.2, omega arith)
 
--- where `stop-after` was given no number from 1 to 1000000, it gives no number of connections
-pub no_stop : (rows : List Row) (s : Text) → Some s ≡ first_of (codes "stop-after") rows → ((n : ℕ) → IsOptionNumber (codes "stop-after") 1000000 rows n → ⊥)
-    → (stop : Option ℕ) → IsStopAfter rows stop → ⊥
-no_stop rows s at none None h = let bad : Some s ≡ None = at ∙ h in absurd cc
-no_stop rows s at none (Some n) h = none n h
+-- where an option was given no number from 1 to 1000000, it gives none
+pub not_given : (option : Text) (rows : List Row) (s : Text) → Some s ≡ first_of option rows → ((n : ℕ) → IsOptionNumber option 1000000 rows n → ⊥)
+    → (given : Option ℕ) → IsOptional option rows given → ⊥
+not_given option rows s at none None h = let bad : Some s ≡ None = at ∙ h in absurd cc
+not_given option rows s at none (Some n) h = none n h
 
 pub no_socket : (o : Option Text) (text : Text) → None ≡ o → o ≡ Some text → ⊥
 no_socket o text none some = let bad : None ≡ Some text = none ∙ some in absurd cc

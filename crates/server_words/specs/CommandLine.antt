@@ -25,13 +25,18 @@ number_rule name most = record (option_rule name) { parser = Some (parser.Signed
 abbrev pub run_app : App
 run_app = new_app (codes "run")
 
--- the subcommand `serve`, with its four options
+-- the subcommand `serve`, with its five options
 abbrev pub serve_app : App
-serve_app = with_rule (with_rule (with_rule (with_rule (new_app (codes "serve"))
+serve_app = with_rule (with_rule (with_rule (with_rule (with_rule (new_app (codes "serve"))
     socket_rule)
     (required_rule (number_rule (codes "workers") 16)))
     (required_rule (number_rule (codes "sessions") 32)))
-    (number_rule (codes "stop-after") 1000000)
+    (number_rule (codes "stop-after") 1000000))
+    (number_rule (codes "idle") 1000000)
+
+-- the subcommand `stop`, with its option
+abbrev pub stop_app : App
+stop_app = with_rule (new_app (codes "stop")) socket_rule
 
 -- the command line without its subcommands: a subcommand must be given, and there is none named `help`
 abbrev pub bare_app : App
@@ -77,6 +82,10 @@ faults_app = rooted_app (codes "faults")
 abbrev pub serving_app : App
 serving_app = with_subcommand (with_subcommand bare_app run_app.top) serve_app.top
 
+-- the command line with the subcommand that ends a server, too
+abbrev pub ending_app : App
+ending_app = with_subcommand serving_app stop_app.top
+
 -- the program's command line, with all its subcommands
 abbrev pub gorefd : App
-gorefd = with_subcommand (with_subcommand (with_subcommand (with_subcommand serving_app rename_app.top) move_app.top) faults_app.top) uses_app.top
+gorefd = with_subcommand (with_subcommand (with_subcommand (with_subcommand ending_app rename_app.top) move_app.top) faults_app.top) uses_app.top

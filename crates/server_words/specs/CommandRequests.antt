@@ -3,8 +3,9 @@ use Rattle.std.specs.Prelude.{◌≡◌, ◌≤◌, ℕ, List, Option, Some, Non
 use Rattle.std.specs.Str.Parse.{IsNumeral, digits_value, without_leading_plus}
 use Rattle.clap.specs.Words.{Row, Text, first_of, one_of}
 use Rattle.server_words.specs.declared.requests.ServeOptions.{ServeOptions}
+use Rattle.server_words.specs.declared.requests.StopOptions.{StopOptions}
 use Rattle.server_words.specs.declared.requests.Words.{Words}
-use Rattle.server_words.specs.declared.requests.Words.TheVariants.{Faults, Move, Rename, Run, Serve, Uses}
+use Rattle.server_words.specs.declared.requests.Words.TheVariants.{Faults, Move, Rename, Run, Serve, Stop, Uses}
 use Rattle.server_words.specs.ToolOptions.{AreFaultsOptions, AreMoveOptions, AreRenameOptions, AreUsesOptions}
 
 -- the option was given this number, which is from 1 to `most`
@@ -17,32 +18,43 @@ abbrev pub FindsNumber : Text → ℕ → List Row → Option ℕ → Type 0
 FindsNumber option most rows (Some n) = IsOptionNumber option most rows n
 FindsNumber option most rows None = (n : ℕ) → IsOptionNumber option most rows n → ⊥
 
--- the number of connections after which to end, or none without the option `stop-after`
-abbrev pub IsStopAfter : List Row → Option ℕ → Type 0
-IsStopAfter rows None = first_of (codes "stop-after") rows ≡ None
-IsStopAfter rows (Some n) = IsOptionNumber (codes "stop-after") 1000000 rows n
+-- the number of an option that need not be given, from 1 to 1000000, or none without it
+abbrev pub IsOptional : Text → List Row → Option ℕ → Type 0
+IsOptional option rows None = first_of option rows ≡ None
+IsOptional option rows (Some n) = IsOptionNumber option 1000000 rows n
 
--- what the option `stop-after` says; none where it was given no number from 1 to 1000000
-abbrev pub FindsStopAfter : List Row → Option (Option ℕ) → Type 0
-FindsStopAfter rows (Some stop) = IsStopAfter rows stop
-FindsStopAfter rows None = (stop : Option ℕ) → IsStopAfter rows stop → ⊥
+-- what such an option says; none where it was given no number from 1 to 1000000
+abbrev pub FindsOptional : Text → List Row → Option (Option ℕ) → Type 0
+FindsOptional option rows (Some given) = IsOptional option rows given
+FindsOptional option rows None = (given : Option ℕ) → IsOptional option rows given → ⊥
 
 -- the values of the options of `serve`, each in its range
 pub record AreServeOptions (rows : List Row) (words : ServeOptions) : Type 0 where
   pub socket : first_of (codes "socket") rows ≡ Some words.socket.now
   pub workers : IsOptionNumber (codes "workers") 16 rows words.workers
   pub sessions : IsOptionNumber (codes "sessions") 32 rows words.sessions
-  pub stop_after : IsStopAfter rows words.stop_after
+  pub stop_after : IsOptional (codes "stop-after") rows words.stop_after
+  pub idle : IsOptional (codes "idle") rows words.idle
 
 -- the options of `serve`, or none where one is missing or out of its range
 abbrev pub FindsServe : List Row → Option ServeOptions → Type 0
 FindsServe rows (Some words) = AreServeOptions rows words
 FindsServe rows None = (words : ServeOptions) → AreServeOptions rows words → ⊥
 
+-- the value of the option of `stop`
+abbrev pub AreStopOptions : List Row → StopOptions → Type 0
+AreStopOptions rows words = first_of (codes "socket") rows ≡ Some words.socket.now
+
+-- the option of `stop`, or none where it is missing
+abbrev pub FindsStop : List Row → Option StopOptions → Type 0
+FindsStop rows (Some words) = AreStopOptions rows words
+FindsStop rows None = (words : StopOptions) → AreStopOptions rows words → ⊥
+
 -- the subcommand of this name, with these options, makes this request
 abbrev pub MakesRequest : Option (Text × List Row) → Words → Type 0
 MakesRequest named Run = (rows : List Row) × (named ≡ Some (codes "run", rows))
 MakesRequest named (Serve words) = (rows : List Row) × (named ≡ Some (codes "serve", rows)) × AreServeOptions rows words
+MakesRequest named (Stop words) = (rows : List Row) × (named ≡ Some (codes "stop", rows)) × AreStopOptions rows words
 MakesRequest named (Rename options) = (rows : List Row) × (named ≡ Some (codes "rename", rows)) × AreRenameOptions rows options
 MakesRequest named (Move options) = (rows : List Row) × (named ≡ Some (codes "move", rows)) × AreMoveOptions rows options
 MakesRequest named (Uses options) = (rows : List Row) × (named ≡ Some (codes "uses", rows)) × AreUsesOptions rows options

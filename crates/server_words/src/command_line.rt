@@ -7,6 +7,7 @@ ghost use Rattle.server_words.specs.CommandLine.{
   bare_app,
   changing_app,
   dry_run_rule,
+  ending_app,
   faults_app,
   gorefd,
   move_app,
@@ -20,6 +21,7 @@ ghost use Rattle.server_words.specs.CommandLine.{
   serve_app,
   serving_app,
   socket_rule,
+  stop_app,
   uses_app,
   word_rule,
 };
@@ -39,7 +41,7 @@ fn socket<'a>(alloc: Global) -> Arg<'a>
     Arg::new(alloc, "socket")
         .long("socket")
         .value_name("PATH")
-        .help("Where the socket is made; nothing may stand there")
+        .help("The path of the server's socket")
         .required(true)
 }
 
@@ -84,6 +86,16 @@ fn stop_after<'a>(alloc: Global) -> Arg<'a>
     )
 }
 
+/// The option `--idle SECONDS`.
+fn idle<'a>(alloc: Global) -> Arg<'a>
+    ensures rule { rule_of result ≡ number_rule (codes "idle") 1000000 }
+    ensures local { result.global ≡ false }
+{
+    number_option(alloc, "idle", "SECONDS", 1_000_000).help(
+        "Ends a session whose client sends or reads nothing for so long, 1 to 1000000",
+    )
+}
+
 /// The subcommand `run`.
 fn run_command<'a>(alloc: Global) -> Command<'a>
     ensures app { app_of result ≡ run_app }
@@ -103,7 +115,18 @@ fn serve_command<'a>(alloc: Global) -> Result<Command<'a>, AllocError>
     let with_socket = bare.arg(socket(alloc))?;
     let with_workers = with_socket.arg(workers(alloc))?;
     let with_sessions = with_workers.arg(sessions(alloc))?;
-    with_sessions.arg(stop_after(alloc))
+    let with_end = with_sessions.arg(stop_after(alloc))?;
+    with_end.arg(idle(alloc))
+}
+
+/// The subcommand `stop`, with its option.
+fn stop_command<'a>(alloc: Global) -> Result<Command<'a>, AllocError>
+    ensures app { IfOk result (λ command. app_of command ≡ stop_app) }
+    ensures local { IfOk result (λ command. (fields_of command).has_globals ≡ false) }
+{
+    let about = "Ends a server, and returns once it has ended";
+    let bare = Command::new(alloc, "stop").about(about);
+    with_option(bare, socket(alloc))
 }
 
 /// The command with one more option, which its subcommands do not take over.
@@ -244,13 +267,22 @@ fn serving_command<'a>(alloc: Global) -> Result<Command<'a>, AllocError>
     command.subcommand(serve)
 }
 
-/// The command line with the subcommands that serve sessions and those that change files.
-fn with_changes<'a>(alloc: Global) -> Result<Command<'a>, AllocError>
-    ensures { IfOk result (λ command. app_of command ≡ with_subcommand (with_subcommand serving_app rename_app.top) move_app.top) }
+/// The command line with the subcommand that ends a server, too.
+fn with_stop<'a>(alloc: Global) -> Result<Command<'a>, AllocError>
+    ensures { IfOk result (λ command. app_of command ≡ ending_app) }
 {
     let serving = serving_command(alloc)?;
+    let stop = stop_command(alloc)?;
+    serving.subcommand(stop)
+}
+
+/// The command line with the subcommands that serve sessions and those that change files.
+fn with_changes<'a>(alloc: Global) -> Result<Command<'a>, AllocError>
+    ensures { IfOk result (λ command. app_of command ≡ with_subcommand (with_subcommand ending_app rename_app.top) move_app.top) }
+{
+    let ending = with_stop(alloc)?;
     let rename = rename_command(alloc)?;
-    let renaming = serving.subcommand(rename)?;
+    let renaming = ending.subcommand(rename)?;
     let moving = move_command(alloc)?;
     renaming.subcommand(moving)
 }

@@ -10,5 +10,5 @@ mod requests;
 mod tools;
 
 pub use reading::{RequestFault, read_request};
-pub use requests::{ServeOptions, Words};
+pub use requests::{ServeOptions, StopOptions, Words};
 pub use tools::{FaultsOptions, MoveOptions, RenameOptions, UsesOptions};

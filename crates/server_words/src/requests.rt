@@ -1,22 +1,29 @@
 //! The request that the matches of a command line make.
 ghost use Rattle.std.specs.Prelude.{◌≡◌, Some, codes, option_map};
 ghost use Rattle.clap.specs.Words.{found_of, rows_of, subcommand_rows_of};
-ghost use Rattle.server_words.specs.CommandRequests.{FindsRequest, FindsNumber, FindsServe, FindsStopAfter};
+ghost use Rattle.server_words.specs.CommandRequests.{FindsRequest, FindsNumber, FindsOptional, FindsServe, FindsStop};
 
 use crate::tools::{
     FaultsOptions, MoveOptions, RenameOptions, UsesOptions, faults_options, move_options,
-    rename_options, uses_options,
+    rename_options, uses_options, value,
 };
 use clap::ArgMatches;
 
 /// The options of `serve`: the path of the socket, and how many threads build packages and how many serve connections. `stop_after` is the
-/// number of connections after which to end, if there is one.
+/// number of connections after which to end, if there is one. `idle` is for how many seconds a client may send nothing, if that is limited.
 #[derive(Clone, Copy)]
 pub struct ServeOptions<'a> {
     pub socket: &'a str,
     pub workers: u32,
     pub sessions: u32,
     pub stop_after: Option<u32>,
+    pub idle: Option<u32>,
+}
+
+/// The option of `stop`: the path of the socket.
+#[derive(Clone, Copy)]
+pub struct StopOptions<'a> {
+    pub socket: &'a str,
 }
 
 /// The request of a command line.
@@ -26,6 +33,8 @@ pub enum Words<'a> {
     Run,
     /// Serve sessions on a socket.
     Serve(ServeOptions<'a>),
+    /// End a server.
+    Stop(StopOptions<'a>),
     /// Rename in the files of a folder.
     Rename(RenameOptions<'a>),
     /// Move a package in a folder.
@@ -48,14 +57,14 @@ fn number(matches: &ArgMatches<'_>, option: &str, most: u32) -> Option<u32>
     }
 }
 
-/// The number of connections after which to end, or `Some(None)` without the option `stop-after`. It is `None` where the option was given
-/// no number from 1 to 1000000.
-fn stop_after(matches: &ArgMatches<'_>) -> Option<Option<u32>>
-    ensures { FindsStopAfter (rows_of (found_of matches.now)) result }
+/// The number of an option that need not be given, or `Some(None)` without it. It is `None` where the option was given no number from 1 to
+/// 1000000.
+fn optional_number(matches: &ArgMatches<'_>, option: &str) -> Option<Option<u32>>
+    ensures { FindsOptional option.now (rows_of (found_of matches.now)) result }
 {
-    match matches.get_str("stop-after") {
+    match matches.get_str(option) {
         None => Some(None),
-        Some(_) => Some(Some(number(matches, "stop-after", 1_000_000)?)),
+        Some(_) => Some(Some(number(matches, option, 1_000_000)?)),
     }
 }
 
@@ -66,13 +75,23 @@ fn serve_words<'a>(matches: &ArgMatches<'a>) -> Option<ServeOptions<'a>>
     let socket = matches.get_str("socket")?;
     let workers = number(matches, "workers", 16)?;
     let sessions = number(matches, "sessions", 32)?;
-    let stop_after = stop_after(matches)?;
+    let stop_after = optional_number(matches, "stop-after")?;
+    let idle = optional_number(matches, "idle")?;
     Some(ServeOptions {
         socket,
         workers,
         sessions,
         stop_after,
+        idle,
     })
+}
+
+/// The option of `stop`, or `None` where it is missing.
+fn stop_words<'a>(matches: &ArgMatches<'a>) -> Option<StopOptions<'a>>
+    ensures { FindsStop (rows_of (found_of matches.now)) result }
+{
+    let socket = value(matches, "socket")?;
+    Some(StopOptions { socket })
 }
 
 /// The name of the subcommand, with its matches.
@@ -88,6 +107,16 @@ fn serve_request<'a>(matches: &ArgMatches<'a>) -> Option<Words<'a>>
 {
     match serve_words(matches) {
         Some(words) => Some(Words::Serve(words)),
+        None => None,
+    }
+}
+
+/// The request of the subcommand `stop` with these matches.
+fn stop_request<'a>(matches: &ArgMatches<'a>) -> Option<Words<'a>>
+    ensures { FindsRequest (Some (codes "stop", rows_of (found_of matches.now))) result }
+{
+    match stop_words(matches) {
+        Some(words) => Some(Words::Stop(words)),
         None => None,
     }
 }
@@ -139,6 +168,7 @@ fn request_by<'a>(name: &str, matches: &ArgMatches<'a>) -> Option<Words<'a>>
     match name {
         "run" => Some(Words::Run),
         "serve" => serve_request(matches),
+        "stop" => stop_request(matches),
         "rename" => rename_request(matches),
         "move" => move_request(matches),
         "uses" => uses_request(matches),

@@ -37,7 +37,7 @@ pub struct FaultsOptions<'a> {
 }
 
 /// The first value of an option or a word.
-fn value<'a>(matches: &ArgMatches<'a>, option: &str) -> Option<&'a str>
+pub(crate) fn value<'a>(matches: &ArgMatches<'a>, option: &str) -> Option<&'a str>
     ensures { option_map (λ text. text.now) result ≡ first_of option.now (rows_of (found_of matches.now)) }
 {
     matches.get_str(option)

@@ -1,5 +1,5 @@
 -- The desk stays as it is, and sees the files still.
-use Rattle.std.proofs.Common.{◌≡◌, sym, subst, ◌∙◌}
+use Rattle.std.proofs.Common.{sym, subst}
 use Rattle.history_book.specs.CurrentUnits.{AreKnownIn}
 use Rattle.server_commands.proofs.acting.learn_after.Goals as goal
 

@@ -12,7 +12,8 @@ returns-clause-app c =
     let first = with_option _ _ _ _ _ c.in_ok-with_socket.ensures bare c.socket.ensures.rule c.socket.ensures.local in
     let second = with_option _ _ _ _ _ c.in_ok-with_workers.ensures first c.workers.ensures.rule c.workers.ensures.local in
     let third = with_option _ _ _ _ _ c.in_ok-with_sessions.ensures second c.sessions.ensures.rule c.sessions.ensures.local in
-    with_last _ _ _ _ _ c.arg-4.ensures third c.stop_after.ensures.rule c.stop_after.ensures.local
+    let fourth = with_option _ _ _ _ _ c.in_ok-with_end.ensures third c.stop_after.ensures.rule c.stop_after.ensures.local in
+    with_last _ _ _ _ _ c.arg-5.ensures fourth c.idle.ensures.rule c.idle.ensures.local
 
 pub returns-clause-local : goal.returns-clause-local
 returns-clause-local c =
@@ -20,4 +21,5 @@ returns-clause-local c =
     let first = stays_local _ _ _ c.in_ok-with_socket.ensures bare c.socket.ensures.local in
     let second = stays_local _ _ _ c.in_ok-with_workers.ensures first c.workers.ensures.local in
     let third = stays_local _ _ _ c.in_ok-with_sessions.ensures second c.sessions.ensures.local in
-    last_local _ _ _ c.arg-4.ensures third c.stop_after.ensures.local
+    let fourth = stays_local _ _ _ c.in_ok-with_end.ensures third c.stop_after.ensures.local in
+    last_local _ _ _ c.arg-5.ensures fourth c.idle.ensures.local

@@ -21,4 +21,5 @@ returns c = record {
   workers = c.in_ok-workers.ensures;
   sessions = c.in_ok-sessions.ensures;
   stop_after = c.in_ok-stop_after.ensures;
+  idle = c.in_ok-idle.ensures;
 }

@@ -1,6 +1,6 @@
 -- The ledger is that of the blank. The journal is empty at first, and the limits are those of `Limits::FULL`.
 use Rattle.server_shared.specs.LimitNumbers.{full_limits}
-use Rattle.server_socket.proofs.serving.serve.Given as goal
+use Rattle.server_socket.proofs.serving.serve_held.Given as goal
 
 abbrev pub ghosts-serve_in-L-Opening : goal.ghosts-serve_in-L-Opening
 ghosts-serve_in-L-Opening g a = record { from = 0; most = 1000000; limits = full_limits }

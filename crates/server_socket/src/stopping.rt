@@ -1,0 +1,65 @@
+//! Asks a server for its end.
+use crate::held_path::lock_beside;
+use std::alloc::AllocError;
+use std::fs::{File, OpenOptions, TryLockError};
+use std::io;
+use std::io::Write;
+use std::net::Net;
+use std::os::unix::net::UnixStream;
+use std::rt::Files;
+use thiserror::Error;
+
+/// Why no server was ended.
+#[derive(Debug, Drop, Error)]
+pub enum StopFault {
+    /// Memory was wanting.
+    #[error("memory fault")]
+    Memory,
+    /// No server is at work at the path, or it is another user's.
+    #[error("no server is at work at this path")]
+    NoServer,
+    /// The server could not be asked.
+    #[error("socket fault")]
+    Socket,
+}
+
+impl From<AllocError> for StopFault {
+    fn from(_: AllocError) -> StopFault {
+        StopFault::Memory
+    }
+}
+
+/// Opens the file of the lock that a server at a path holds, or finds that none holds it.
+fn held_lock<R: Files<File = File>>(rt: &R, place: &str) -> Result<File, StopFault> {
+    let mut options = OpenOptions::new();
+    options.write(true);
+    let Ok(lock) = options.open(rt, place) else {
+        return Err(StopFault::NoServer);
+    };
+    match lock.try_lock() {
+        Err(TryLockError::WouldBlock) => Ok(lock),
+        Ok(()) => Err(StopFault::NoServer),
+        Err(TryLockError::Error(_)) => Err(StopFault::Socket),
+    }
+}
+
+/// Writes a word into the file of the lock, and connects to the socket, so that the server looks there. Waits until it lets the lock go.
+fn ask<R: Files<File = File> + Net>(rt: &R, lock: File, path: &str) -> io::Result<()> {
+    let mut lock = lock;
+    lock.write_all(b"stop\n")?;
+    drop(UnixStream::connect(rt, path)?);
+    lock.lock()
+}
+
+/// Ends the server at a path, and returns once it has ended: its sessions have come to their ends, and its socket is gone.
+pub fn stop<R: Files<File = File> + Net + AllocGlobal>(
+    rt: &R,
+    path: &str,
+) -> Result<(), StopFault> {
+    let place = lock_beside(rt.alloc(), path)?;
+    let lock = held_lock(rt, place.as_str())?;
+    match ask(rt, lock, path) {
+        Ok(()) => Ok(()),
+        Err(_) => Err(StopFault::Socket),
+    }
+}
