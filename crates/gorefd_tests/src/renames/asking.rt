@@ -4,9 +4,9 @@ ghost use Rattle.go_scope.specs.Bindings.{Declares};
 ghost use Rattle.types_declared.specs.PackageView.{package_of};
 ghost use Rattle.refs_binding.specs.Binding.{IsPredeclaredNumber};
 ghost use Rattle.refs_binding.specs.Workspaces.{home_path};
-ghost use Rattle.refactor_tests.specs.Asking.{IsAsked};
+ghost use Rattle.gorefd_tests.specs.Asking.{IsAsked};
 
-use crate::comparing::agrees;
+use super::comparing::agrees;
 use go_scope::identifiers::PREDECLARED;
 use refactor_conflict::Conflict;
 use refactor_decide::scope_decision;
@@ -25,7 +25,7 @@ const NAMES: &str = "x\ny\nq\nlen\nZ";
 
 /// The package whose renames are asked for, as it was read. With it come the snapshot that it is in, and what is known of its packages.
 #[derive(Clone, Copy)]
-pub(crate) struct AskedPackage<'a, 'b> {
+pub(super) struct AskedPackage<'a, 'b> {
     pub snapshot: &'a Snapshot,
     pub known: &'a Known,
     pub at: Numbered<'a>,
@@ -34,7 +34,7 @@ pub(crate) struct AskedPackage<'a, 'b> {
 
 /// How many renames keep all bindings, how many lose their first conflict's identifier, and how many capture it.
 #[derive(Clone, Copy)]
-pub(crate) struct Tally {
+pub(super) struct Tally {
     pub kept: usize,
     pub lost: usize,
     pub captured: usize,
@@ -165,7 +165,7 @@ fn ask_methods(rt: &impl Abort, alloc: Global, tally: &mut Tally, asked: &AskedP
 }
 
 /// Asks about the renames of all declarations of a package.
-pub(crate) fn ask_all(
+pub(super) fn ask_all(
     rt: &impl Abort,
     alloc: Global,
     tally: &mut Tally,

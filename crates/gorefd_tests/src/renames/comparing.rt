@@ -38,7 +38,7 @@ fn is_same(a: &Option<Conflict>, b: &Option<Conflict>) -> bool {
 }
 
 /// Asserts that a change has the first conflict that was told. If none was told, it leaves no fault and keeps all bindings, and only then.
-pub(crate) fn agrees(
+pub(super) fn agrees(
     rt: &impl Abort,
     alloc: Global,
     workspace: &FaultlessWorkspace<'_>,

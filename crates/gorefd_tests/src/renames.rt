@@ -3,15 +3,6 @@
 //!
 //! The first way is asked by `scope_decision` and `member_conflict`, to which planning hands each rename on, with the declaration and the
 //! name. The other way is `preserves` and `first_conflict`, for which no plan asks.
-//!
-//! They are a crate of their own, since a crate with tests is proved twice.
-#![tactic(auto)]
-
-#[cfg(test)]
 mod asking;
-#[cfg(test)]
-mod assertion;
-#[cfg(test)]
 mod comparing;
-#[cfg(test)]
 mod rows;

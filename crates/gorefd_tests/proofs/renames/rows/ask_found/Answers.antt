@@ -2,7 +2,7 @@
 use Rattle.std.proofs.Common.{subst, sym}
 use Rattle.base_files.specs.Workspace.{Workspace}
 use Rattle.workspace_check.specs.Found.{KnowsVerdicts}
-use Rattle.refactor_tests.proofs.rows.ask_found.Goals as goal
+use Rattle.gorefd_tests.proofs.renames.rows.ask_found.Goals as goal
 
 pub ask_packages-requires-clause-known : goal.ask_packages-requires-clause-known
 ask_packages-requires-clause-known g c =

@@ -1,6 +1,6 @@
 //! Tests Jobs that are held, and handed in late, twice, in another's place or to another book.
-use crate::assertion::holds;
-use base_files::{FileText, Limits, Refusal};
+use crate::assertion::{file, holds};
+use base_files::{Limits, Refusal};
 use build_unit::{Built, Job, build};
 use history_book::{Book, Changing, Handed, HandingIn, Looking, Taking};
 use std::alloc::Global;
@@ -49,8 +49,7 @@ fn planned(
     path: &str,
     text: &str,
 ) -> Result<MadeChange, Refusal> {
-    let bytes = text.as_bytes().to_vec(alloc).expect(rt, "memory");
-    let file = FileText::new(alloc, bytes).expect(rt, "memory");
+    let file = file(rt, alloc, text.as_bytes());
     let view = book.step(Looking).ok().expect(rt, "a view");
     plan_put(alloc, view.snapshot.get(), path, file)
 }

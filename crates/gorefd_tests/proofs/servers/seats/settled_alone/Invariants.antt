@@ -1,6 +1,6 @@
 -- The ledger is that of the blank. The journal is empty at first, and the limits are those of `Limits::FULL`.
 use Rattle.server_shared.specs.LimitNumbers.{full_limits}
-use Rattle.server_tests.proofs.seats.settled_alone.Given as goal
+use Rattle.gorefd_tests.proofs.servers.seats.settled_alone.Given as goal
 
 abbrev pub ghosts-settled-L-Opening : goal.ghosts-settled-L-Opening
 ghosts-settled-L-Opening g a = record { from = 0; most = 1000000; limits = full_limits }

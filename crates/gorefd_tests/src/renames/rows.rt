@@ -4,9 +4,9 @@ ghost use Rattle.types_declared.specs.PackageView.{package_of};
 ghost use Rattle.refs_binding.specs.Indexed.{IsPackageNumber, IsPackageNumbered};
 ghost use Rattle.workspace_check.specs.Found.{IsFound, KnowsVerdicts};
 
-use crate::asking::{AskedPackage, Tally, ask_all};
-use crate::assertion::holds;
-use base_files::{FileText, Limits};
+use super::asking::{AskedPackage, Tally, ask_all};
+use crate::assertion::{file, holds};
+use base_files::Limits;
 use refs_binding::indexed::{Numbered, known_of};
 use refs_binding::{FaultlessWorkspace, PackageReader, refuse_faults};
 use std::alloc::Global;
@@ -30,8 +30,7 @@ fn snapshot_of(files: Graph) -> Snapshot
 /// The workspace with one more file. The text is that of the path, a blank, and the file.
 fn with_file(rt: &impl Abort, alloc: Global, files: Graph, text: &str) -> Graph {
     let (path, text) = text.split_once(' ').expect(rt, "a path");
-    let bytes = text.as_bytes().to_vec(alloc).expect(rt, "memory");
-    let file = FileText::new(alloc, bytes).expect(rt, "memory");
+    let file = file(rt, alloc, text.as_bytes());
     let snapshot = snapshot_of(files);
     let change = plan_put(alloc, &snapshot, path, file)
         .ok()

@@ -1,6 +1,6 @@
 -- The ledger is that of the blank. The journal is empty at first, and the limits are those of `Limits::FULL`.
 use Rattle.server_shared.specs.LimitNumbers.{full_limits}
-use Rattle.server_tests.proofs.learning.known_alone.Given as goal
+use Rattle.gorefd_tests.proofs.servers.learning.known_alone.Given as goal
 
 abbrev pub ghosts-known_around-L-Opening : goal.ghosts-known_around-L-Opening
 ghosts-known_around-L-Opening g a = record { from = 0; most = 1000000; limits = full_limits }

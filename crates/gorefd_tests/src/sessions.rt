@@ -1,0 +1,3 @@
+//! Tests of sessions over a book of their own.
+mod devices;
+mod limits;
