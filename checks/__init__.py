@@ -3,3 +3,8 @@
 import pathlib
 
 TOP = pathlib.Path(__file__).resolve().parent.parent
+
+
+def crate_of(path):
+    """The crate that a file of crates/ belongs to."""
+    return path.relative_to(TOP / "crates").parts[0]

@@ -15,7 +15,7 @@ from checks.attack.refusing import Library
 from checks.attack.serving import Answer, ask
 from checks.model.history import History, answered
 from checks.server.connections import COMMANDS, served, state_of, whole_commands
-from checks.server.server import Server, put, retried, same, settles, together
+from checks.server.server import DEADLINE, Server, put, retried, same, settles, together
 
 SESSIONS = 32
 LIMIT = 1_048_576
@@ -258,9 +258,10 @@ def many_connections(count=10_000, warm=1000):
 
 def none_more_accepted():
     """Where no more files may be open, the next connection cannot be accepted. The sessions that are on go on, and see each other's changes;
-    when they have ended, the server ends and tells why."""
+    when one of them has ended, that connection is accepted."""
     for most in range(2, 7):
-        with Server(2, 8, None, limits=[(resource.RLIMIT_NOFILE, 4 + most)]) as server:
+        # (beside the connections it has its three streams, the listener, and the lock twice)
+        with Server(2, 8, most + 1, limits=[(resource.RLIMIT_NOFILE, 6 + most)]) as server:
             server.stands()
             clients, history = [], History()
             while len(clients) < most:
@@ -268,26 +269,30 @@ def none_more_accepted():
                 client.send(LOOK)
                 client.reply()
                 clients.append(client)
-            refused = server.connect()
-            eventually(lambda: refused_is_over(refused), True)
+            late = server.connect()
+            late.send(LOOK)
             for turn in range(50):
                 client = clients[turn % most]
                 does(client, [put(history.current.number, "a/a.go", b"package a\n\nvar x%d int\n" % turn), b"cat a/a.go\n", b"wait\n"], history)
             for client in clients:
                 does(client, [b"cat a/a.go\n"], history)
-            same(server.process.poll(), None)
+            same((server.process.poll(), has_word(late)), (None, False))
             for client in clients:
                 client.end()
-            same(server.ended(), (1, b"", b"gorefd: socket fault\n"))
+            same(late.reply()[0], b"ok %d" % history.current.number)
+            late.end()
+            settles(server)
 
 
-def refused_is_over(client):
-    """A connection that was not accepted waits, as all that come later do."""
+def has_word(client):
+    """Whether something came to a client within a moment."""
+    client.socket.settimeout(0.05)
     try:
-        client.socket.settimeout(0.05)
-        return client.socket.recv(1) == b""
+        return bool(client.socket.recv(1, socket.MSG_PEEK))
     except TimeoutError:
-        return True
+        return False
+    finally:
+        client.socket.settimeout(DEADLINE)
 
 
 def whole_puts():

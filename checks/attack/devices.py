@@ -1,6 +1,6 @@
 """Runs stored sessions on a built `gorefd run` with an input and an output that fail at each place.
 
-    python3 -m checks.attack.devices PROGRAM [SESSION.. | all]
+    python3 -m checks.attack.devices PROGRAM [SESSION.. | others | all]
 
 Without names of sessions it tries the worked rows. `strace` has the n-th read fail, or end the input, while the input gives one byte to each
 read; and it has the n-th write fail, or write nothing. Then the session ends with a read fault or a write fault, what was read whole before is

@@ -13,16 +13,18 @@ from checks.attack import clients
 from checks.attack.clients import does
 from checks.model.history import History
 from checks.server.connections import COMMANDS
-from checks.server.server import PROGRAM, Server, check_program, connect, put, same, serve_words, settles
+from checks.server.server import PROGRAM, Server, check_program, connect, put, same, serve_words, settles, untold
 
 SOCKET_FAULT = (1, b"", b"gorefd: socket fault\n")
 MEMORY_FAULT = (1, b"", b"gorefd: memory fault\n")
 NOT_ACCEPTED = ("EMFILE", "ENFILE", "ENOMEM", "ENOBUFS", "ECONNABORTED", "EPERM", "EIO")
 # What the start of a server calls, with the faults of a full disk and of a machine that has no more of something.
-CALLS = ("socket", "bind", "listen", "mkdir", "mkdirat", "chmod", "fchmodat", "link", "linkat", "unlink", "unlinkat", "rmdir")
+CALLS = ("flock", "ftruncate", "socket", "bind", "listen", "mkdir", "mkdirat", "chmod", "fchmodat", "link", "linkat", "unlink", "unlinkat", "rmdir")
 THREADS = ("clone", "clone3")
 # What these take away may be left where they fail.
 TAKING_AWAY = ("unlink", "unlinkat", "rmdir")
+# The file of the lock stays.
+LOCK = ["s.lock"]
 
 
 def injecting(call, fault, number):
@@ -31,21 +33,22 @@ def injecting(call, fault, number):
 
 
 def not_accepted():
-    """A connection that cannot be accepted, for whatever reason: the sessions that are on go on to their ends, and then the server ends."""
+    """A connection that cannot be accepted, for whatever reason, is accepted later: the sessions that are on go on, and so does the server."""
     for fault in NOT_ACCEPTED:
-        with Server(2, 3, before=injecting("accept,accept4", fault, 2)) as server:
+        with Server(2, 3, 4, before=injecting("accept,accept4", fault, 2)) as server:
             first, second, history = server.connect(), server.connect(), History()
             does(first, COMMANDS[:1], history)
             does(second, COMMANDS[1:4], history)
             third = server.connect()
             does(third, COMMANDS[4:6], history)
-            # its thread is the first to accept again
+            # its thread is the first to accept again, and fails at first
             first.end()
             does(second, COMMANDS[6:], history)
-            does(third, [b"list\n", b"wait\n", b"undo %d\n" % history.current.number], history)
-            second.end()
-            third.end()
-            same((fault, *server.ended()), (fault, *SOCKET_FAULT))
+            fourth = server.connect()
+            does(fourth, [b"list\n", b"wait\n", b"undo %d\n" % history.current.number], history)
+            for client in (second, third, fourth):
+                client.end()
+            settles(server)
     return f"{len(NOT_ACCEPTED)} reasons"
 
 
@@ -69,19 +72,24 @@ def is_injected(call, number, words, folder):
     with subprocess.Popen([*strace, *PROGRAM, *words], stdout=subprocess.PIPE, stderr=subprocess.PIPE) as process:
         try:
             connect(path, process).end()
-        except AssertionError:
+        except (AssertionError, OSError):
+            # it has ended, be it before it made its socket or behind it
             pass
         told = process.communicate(timeout=60)
     with open(trace, encoding="utf-8") as file:
         was_there = "(INJECTED)" in file.read()
     os.unlink(trace)
-    if was_there:
-        same((call, number, process.returncode, *told), (call, number, *(MEMORY_FAULT if call in THREADS else SOCKET_FAULT)))
+    out, err = told[0], untold(told[1])
+    if was_there and out:
+        # it was a call of the end, which takes the socket away
+        same((call in TAKING_AWAY, process.returncode, out[:8], err), (True, 0, b"settled ", b""))
+    elif was_there:
+        same((call, number, process.returncode, out, err), (call, number, *(MEMORY_FAULT if call in THREADS else SOCKET_FAULT)))
         left = os.listdir(folder)
-        if call not in TAKING_AWAY and (call not in THREADS or left != ["s"]):
-            same((call, number, left), (call, number, []))
+        if call not in TAKING_AWAY:
+            same((call, number, left), (call, number, LOCK))
     else:
-        same((call, number, told[1]), (call, number, b""))
+        same((call, number, err), (call, number, b""))
     return was_there
 
 
@@ -124,7 +132,7 @@ def full_disk():
                     client, history = connect(path, process), History()
                 except AssertionError:
                     refused += 1
-                    same((room, process.poll(), os.listdir(folder)), (room, 1, []))
+                    same((room, process.poll(), os.listdir(folder) in ([], LOCK)), (room, 1, True))
                     continue
                 try:
                     while True:
@@ -139,7 +147,7 @@ def full_disk():
                 does(client, [b"list\n", put(history.current.number, "q/q.go", b"package q\n")], history)
                 client.end()
                 out, err = process.communicate(timeout=60)
-                same((process.returncode, err, out[:8]), (0, b"", b"settled "))
+                same((process.returncode, untold(err), out[:8]), (0, b"", b"settled "))
     if not refused:
         raise AssertionError("the disk was never full")
     return f"{refused} of 7 disks had no room"

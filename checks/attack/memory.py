@@ -1,6 +1,6 @@
 """Runs stored sessions on a built `gorefd run` with each allocation refused in turn:
 
-    python3 -m checks.attack.memory PROGRAM [fresh|climbing [SESSION.. | all]]
+    python3 -m checks.attack.memory PROGRAM [fresh|climbing [SESSION.. | others | all]]
 
 Without names of sessions it tries the worked rows. A small library refuses what the program asks the C library for.
 
@@ -34,8 +34,8 @@ CUT_SHORT = b"no 24 0\n"
 ENDED = (1, b"gorefd: memory fault\n")
 KINDS = ("refused", "ended", "answered")
 CHANGES = (b"put", b"del", b"rename", b"move", b"undo", b"redo", b"work", b"log")
-# (a row takes seconds on an idle machine)
-SECONDS = 600
+# Without a command for so long, a run hangs. (A row takes seconds on an idle machine.)
+SECONDS = 120
 
 
 class Asked:
@@ -157,20 +157,29 @@ class Running:
         self.page = library.page(refused)
         pipes = dict.fromkeys(("stdin", "stdout", "stderr"), subprocess.PIPE)
         self.process = subprocess.Popen(words, env=os.environ | self.page.environment, **pipes)
-        self.clock = threading.Timer(SECONDS, self.process.kill)
-        self.clock.start()
+        self.asks, self.over = 0, threading.Event()
+        threading.Thread(target=self.watch, daemon=True).start()
 
     def __enter__(self):
         return self
 
+    def watch(self):
+        """Kills the program where it hangs."""
+        seen = None
+        while not self.over.wait(SECONDS):
+            if seen == self.asks:
+                self.process.kill()
+            seen = self.asks
+
     def __exit__(self, *_):
-        self.clock.cancel()
+        self.over.set()
         self.process.kill()
         self.process.communicate()
         self.page.close()
 
     def ask(self, sent):
         """What the program answers, and whether it is a whole reply."""
+        self.asks += 1
         try:
             self.process.stdin.write(sent)
             self.process.stdin.flush()
@@ -379,7 +388,9 @@ WAYS = {"fresh": Fresh, "climbing": Climb}
 
 def tried(words, way, sessions, library, pool):
     """How the points of these sessions went: lines of what is wrong, and how many of each kind there were. The words are the program's."""
-    runs = {name: WAYS[way]([*words, "run"], library, Session(*pair)) for name, pair in sessions.items()}
+    # the longest first, since some take as long as many others
+    longest = sorted(sessions, key=lambda name: -len(sessions[name][0]))
+    runs = {name: WAYS[way]([*words, "run"], library, Session(*sessions[name])) for name in longest}
     jobs = [(name, job) for name, run in runs.items() for job in run.jobs()]
     wrong, counts = [], dict.fromkeys(KINDS, 0)
     for (name, _), told in zip(jobs, pool.map(lambda pair: pair[1](), jobs)):

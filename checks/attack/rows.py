@@ -1,7 +1,10 @@
 """The worked rows among the stored sessions: short sessions whose answers were written by hand. What is tried at each point, is tried on
 these."""
 
+import random
+
 from checks.gate.replay import stored
+from checks.generate.sessions import KINDS
 
 WORKED = """
 faults_none_at_the_nesting_limit
@@ -75,9 +78,22 @@ def worked(names=WORKED):
     return {name: sessions[name] for name in names}
 
 
+def made(name):
+    """The random session of a name, which is a kind and a seed, as `renames:7`."""
+    kind, _, seed = name.partition(":")
+    make, count = KINDS[kind]
+    session = make(random.Random(int(seed)), count)
+    return session.sent, session.answered
+
+
 def chosen(names):
-    """The stored sessions with these names; the worked rows without names; all of them with the name `all`."""
+    """The sessions with these names, stored or random ones; the worked rows without names; all stored ones with the name `all`, and with the
+    name `others` all but the worked rows."""
     if not names:
         return worked()
     sessions = stored()
-    return sessions if names == ["all"] else {name: sessions[name] for name in names}
+    if names == ["all"]:
+        return sessions
+    if names == ["others"]:
+        return {name: session for name, session in sessions.items() if name not in WORKED}
+    return {name: made(name) if ":" in name else sessions[name] for name in names}

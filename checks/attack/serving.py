@@ -1,6 +1,6 @@
 """Runs stored sessions on a built `gorefd serve` with each allocation refused in turn:
 
-    python3 -m checks.attack.serving PROGRAM [SESSION.. | all]
+    python3 -m checks.attack.serving PROGRAM [SESSION.. | others | all]
 
 Without names of sessions it tries the worked rows. First a server is started with each allocation refused that its start makes. Then a server
 with one worker serves the session, and another session beside it. At each command the first allocation is refused, in the next run the second,

@@ -1,6 +1,6 @@
 """Compares the model's two ways to find conflicts, on random renames and moves, and the objects of packages before and after renames.
 
-    python3 -m checks.compare.agreement [SECONDS [SEED]]
+    python3 -m checks.compare.agreement [SECONDS [SEED [interfaces]]]
     python3 -m checks.compare.agreement objects PROGRAM [RENAMES [SEED]]
 
 It gives each declaration many new names and moves packages, in generated workspaces and in those of the stored sessions. Three answers
@@ -8,6 +8,9 @@ have to agree on each edit: whether the edited workspace keeps all bindings and 
 workspace; the first conflict, by the scopes before the change alone. The identifier that a conflict names has to be bound otherwise in
 the edited workspace, wherever that can be found out. Of a rename without a conflict it also compares the objects before and after.
 It prints a disagreement with a workspace that is as small as possible, and ends with status 1.
+
+With the word `interfaces` the workspaces have interface types. Then a rename may also change which types implement one, and all ways to
+find that out have to agree.
 
 With the word `objects` it makes RENAMES renames without a conflict (500) by a built program, each in a workspace whose packages are built,
 and of each workspace one of each kind of declaration at most.
@@ -22,13 +25,14 @@ import subprocess
 import sys
 import time
 
-from checks.generate import changes, sessions, shadows
+from checks.generate import changes, interfaces, sessions, shadows
 from checks.generate.sessions import Talk
-from checks.model.conflicts import first_conflict, is_moved, is_preserved
-from checks.model.identifiers import Identifiers, place_of
+from checks.model.conflicts import first_obstacle, implementing_places, is_moved, is_preserved
+from checks.model.identifiers import Identifiers, in_order, place_of
+from checks.model.implementing import Coupled, definitions_of, renamed_set
 from checks.model.moves import following_imports, move_edits
 from checks.model.objects import object_of
-from checks.model.old_scopes import conflict_of, conflict_of_move
+from checks.model.old_scopes import conflict_of_move, obstacle_of
 from checks.model.renames import is_renamable, may_be_called, rename_edits
 from checks.model.workspace import Workspace
 
@@ -55,21 +59,34 @@ class Edit:
         if self.way == "rename":
             declaration = next(d for d in renamable(self.identifiers) if place_of(d) == self.argument)
             edits = rename_edits(self.workspace, self.texts, declaration, self.name)
-            again = first_conflict(self.identifiers, self.texts, edits, declaration, self.name)
-            old = conflict_of(self.identifiers, declaration, self.name)
+            renamed = renamed_set(definitions_of(self.workspace), declaration)
+            again = first_obstacle(self.identifiers, self.texts, edits, renamed, self.name)
+            old = obstacle_of(self.identifiers, declaration, self.name)
         else:
             edits = move_edits(self.workspace, self.texts, self.argument, self.name)
-            again = first_conflict(self.identifiers, self.texts, edits)
+            again = first_obstacle(self.identifiers, self.texts, edits)
             imports, name = following_imports(self.workspace, self.argument, self.name)
             old = conflict_of_move(self.identifiers, imports, name)
         self.edits = edits
-        self.edited = Workspace(edits.edited(self.texts))
+        self.edited = self.workspace.of(edits.edited(self.texts))
         return is_preserved(self.identifiers, self.edited, edits), again, old
 
     def is_agreed(self):
         preserved, again, old = self.judged()
         self.conflict = again
-        return preserved == (again is None) and again == old and (again is None or self.is_bound_otherwise(again.place))
+        if preserved != (again is None) or again != old:
+            return False
+        if isinstance(again, Coupled):
+            return self.is_first_changed(again.place)
+        return again is None or self.is_bound_otherwise(again.place)
+
+    def is_first_changed(self, place):
+        """Whether an interface is the first whose implementing types are others in the edited workspace, or not all is told there."""
+        if any(package.checker is None or not hasattr(package.checker, "wrapped") for package in self.edited.packages.values()):
+            return True
+        before = {(self.edits.moved(t), pointer, self.edits.moved(i)) for t, pointer, i in implementing_places(self.workspace)}
+        changed = {triple[2] for triple in before ^ implementing_places(self.edited)}
+        return bool(changed) and min(changed, key=in_order) == self.edits.moved(place)
 
     def is_bound_otherwise(self, place):
         """Whether what the edited workspace tells of an identifier isn't the binding that it had, or nothing is told."""
@@ -86,9 +103,9 @@ def renamable(identifiers):
     return list(found.values())
 
 
-def edits_of(generator, texts, count):
+def edits_of(generator, texts, count, interfaces=False):
     """Some renames and moves of a workspace; none where it has a fault."""
-    workspace = Workspace(texts)
+    workspace = Workspace(texts, interfaces)
     if workspace.faults():
         return
     identifiers = Identifiers(workspace)
@@ -118,11 +135,10 @@ def renamed_object(text, edit):
     if declaration.kind in ("var", "type", "func"):
         return re.sub(rf"(?<![\w/~+.-]){re.escape(old)}(?![\w])", f"{declaration.package}#{edit.name}", text)
     if declaration.kind == "method":
-        owner = next(d for _, d in edit.identifiers.types if declaration in d.methods)
-        symbol = f"{owner.package}#{owner.name}#"
-        return re.sub(
-            rf"(?<![\w/~+.-]){re.escape(symbol + declaration.name)}(?![\w])", symbol + edit.name, text
-        )
+        for method in renamed_set(definitions_of(edit.workspace), declaration):
+            owner = next(d for _, d in edit.identifiers.types if method in d.methods + d.asked)
+            symbol = f"{owner.package}#{owner.name}#"
+            text = re.sub(rf"(?<![\w/~+.-]){re.escape(symbol + method.name)}(?![\w])", symbol + edit.name, text)
     return text
 
 
@@ -144,10 +160,10 @@ def smaller(texts):
                 yield {**texts, path: b"\n".join(lines[:at] + lines[at + length :])}
 
 
-def shows_disagreement(texts):
+def shows_disagreement(texts, interfaces):
     """An edit of a workspace about which there is disagreement, or None."""
     try:
-        return next((e for e in edits_of(random.Random(0), texts, 400) if not e.is_agreed()), None)
+        return next((e for e in edits_of(random.Random(0), texts, 400, interfaces) if not e.is_agreed()), None)
     except (KeyError, AttributeError):
         return None
 
@@ -158,7 +174,7 @@ def smallest(edit):
     while again:
         again = False
         for texts in smaller(edit.texts):
-            other = shows_disagreement(texts)
+            other = shows_disagreement(texts, edit.workspace.interfaces)
             if other is not None:
                 edit, again = other, True
                 break
@@ -186,19 +202,27 @@ def workspaces(generator):
         yield generated(generator)
 
 
-def run(seconds, seed):
+def interface_workspaces(generator):
+    """Workspaces without end, of types that implement interfaces or nearly do."""
+    while True:
+        yield interfaces.implementing(generator)
+
+
+def run(seconds, seed, with_interfaces=False):
     generator = random.Random(seed)
     began = time.monotonic()
-    counts = {"workspaces": 0, "renames": 0, "moves": 0, "conflicts": 0, "captured": 0, "by the universe": 0}
-    for texts in workspaces(generator):
+    counts = {"workspaces": 0, "renames": 0, "moves": 0, "conflicts": 0, "captured": 0, "by the universe": 0, "coupled": 0}
+    for texts in interface_workspaces(generator) if with_interfaces else workspaces(generator):
         counts["workspaces"] += 1
-        for edit in edits_of(generator, texts, 60):
+        for edit in edits_of(generator, texts, 60, with_interfaces):
             if not edit.is_agreed():
                 return edit, counts
             counts[edit.way + "s"] += 1
             counts["conflicts"] += edit.conflict is not None
-            counts["captured"] += edit.conflict is not None and edit.conflict.by is not None
-            counts["by the universe"] += edit.conflict is not None and edit.conflict.by == "universe"
+            by = getattr(edit.conflict, "by", None)
+            counts["captured"] += by is not None
+            counts["by the universe"] += by == "universe"
+            counts["coupled"] += isinstance(edit.conflict, Coupled)
             if edit.conflict is None and edit.way == "rename" and not keeps_objects(edit):
                 return edit, counts
         if time.monotonic() - began > seconds:
@@ -293,7 +317,7 @@ def main():
         return main_objects(*sys.argv[2:])
     seconds = int(sys.argv[1]) if len(sys.argv) > 1 else 60
     seed = int(sys.argv[2]) if len(sys.argv) > 2 else 0
-    edit, counts = run(seconds, seed)
+    edit, counts = run(seconds, seed, "interfaces" in sys.argv[3:])
     print(", ".join(f"{count} {what}" for what, count in counts.items()))
     if edit is None:
         return

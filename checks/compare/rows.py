@@ -167,6 +167,108 @@ ROWS = {
     ],
 }
 
+I = put(
+    0,
+    "a/a.go",
+    138,
+    "package a\n\ntype I interface {\n\tM() int\n}\n\ntype T struct {\n\tx int\n}\n\nfunc (t T) M() int {\n\treturn t.x\n}\n\n"
+    "func F(i I) int {\n\treturn i.M()\n}\n",
+)
+PI = put(0, "p/p.go", 36, "package p\n\ntype I interface { M() }\n")
+
+# of a subset with interface types, which no built program has yet
+INTERFACE_ROWS = {
+    "one method of a coupled set, all of it, and its undo": [
+        I,
+        ask("rename 1 a/a.go:#79 N", "no 25 11", "a/a.go:#16\n"),
+        ask("rename 1 a/a.go:#31 x", "no 15 11", "a/a.go:#79\n"),
+        ask("rename 1 a/a.go:#31 N", "ok 2 0"),
+        ask("cat a/a.go", "ok 2 138", I[0].split("\n", 1)[1].replace("M()", "N()")),
+        ask("uses a/a.go:#31", "ok 2 23", "a/a.go:#31\na/a.go:#132\n"),
+        ask("undo 2", "ok 1 0"),
+    ],
+    "an interface in an object": [
+        I,
+        ask("work", "ok 1 2", "a\n"),
+        ask(
+            "object a",
+            "ok 1 175",
+            "object a a\ntype a#I interface{a#I#M()(int)}\ntype a#T struct{int}\nfunc a#T#M (a#T) (int) 1 4\nlocal 0\nfield 0\nret 1\n"
+            "end\nfunc a#F (a#I) (int) 1 4\nlocal 0\nicall a#I#M 1\nret 1\nend\n",
+        ),
+    ],
+    "another type would implement the interface": [
+        put(0, "a/a.go", 184, I[0].split("\n", 1)[1] + "\ntype U int\n\nfunc (u U) N() int {\n\treturn 1\n}\n"),
+        ask("rename 1 a/a.go:#31 N", "no 25 11", "a/a.go:#16\n"),
+    ],
+    "a definition by an interface is the first that is named": [
+        put(0, "a/a.go", 78, "package a\n\ntype J I\n\ntype I interface { M() }\n\ntype T int\n\nfunc (t T) M() {\n}\n"),
+        ask("rename 1 a/a.go:#70 N", "no 25 11", "a/a.go:#16\n"),
+        ask("rename 1 a/a.go:#40 N", "ok 2 0"),
+        ask("uses a/a.go:#40", "ok 2 11", "a/a.go:#40\n"),
+        ask("uses a/a.go:#70", "ok 2 11", "a/a.go:#70\n"),
+    ],
+    "a parameter of a method of an interface twice": [
+        put(0, "a/a.go", 50, "package a\n\ntype I interface {\n\tM(x, x int)\n\tM()\n}\n"),
+        ask("faults", "ok 1 20", "a/a.go:#36 repeated\n"),
+    ],
+    "a method of an interface twice": [
+        put(0, "a/a.go", 67, "package a\n\ntype I interface {\n\tM(x int)\n\tM()\n}\n\nfunc (i I) N() {\n}\n"),
+        ask("faults", "ok 1 20", "a/a.go:#41 repeated\n"),
+    ],
+    "an interface as receiver, and a parameter that is called like its type": [
+        put(0, "a/a.go", 78, "package a\n\ntype I interface {\n\tM(int int) T\n}\n\ntype T int\n\nfunc (i I) N() {\n}\n"),
+        ask("faults", "ok 1 16", "a/a.go:#67 type\n"),
+    ],
+    "one of several results enters no interface": [
+        put(
+            0,
+            "a/a.go",
+            99,
+            "package a\n\ntype E interface{}\n\nfunc f() (E, int) {\n\treturn 1, 2\n}\n\nfunc F() (E, E) {\n\treturn f()\n}\n",
+        ),
+        ask("faults", "ok 1 16", "a/a.go:#93 type\n"),
+    ],
+    "packages that do not import each other": [
+        PI,
+        put(1, "q/q.go", 42, "package q\n\ntype T int\n\nfunc (t T) M() {\n}\n"),
+        ask("rename 2 p/p.go:#30 N", "ok 3 0"),
+        ask("cat q/q.go", "ok 3 42", "package q\n\ntype T int\n\nfunc (t T) N() {\n}\n"),
+        ask("rename 3 p/p.go:#30 n", "no 25 11", "p/p.go:#16\n"),
+    ],
+    "a type of a package with a fault": [
+        PI,
+        put(1, "q/q.go", 52, "package q\n\ntype T int\n\nfunc (t T) M() {\n\treturn 1\n}\n"),
+        ask("rename 2 p/p.go:#30 N", "ok 3 0"),
+        ask("cat q/q.go", "ok 3 52", "package q\n\ntype T int\n\nfunc (t T) M() {\n\treturn 1\n}\n"),
+    ],
+    "what a value enters an interface as": [
+        put(
+            0,
+            "a/a.go",
+            271,
+            "package a\n\ntype E interface{}\n\ntype I interface { M(x int) (int, string); n() }\n\ntype T int\n\n"
+            'func (t *T) M(x int) (int, string) {\n\treturn x, "s"\n}\n\nfunc (t T) n() {\n}\n\nvar G E = 1\n\n'
+            'func F(t *T, e E) E {\n\tvar i I = t\n\ti.M(1)\n\te = "s"\n\te = I(t)\n\te = E(1 < 2)\n\treturn nil\n}\n',
+        ),
+        ask("work", "ok 1 2", "a\n"),
+        ask(
+            "object a",
+            "ok 1 442",
+            "object a a\ntype a#E interface{}\ntype a#I interface{a#I#M(int)(int,string);a#I#n()()}\ntype a#T int\n"
+            "func a#T#M (*a#T,int) (int,string) 2 4\nlocal 1\nstr x73\nret 2\nend\nfunc a#T#n (a#T) () 1 1\nend\nvar a#G a#E 1\n"
+            "func a#F (*a#T,a#E) (a#E) 3 25\nlocal 0\niface *a#T\nset 2\nlocal 2\nint 1\nicall a#I#M 2\npop\npop\naddrlocal 1\n"
+            "str x73\niface string\nassign 1\naddrlocal 1\nlocal 0\niface *a#T\nassign 1\naddrlocal 1\nint 1\nint 2\nop <\n"
+            "iface bool\nassign 1\nnil\nret 1\nend\n",
+        ),
+    ],
+}
+
+
+def whole(rows):
+    """Each row by its name, as sent and answered."""
+    return [(name, "".join(r[0] for r in row).encode(), "".join(r[1] for r in row).encode()) for name, row in rows.items()]
+
 
 def sessions_of(folder):
     """The sessions of a folder that rename or move, each as sent and answered."""
@@ -177,9 +279,11 @@ def sessions_of(folder):
 
 
 def main():
-    rows = [(name, "".join(r[0] for r in row).encode(), "".join(r[1] for r in row).encode()) for name, row in ROWS.items()]
+    rows = whole(ROWS)
     rows += [session for folder in sys.argv[1:] for session in sessions_of(folder)]
     wrong = [name for name, sent, answered in rows if replies(sent) != answered]
+    rows += whole(INTERFACE_ROWS)
+    wrong += [name for name, sent, answered in whole(INTERFACE_ROWS) if replies(sent, interfaces=True) != answered]
     for name in wrong:
         print(f"{name}: the model answers otherwise")
     print(f"{len(rows)} rows, {len(wrong)} differ")

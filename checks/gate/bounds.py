@@ -18,19 +18,21 @@ import copy
 import re
 import sys
 
-from checks import TOP
+from checks import TOP, crate_of
 from checks.gate.memory import OWNER, code_of
 
-# the lines on which a great number stands: limits, the greatest integers and characters of Go, a stack, and an end behind all tokens
+# the lines on which a great number stands: limits, the greatest integers and characters of Go, a stack, an end behind all tokens,
+# and the greatest offset that a kept token has room for
 GREAT = {
     "base_files/src/limits.rt": {"file_bytes: 1_048_576,", "total_bytes: 67_108_864,", "journal: 1_000_000,", "reads: 1_000_000_000,"},
     "go_respelled/src/moved.rt": {"None => usize::MAX,"},
+    "go_scanner/src/compact_piece.rt": {"if offset > u32::MAX as usize {"},
     "go_scanner/src/integers.rt": {"if sum < 1 << 63 { Some(sum) } else { None }"},
     "go_scanner/src/strings.rt": {"Some(number) => number < 0xD800 || (0xDFFF < number && number < 0x110000),"},
     "lsp_frames/src/frames.rt": {"pub(crate) const LARGEST_BODY: usize = 8_388_608;"},
     "server_socket/src/threads.rt": {"const STACK_BYTES: usize = 8_388_608;"},
-    "server_words/src/command_line.rt": {'number_option(alloc, "stop-after", "K", 1_000_000).help('},
-    "server_words/src/requests.rt": {'Some(_) => Some(Some(number(matches, "stop-after", 1_000_000)?)),'},
+    "server_words/src/command_line.rt": {'number_option(alloc, "stop-after", "K", 1_000_000).help(', 'number_option(alloc, "idle", "SECONDS", 1_000_000).help('},
+    "server_words/src/requests.rt": {"Some(_) => Some(Some(number(matches, option, 1_000_000)?)),"},
 }
 LOOP = re.compile(r"^\s*(?:'\w+: )?(?:for\b.*\.\..*|while\b.*)")
 MADE_GREAT = re.compile(r"\bMAX\b|\bmax_value\b|<<|\bpow\b|(?<![!=<>])!0\b|\d{3}\s*\*|\*\s*\d{3}")
@@ -240,18 +242,18 @@ def bounded_in(crates):
 
 def main():
     root = TOP / "crates"
-    files = {path: path.read_text() for path in sorted(root.glob("*/src/**/*.rt")) if not path.parts[-3].endswith("_tests")}
-    parts = {path: [*functions(path.parts[-3], text)] for path, text in files.items()}
+    files = {path: path.read_text() for path in sorted(root.glob("*/src/**/*.rt")) if not crate_of(path).endswith("_tests")}
+    parts = {path: [*functions(crate_of(path), text)] for path, text in files.items()}
     every = [function for pairs in parts.values() for _, function in pairs]
     crates = {}
     for path, pairs in parts.items():
-        crates.setdefault(path.parts[-3], []).extend(function for _, function in pairs)
+        crates.setdefault(crate_of(path), []).extend(function for _, function in pairs)
     makers = makers_of([one for own in crates.values() for one in own])
     bounded = bounded_in(crates)
     constants = {name: is_sum(value, {}) for text in files.values() for name, value in CONSTANT.findall(text)}
     found = 0
     for path, text in files.items():
-        lines, crate = text.splitlines(), path.parts[-3]
+        lines, crate = text.splitlines(), crate_of(path)
         code, known = code_of(text), GREAT.get(str(path.relative_to(root)), set())
         wrong = {number: "a great number" for number, line in enumerate(code) if is_great(line) and line.strip() not in known}
         wrong |= {number: "a loop up to a great number" for number, line in enumerate(code) if is_endless(line, constants)}

@@ -9,6 +9,7 @@ Want of memory is `AllocError`, a variant `Memory` (as `Refusal::Memory`) or `No
 - in the arm `Err(_)` of a match on a call that fails for want of memory alone, or on what a function is given of such a call, as its
   type tells, or by `map_err` behind such a call,
 - where a thread of `server_socket` could not be made (`if !are_made`), for which a server has no other fault,
+- for an offset of 2^32 or more, for which a kept token has no room (`go_scanner`),
 - for a sum of lengths that passes what can be addressed (`checked_add(..).ok_or(AllocError)`), as the library does where it grows.
 
 No `use` brings in such a variant by its own name or by `*`, and none gives `AllocError` another.
@@ -20,13 +21,15 @@ It ends with status 1 where it lists a place.
 import re
 import sys
 
-from checks import TOP
+from checks import TOP, crate_of
 
 WANT = re.compile(r"\b(?:\w+::(?:Memory|NoRoom)|AllocError)\b|\bAllocFailed(?:::<.*>)? \{")
 BROUGHT = re.compile(r"\buse\b.*(?:::|\{|, )(?:Memory|NoRoom|JournalFull|\*)|\b(?:AllocError|AllocFailed) as\b")
 FULL = re.compile(r"\b\w+::JournalFull\b")
 ASKED = re.compile(r"if !\w+(\.\w+)*\.has_room\(.*\) \{$")
 REFUSED = r"From<Alloc(?:Error|Failed)\b"
+# conditions that are a want of memory, each with its crate
+CAUSES = {"if !are_made {": "server_socket", "if offset > u32::MAX as usize {": "go_scanner"}
 # calls of the standard library that fail for want of memory alone
 STANDARD = {"BufReader::new", "BufWriter::new", "clone", "collect", "vec"}
 OWNER = re.compile(r"(?:impl(?:<.*?>)?|trait)\s+(?:\S+ for )?(\w+)")
@@ -53,7 +56,7 @@ def answers_of(files):
             owner = OWNER.match(block)
             for name, answer in SIGNATURE.findall(block):
                 key = f"{owner[1]}::{name}" if owner else name
-                answers.setdefault(key, {}).setdefault(path.parts[-3], set()).add(" ".join(answer.split()))
+                answers.setdefault(key, {}).setdefault(crate_of(path), set()).add(" ".join(answer.split()))
     return answers
 
 
@@ -94,7 +97,7 @@ def is_sound(lines, number, crate, answers):
     is_failed = False
     for line in around(lines, number):
         pattern = line.partition("=>")[0].strip() if "=>" in line else ""
-        if WANT.search(pattern) or "ErrorKind::OutOfMemory" in pattern or line == "if !are_made {" and crate == "server_socket":
+        if WANT.search(pattern) or "ErrorKind::OutOfMemory" in pattern or CAUSES.get(line) == crate:
             return True
         is_failed = is_failed or pattern in ("Err(_)", "Err(_e)")
         if is_failed and "match " in line:
@@ -123,7 +126,7 @@ def makes(line, what):
 
 def main():
     root = TOP / "crates"
-    files = {path: path.read_text() for path in sorted(root.glob("*/src/**/*.rt")) if not path.parts[-3].endswith("_tests")}
+    files = {path: path.read_text() for path in sorted(root.glob("*/src/**/*.rt")) if not crate_of(path).endswith("_tests")}
     answers, found, places = answers_of(files), 0, 0
     for path, text in files.items():
         lines = code_of(text)
@@ -134,7 +137,7 @@ def main():
         for number, line in enumerate(lines):
             if makes(line, WANT):
                 places += 1
-                wrong = not is_sound(lines, number, path.parts[-3], answers)
+                wrong = not is_sound(lines, number, crate_of(path), answers)
             elif makes(line, FULL):
                 places += 1
                 wrong = not is_asked(lines, number)

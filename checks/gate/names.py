@@ -6,12 +6,12 @@
 
 Prints each that is found, and ends with status 1 if there is one. The gate begins with it.
 """
-import pathlib
 import re
 import sys
 from collections import defaultdict
 
-TOP = pathlib.Path(__file__).resolve().parents[2]
+from checks import TOP, crate_of
+
 MOST_WORDS = 25
 SAME_IDEA = "one idea for several types, each in its own crate"
 VIEW = "a type and the definition that contracts see it as"
@@ -105,7 +105,7 @@ def modules_of_one_headline():
             found[path.name, headline].append(path)
     for (name, headline), paths in found.items():
         if len(paths) > 1:
-            yield f"{name}: {headline}: {', '.join(path.parts[-3] for path in paths)}"
+            yield f"{name}: {headline}: {', '.join(crate_of(path) for path in paths)}"
 
 
 def comments(text):

@@ -1,10 +1,11 @@
 """The checker of one package: types of expressions, and the stages of faults behind the imports.
 
 Types are tuples: ('bool',), ('int',), ('string',), ('named', declaration), ('pointer', type), ('slice', type), and
-('struct', declaration) for an underlying type alone.
+('struct', declaration) and ('interface', declaration) for underlying types alone. So two interface types are identical only where they
+are the same interface of the source, as two structs are.
 """
 
-from checks.model.scopes import BASIC, BOOL, INT, STRING, VALUES, Scopes
+from checks.model.scopes import BASIC, BOOL, INT, STRING, VALUES, Scopes, asked_methods, written_types
 
 
 class Operand:
@@ -35,12 +36,15 @@ class Checker(Scopes):
 
     def types(self):
         self.broken_types = self.least_broken()
+        self.wrapped = {}
         for node in self.type_nodes():
             for part in node.parts:
                 typ = self.type_of(part.typ)
                 for field in node.declarations[0].fields:
                     if field.node is part:
                         field.type = typ
+            for method in asked_methods(node):
+                self.check_signature(method)
             if node.typ is not None:
                 node.declarations[0].type = self.type_of(node.typ)
         for self.file in self.package.files:
@@ -61,7 +65,7 @@ class Checker(Scopes):
             more = {
                 node.declarations[0]
                 for _, node in nodes
-                for part in ([p.typ for p in node.parts] if node.flag else [node.typ])
+                for part in written_types(node)
                 if self.type_is_broken(part, broken)
             }
             if more == broken:
@@ -107,6 +111,8 @@ class Checker(Scopes):
             declaration = typ[1]
             if declaration.node.flag:
                 return ("struct", declaration)
+            if declaration.node.body is not None:
+                return ("interface", declaration)
             typ = declaration.type
         return typ
 
@@ -128,22 +134,26 @@ class Checker(Scopes):
         declaration = node.declaration
         if node.typ is not None:
             declaration.receiver = self.receiver(node.typ)
+        self.check_signature(node)
+        if node.typ is None and node.name.text == "init" and (node.parts or node.other):
+            self.fault(node.name, "type")
+
+    def check_signature(self, node):
+        declaration = node.declaration
         declaration.params = []
         for param in node.parts:
             typ = self.type_of(param.typ)
             declaration.params += [typ] * len(param.parts)
         declaration.results = [self.type_of(result) for result in node.other]
         declaration.broken = None in declaration.params or None in declaration.results
-        if node.typ is None and node.name.text == "init" and (node.parts or node.other):
-            self.fault(node.name, "type")
 
     def receiver(self, node):
-        """The receiver's type, None where it is broken."""
+        """The receiver's type, None where it is broken. Its underlying type is neither a pointer nor an interface."""
         typ = self.named_type(node.at)
         if typ is None:
             return None
         own = typ[0] == "named" and typ[1].package == self.package.path
-        if not own or self.underlying(typ)[0] == "pointer":
+        if not own or self.underlying(typ)[0] in ("pointer", "interface"):
             self.fault(node.at, "type")
             return None
         return ("pointer", typ) if node.flag else typ
@@ -238,9 +248,21 @@ class Checker(Scopes):
             if kind is None or want is None:
                 continue
             fits = kind != ("nil",) if want == "any" else self.fits(kind, want)
+            if fits and want != "any" and self.is_interface(want):
+                fits = self.enters(node, kind)
             if not fits and id(node) not in refused:
                 refused.add(id(node))
                 self.fault(self.place(node), "type")
+
+    def enters(self, node, kind):
+        """Whether a value that fits an interface may stand there, and keeps as which type it enters the interface. A result of a call
+        of several results may only where its own type is an interface. Nil and values of interfaces enter as they are."""
+        if kind == ("nil",) or self.is_interface(kind[1]):
+            return True
+        if self.operands[id(node)].mode == "results":
+            return False
+        self.wrapped[id(node)] = kind[1]
+        return True
 
     def local_spec(self, spec):
         typ = None if spec.typ is None else self.type_of(spec.typ)
@@ -481,6 +503,10 @@ class Checker(Scopes):
             for field in under[1].fields:
                 if self.same_name(name, self.package.path, field):
                     return field
+        # an interface has its methods, a pointer to one has none
+        for method in self.asked(typ):
+            if self.same_name(name, self.package.path, method):
+                return method
         base = typ[1] if typ[0] == "pointer" else typ
         if base[0] == "named":
             for method in base[1].methods:
@@ -517,6 +543,8 @@ class Checker(Scopes):
             if len(values) != 1 or not self.converts(values[0][1], callee.type):
                 self.fault(node.first, "type")
                 return BROKEN
+            if self.is_interface(callee.type):
+                self.enters(*values[0])
             return typed(callee.type)
         function = callee.declaration
         if len(values) != len(function.params):
@@ -620,13 +648,45 @@ class Checker(Scopes):
             return self.underlying(kind[1]) == basic
         return kind == ("untyped", basic)
 
+    def is_interface(self, typ):
+        return self.underlying(typ)[0] == "interface"
+
+    def asked(self, typ):
+        """The methods of an interface type, none of another."""
+        under = self.underlying(typ)
+        return under[1].asked if under[0] == "interface" else []
+
+    def method_set(self, typ):
+        """That of T has the methods with receiver T; that of `*T` has these and those with receiver `*T`; that of an interface has its
+        methods."""
+        if self.is_interface(typ):
+            return self.asked(typ)
+        base = typ[1] if typ[0] == "pointer" else typ
+        if base[0] != "named" or self.is_interface(base):
+            return []
+        return [method for method in base[1].methods if typ[0] == "pointer" or not method.on_pointer]
+
+    def implements(self, typ, interface):
+        """Whether a type's method set holds each method of an interface, with the same name and identical parameter and result
+        types. No type is identical to what is broken."""
+        return all(any(self.is_as_asked(has, asked) for has in self.method_set(typ)) for asked in self.asked(interface))
+
+    def is_as_asked(self, has, asked):
+        if not self.same_name(asked.name, asked.package, has) or has.broken:
+            return False
+        return has.params == asked.params and has.results == asked.results
+
     def fits(self, kind, typ):
+        """A value fits an interface that its type implements, nil fits any, and an untyped int, string or bool fits one without
+        methods, as its default."""
         under = self.underlying(typ)
         if kind[0] == "nil":
-            return under[0] in ("pointer", "slice")
+            return under[0] in ("pointer", "slice", "interface")
         if kind[0] == "untyped":
-            return under == kind[1]
+            return under == kind[1] or under[0] == "interface" and not under[1].asked
         own = kind[1]
+        if under[0] == "interface" and self.implements(own, typ):
+            return True
         unnamed = own[0] in ("pointer", "slice") or typ[0] in ("pointer", "slice")
         return own == typ or unnamed and self.underlying(own) == under
 
@@ -660,6 +720,6 @@ class Checker(Scopes):
         basic = is_int or is_string or self.is_class(kind, BOOL)
         under = self.underlying(kind[1])[0] if kind[0] == "typed" else None
         with_nil = left[0] == "nil" or right[0] == "nil"
-        if basic or under == "pointer" or under == "slice" and with_nil:
+        if basic or under == "pointer" or under in ("slice", "interface") and with_nil:
             return boolean
         return None

@@ -1,16 +1,17 @@
 """What an edit of a workspace without faults does to its bindings, by resolving the edited workspace again.
 
-`is_preserved` asks whether the edited workspace has no fault and each identifier is bound there as before.
-`first_conflict` judges each identifier alone, and finds the first that would be lost or captured.
+`is_preserved` asks whether the edited workspace has no fault, each identifier is bound there as before, and each type implements the
+interfaces that it did. `first_conflict` judges each identifier alone, and finds the first that would be lost or captured.
+`first_obstacle` is that, or else the first interface whose implementing types would change.
 """
 
 from collections import namedtuple
 
 from checks.model.identifiers import LEXICAL, Identifiers, place_of
+from checks.model.implementing import Coupled, definitions_of, first_changed
 from checks.model.members import Members
 from checks.model.refusals import Refusal
 from checks.model.scopes import Scopes, is_exported
-from checks.model.workspace import Workspace
 
 # the place of an identifier; by what it is captured: a place, "universe", or None where it is lost
 Conflict = namedtuple("Conflict", "place by")
@@ -38,11 +39,29 @@ def is_moved(old, new, edits):
 
 
 def is_preserved(identifiers, edited, edits):
-    """Whether the edited workspace has no fault, and all bindings of the old one."""
+    """Whether the edited workspace has no fault, all bindings of the old one, and its types implement the interfaces that they did."""
     if edited.faults():
         return False
     told = {(b[0], b[1]): b[3] for b in edited.bindings() if b[4]}
-    return all(is_moved(i.declaration, told[edits.moved(i.place)], edits) for i in identifiers.all)
+    if not all(is_moved(i.declaration, told[edits.moved(i.place)], edits) for i in identifiers.all):
+        return False
+    before = {(edits.moved(t), pointer, edits.moved(i)) for t, pointer, i in implementing_places(identifiers.workspace)}
+    return before == implementing_places(edited)
+
+
+def implementing_places(workspace):
+    """For each type and each interface that it implements their places, by the rules of the checker."""
+    definitions = definitions_of(workspace)
+    found = set()
+    for one in definitions:
+        checker = workspace.packages[one.package].checker
+        for interface in definitions:
+            if not checker.is_interface(("named", interface)):
+                continue
+            for pointer, typ in ((False, ("named", one)), (True, ("pointer", ("named", one)))):
+                if checker.implements(typ, ("named", interface)):
+                    found.add((place_of(one), pointer, place_of(interface)))
+    return found
 
 
 class Judge:
@@ -50,15 +69,15 @@ class Judge:
 
     def __init__(self, identifiers, texts, edits, renamed, name):
         self.edits = edits
-        self.renamed = renamed
+        self.renamed = frozenset(renamed)
         self.name = name
         self.members = Members(renamed, name)
         self.old_places = {edits.moved(place): place for place in map(place_of, identifiers.scopes)}
-        edited = Workspace(edits.edited(texts))
+        edited = identifiers.workspace.of(edits.edited(texts))
         self.tables = {path: Tables(package, edited.packages) for path, package in edited.packages.items()}
 
     def name_of(self, identifier):
-        return self.name if identifier.declaration is self.renamed else identifier.name
+        return self.name if identifier.declaration in self.renamed else identifier.name
 
     def table_of(self, file):
         """The scopes of the package in which a file of the old workspace stands behind the edits."""
@@ -78,8 +97,8 @@ class Judge:
 
     def member_counts(self, identifier):
         definition = identifier.before[1]
-        if identifier.declaration.kind == "field":
-            return identifier.declaration in self.members.counting_fields(definition)
+        if identifier.declaration in definition.fields + definition.asked:
+            return identifier.declaration in self.members.counting_written(definition)
         return identifier.declaration in self.members.counting_methods(definition)
 
     def conflict_at(self, identifier):
@@ -101,7 +120,7 @@ class Judge:
         return self.old_places[place_of(new)]
 
 
-def first_conflict(identifiers, texts, edits, renamed=None, name=None):
+def first_conflict(identifiers, texts, edits, renamed=(), name=None):
     """The first identifier by path and offset that is lost or captured, or None."""
     judge = Judge(identifiers, texts, edits, renamed, name)
     for identifier in identifiers.all:
@@ -112,20 +131,29 @@ def first_conflict(identifiers, texts, edits, renamed=None, name=None):
     return None
 
 
-def conflict_of_edits(workspace, texts, edits, renamed=None, name=None):
-    """The conflict of the edits, None exactly where bindings are preserved."""
-    identifiers = Identifiers(workspace)
+def first_obstacle(identifiers, texts, edits, renamed=(), name=None):
+    """The first conflict; where no identifier is lost or captured, the first interface whose implementing types would change."""
     conflict = first_conflict(identifiers, texts, edits, renamed, name)
-    if conflict is None and not is_preserved(identifiers, Workspace(edits.edited(texts)), edits):
+    return conflict or first_changed(definitions_of(identifiers.workspace), renamed, name)
+
+
+def obstacle_of_edits(workspace, texts, edits, renamed=(), name=None):
+    """The obstacle of the edits, None exactly where bindings and implementing types are preserved."""
+    identifiers = Identifiers(workspace)
+    obstacle = first_obstacle(identifiers, texts, edits, renamed, name)
+    if obstacle is None and not is_preserved(identifiers, workspace.of(edits.edited(texts)), edits):
         return Conflict(identifiers.all[0].place, None)
-    return conflict
+    return obstacle
 
 
-def conflict_line(conflict):
-    by = "" if conflict.by is None else " by universe" if conflict.by == "universe" else " by %s:#%d" % conflict.by
-    return "%s:#%d" % conflict.place + by + "\n"
+def obstacle_line(obstacle):
+    by = getattr(obstacle, "by", None)
+    behind = "" if by is None else " by universe" if by == "universe" else " by %s:#%d" % by
+    return "%s:#%d" % obstacle.place + behind + "\n"
 
 
-def refuse_conflict(conflict):
-    if conflict is not None:
-        raise Refusal(15 if conflict.by is None else 14, conflict_line(conflict))
+def refuse_obstacle(obstacle):
+    if isinstance(obstacle, Coupled):
+        raise Refusal(25, obstacle_line(obstacle))
+    if obstacle is not None:
+        raise Refusal(15 if obstacle.by is None else 14, obstacle_line(obstacle))

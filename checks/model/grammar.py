@@ -2,6 +2,8 @@
 
 An Earley recogniser finds after each token whether some file begins with the tokens so far. Productions whose names end in H are those between
 `if` or `for` and the block, outside any brackets, where no literal begins with a name.
+
+WITH_INTERFACES is the grammar with interface types, which no built program has yet.
 """
 
 GRAMMAR = {}
@@ -94,68 +96,88 @@ rule("MaybeSimple", "", "SimpleH")
 rule("MaybeExpr", "", "ExprH")
 rule("MaybePost", "", "PostH")
 
-PRODUCTIONS = [(name, body) for name, bodies in GRAMMAR.items() for body in bodies]
-OF_NAME = {}
-for number, (name, _) in enumerate(PRODUCTIONS):
-    OF_NAME.setdefault(name, []).append(number)
+# A definition of an interface writes its methods, each with named parameters, and nothing else.
+WITH_INTERFACES = {
+    **GRAMMAR,
+    "TypeDef": [
+        *GRAMMAR["TypeDef"],
+        *[tuple(f"name interface {{ {methods} }}".split()) for methods in ("", "Methods", "Methods ;")],
+    ],
+    "Methods": [("Method",), ("Methods", ";", "Method")],
+    "Method": [("name", "Params", "Result")],
+}
 
 
-def nullable_names():
-    found = set()
-    while True:
-        more = {n for n, body in PRODUCTIONS if all(symbol in found for symbol in body)}
-        if more == found:
-            return found
-        found = more
+class Recogniser:
+    """An Earley recogniser of one grammar."""
+
+    def __init__(self, rules):
+        self.rules = rules
+        self.productions = [(name, body) for name, bodies in rules.items() for body in bodies]
+        self.of_name = {}
+        for number, (name, _) in enumerate(self.productions):
+            self.of_name.setdefault(name, []).append(number)
+        self.nullable = self.nullable_names()
+
+    def nullable_names(self):
+        found = set()
+        while True:
+            more = {n for n, body in self.productions if all(symbol in found for symbol in body)}
+            if more == found:
+                return found
+            found = more
+
+    def closed(self, items, sets):
+        """An Earley set from its kernel, with the items that wait for a name, by name."""
+        here = len(sets)
+        seen = set(items)
+        agenda = list(items)
+        waiting = {}
+
+        def add(item):
+            if item not in seen:
+                seen.add(item)
+                agenda.append(item)
+
+        while agenda:
+            production, dot, origin = agenda.pop()
+            name, body = self.productions[production]
+            if dot == len(body):
+                source = waiting if origin == here else sets[origin][1]
+                for waited, at, since in list(source.get(name, ())):
+                    add((waited, at + 1, since))
+            elif body[dot] in self.rules:
+                waiting.setdefault(body[dot], []).append((production, dot, origin))
+                for number in self.of_name[body[dot]]:
+                    add((number, 0, here))
+                if body[dot] in self.nullable:
+                    add((production, dot + 1, origin))
+        return seen, waiting
+
+    def first_fault(self, kinds):
+        """The number of the first token such that no file begins with the tokens up to it; their count where all could be
+        continued and are no file; None where they are a file."""
+        sets = []
+        sets.append(self.closed([(number, 0, 0) for number in self.of_name["File"]], sets))
+        for number, kind in enumerate(kinds):
+            items = []
+            for production, dot, origin in sets[-1][0]:
+                body = self.productions[production][1]
+                if dot < len(body) and body[dot] == kind:
+                    items.append((production, dot + 1, origin))
+            if not items:
+                return number
+            sets.append(self.closed(items, sets))
+        whole = any(
+            self.productions[production][0] == "File" and dot == len(self.productions[production][1])
+            for production, dot, _ in sets[-1][0]
+        )
+        return None if whole else len(kinds)
 
 
-NULLABLE = nullable_names()
+WITHOUT = Recogniser(GRAMMAR)
+WITH = Recogniser(WITH_INTERFACES)
 
 
-def closed(items, sets):
-    """An Earley set from its kernel, with the items that wait for a name, by name."""
-    here = len(sets)
-    seen = set(items)
-    agenda = list(items)
-    waiting = {}
-
-    def add(item):
-        if item not in seen:
-            seen.add(item)
-            agenda.append(item)
-
-    while agenda:
-        production, dot, origin = agenda.pop()
-        name, body = PRODUCTIONS[production]
-        if dot == len(body):
-            source = waiting if origin == here else sets[origin][1]
-            for waited, at, since in list(source.get(name, ())):
-                add((waited, at + 1, since))
-        elif body[dot] in GRAMMAR:
-            waiting.setdefault(body[dot], []).append((production, dot, origin))
-            for number in OF_NAME[body[dot]]:
-                add((number, 0, here))
-            if body[dot] in NULLABLE:
-                add((production, dot + 1, origin))
-    return seen, waiting
-
-
-def first_fault(kinds):
-    """The number of the first token such that no file begins with the tokens up to it; their count where all could be
-    continued and are no file; None where they are a file."""
-    sets = []
-    sets.append(closed([(number, 0, 0) for number in OF_NAME["File"]], sets))
-    for number, kind in enumerate(kinds):
-        items = []
-        for production, dot, origin in sets[-1][0]:
-            body = PRODUCTIONS[production][1]
-            if dot < len(body) and body[dot] == kind:
-                items.append((production, dot + 1, origin))
-        if not items:
-            return number
-        sets.append(closed(items, sets))
-    whole = any(
-        PRODUCTIONS[production][0] == "File" and dot == len(PRODUCTIONS[production][1])
-        for production, dot, _ in sets[-1][0]
-    )
-    return None if whole else len(kinds)
+def first_fault(kinds, interfaces=False):
+    return (WITH if interfaces else WITHOUT).first_fault(kinds)

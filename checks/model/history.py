@@ -14,11 +14,11 @@ from checks.model.workspace import Workspace
 
 
 class State:
-    def __init__(self, number, texts, finished):
+    def __init__(self, number, texts, finished, interfaces=False):
         self.number = number
         self.texts = texts
         self.finished = finished
-        self.workspace = Workspace(texts)
+        self.workspace = Workspace(texts, interfaces)
 
     def closure_texts(self, package):
         """The files of the packages that a package builds on, itself among them."""
@@ -45,8 +45,9 @@ UNDO_DEPTH = 100
 
 
 class History:
-    def __init__(self, journal=None):
-        self.states = [State(0, {}, set())]
+    def __init__(self, journal=None, interfaces=False):
+        self.interfaces = interfaces
+        self.states = [State(0, {}, set(), interfaces)]
         self.cursor = 0
         self.numbers = 1
         self.journal = journal
@@ -69,7 +70,7 @@ class History:
 
     def change(self, texts):
         self.enter("commit", f"ok {self.numbers}")
-        state = State(self.numbers, texts, set())
+        state = State(self.numbers, texts, set(), self.interfaces)
         state.finished = self.current.carried(state)
         self.states = (self.states[: self.cursor + 1] + [state])[-UNDO_DEPTH - 1 :]
         self.cursor = len(self.states) - 1
@@ -288,6 +289,6 @@ def answered(history, sent, answer=reply):
     return written
 
 
-def replies(sent, journal=None):
+def replies(sent, journal=None, interfaces=False):
     """What a session on a new book writes to an input."""
-    return answered(History(journal), sent)
+    return answered(History(journal, interfaces), sent)

@@ -4,7 +4,7 @@ Blocks and scopes are found here as intervals of a file, by a walk of the trees,
 `scopes.py`; `bound_lexically` resolves a name by these intervals alone. A declaration is an object of `scopes.py`.
 """
 
-from checks.model.scopes import UNIVERSE
+from checks.model.scopes import UNIVERSE, asked_methods
 
 LEXICAL = ("use", "declares", "defines")
 
@@ -23,7 +23,7 @@ def place_of(declaration):
 
 
 class Block:
-    """Kind: package, file, or local; of a local one its file and where it begins and ends."""
+    """Kind: package, file, local, or parameters of a method of an interface; of a local one its file and where it begins and ends."""
 
     def __init__(self, kind, outer, owner, start=None, end=None):
         self.kind = kind
@@ -45,6 +45,9 @@ class Scope:
         kind = self.block.kind
         if kind == "package":
             return self.block.owner == package
+        if kind == "parameters":
+            # to such a variable nothing but its own identifier is bound
+            return False
         if self.block.owner != path:
             return False
         return kind == "file" or self.start <= offset < self.block.end
@@ -129,6 +132,21 @@ class Walk:
             self.type(part.typ)
         if node.typ is not None:
             self.type(node.typ)
+        for method in asked_methods(node):
+            self.add(method.name, "declares member", ("named", owner))
+            self.asked(method)
+
+    def asked(self, method):
+        block = Block("parameters", self.block, self.file.path)
+        for param in method.parts:
+            self.type(param.typ)
+            for token in param.parts:
+                if token.text == "_":
+                    self.add(token, "none")
+                else:
+                    self.declare(token, block, token.offset)
+        for result in method.other:
+            self.type(result)
 
     def top_func(self, node):
         if node.typ is not None:

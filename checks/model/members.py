@@ -1,26 +1,32 @@
-"""The members of types, under the names that a rename gives them, in a workspace without faults."""
+"""The members of types, under the names that a rename gives some of them, in a workspace without faults."""
 
 from checks.model.identifiers import in_order, place_of
 from checks.model.scopes import is_exported
 
 
 def underlying(typ):
-    """Behind names; a struct is told as the name of the definition that writes it."""
-    while typ[0] == "named" and not typ[1].node.flag:
+    """Behind names; a struct or an interface is told as the name of the definition that writes it."""
+    while typ[0] == "named" and typ[1].node.typ is not None:
         typ = typ[1].type
     return typ
 
 
-def struct_before(typ):
-    """The definition that writes the struct whose fields a value of this type has, or None."""
+def is_interface(typ):
     under = underlying(typ)
-    if under[0] == "pointer":
+    return under[0] == "named" and under[1].node.body is not None
+
+
+def written_before(typ):
+    """The definition that writes the struct whose fields a value of this type has, or the interface whose methods it has, or None. A
+    pointer leads to a struct alone."""
+    under = underlying(typ)
+    if under[0] == "pointer" and not is_interface(under[1]):
         under = underlying(under[1])
     return under[1] if under[0] == "named" else None
 
 
 def definition_before(typ):
-    """The definition whose methods a value of this type has, or None."""
+    """The definition whose methods a value of this type has by their receivers, or None."""
     base = typ[1] if typ[0] == "pointer" else typ
     return base[1] if base[0] == "named" else None
 
@@ -29,25 +35,29 @@ def is_same_name(name, package, other, other_package):
     return name == other and (is_exported(name) or package == other_package)
 
 
-class Members:
-    """What counts, and what a name is bound to, where one member has a new name."""
+def in_source(members):
+    return sorted(members, key=lambda member: in_order(place_of(member)))
 
-    def __init__(self, renamed=None, name=None):
-        self.renamed = renamed
+
+class Members:
+    """What counts, and what a name is bound to, where some members have one new name."""
+
+    def __init__(self, renamed=(), name=None):
+        self.renamed = frozenset(renamed)
         self.name = name
 
     def name_of(self, member):
-        return self.name if member is self.renamed else member.name
+        return self.name if member in self.renamed else member.name
 
     def is_called(self, member, name, package):
         return is_same_name(name, package, self.name_of(member), member.package)
 
-    def counting_fields(self, struct):
-        """Of two of one name the first."""
+    def counting_written(self, definition):
+        """Of the fields of a struct, or of the methods of an interface, that have one name the first."""
         found = []
-        for field in sorted(struct.fields, key=lambda field: in_order(place_of(field))):
-            if not any(self.is_called(other, self.name_of(field), field.package) for other in found):
-                found.append(field)
+        for member in in_source(definition.fields + definition.asked):
+            if not any(self.is_called(other, self.name_of(member), member.package) for other in found):
+                found.append(member)
         return found
 
     def counting_methods(self, definition):
@@ -55,16 +65,16 @@ class Members:
         struct = underlying(("named", definition))
         found = list(struct[1].fields) if struct[0] == "named" else []
         fields = len(found)
-        for method in sorted(definition.methods, key=lambda method: in_order(place_of(method))):
+        for method in in_source(definition.methods):
             if not any(self.is_called(other, self.name_of(method), method.package) for other in found):
                 found.append(method)
         return found[fields:]
 
     def find(self, typ, name, package):
         """The member of this name that a value of this type has in a package, or None."""
-        struct = struct_before(typ)
+        written = written_before(typ)
         definition = definition_before(typ)
-        found = self.counting_fields(struct) if struct is not None else []
+        found = self.counting_written(written) if written is not None else []
         found += self.counting_methods(definition) if definition is not None else []
         named = [member for member in found if self.is_called(member, name, package)]
         assert len(named) <= 1

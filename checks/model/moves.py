@@ -6,7 +6,7 @@ returns the edit set, or raises the first refusal.
 """
 
 from checks.model import lexer
-from checks.model.conflicts import conflict_of_edits, refuse_conflict
+from checks.model.conflicts import obstacle_of_edits, refuse_obstacle
 from checks.model.edits import EditSet
 from checks.model.refusals import Refusal, is_identifier, is_path, is_too_large, refuse_faults
 
@@ -87,7 +87,7 @@ def plan_move(workspace, texts, source, target):
     refuse_faults(workspace, workspace.affected(starts_of_move(workspace, source, target)))
     sound, sound_texts = workspace.without_faulty(texts)
     edits = move_edits(sound, sound_texts, source, target)
-    refuse_conflict(conflict_of_edits(sound, sound_texts, edits))
+    refuse_obstacle(obstacle_of_edits(sound, sound_texts, edits))
     if is_too_large(edits.edited(texts)):
         raise Refusal(5)
     return edits

@@ -20,6 +20,15 @@ def list_text(types):
     return "(" + ",".join(type_text(typ) for typ in types) + ")"
 
 
+def asked_symbol(method):
+    """The symbol of a method of an interface."""
+    return f"{method.interface.package}#{method.interface.name}#{method.name}"
+
+
+def asked_text(method):
+    return asked_symbol(method) + list_text(method.params) + list_text(method.results)
+
+
 def hexadecimal(value):
     return "x" + value.hex()
 
@@ -60,7 +69,11 @@ class Function:
             self.value(node)
 
     def value(self, node):
+        """A value that isn't nil, whose type is no interface and that fits an interface has behind it the type that it enters as, its
+        own or its default type."""
         getattr(self, "value_" + node.kind)(node)
+        if id(node) in self.checker.wrapped:
+            self.emit("iface", type_text(self.checker.wrapped[id(node)]))
 
     def value_int(self, node):
         self.emit("int", lexer.integer_value(node.first.text))
@@ -134,11 +147,14 @@ class Function:
             self.values(node.other)
             self.emit("builtin", callee.declaration.name, count)
             return
+        word = "call"
         if callee.declaration.kind == "method":
             self.receiver(node.parts[0].parts[0], callee.declaration)
             count += 1
+            # a call through an interface names the method as the interface has it
+            word = "call" if callee.declaration.interface is None else "icall"
         self.values(node.other)
-        self.emit("call", self.symbol(callee.declaration), count)
+        self.emit(word, self.symbol(callee.declaration), count)
 
     def receiver(self, node, method):
         pointer = self.operand(node).kind[1][0] == "pointer"
@@ -164,6 +180,8 @@ class Function:
     def symbol(self, declaration):
         if declaration.kind != "method":
             return f"{declaration.package}#{declaration.name}"
+        if declaration.interface is not None:
+            return asked_symbol(declaration)
         typ = declaration.receiver
         typ = typ[1] if typ[0] == "pointer" else typ
         return f"{type_text(typ)}#{declaration.name}"
@@ -331,6 +349,9 @@ class Emitter:
         if node.flag:
             types = [self.checker.type_of(part.typ) for part in node.parts for _ in part.parts]
             text = "struct{" + ";".join(type_text(typ) for typ in types) + "}"
+        elif node.body is not None:
+            # the methods in the order of the source
+            text = "interface{" + ";".join(asked_text(method) for method in node.declarations[0].asked) + "}"
         else:
             text = type_text(self.checker.type_of(node.typ))
         self.line("type", f"{self.package.path}#{node.name.text}", text)

@@ -6,7 +6,8 @@ which resolves the edited workspace, has to agree.
 
 from checks.model.conflicts import Conflict
 from checks.model.identifiers import Scope, in_order, place_of
-from checks.model.members import definition_before, is_same_name, struct_before, underlying
+from checks.model.implementing import first_changed, renamed_set
+from checks.model.members import definition_before, is_same_name, underlying, written_before
 from checks.model.scopes import UNIVERSE, is_exported
 
 
@@ -79,48 +80,48 @@ class ByScope(ByIdentifier):
 
 
 class ByMember(ByIdentifier):
-    """A field or method of another name."""
+    """Fields or methods of another name: one member, or a coupled set of methods. Each type has one of them at most."""
 
-    def __init__(self, identifiers, member, name):
+    def __init__(self, identifiers, members, name):
         self.identifiers = identifiers
-        self.member = member
+        self.members = members
         self.name = name
         self.displaced = {}
-        for rival in self.rivals():
-            first = self.first_of(rival)
+        for member, rival in self.rivals():
+            first = self.first_of(member, rival)
             self.displaced[rival if first is member else member] = first
 
-    def of_package(self, member):
-        return self.member.package == member.package or is_exported(self.name)
-
     def rivals(self):
-        """The members of the new name that stand beside this one in some type."""
+        """The members of the new name that stand beside one of these in some type, each with it."""
         beside = []
         for _, definition in self.identifiers.types:
-            struct = underlying(("named", definition))
-            fields = struct[1].fields if struct[0] == "named" else []
-            if self.member in fields or self.member in definition.methods:
-                beside += fields + definition.methods
-        named = [other for other in beside if other.name == self.name and self.of_package(other)]
-        return {id(other): other for other in named}.values()
+            written = underlying(("named", definition))
+            found = definition.methods + (written[1].fields + written[1].asked if written[0] == "named" else [])
+            own = [member for member in found if member in self.members]
+            assert len(own) <= 1
+            beside += [(member, other) for member in own for other in found if self.is_rival(member, other)]
+        return beside
 
-    def first_of(self, rival):
+    def is_rival(self, member, other):
+        return is_same_name(self.name, member.package, other.name, other.package)
+
+    def first_of(self, member, rival):
         """Which of the two counts: a field before a method, else the earlier."""
-        if rival.kind == self.member.kind:
-            return min((rival, self.member), key=lambda member: in_order(place_of(member)))
-        return rival if rival.kind == "field" else self.member
+        if rival.kind == member.kind:
+            return min((rival, member), key=lambda one: in_order(place_of(one)))
+        return rival if rival.kind == "field" else member
 
     def conflict_at(self, identifier):
         bound = identifier.declaration
         if identifier.role == "declares member":
             return lost(identifier) if bound in self.displaced else None
-        if identifier.role != "member" or (bound is not self.member and identifier.name != self.name):
+        if identifier.role != "member" or (bound not in self.members and identifier.name != self.name):
             return None
         return self.conflict_of_use(identifier)
 
     def conflict_of_use(self, use):
         bound = use.declaration
-        if bound is not self.member:
+        if bound not in self.members:
             first = self.displaced.get(bound)
             return None if first is None else captured(use, first)
         if bound in self.displaced:
@@ -132,9 +133,10 @@ class ByMember(ByIdentifier):
 
     def otherwise(self, use):
         """A use from a package that doesn't see the new name: another member of that name may stand there."""
-        struct, definition = struct_before(use.before), definition_before(use.before)
-        members = (struct.fields if struct is not None else []) + (definition.methods if definition is not None else [])
-        seen = [m for m in members if is_same_name(self.name, use.package, m.name, m.package) and m is not self.member]
+        written, definition = written_before(use.before), definition_before(use.before)
+        members = written.fields + written.asked if written is not None else []
+        members = members + (definition.methods if definition is not None else [])
+        seen = [m for m in members if is_same_name(self.name, use.package, m.name, m.package) and m not in self.members]
         return captured(use, seen[0]) if seen else lost(use)
 
 
@@ -146,10 +148,14 @@ def captured(identifier, declaration):
     return Conflict(identifier.place, place_of(declaration) or "universe")
 
 
-def conflict_of(identifiers, declaration, name):
-    """The conflict of renaming a declaration, or None."""
-    way = ByMember if declaration.kind in ("field", "method") else ByScope
-    return way(identifiers, declaration, name).conflict()
+def obstacle_of(identifiers, declaration, name):
+    """The obstacle of renaming a declaration, or None: the first conflict, else the first interface whose implementing types change."""
+    if declaration.kind not in ("field", "method"):
+        return ByScope(identifiers, declaration, name).conflict()
+    definitions = [definition for _, definition in identifiers.types]
+    renamed = renamed_set(definitions, declaration)
+    conflict = ByMember(identifiers, renamed, name).conflict()
+    return conflict or first_changed(definitions, renamed, name)
 
 
 def conflict_of_move(identifiers, imports, name):

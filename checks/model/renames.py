@@ -5,8 +5,9 @@
 returns the edit set, or raises the first refusal.
 """
 
-from checks.model.conflicts import conflict_of_edits, refuse_conflict
+from checks.model.conflicts import obstacle_of_edits, refuse_obstacle
 from checks.model.edits import EditSet
+from checks.model.implementing import definitions_of, renamed_set
 from checks.model.refusals import Refusal, is_new_name, is_path, is_too_large, refuse_faults
 
 OF_THE_PACKAGE = ("var", "type", "func")
@@ -33,10 +34,12 @@ def may_be_called(declaration, name):
 
 
 def rename_edits(workspace, texts, declaration, name):
-    """Each identifier bound to the declaration is replaced; an import without a name gets one before its literal."""
+    """Each identifier bound to the declaration is replaced, or to one of its coupled set where the declaration is a method of an
+    interface; an import without a name gets one before its literal."""
+    renamed = renamed_set(definitions_of(workspace), declaration)
     spans = {}
     for path, offset, length, bound, is_identifier in workspace.bindings():
-        if bound is declaration and is_identifier:
+        if bound in renamed and is_identifier:
             spans.setdefault(path, []).append((offset, offset + length, name.encode()))
     if declaration.kind == "import" and declaration.node.name is None:
         path, offset = declaration.path, declaration.node.at.offset
@@ -62,9 +65,10 @@ def plan_rename(workspace, texts, path, offset, name):
         raise Refusal(12)
     if declaration.name == name:
         raise Refusal(13)
-    refuse_faults(workspace, workspace.affected([declaration.path.rsplit("/", 1)[0]]))
+    renamed = renamed_set(definitions_of(sound), declaration)
+    refuse_faults(workspace, workspace.affected({other.path.rsplit("/", 1)[0] for other in renamed}))
     edits = rename_edits(sound, sound_texts, declaration, name)
-    refuse_conflict(conflict_of_edits(sound, sound_texts, edits, declaration, name))
+    refuse_obstacle(obstacle_of_edits(sound, sound_texts, edits, renamed, name))
     if is_too_large(edits.edited(texts)):
         raise Refusal(5)
     return edits

@@ -31,10 +31,12 @@ class Declaration:
         self.params = []
         self.results = []
         self.broken = False
-        # of methods
+        # of methods: whether the receiver is a pointer; of those of interfaces the definition that writes them, else None
         self.on_pointer = False
-        # of types
+        self.interface = None
+        # of types: the fields or the methods that the definition writes, and the methods with a receiver of the type
         self.fields = []
+        self.asked = []
         self.methods = []
         # of imports
         self.imported = None
@@ -47,6 +49,19 @@ UNIVERSE = {
 
 def is_exported(name):
     return unicodedata.category(name[0]) == "Lu"
+
+
+def asked_methods(node):
+    """The methods of an interface that a type definition writes, none where it writes no interface."""
+    return node.body.parts if node.body is not None else []
+
+
+def written_types(node):
+    """All that stands as a type in a type definition, in order."""
+    found = [part.typ for part in node.parts] if node.typ is None else [node.typ]
+    for method in asked_methods(node):
+        found += [param.typ for param in method.parts] + method.other
+    return found
 
 
 class Scopes:
@@ -190,12 +205,21 @@ class Scopes:
         if node.kind == "global":
             self.scope_type(node.typ)
         elif node.kind == "type":
-            for part in node.parts:
-                self.scope_type(part.typ)
-            if node.typ is not None:
-                self.scope_type(node.typ)
+            for typ in written_types(node):
+                self.scope_type(typ)
+            for method in asked_methods(node):
+                self.scope_asked(method)
         else:
             self.scope_function(node)
+
+    def scope_asked(self, method):
+        """A parameter of a method of an interface is a variable to which nothing but its own identifier is bound. Of two with one
+        name in one method the later is repeated."""
+        self.environment = [{}]
+        for param in method.parts:
+            for token in param.parts:
+                self.local(token)
+        self.environment = []
 
     def scope_type(self, node):
         if node.kind in ("pointer", "slice"):
@@ -367,6 +391,8 @@ class Scopes:
                         self.fault(token, "repeated")
                     else:
                         declaration.fields.append(field)
+            for method in asked_methods(node):
+                self.asked_method(method, declaration)
         for self.file in self.package.files:
             for node in self.file.tree.other:
                 if node.kind == "func" and node.typ is not None:
@@ -375,17 +401,31 @@ class Scopes:
             if self.contains(node.declarations[0], node.declarations[0], set()):
                 self.fault(node.name, "recursive")
 
+    def asked_method(self, node, owner):
+        """A method of an interface is a member of it. Of two with one name the first counts, the other is repeated."""
+        method = Declaration("method", node.name.text, self.file.path, node.name, node)
+        method.package = self.package.path
+        method.interface = owner
+        method.counts = all(method.name != other.name for other in owner.asked)
+        node.declaration = method
+        self.bind(node.name, method if method.counts else None)
+        if method.counts:
+            owner.asked.append(method)
+        else:
+            self.fault(node.name, "repeated")
+
     def method(self, node):
+        """It counts where no earlier one of its type has the name, no field of its type's struct, and no method of its type's
+        interface."""
         method = node.declaration
         method.on_pointer = node.typ.flag
         base = self.bound[id(node.typ.at)]
         if base.kind != "type" or base.package != self.package.path:
             self.bind(node.name, method)
             return
-        struct = self.struct_of(base, set())
-        taken = any(self.same_name(method.name, method.package, other) for other in base.methods)
-        if struct is not None:
-            taken |= any(self.same_name(method.name, method.package, other) for other in struct.fields)
+        written = self.written_by(base, set())
+        beside = base.methods + (written.fields + written.asked if written is not None else [])
+        taken = any(self.same_name(method.name, method.package, other) for other in beside)
         self.bind(node.name, None if taken else method)
         if taken:
             method.counts = False
@@ -411,19 +451,21 @@ class Scopes:
                 return package.checker.bound[id(token)]
         return None
 
-    def struct_of(self, declaration, seen):
-        """The definition whose struct is the underlying type, or None."""
+    def written_by(self, declaration, seen):
+        """The definition that writes the struct or interface which is the underlying type, or None. So `type J I` has the methods
+        of I, as `type B A` has the fields of A."""
         if declaration in seen:
             return None
         seen.add(declaration)
-        if declaration.node.flag:
+        if declaration.node.typ is None:
             return declaration
         inner = self.named(declaration.node.typ)
-        return None if inner is None else self.struct_of(inner, seen)
+        return None if inner is None else self.written_by(inner, seen)
 
     def contains(self, declaration, target, seen):
+        """Whether a type contains another through names and fields of structs. It isn't looked for in methods."""
         node = declaration.node
-        parts = [part.typ for part in node.parts] if node.flag else [node.typ]
+        parts = [part.typ for part in node.parts] if node.typ is None else [node.typ]
         for part in parts:
             inner = self.named(part)
             if inner is target:

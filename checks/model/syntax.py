@@ -34,8 +34,9 @@ class Misplaced(Exception):
 
 
 class Parser:
-    def __init__(self, tokens):
+    def __init__(self, tokens, interfaces):
         self.tokens = tokens
+        self.interfaces = interfaces
         self.at = 0
         self.levels = 0
         self.deep = None  # the number of the first token that opens a level over the limit
@@ -150,6 +151,8 @@ class Parser:
 
     def type_spec(self):
         name = self.take("name")
+        if self.interfaces and self.kind() == "interface":
+            return Node("type", name, name=name, body=self.interface())
         if not self.maybe("struct"):
             return Node("type", name, name=name, typ=self.type_use())
         self.opening("{")
@@ -161,6 +164,20 @@ class Parser:
                 break
         self.closing("}")
         return Node("type", name, name=name, parts=fields, flag=True)
+
+    def interface(self):
+        """Its parts are its methods: each a name, parameters with names, and results."""
+        first = self.take("interface")
+        self.opening("{")
+        methods = []
+        while self.kind() != "}":
+            name = self.take("name")
+            params, results = self.signature(";", "}")
+            methods.append(Node("method", name, name=name, parts=params, other=results))
+            if not self.maybe(";"):
+                break
+        self.closing("}")
+        return Node("interface", first, parts=methods)
 
     def type_use(self):
         first = self.here()
@@ -186,6 +203,14 @@ class Parser:
             self.maybe(",")
             self.closing(")")
         name = self.take("name")
+        params, results = self.signature("{")
+        node = Node("func", first, name=name, parts=params, other=results)
+        node.typ = receiver
+        node.body = self.block()
+        return node
+
+    def signature(self, *behind):
+        """Parameters and results; without results one of these tokens stands behind the parameters."""
         self.opening("(")
         params = self.listed(self.param, ")")
         self.closing(")")
@@ -193,12 +218,9 @@ class Parser:
         if self.maybe_opening("("):
             results = self.listed(self.type_use, ")")
             self.closing(")")
-        elif self.kind() != "{":
+        elif self.kind() not in behind:
             results = [self.type_use()]
-        node = Node("func", first, name=name, parts=params, other=results)
-        node.typ = receiver
-        node.body = self.block()
-        return node
+        return params, results
 
     def param(self):
         names = self.names("name", "_")
@@ -388,15 +410,15 @@ class Parser:
                 return node
 
 
-def first_fault(tokens):
+def first_fault(tokens, interfaces=False):
     """The tree and None; or None and the number of the token at fault, their count at the end, with its kind."""
-    parser = Parser(tokens)
+    parser = Parser(tokens, interfaces)
     try:
         tree = parser.file()
         number = len(tokens) + 1
     except Misplaced:
         tree = None
-        number = grammar.first_fault([token.kind for token in tokens])
+        number = grammar.first_fault([token.kind for token in tokens], interfaces)
     if parser.deep is not None and parser.deep < number:
         return None, (parser.deep, "nesting")
     return (tree, None) if tree is not None else (None, (number, "syntax"))

@@ -19,9 +19,10 @@ def tokens_of_file(path, source):
 class SourceFile:
     """A file. Its tree or its fault is found where one of them is first asked for."""
 
-    def __init__(self, path, source):
+    def __init__(self, path, source, interfaces=False):
         self.path = path
         self.source = source
+        self.interfaces = interfaces
 
     @functools.cached_property
     def parsed(self):
@@ -30,7 +31,7 @@ class SourceFile:
             tokens = tokens_of_file(self.path, self.source)
         except lexer.Fault as fault:
             return None, (fault.offset, fault.kind)
-        tree, fault = syntax.first_fault(tokens)
+        tree, fault = syntax.first_fault(tokens, self.interfaces)
         if fault is None:
             return tree, None
         number, kind = fault
@@ -67,16 +68,23 @@ class Package:
 
 
 class Workspace:
-    def __init__(self, texts):
+    """With interfaces the subset has interface types, which no built program knows yet."""
+
+    def __init__(self, texts, interfaces=False):
+        self.interfaces = interfaces
         self.files = {}
         folders = {}
         for path in sorted(texts, key=str.encode):
             if path.endswith(".go"):
-                file = SourceFile(path, texts[path])
+                file = SourceFile(path, texts[path], interfaces)
                 self.files[path] = file
                 folders.setdefault(path.rsplit("/", 1)[0], []).append(file)
         self.packages = {folder: Package(folder, files) for folder, files in folders.items()}
         self.order = sorted(self.packages, key=str.encode)
+
+    def of(self, texts):
+        """The workspace of other texts in the same subset."""
+        return Workspace(texts, self.interfaces)
 
     def imported(self, path):
         """The packages that a package imports directly."""
@@ -146,7 +154,7 @@ class Workspace:
             for path, text in texts.items()
             if path not in self.files or not self.package_faults(path.rsplit("/", 1)[0])
         }
-        part = self if len(sound) == len(texts) else Workspace(sound)
+        part = self if len(sound) == len(texts) else self.of(sound)
         assert not part.faults()
         return part, sound
 

@@ -1,5 +1,6 @@
 // Checks the packages below some folders with Go's own type checker, and prints for each folder `# FOLDER`, and behind it
-// PATH:LINE MESSAGE for each error.
+// PATH:LINE MESSAGE for each error. With the word -bindings it prints instead PATH:#OFFSET is PATH:#OFFSET for each identifier and
+// what declares it.
 package main
 
 import (
@@ -16,12 +17,31 @@ import (
 
 // A loader finds the packages of one folder, each by its path in it.
 type loader struct {
-	folder  string
-	places  *token.FileSet
-	checked map[string]*types.Package
+	folder   string
+	places   *token.FileSet
+	checked  map[string]*types.Package
+	bindings bool
+}
+
+// place tells a position as PATH:#OFFSET.
+func (l *loader) place(at token.Pos) string {
+	place := l.places.Position(at)
+	path, _ := filepath.Rel(l.folder, place.Filename)
+	return fmt.Sprintf("%s:#%d", path, place.Offset)
+}
+
+func (l *loader) tellBindings(found map[*ast.Ident]types.Object) {
+	for name, object := range found {
+		if object != nil && object.Pos().IsValid() {
+			fmt.Printf("%s is %s\n", l.place(name.Pos()), l.place(object.Pos()))
+		}
+	}
 }
 
 func (l *loader) tell(place token.Position, message string) {
+	if l.bindings {
+		return
+	}
 	path, _ := filepath.Rel(l.folder, place.Filename)
 	fmt.Printf("%s:%d %s\n", path, place.Line, message)
 }
@@ -58,7 +78,12 @@ func (l *loader) Import(path string) (*types.Package, error) {
 		told := err.(types.Error)
 		l.tell(l.places.Position(told.Pos), told.Msg)
 	}}
-	found, _ := config.Check(path, l.places, files, nil)
+	info := &types.Info{Defs: map[*ast.Ident]types.Object{}, Uses: map[*ast.Ident]types.Object{}}
+	found, _ := config.Check(path, l.places, files, info)
+	if l.bindings {
+		l.tellBindings(info.Defs)
+		l.tellBindings(info.Uses)
+	}
 	l.checked[path] = found
 	return found, nil
 }
@@ -81,9 +106,14 @@ func packages(folder string) []string {
 }
 
 func main() {
-	for _, folder := range os.Args[1:] {
+	folders := os.Args[1:]
+	bindings := len(folders) > 0 && folders[0] == "-bindings"
+	if bindings {
+		folders = folders[1:]
+	}
+	for _, folder := range folders {
 		fmt.Printf("# %s\n", folder)
-		l := &loader{folder, token.NewFileSet(), map[string]*types.Package{}}
+		l := &loader{folder, token.NewFileSet(), map[string]*types.Package{}, bindings}
 		for _, path := range packages(folder) {
 			l.Import(path)
 		}
