@@ -1,0 +1,13 @@
+//! The laws of chapters, as contracts of functions that do nothing.
+ghost use Rattle.law_chapters.specs.Chapters.{BordersDoNotCount, ChaptersGoOn, OneChapterIsReplayed};
+
+/// A history without borders is one chapter, and chapters go on where the last one ended.
+pub fn chapters_are_replayed()
+    ensures one { OneChapterIsReplayed }
+    ensures more { ChaptersGoOn }
+{}
+
+/// The content at the end doesn't depend on where the journal was closed.
+pub fn borders_do_not_count()
+    ensures { BordersDoNotCount }
+{}
