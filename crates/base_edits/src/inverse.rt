@@ -43,7 +43,8 @@ impl Inverse {
 
     /// The changes of files.
     pub fn changed(&self) -> &[FileChange]
-        ensures { result.now ≡ self.now.changed }
+        ensures changed { result.now ≡ self.now.changed }
+        ensures changes { AreChanges self.now }
     {
         self.changed.as_slice()
     }

@@ -52,7 +52,7 @@ index_stands s slots links n last x b e c o size lt is form =
     ap (λ p. p.mode) (link_before s slots links n last x o size lt is ∙ index_here s slots b e c _ form e.value refl)
 
 pub call_stands : (s : Source) (slots : List ℕ) (links : List Link) (n last : ℕ) (x : Link) (b : ℕ) (xs : _) (c : ℕ) (o : CodeOperand) →
-    n ≡ last + 1 → last < length links → x ≡ get_or links last x → x ≡ link.Call b xs c →
+    n ≡ last + 1 → last < length links → x ≡ get_or links last x → x ≡ link.Call b c xs →
     (linked s slots o (links_in (take n links))).mode ≡ Values (left_by_call (linked s slots o (links_in (take last links))).mode)
 call_stands s slots links n last x b xs c o size lt is form =
     ap (λ p. p.mode) (link_before s slots links n last x o size lt is ∙ call_here s slots b xs c _ form xs.items refl)

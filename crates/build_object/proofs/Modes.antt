@@ -91,7 +91,7 @@ pub link_never : (s : Source) (slots : List ℕ) (l : Link) (o : CodeOperand) �
 unfolding one_link link_view
 link_never s slots (link.Selector d n) o = selected_never s slots n o o.mode
 link_never s slots (link.Index' b p e c) o = refl
-link_never s slots (link.Call' b shape row c) o = refl
+link_never s slots (link.Call' b c shape row) o = refl
 
 -- links in turn
 
@@ -100,7 +100,7 @@ pub linked_step : (s : Source) (slots : List ℕ) (o : CodeOperand) (l : Link) (
 unfolding linked one_link links_in link_view
 linked_step s slots o (link.Selector d n) rest = refl
 linked_step s slots o (link.Index' b p e c) rest = refl
-linked_step s slots o (link.Call' b shape row c) rest = refl
+linked_step s slots o (link.Call' b c shape row) rest = refl
 
 pub linked_end : (s : Source) (slots : List ℕ) (o : CodeOperand) → linked s slots o (links_in []) ≡ o
 unfolding linked links_in

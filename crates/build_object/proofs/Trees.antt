@@ -13,7 +13,7 @@ use Rattle.go_ast.specs.Tree as tree
 use Rattle.go_ast.specs.View.{type_view, expr_view, link_view, literal_view, key_view}
 use Rattle.types_expr.specs.Lists.{links_in, operands_in, arguments_in, elements_in}
 use Rattle.types_expr.specs.Judge.{judge_type}
-use Rattle.types_expr.proofs.Trees.{chain_tree, named_chain_tree, binary_tree, call_tree, literal_tree}
+use Rattle.types_expr.proofs.Trees.{chain_tree, named_binary_tree, named_chain_tree, binary_tree, call_tree, literal_tree}
 use Rattle.build_object.specs.Lines.{CodeLine, With, New, line_if_known}
 use Rattle.build_object.specs.Lines as line
 use Rattle.build_object.specs.Source.{Source}
@@ -95,6 +95,16 @@ binary_here s slots b rest is x xs hx hxs = ap (λ z. operand_of s slots (expr_v
     ∙ (ap (λ z. plain (operations s slots (operand_of s slots (expr_view z)).value (operands_in rest.items))) (sym hx) ∙
     ap (λ z. plain (operations s slots (operand_of s slots (expr_view x)).value (operands_in z))) (sym hxs)))
 
+named_binary_at : (s : Source) (slots : List ℕ) (n : ℕ) (rest : _) →
+    operand_of s slots (expr_view (expr.NamedBinary n rest)) ≡ plain (operations s slots (name_operand s slots n).value (operands_in rest.items))
+unfolding operand_of
+named_binary_at s slots n rest = ap (operand_of s slots) (named_binary_tree n rest)
+
+pub named_binary_here : (s : Source) (slots : List ℕ) {e : Expr} (n : ℕ) (rest : _) → e ≡ expr.NamedBinary n rest → (xs : List Operand) → xs ≡ rest.items →
+    operand_of s slots (expr_view e) ≡ plain (operations s slots (name_operand s slots n).value (operands_in xs))
+named_binary_here s slots n rest is xs hxs = ap (λ z. operand_of s slots (expr_view z)) is ∙ (named_binary_at s slots n rest
+    ∙ ap (λ z. plain (operations s slots (name_operand s slots n).value (operands_in z))) (sym hxs))
+
 -- one link
 
 pub selector_here : (s : Source) (slots : List ℕ) {l : Link} (d n : ℕ) (o : ops.CodeOperand) → l ≡ link.Selector d n →
@@ -109,7 +119,7 @@ index_here s slots b e c o is v h = ap (λ x. one_link s slots (link_view x tree
     ap (λ x. indexed o (value_lines s slots (expr_view x))) (sym h)
 
 call_at : (s : Source) (slots : List ℕ) (b : ℕ) (xs : _) (c : ℕ) (o : ops.CodeOperand) →
-    one_link s slots (link_view (link.Call b xs c) tree.no_link) o ≡ called o (argument_count (arguments_in xs.items))
+    one_link s slots (link_view (link.Call b c xs) tree.no_link) o ≡ called o (argument_count (arguments_in xs.items))
     (argument_lines s slots (arguments_in xs.items))
 unfolding one_link
 call_at s slots b xs c o = ap (λ x. one_link s slots x o) (call_tree b xs c tree.no_link)
@@ -119,7 +129,7 @@ unfolding argument_count arguments_in
 count_arguments [] = refl
 count_arguments (x ∷ xs) = ap suc (count_arguments xs)
 
-pub call_here : (s : Source) (slots : List ℕ) {l : Link} (b : ℕ) (xs : _) (c : ℕ) (o : ops.CodeOperand) → l ≡ link.Call b xs c → (items : List ExprItem) →
+pub call_here : (s : Source) (slots : List ℕ) {l : Link} (b : ℕ) (xs : _) (c : ℕ) (o : ops.CodeOperand) → l ≡ link.Call b c xs → (items : List ExprItem) →
     items ≡ xs.items →
     one_link s slots (link_view l tree.no_link) o ≡ called o (length items) (argument_lines s slots (arguments_in items))
 call_here s slots b xs c o is items h = ap (λ x. one_link s slots (link_view x tree.no_link) o) is ∙ (call_at s slots b xs c o

@@ -156,7 +156,7 @@ fn push_type_spec(
 ) -> Result<(), AllocError>
     ensures { OnOk result (text.new.items ≡ text.old.items ++ flat_map (declaration_text (type_in source.now.packages.now)) (declared_type (source_of source.now) (type_spec_view spec.now))) }
 {
-    let Some(name) = source.global(spec.name) else {
+    let Some(name) = source.global(spec.name as usize) else {
         return Ok(());
     };
     match defined_as(alloc, &source.world, &spec.body)? {
@@ -209,11 +209,11 @@ fn initial_at<'s>(
         return None;
     };
     match &literal.value {
-        BasicLit::Number(place) => match source.number(*place) {
+        BasicLit::Number(place) => match source.number(*place as usize) {
             None => None,
             Some(number) => Some(Initial::Integer(number)),
         },
-        BasicLit::Text(place) => match source.text(*place) {
+        BasicLit::Text(place) => match source.text(*place as usize) {
             None => None,
             Some(text) => Some(Initial::Text(text)),
         },
@@ -268,7 +268,7 @@ fn push_named(
 /// Prints the lines of variables of one type.
 fn push_typed(
     source: &Source<'_>,
-    names: &[Item<usize>],
+    names: &[Item<u32>],
     literals: &[Item<BasicLit>],
     own: &GoType,
     text: &mut Vec<u8>,
@@ -277,7 +277,7 @@ fn push_typed(
 {
     for i in 0..names.len() {
         let value = initial_at(source, literals, i);
-        push_named(source, names[i].value, own, value, text)?;
+        push_named(source, names[i].value as usize, own, value, text)?;
     }
     Ok(())
 }

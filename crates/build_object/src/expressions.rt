@@ -39,7 +39,9 @@ impl<'a> SlotScope<'a> {
         }
         let last = number - 1;
         match &links[last] {
-            Link::Selector { name, .. } => { self.selector_mode(*name, is_qualifier(head, last)) }
+            Link::Selector { name, .. } => {
+                self.selector_mode(*name as usize, is_qualifier(head, last))
+            }
             Link::Index { .. } => OperandMode::Values(1),
             Link::Call { .. } => OperandMode::Values(1),
         }
@@ -53,7 +55,7 @@ impl<'a> SlotScope<'a> {
     {
         match &links[last] {
             Link::Selector { name, .. } => self
-                .selector_mode(*name, is_qualifier(head, last))
+                .selector_mode(*name as usize, is_qualifier(head, last))
                 .values(),
             Link::Index { .. } => 1,
             Link::Call { .. } => self.mode_before(head, links, last).left_by_call(),
@@ -65,7 +67,7 @@ impl<'a> SlotScope<'a> {
         ensures { mode_of result ≡ (operand_of (source_of self.entry.source.now) self.entry.slots.now.places.items (expr_view e.now)).mode }
     {
         match e {
-            Expr::Name(place) => self.name_mode(*place),
+            Expr::Name(place) => self.name_mode(*place as usize),
             Expr::Blank(_) => OperandMode::Values(0),
             Expr::Chain { first, links } => {
                 let head = self.mode(first);
@@ -75,7 +77,7 @@ impl<'a> SlotScope<'a> {
                 OperandMode::Values(self.left_by_links(head, links, links.len() - 1))
             }
             Expr::NamedChain { name, links } => {
-                let head = self.name_mode(*name);
+                let head = self.name_mode(*name as usize);
                 if links.is_empty() {
                     return OperandMode::Values(head.values());
                 }
@@ -87,7 +89,8 @@ impl<'a> SlotScope<'a> {
             | Expr::Paren { .. }
             | Expr::Prefix { .. }
             | Expr::Address { .. }
-            | Expr::Binary { .. } => OperandMode::Values(1),
+            | Expr::Binary { .. }
+            | Expr::NamedBinary { .. } => OperandMode::Values(1),
         }
     }
 }
@@ -176,9 +179,9 @@ pub fn operand<'a>(
     ensures { OnOk result (Puts (lines_for want (operand_of (source_of scope.entry.source.now) scope.entry.slots.now.places.items (expr_view e.now))) code.old code.new) }
 {
     match e {
-        Expr::Number(place) => scope.put_number(*place, code),
-        Expr::Text(place) => scope.put_text(*place, code),
-        Expr::Name(place) => scope.put_name(*place, want, code),
+        Expr::Number(place) => scope.put_number(*place as usize, code),
+        Expr::Text(place) => scope.put_text(*place as usize, code),
+        Expr::Name(place) => scope.put_name(*place as usize, want, code),
         Expr::Blank(_) => Ok(()),
         Expr::Composite(lit) => literal(alloc, scope, lit, code),
         Expr::Paren { inner, .. } => operand(alloc, scope, inner, want, code),
@@ -200,13 +203,17 @@ pub fn operand<'a>(
             operand(alloc, scope, first, want, code)
         }
         Expr::NamedChain { name, links } => {
-            let head = scope.name_mode(*name);
+            let head = scope.name_mode(*name as usize);
             let want = chain(alloc, scope, links, head, want, code)?;
-            scope.put_name(*name, want, code)
+            scope.put_name(*name as usize, want, code)
         }
         Expr::Binary { first, rest } => {
             operations(alloc, scope, rest, code)?;
             operand(alloc, scope, first, Wanted::Value, code)
+        }
+        Expr::NamedBinary { name, rest } => {
+            operations(alloc, scope, rest, code)?;
+            scope.put_name(*name as usize, Wanted::Value, code)
         }
     }
 }
@@ -244,7 +251,12 @@ fn link<'a>(
     ensures { IfOk result (λ w. AppliesRule (one_link (source_of scope.entry.source.now) scope.entry.slots.now.places.items (link_view next.now no_link)) (mode_of mode.entry) want w code.old code.new) }
 {
     match next {
-        Link::Selector { name, .. } => scope.put_selector(*name, mode.qualifies(), want, code),
+        Link::Selector { name, .. } => scope.put_selector(
+            *name as usize,
+            mode.qualifies(),
+            want,
+            code,
+        ),
         Link::Index { index, .. } => {
             put_index(want, code)?;
             operand(alloc, scope, index, Wanted::Value, code)?;

@@ -89,7 +89,7 @@ fn received_type(
 ) -> Result<Option<GoType>, AllocError>
     ensures { IfOk result (λ t. option_map type_of t ≡ received_type (world_of world.now) (receiver_view receiver.now)) }
 {
-    let base = nothing(alloc).named_type(alloc, world, receiver.type_name)?;
+    let base = nothing(alloc).named_type(alloc, world, receiver.type_name as usize)?;
     match (receiver.star, base) {
         (Some(_), Some(own)) => Ok(Some(GoType::Pointer(Box::new(alloc, own)?))),
         (_, base) => Ok(base),

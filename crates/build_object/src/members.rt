@@ -174,10 +174,10 @@ impl<'a> SlotScope<'a> {
         let Some(key) = key else {
             return None;
         };
-        let Some(before) = self.source.before(key.name) else {
+        let Some(before) = self.source.before(key.name as usize) else {
             return None;
         };
-        match self.source.world.member(key.name, before) {
+        match self.source.world.member(key.name as usize, before) {
             Some(Member::Field(field)) => self.source.packages.position(&field.symbol),
             _ => None,
         }

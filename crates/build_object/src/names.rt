@@ -37,7 +37,7 @@ pub(crate) fn name_of_type<'a>(
 {
     GlobalName {
         path,
-        name: spelling(files, own.file, own.spec.name),
+        name: spelling(files, own.file, own.spec.name as usize),
     }
 }
 
@@ -47,7 +47,7 @@ pub(crate) fn is_initializer(files: &[FileTree], function: Function<'_>) -> bool
     ensures { result ≡ is_initializer (map source_of files.now) (placed_function function.entry) }
 {
     match &function.func.receiver {
-        None => spelling(files, function.file, function.func.name) == b"init".as_slice(),
+        None => spelling(files, function.file, function.func.name as usize) == b"init".as_slice(),
         Some(_) => false,
     }
 }
@@ -61,13 +61,13 @@ pub(crate) fn function_called<'a>(
 ) -> FunctionName<'a>
     ensures { function_of result ≡ function_called path.now (map source_of files.now) (placed_function function.entry) }
 {
-    let name = spelling(files, function.file, function.func.name);
+    let name = spelling(files, function.file, function.func.name as usize);
     match &function.func.receiver {
         None => FunctionName::Plain(GlobalName { path, name }),
         Some(receiver) => FunctionName::Method {
             receiver: GlobalName {
                 path,
-                name: spelling(files, function.file, receiver.type_name),
+                name: spelling(files, function.file, receiver.type_name as usize),
             },
             name,
         },

@@ -163,7 +163,7 @@ fn package_name(files: &[FileTree]) -> &[u8]
 {
     match files.first() {
         None => &[],
-        Some(file) => file.spelling(file.file().name),
+        Some(file) => file.spelling(file.file().name as usize),
     }
 }
 

@@ -47,7 +47,7 @@ fn put_set_name<'a>(
     ensures { OnOk result (Puts (set_name scope.entry.slots.now.places.items (ident_view ident.now)) code.old code.new) }
 {
     match ident {
-        Ident::Named(place) => scope.put_set(*place, code),
+        Ident::Named(place) => scope.put_set(*place as usize, code),
         Ident::Blank(_) => code.put(Instruction::Pop),
     }
 }
@@ -76,7 +76,7 @@ fn put_set_left<'a>(
     ensures { OnOk result (Puts (set_left (source_of scope.entry.source.now) scope.entry.slots.now.places.items (expr_view left.now)) code.old code.new) }
 {
     match left {
-        Expr::Name(place) => match scope.source.world.bound(*place) {
+        Expr::Name(place) => match scope.source.world.bound(*place as usize) {
             Some(Bound::Local(declared)) => scope.put_set(*declared, code),
             _ => Ok(()),
         },

@@ -22,7 +22,7 @@ fn ident_place(ident: &Ident) -> usize
     ensures { result ≡ ident_place (ident_view ident.now) }
 {
     match ident {
-        Ident::Named(place) | Ident::Blank(place) => *place,
+        Ident::Named(place) | Ident::Blank(place) => *place as usize,
     }
 }
 
@@ -68,7 +68,7 @@ fn add_ident(places: &mut Vec<usize>, ident: &Ident) -> Result<(), AllocError>
 {
     match ident {
         Ident::Named(place) => {
-            places.push(*place)?;
+            places.push(*place as usize)?;
             Ok(())
         }
         Ident::Blank(_) => Ok(()),
@@ -120,8 +120,8 @@ fn add_defined(places: &mut Vec<usize>, world: &World<'_>, left: &Expr) -> Resul
 {
     match left {
         Expr::Name(place) => {
-            if declares(world, *place) {
-                places.push(*place)?;
+            if declares(world, *place as usize) {
+                places.push(*place as usize)?;
             }
             Ok(())
         }

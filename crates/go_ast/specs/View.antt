@@ -58,6 +58,7 @@ unfoldable mutual
   expr_view (expr.Chain' p e shape row) = tree.Chain (expr_view e) (links_view row)
   expr_view (expr.Binary' p e shape row) = tree.Binary (expr_view e) (operands_view row)
   expr_view (expr.NamedChain' n shape row) = tree.Chain (tree.Name n) (links_view row)
+  expr_view (expr.NamedBinary' n shape row) = tree.Binary (tree.Name n) (operands_view row)
 
   pub literal_view : CompositeLit → LiteralTree
   literal_view (CompositeLit' t o shape row c) = tree.literal (type_view t) o (elements_view row) c
@@ -66,7 +67,7 @@ unfoldable mutual
   pub link_view : Link → LinkTrees → LinkTrees
   link_view (link.Selector d n) others = tree.selector d n others
   link_view (link.Index' o p e c) others = tree.index o (expr_view e) c others
-  link_view (link.Call' o shape row c) others = tree.call o (arguments_view row) c others
+  link_view (link.Call' o c shape row) others = tree.call o (arguments_view row) c others
 
   pub links_view : {m : _} → Row_of-Link m → LinkTrees
   links_view end_of-Link = tree.no_link

@@ -106,7 +106,7 @@ pub enum UpdateOp {
 #[derive(Clone, Copy, PartialEq, Eq, Debug)]
 pub struct Token {
     pub kind: Kind,
-    pub place: usize,
+    pub place: u32,
 }
 
 /// The kind of fault of a token list: it is no file, or it nests too deeply.

@@ -5,7 +5,7 @@ use crate::syntax::{BinaryOp, PrefixOp, StepOp, UpdateOp};
 #[derive(Drop)]
 pub struct Item<T> {
     pub value: T,
-    pub separator: Option<usize>,
+    pub separator: Option<u32>,
 }
 
 /// One item, or any number of items in parentheses.
@@ -13,62 +13,62 @@ pub struct Item<T> {
 pub enum Group<T> {
     Single(T),
     Several {
-        open: usize,
+        open: u32,
         items: Vec<Item<T>>,
-        close: usize,
+        close: u32,
     },
 }
 
 /// A declared identifier: a name, or `_`.
 #[derive(Drop)]
 pub enum Ident {
-    Named(usize),
-    Blank(usize),
+    Named(u32),
+    Blank(u32),
 }
 
 /// A type. `Local` is `T`, `Imported` is `p.T`, `Pointer` is `*T` and `Slice` is `[]T`.
 #[derive(Drop)]
 pub enum TypeExpr {
-    Local(usize),
+    Local(u32),
     Imported {
-        package: usize,
-        dot: usize,
-        name: usize,
+        package: u32,
+        dot: u32,
+        name: u32,
     },
     Pointer {
-        star: usize,
+        star: u32,
         target: Box<TypeExpr>,
     },
     Slice {
-        open: usize,
-        close: usize,
+        open: u32,
+        close: u32,
         element: Box<TypeExpr>,
     },
 }
 
-/// An expression. A chain has at least one link, and its first operand is no chain. A `NamedChain` begins with a name, which needs no box. A
-/// binary expression has at least two operands, and all of its operators have one precedence. Literals lie in boxes, so that other
-/// expressions take little room.
+/// An expression. A chain has at least one link, and its first operand is no chain. A binary expression has at least two operands, and all of
+/// its operators have one precedence. A `NamedChain` or a `NamedBinary` begins with a name, which needs no box. Literals lie in boxes, so
+/// that other expressions take little room.
 #[derive(Drop)]
 #[cycle(expression)]
 pub enum Expr {
-    Number(usize),
-    Text(usize),
-    Name(usize),
-    Blank(usize),
+    Number(u32),
+    Text(u32),
+    Name(u32),
+    Blank(u32),
     Composite(Box<CompositeLit>),
     Paren {
-        open: usize,
+        open: u32,
         inner: Box<Expr>,
-        close: usize,
+        close: u32,
     },
     Prefix {
         op: PrefixOp,
-        at: usize,
+        at: u32,
         operand: Box<Expr>,
     },
     Address {
-        at: usize,
+        at: u32,
         literal: Box<CompositeLit>,
     },
     Chain {
@@ -80,8 +80,12 @@ pub enum Expr {
         rest: Vec<Operand>,
     },
     NamedChain {
-        name: usize,
+        name: u32,
         links: Vec<Link>,
+    },
+    NamedBinary {
+        name: u32,
+        rest: Vec<Operand>,
     },
 }
 
@@ -90,7 +94,7 @@ pub enum Expr {
 #[cycle(expression)]
 pub struct Operand {
     pub op: BinaryOp,
-    pub at: usize,
+    pub at: u32,
     pub value: Expr,
 }
 
@@ -99,18 +103,18 @@ pub struct Operand {
 #[cycle(expression)]
 pub enum Link {
     Selector {
-        dot: usize,
-        name: usize,
+        dot: u32,
+        name: u32,
     },
     Index {
-        open: usize,
+        open: u32,
         index: Box<Expr>,
-        close: usize,
+        close: u32,
     },
     Call {
-        open: usize,
+        open: u32,
+        close: u32,
         arguments: Vec<ExprItem>,
-        close: usize,
     },
 }
 
@@ -119,7 +123,7 @@ pub enum Link {
 #[cycle(expression)]
 pub struct ExprItem {
     pub value: Expr,
-    pub comma: Option<usize>,
+    pub comma: Option<u32>,
 }
 
 /// A composite literal: its type, and its elements in braces.
@@ -127,16 +131,16 @@ pub struct ExprItem {
 #[cycle(expression)]
 pub struct CompositeLit {
     pub literal_type: TypeExpr,
-    pub open: usize,
+    pub open: u32,
     pub elements: Vec<Element>,
-    pub close: usize,
+    pub close: u32,
 }
 
 /// A composite literal key: the name of a field, and the colon.
 #[derive(Drop)]
 pub struct Key {
-    pub name: usize,
-    pub colon: usize,
+    pub name: u32,
+    pub colon: u32,
 }
 
 /// An element of a composite literal with its comma, if it has one.
@@ -145,13 +149,13 @@ pub struct Key {
 pub struct Element {
     pub key: Option<Key>,
     pub value: Expr,
-    pub comma: Option<usize>,
+    pub comma: Option<u32>,
 }
 
 /// A `=` with the values that follow it.
 #[derive(Drop)]
 pub struct Values {
-    pub assign: usize,
+    pub assign: u32,
     pub values: Vec<ExprItem>,
 }
 
@@ -170,22 +174,22 @@ pub enum SimpleStmt {
     Step {
         operand: Expr,
         op: StepOp,
-        at: usize,
+        at: u32,
     },
     Update {
         left: Expr,
         op: UpdateOp,
-        at: usize,
+        at: u32,
         right: Box<Expr>,
     },
     Assign {
         left: Vec<ExprItem>,
-        at: usize,
+        at: u32,
         right: Vec<ExprItem>,
     },
     Define {
         left: Vec<ExprItem>,
-        at: usize,
+        at: u32,
         right: Vec<ExprItem>,
     },
 }
@@ -194,7 +198,7 @@ pub enum SimpleStmt {
 #[derive(Drop)]
 pub struct IfInit {
     pub statement: Option<SimpleStmt>,
-    pub semicolon: usize,
+    pub semicolon: u32,
 }
 
 /// The header of a `for`: none, a condition, or three clauses.
@@ -204,9 +208,9 @@ pub enum ForHeader {
     While(Expr),
     Clauses {
         init: Option<SimpleStmt>,
-        first: usize,
+        first: u32,
         condition: Option<Expr>,
-        second: usize,
+        second: u32,
         post: Option<SimpleStmt>,
     },
 }
@@ -217,21 +221,21 @@ pub enum ForHeader {
 pub enum Stmt {
     Empty,
     Var {
-        at: usize,
+        at: u32,
         group: Box<Group<LocalSpec>>,
     },
     Simple(SimpleStmt),
     Block(BlockStmt),
     If(Box<IfStmt>),
     For {
-        at: usize,
+        at: u32,
         header: Box<ForHeader>,
         body: BlockStmt,
     },
-    Break(usize),
-    Continue(usize),
+    Break(u32),
+    Continue(u32),
     Return {
-        at: usize,
+        at: u32,
         values: Vec<ExprItem>,
     },
 }
@@ -240,9 +244,9 @@ pub enum Stmt {
 #[derive(Drop)]
 #[cycle(statement)]
 pub struct BlockStmt {
-    pub open: usize,
+    pub open: u32,
     pub statements: Vec<BlockItem>,
-    pub close: usize,
+    pub close: u32,
 }
 
 /// A statement of a block with its semicolon, if it has one.
@@ -250,14 +254,14 @@ pub struct BlockStmt {
 #[cycle(statement)]
 pub struct BlockItem {
     pub statement: Stmt,
-    pub semicolon: Option<usize>,
+    pub semicolon: Option<u32>,
 }
 
 /// An `if` statement.
 #[derive(Drop)]
 #[cycle(statement)]
 pub struct IfStmt {
-    pub at: usize,
+    pub at: u32,
     pub init: Option<IfInit>,
     pub condition: Expr,
     pub body: BlockStmt,
@@ -269,35 +273,35 @@ pub struct IfStmt {
 #[cycle(statement)]
 pub enum Else {
     None,
-    If { at: usize, branch: Box<IfStmt> },
-    Block { at: usize, block: BlockStmt },
+    If { at: u32, branch: Box<IfStmt> },
+    Block { at: u32, block: BlockStmt },
 }
 
 /// An import spec: `name "path"`, where the name may be absent.
 #[derive(Drop)]
 pub struct ImportSpec {
-    pub name: Option<usize>,
-    pub path: usize,
+    pub name: Option<u32>,
+    pub path: u32,
 }
 
 /// A literal of one token: a number or a string.
 #[derive(Drop)]
 pub enum BasicLit {
-    Number(usize),
-    Text(usize),
+    Number(u32),
+    Text(u32),
 }
 
 /// A `=` with the literals that follow it.
 #[derive(Drop)]
 pub struct VarValues {
-    pub assign: usize,
+    pub assign: u32,
     pub values: Vec<Item<BasicLit>>,
 }
 
 /// A declaration of package-level variables of one type: `a, b T = 1, 2`.
 #[derive(Drop)]
 pub struct VarSpec {
-    pub names: Vec<Item<usize>>,
+    pub names: Vec<Item<u32>>,
     pub var_type: TypeExpr,
     pub values: Option<VarValues>,
 }
@@ -305,17 +309,17 @@ pub struct VarSpec {
 /// Fields of one type: `a, b T`.
 #[derive(Drop)]
 pub struct FieldDecl {
-    pub names: Vec<Item<usize>>,
+    pub names: Vec<Item<u32>>,
     pub field_type: TypeExpr,
 }
 
 /// A method that an interface asks for: `M(a, b T) R`.
 #[derive(Drop)]
 pub struct MethodSpec {
-    pub name: usize,
-    pub open: usize,
+    pub name: u32,
+    pub open: u32,
     pub params: Vec<Item<Param>>,
-    pub close: usize,
+    pub close: u32,
     pub results: Results,
 }
 
@@ -324,35 +328,35 @@ pub struct MethodSpec {
 pub enum TypeBody {
     Type(TypeExpr),
     Struct {
-        at: usize,
-        open: usize,
+        at: u32,
+        open: u32,
         fields: Vec<Item<FieldDecl>>,
-        close: usize,
+        close: u32,
     },
     Interface {
-        at: usize,
-        open: usize,
+        at: u32,
+        open: u32,
         methods: Vec<Item<MethodSpec>>,
-        close: usize,
+        close: u32,
     },
 }
 
 /// A type definition: its name and right side.
 #[derive(Drop)]
 pub struct TypeSpec {
-    pub name: usize,
+    pub name: u32,
     pub body: TypeBody,
 }
 
 /// The receiver of a method: `(x *T)`.
 #[derive(Drop)]
 pub struct Receiver {
-    pub open: usize,
+    pub open: u32,
     pub ident: Ident,
-    pub star: Option<usize>,
-    pub type_name: usize,
-    pub comma: Option<usize>,
-    pub close: usize,
+    pub star: Option<u32>,
+    pub type_name: u32,
+    pub comma: Option<u32>,
+    pub close: u32,
 }
 
 /// Parameters of one type: `a, b T`.
@@ -368,9 +372,9 @@ pub enum Results {
     None,
     Single(TypeExpr),
     Several {
-        open: usize,
+        open: u32,
         types: Vec<Item<TypeExpr>>,
-        close: usize,
+        close: u32,
     },
 }
 
@@ -378,10 +382,10 @@ pub enum Results {
 #[derive(Drop)]
 pub struct FuncDecl {
     pub receiver: Option<Receiver>,
-    pub name: usize,
-    pub open: usize,
+    pub name: u32,
+    pub open: u32,
     pub params: Vec<Item<Param>>,
-    pub close: usize,
+    pub close: u32,
     pub results: Results,
     pub body: BlockStmt,
 }
@@ -389,37 +393,37 @@ pub struct FuncDecl {
 /// An import declaration: `import`, its specs, and its semicolon.
 #[derive(Drop)]
 pub struct ImportDecl {
-    pub at: usize,
+    pub at: u32,
     pub group: Group<ImportSpec>,
-    pub semicolon: usize,
+    pub semicolon: u32,
 }
 
 /// A top-level declaration with its keyword and semicolon.
 #[derive(Drop)]
 pub enum Decl {
     Var {
-        at: usize,
+        at: u32,
         group: Group<VarSpec>,
-        semicolon: usize,
+        semicolon: u32,
     },
     Type {
-        at: usize,
+        at: u32,
         group: Group<TypeSpec>,
-        semicolon: usize,
+        semicolon: u32,
     },
     Func {
-        at: usize,
+        at: u32,
         func: FuncDecl,
-        semicolon: usize,
+        semicolon: u32,
     },
 }
 
 /// A file: its package clause, imports and declarations.
 #[derive(Drop)]
 pub struct File {
-    pub package: usize,
-    pub name: usize,
-    pub semicolon: usize,
+    pub package: u32,
+    pub name: u32,
+    pub semicolon: u32,
     pub imports: Vec<ImportDecl>,
     pub decls: Vec<Decl>,
 }

@@ -30,19 +30,13 @@ use Rattle.go_ast.specs.View.{type_view, expr_view, literal_view, link_view, lin
 use Rattle.go_ast.specs.WellFormed.{strength, strength_of, IsExpr, IsExprIn, AreOperands, AreLinks, AreArguments, IsLiteral}
 use Rattle.go_ast.specs.WellFormed.{IsLiteralType, AreElements, IsUnnamed, HasNoNamedLiteral, HaveNoNamedLiteral}
 use Rattle.go_parser.specs.Grouping.{is_slice, is_literal_type, literal_type_of, IsUnary, IsOperand, IsLiteralIn, IsLink, IsSeparatedBy}
-use Rattle.go_parser.specs.Grouping.{AreItems, Each}
+use Rattle.go_parser.specs.Grouping.{AreItems, Each, IsBinaryOf, IsOperandOf}
 use Rattle.go_ast.specs.declared.tree.Operand.{Operand}
 
 -- only the last item may lack its separator, and none does where more items may follow
 pub record IsSeparatedSoFar {X : Type 0} (f : X → Option ℕ) (more : Bool) (xs : List X) : Type 0 where
   pub separated : IsSeparatedBy f xs
   pub complete : more ≡ true → Each (λ x. f x ≢ None) xs
-
--- an operator of this precedence, and an operand that binds more strongly
-pub record IsJoined (h : Bool) (k : ℕ) (o : Operand) : Type 0 where
-  pub same : strength o.op ≡ k
-  pub stronger : k < strength_of (expr_view o.value)
-  pub expr : IsExprIn h (expr_view o.value)
 
 clash : {X : Type 0} → false ≡ true → X
 clash e = absurd (let f : ⊥ = cc in f)
@@ -166,14 +160,14 @@ unfolding AreLinks links_view link_view
 links_wf end_of-Link w = tt
 links_wf (more_of-Link (link.Selector d n) rest) w = links_wf rest w.1
 links_wf (more_of-Link (link.Index' o p e c) rest) w = (w.0.0, links_wf rest w.1)
-links_wf (more_of-Link (link.Call' o shape row c) rest) w = (w.0.0, links_wf rest w.1)
+links_wf (more_of-Link (link.Call' o c shape row) rest) w = (w.0.0, links_wf rest w.1)
 
 some_links : {n : _} (row : Row_of-Link n) → items-the_row-Link n row ≢ [] → links_view row ≢ no_link
 unfolding links_view link_view
 some_links end_of-Link w e = w refl
 some_links (more_of-Link (link.Selector d n) rest) w e = cc
 some_links (more_of-Link (link.Index' o p x c) rest) w e = cc
-some_links (more_of-Link (link.Call' o shape row c) rest) w e = cc
+some_links (more_of-Link (link.Call' o c shape row) rest) w e = cc
 
 pub chain_grouped : (h : Bool) (e : _) (links : _) → let x = expr.Chain e links in
     IsOperand h (expr_view e.value) → Each IsLink links.items → links.items ≢ [] → IsUnary h (expr_view x)
@@ -209,19 +203,19 @@ named_chain_grouped h n links each some = record {
 
 -- binaries
 
-joined_wf : (h : Bool) (k : ℕ) {n : _} (row : Row_of-Operand n) → Each (IsJoined h k) (items-the_row-Operand n row) → AreOperands k (operands_view row)
+joined_wf : (h : Bool) (k : ℕ) {n : _} (row : Row_of-Operand n) → Each (IsOperandOf h k) (items-the_row-Operand n row) → AreOperands k (operands_view row)
 unfolding AreOperands operands_view
 joined_wf h k end_of-Operand w = tt
 joined_wf h k (more_of-Operand op p e rest) w = (w.0.same, w.0.stronger, w.0.expr.grouped, joined_wf h k rest w.1)
 
-joined_unnamed : (h : Bool) (k : ℕ) {n : _} (row : Row_of-Operand n) → Each (IsJoined h k) (items-the_row-Operand n row) → h ≡ true →
+joined_unnamed : (h : Bool) (k : ℕ) {n : _} (row : Row_of-Operand n) → Each (IsOperandOf h k) (items-the_row-Operand n row) → h ≡ true →
     HaveNoNamedLiteral (operands_view row)
 unfolding HaveNoNamedLiteral operands_view
 joined_unnamed h k end_of-Operand w x = tt
 joined_unnamed h k (more_of-Operand op p e rest) w x = (w.0.expr.unnamed x, joined_unnamed h k rest w.1 x)
 
 joined_tree : (h : Bool) (k : ℕ) {n : _} (row : Row_of-Operand n) (e : ExprTree) → IsExprIn h e → k < strength_of e →
-    Each (IsJoined h k) (items-the_row-Operand n row) →
+    Each (IsOperandOf h k) (items-the_row-Operand n row) →
     items-the_row-Operand n row ≢ [] → IsExpr (tree.Binary e (operands_view row)) × (strength_of (tree.Binary e (operands_view row)) ≡ k)
 unfolding IsExpr operands_view
 joined_tree h k end_of-Operand e w strong each some = absurd (some refl)
@@ -234,25 +228,42 @@ joined_tree h k (more_of-Operand op p f rest) e w strong each some = (
   each.0.same,
 )
 
-pub binary_grouped : (h : Bool) (k : ℕ) (e : _) (os : _) → let x = expr.Binary e os in
-    IsExprIn h (expr_view e.value) → k < strength_of (expr_view e.value) → Each (IsJoined h k) os.items → os.items ≢ [] →
+binary_grouped : (h : Bool) (k : ℕ) (e : _) (os : _) → let x = expr.Binary e os in
+    IsExprIn h (expr_view e.value) → k < strength_of (expr_view e.value) → Each (IsOperandOf h k) os.items → os.items ≢ [] →
     IsExprIn h (expr_view x)
 unfolding expr_view HasNoNamedLiteral
 binary_grouped h k e os w strong each some =
     let same = items_hidden-the_row-Operand-1 os in
-    let row = subst (Each (IsJoined h k)) (sym same) each in
+    let row = subst (Each (IsOperandOf h k)) (sym same) each in
     record {
       grouped = (joined_tree h k (hidden-the_row-Operand-1 os) (expr_view e.value) w strong row (λ x. some (sym same ∙ x))).0;
       unnamed = λ x. (w.unnamed x, joined_unnamed h k (hidden-the_row-Operand-1 os) row x);
     }
 
-pub binary_strength : (h : Bool) (k : ℕ) (e : _) (os : _) → let x = expr.Binary e os in
-    IsExprIn h (expr_view e.value) → k < strength_of (expr_view e.value) → Each (IsJoined h k) os.items → os.items ≢ [] →
+binary_strength : (h : Bool) (k : ℕ) (e : _) (os : _) → let x = expr.Binary e os in
+    IsExprIn h (expr_view e.value) → k < strength_of (expr_view e.value) → Each (IsOperandOf h k) os.items → os.items ≢ [] →
     strength_of (expr_view x) ≡ k
 unfolding expr_view
 binary_strength h k e os w strong each some =
     let same = items_hidden-the_row-Operand-1 os in
-    (joined_tree h k (hidden-the_row-Operand-1 os) (expr_view e.value) w strong (subst (Each (IsJoined h k)) (sym same) each) (λ x. some (sym same ∙ x))).1
+    (joined_tree h k (hidden-the_row-Operand-1 os) (expr_view e.value) w strong (subst (Each (IsOperandOf h k)) (sym same) each) (λ x. some (sym same ∙ x))).1
+
+pub joined_binary : (h : Bool) (k : ℕ) (e : _) (os : _) → let x = expr.Binary e os in
+    IsExprIn h (expr_view e.value) → k < strength_of (expr_view e.value) → Each (IsOperandOf h k) os.items → os.items ≢ [] →
+    IsBinaryOf h k (expr_view x)
+joined_binary h k e os w strong each some = record { expr = binary_grouped h k e os w strong each some; same = binary_strength h k e os w strong each some }
+
+pub joined_name : (h : Bool) (k n : ℕ) (os : _) → let x = expr.NamedBinary n os in
+    IsExprIn h (expr_view (expr.Name n)) → k < strength_of (expr_view (expr.Name n)) → Each (IsOperandOf h k) os.items → os.items ≢ [] → IsBinaryOf h k (expr_view x)
+unfolding expr_view HasNoNamedLiteral
+joined_name h k n os w strong each some =
+    let same = items_hidden-the_row-Operand-1 os in
+    let row = subst (Each (IsOperandOf h k)) (sym same) each in
+    let whole = joined_tree h k (hidden-the_row-Operand-1 os) (tree.Name n) w strong row (λ x. some (sym same ∙ x)) in
+    record {
+      expr = record { grouped = whole.0; unnamed = λ x. (w.unnamed x, joined_unnamed h k (hidden-the_row-Operand-1 os) row x) };
+      same = whole.1;
+    }
 
 -- lists of items
 
@@ -299,7 +310,7 @@ pub index_wf : (o : ℕ) (e : _) (c : ℕ) → let l = link.Index o e c in IsExp
 unfolding AreLinks link_view
 index_wf o e c w = (w.grouped, tt)
 
-pub call_wf : (o : ℕ) (xs : _) (c : ℕ) → let l = link.Call o xs c in AreItems xs.items → IsLink l
+pub call_wf : (o : ℕ) (xs : _) (c : ℕ) → let l = link.Call o c xs in AreItems xs.items → IsLink l
 unfolding AreLinks link_view
 call_wf o xs c w =
     let same = items_hidden-the_row-ExprItem-2 xs in (

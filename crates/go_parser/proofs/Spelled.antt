@@ -16,16 +16,12 @@ use Rattle.go_ast.specs.declared.tree.Link.TheVariants as link
 use Rattle.go_ast.specs.declared.tree.CompositeLit.{CompositeLit, Row_of-Element, end_of-Element, more_of-Element, items-the_row-Element}
 use Rattle.go_ast.specs.declared.tree.CompositeLit.{items_hidden-the_row-Element-3}
 use Rattle.go_ast.specs.Tree.{LinkTrees}
-use Rattle.go_parser.specs.Spelling.{type_spelled, expr_spelled, literal_spelled, link_spelled, expr_item_spelled, element_spelled}
+use Rattle.go_parser.specs.Spelling.{type_spelled, expr_spelled, literal_spelled, link_spelled, operand_spelled, expr_item_spelled, element_spelled}
 use Rattle.go_ast.specs.Grammar.{is_leaf, is_some}
 use Rattle.go_parser.specs.Leaf.{leaf_of}
 use Rattle.go_ast.specs.Flatten.{sign, sign_if, binary_kind, prefix_kind, all_tokens, type_tokens, key_tokens, expr_tokens, operand_tokens, link_tokens}
 use Rattle.go_ast.specs.Flatten.{argument_tokens, literal_tokens, element_tokens}
 use Rattle.go_ast.specs.View.{type_view, key_view, expr_view, literal_view, link_view, links_view, operands_view, arguments_view, elements_view}
-use Rattle.go_ast.specs.declared.tree.Operand.{Operand}
-
-abbrev pub operand_spelled : Operand → List Token
-operand_spelled o = sign (binary_kind o.op) o.at ∷ expr_spelled o.value
 
 -- types
 
@@ -211,7 +207,7 @@ unfolding link_tokens link_view
 link_more (link.Selector d n) others = refl
 link_more (link.Index' o p e c) others = ap (λ x. sign kind.LeftBracket o ∷ x)
     (sym (append_assoc (expr_spelled e) (sign kind.RightBracket c ∷ []) (link_tokens others)))
-link_more (link.Call' o shape row c) others = ap (λ x. sign kind.LeftParen o ∷ x)
+link_more (link.Call' o c shape row) others = ap (λ x. sign kind.LeftParen o ∷ x)
     (sym (append_assoc (argument_tokens (arguments_view row)) (sign kind.RightParen c ∷ []) (link_tokens others)))
 
 link_row_tokens : {n : _} (row : Row_of-Link n) → link_tokens (links_view row) ≡ all_tokens link_spelled (items-the_row-Link n row)
@@ -244,7 +240,7 @@ argument_row_tokens end_of-ExprItem = refl
 argument_row_tokens (more_of-ExprItem e c rest) = ap (λ x. expr_spelled e ++ (sign_if kind.Comma c ++ x)) (argument_row_tokens rest) ∙
     sym (append_assoc (expr_spelled e) (sign_if kind.Comma c) (all_tokens expr_item_spelled (items-the_row-ExprItem _ rest)))
 
-pub call_tokens : (o : ℕ) (xs : _) (c : ℕ) → link_spelled (link.Call o xs c) ≡ sign kind.LeftParen o ∷
+pub call_tokens : (o : ℕ) (xs : _) (c : ℕ) → link_spelled (link.Call o c xs) ≡ sign kind.LeftParen o ∷
     (all_tokens expr_item_spelled xs.items ++ (sign kind.RightParen c ∷ []))
 unfolding link_tokens link_view
 call_tokens o xs c = ap (λ x. sign kind.LeftParen o ∷ (x ++ (sign kind.RightParen c ∷ [])))
@@ -260,6 +256,11 @@ operand_row_tokens (more_of-Operand op p e rest) = ap (λ x. sign (binary_kind o
 pub binary_tokens : (e : _) (os : _) → expr_spelled (expr.Binary e os) ≡ expr_spelled e.value ++ all_tokens operand_spelled os.items
 unfolding expr_tokens expr_view
 binary_tokens e os = ap (λ x. expr_spelled e.value ++ x)
+    (operand_row_tokens (hidden-the_row-Operand-1 os) ∙ ap (λ xs. all_tokens operand_spelled xs) (items_hidden-the_row-Operand-1 os))
+
+pub named_binary_tokens : (n : ℕ) (os : _) → expr_spelled (expr.NamedBinary n os) ≡ sign kind.Name n ∷ all_tokens operand_spelled os.items
+unfolding expr_tokens expr_view
+named_binary_tokens n os = ap (λ x. sign kind.Name n ∷ x)
     (operand_row_tokens (hidden-the_row-Operand-1 os) ∙ ap (λ xs. all_tokens operand_spelled xs) (items_hidden-the_row-Operand-1 os))
 
 -- literals

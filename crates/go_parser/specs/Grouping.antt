@@ -1,10 +1,11 @@
 -- Well-formedness of the parts that the parser makes of expressions.
-use Rattle.std.specs.Prelude.{ℕ, ◌≡◌, Bool, true, false, List, [], ◌∷◌, Option, None}
+use Rattle.std.specs.Prelude.{ℕ, ◌≡◌, ◌<◌, Bool, true, false, List, [], ◌∷◌, Option, None}
 use Rattle.go_ast.specs.declared.tree.ExprItem.{ExprItem}
 use Rattle.go_ast.specs.declared.tree.Link.{Link}
+use Rattle.go_ast.specs.declared.tree.Operand.{Operand}
 use Rattle.go_ast.specs.Tree.{TypeTree, Pointer, Slice, ExprTree, no_link, LiteralTree, literal}
 use Rattle.go_ast.specs.View.{expr_view, link_view}
-use Rattle.go_ast.specs.WellFormed.{is_operand, is_binary_tree, IsExpr, IsExprIn, AreLinks, IsLiteral}
+use Rattle.go_ast.specs.WellFormed.{is_operand, is_binary_tree, IsExpr, IsExprIn, AreLinks, IsLiteral, strength, strength_of}
 
 -- the type is a slice type
 abbrev pub is_slice : TypeTree → Bool
@@ -38,6 +39,17 @@ pub record IsLiteralIn (h : Bool) (l : LiteralTree) : Type 0 where
 -- the link is well formed
 abbrev pub IsLink : Link → Type 0
 IsLink l = AreLinks (link_view l no_link)
+
+-- an operator of this precedence, and an operand that binds more strongly
+pub record IsOperandOf (h : Bool) (k : ℕ) (o : Operand) : Type 0 where
+  pub same : strength o.op ≡ k
+  pub stronger : k < strength_of (expr_view o.value)
+  pub expr : IsExprIn h (expr_view o.value)
+
+-- the expression is well formed, and its operators have this precedence
+pub record IsBinaryOf (h : Bool) (k : ℕ) (e : ExprTree) : Type 0 where
+  pub expr : IsExprIn h e
+  pub same : strength_of e ≡ k
 
 -- each item of a list satisfies P
 abbrev pub Each : {X : Type 0} → (X → Type 0) → List X → Type 0

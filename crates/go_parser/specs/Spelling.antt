@@ -1,5 +1,5 @@
 -- The tokens of the program's trees: those of the specification trees that they stand for.
-use Rattle.std.specs.Prelude.{ℕ, List, ◌++◌}
+use Rattle.std.specs.Prelude.{ℕ, List, ◌∷◌, ◌++◌}
 use Rattle.go_ast.specs.declared.syntax.Kind.TheVariants as kind
 use Rattle.go_ast.specs.declared.syntax.Token.{Token}
 use Rattle.go_ast.specs.declared.tree.Item.{Item}
@@ -9,6 +9,7 @@ use Rattle.go_ast.specs.declared.tree.Expr.{Expr}
 use Rattle.go_ast.specs.declared.tree.ExprItem.{ExprItem}
 use Rattle.go_ast.specs.declared.tree.Link.{Link}
 use Rattle.go_ast.specs.declared.tree.Element.{Element}
+use Rattle.go_ast.specs.declared.tree.Operand.{Operand}
 use Rattle.go_ast.specs.declared.tree.CompositeLit.{CompositeLit}
 use Rattle.go_ast.specs.declared.tree.LocalSpec.{LocalSpec}
 use Rattle.go_ast.specs.declared.tree.SimpleStmt.{SimpleStmt}
@@ -34,7 +35,7 @@ use Rattle.go_ast.specs.declared.tree.Decl.{Decl}
 use Rattle.go_ast.specs.declared.tree.File.{File}
 use Rattle.go_ast.specs.Tree as tree
 use Rattle.go_ast.specs.Flatten as flat
-use Rattle.go_ast.specs.Flatten.{sign_if}
+use Rattle.go_ast.specs.Flatten.{binary_kind, sign, sign_if}
 use Rattle.go_ast.specs.View.{list_view, ident_view, type_view, key_view, expr_view, literal_view, link_view, exprs_view}
 use Rattle.go_ast.specs.FileView.{same_index, local_view, simple_view, init_view, for_view, stmt_view, block_view, if_view, else_view, import_view}
 use Rattle.go_ast.specs.FileView.{basic_view, global_view, field_view, body_view, type_spec_view, receiver_view, param_view, results_view, func_view}
@@ -51,6 +52,9 @@ literal_spelled l = flat.literal_tokens (literal_view l)
 
 abbrev pub link_spelled : Link → List Token
 link_spelled l = flat.link_tokens (link_view l tree.no_link)
+
+abbrev pub operand_spelled : Operand → List Token
+operand_spelled o = sign (binary_kind o.op) o.at ∷ expr_spelled o.value
 
 abbrev pub expr_item_spelled : ExprItem → List Token
 expr_item_spelled i = expr_spelled i.value ++ sign_if kind.Comma i.comma

@@ -109,7 +109,7 @@ fn type_body(alloc: Global, tokens: &[Token], depth: u32) -> Parsed<'_, TypeBody
 }
 
 /// Parses the fields of a struct and its closing brace.
-fn fields(alloc: Global, tokens: &[Token], depth: u32) -> Parsed<'_, (Vec<Item<FieldDecl>>, usize)>
+fn fields(alloc: Global, tokens: &[Token], depth: u32) -> Parsed<'_, (Vec<Item<FieldDecl>>, u32)>
     ensures exact { Parses (A Fields ∷ []) (λ x. items_spelled Kind.Semicolon field_spelled x.0.0.items ++ (sign Kind.RightBrace x.0.1 ∷ [])) (λ x. x.1.now) depth tokens.now result }
     ensures formed { IfOk result (λ x. IsOpenList IsField (list_view field_view x.0.0.items)) }
 {

@@ -1,15 +1,15 @@
 //! Parses expressions.
-ghost use Rattle.std.specs.Prelude.{◌≡◌, ◌≢◌, ◌∷◌, ◌≤◌, ◌<◌, ◌+◌, ◌++◌, [], Bool, length, true, false, IfOk, is_some};
+ghost use Rattle.std.specs.Prelude.{◌≡◌, ◌≢◌, ◌∷◌, ◌≤◌, ◌<◌, ◌+◌, ◌++◌, [], Bool, ℕ, length, true, false, IfOk, is_some};
 ghost use Rattle.go_ast.specs.Grammar.{A, Expression, Unary, Binaries, Links, Arguments, Address, Elements, ElementList, slice_type, is};
 ghost use Rattle.go_ast.specs.Grammar as grammar;
 ghost use Rattle.go_parser.specs.Machine.{at};
 ghost use Rattle.go_parser.specs.Parsing.{Parses, LeadsTo, LeadsBy, Continues, list_rest};
 ghost use Rattle.go_ast.specs.Flatten.{sign, all_tokens};
-ghost use Rattle.go_parser.specs.Spelling.{type_spelled, expr_spelled, literal_spelled, link_spelled, expr_item_spelled, element_spelled};
+ghost use Rattle.go_parser.specs.Spelling.{type_spelled, expr_spelled, literal_spelled, link_spelled, operand_spelled, expr_item_spelled, element_spelled};
 ghost use Rattle.go_parser.specs.Strength.{strength_at};
 ghost use Rattle.go_ast.specs.View.{type_view, expr_view, literal_view};
 ghost use Rattle.go_ast.specs.WellFormed.{strength_of, IsExpr, IsExprIn, IsLiteral};
-ghost use Rattle.go_parser.specs.Grouping.{Each, IsUnary, IsOperand, IsLiteralIn, IsLink, AreItems, is_literal_type, literal_type_of};
+ghost use Rattle.go_parser.specs.Grouping.{Each, IsUnary, IsOperand, IsOperandOf, IsBinaryOf, IsLiteralIn, IsLink, AreItems, is_literal_type, literal_type_of};
 
 use crate::lookahead::{begins_key, begins_link, literal_is_named, type_is_named};
 use crate::operators::{at_leaf, at_prefix, binary_operator, leaf, open_prefix, strength_at};
@@ -65,15 +65,28 @@ fn binary(
     if operands.is_empty() {
         return Ok((first, rest));
     }
-    let first = Box::new(alloc, first)?;
-    let rest_operands = operands;
-    Ok((
-        Expr::Binary {
-            first,
-            rest: rest_operands,
-        },
-        rest,
-    ))
+    let whole = joined(alloc, first, operands)?;
+    Ok((whole, rest))
+}
+
+/// The binary expression of a first operand and those that follow it. A name needs no box.
+fn joined(alloc: Global, first: Expr, operands: Vec<Operand>) -> Result<Expr, AllocError>
+    ensures tokens { IfOk result (λ whole. expr_spelled whole ≡ expr_spelled first ++ all_tokens operand_spelled operands.items) }
+    ensures grouped { IfOk result (λ whole. (h : Bool) (k : ℕ) → IsExprIn h (expr_view first) → k < strength_of (expr_view first) → Each (IsOperandOf h k) operands.items → operands.items ≢ [] → IsBinaryOf h k (expr_view whole)) }
+{
+    match first {
+        Expr::Name(name) => Ok(Expr::NamedBinary {
+            name,
+            rest: operands,
+        }),
+        other => {
+            let first = Box::new(alloc, other)?;
+            Ok(Expr::Binary {
+                first,
+                rest: operands,
+            })
+        }
+    }
 }
 
 /// Parses an operand with its prefix operators, selectors, indexes and calls.
@@ -284,7 +297,7 @@ fn link(alloc: Global, tokens: &[Token], depth: u32, header: bool) -> Parsed<'_,
 
 /// Parses the arguments of a call and the closing parenthesis.
 #[cycle(expression)]
-fn arguments(alloc: Global, tokens: &[Token], depth: u32) -> Parsed<'_, (Vec<ExprItem>, usize)>
+fn arguments(alloc: Global, tokens: &[Token], depth: u32) -> Parsed<'_, (Vec<ExprItem>, u32)>
     ensures exact { Parses (A Arguments ∷ []) (λ x. all_tokens expr_item_spelled x.0.0.items ++ (sign Kind.RightParen x.0.1 ∷ [])) (λ x. x.1.now) depth tokens.now result }
     ensures grouped { IfOk result (λ x. AreItems x.0.0.items) }
 {

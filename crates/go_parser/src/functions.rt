@@ -56,7 +56,7 @@ pub(crate) fn params(
     alloc: Global,
     tokens: &[Token],
     depth: u32,
-) -> Parsed<'_, (Vec<Item<Param>>, usize)>
+) -> Parsed<'_, (Vec<Item<Param>>, u32)>
     ensures exact { Parses (A Params ∷ []) (λ x. items_spelled Kind.Comma param_spelled x.0.0.items ++ (sign Kind.RightParen x.0.1 ∷ [])) (λ x. x.1.now) depth tokens.now result }
     ensures formed { IfOk result (λ x. IsOpenList IsParam (list_view param_view x.0.0.items)) }
 {
@@ -106,7 +106,7 @@ fn result_types(
     alloc: Global,
     tokens: &[Token],
     depth: u32,
-) -> Parsed<'_, (Vec<Item<TypeExpr>>, usize)>
+) -> Parsed<'_, (Vec<Item<TypeExpr>>, u32)>
     ensures exact { Parses (A Types ∷ []) (λ x. items_spelled Kind.Comma type_spelled x.0.0.items ++ (sign Kind.RightParen x.0.1 ∷ [])) (λ x. x.1.now) depth tokens.now result }
     ensures formed { IfOk result (λ x. IsOpenList Any (list_view type_view x.0.0.items)) }
 {

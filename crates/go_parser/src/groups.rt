@@ -44,7 +44,7 @@ pub(crate) fn group<S: Spec>(alloc: Global, tokens: &[Token], depth: u32) -> Par
 }
 
 /// Parses the specs in the parentheses of a group and the closing parenthesis.
-fn specs<S: Spec>(alloc: Global, tokens: &[Token], depth: u32) -> Parsed<'_, (Vec<Item<S>>, usize)>
+fn specs<S: Spec>(alloc: Global, tokens: &[Token], depth: u32) -> Parsed<'_, (Vec<Item<S>>, u32)>
     ensures exact { Parses (A (Items S.item) ∷ []) (λ x. items_spelled Kind.Semicolon S.spelled x.0.0.items ++ (sign Kind.RightParen x.0.1 ∷ [])) (λ x. x.1.now) depth tokens.now result }
     ensures formed { IfOk result (λ x. IsOpenList S.is_formed (list_view (λ y. y) x.0.0.items)) }
 {

@@ -126,9 +126,9 @@ fn bare_clauses(alloc: Global, tokens: &[Token], depth: u32) -> Parsed<'_, ForHe
 /// The clauses of a `for` after the first: a condition between two semicolons, and the last clause.
 #[derive(Drop)]
 struct Clauses {
-    first: usize,
+    first: u32,
     condition: Option<Expr>,
-    second: usize,
+    second: u32,
     post: Option<SimpleStmt>,
 }
 
@@ -178,11 +178,7 @@ fn for_clauses(alloc: Global, tokens: &[Token], depth: u32) -> Parsed<'_, Clause
 }
 
 /// Parses the semicolon before the condition of a `for`, and the condition, if there is one.
-fn condition_clause(
-    alloc: Global,
-    tokens: &[Token],
-    depth: u32,
-) -> Parsed<'_, (usize, Option<Expr>)>
+fn condition_clause(alloc: Global, tokens: &[Token], depth: u32) -> Parsed<'_, (u32, Option<Expr>)>
     ensures exact { Parses (One (is Kind.Semicolon) ∷ A ForCondition ∷ []) (λ x. sign Kind.Semicolon x.0.0 ∷ tokens_if expr_tokens (option_view expr_view x.0.1)) (λ x. x.1.now) depth tokens.now result }
     ensures formed { IfOk result (λ x. IsNoneOr (IsExprIn true) (option_view expr_view x.0.1)) }
 {
@@ -195,11 +191,7 @@ fn condition_clause(
 }
 
 /// Parses the semicolon before the last clause of a `for`, and the clause, if there is one.
-fn post_clause(
-    alloc: Global,
-    tokens: &[Token],
-    depth: u32,
-) -> Parsed<'_, (usize, Option<SimpleStmt>)>
+fn post_clause(alloc: Global, tokens: &[Token], depth: u32) -> Parsed<'_, (u32, Option<SimpleStmt>)>
     ensures exact { Parses (One (is Kind.Semicolon) ∷ A ForPost ∷ []) (λ x. sign Kind.Semicolon x.0.0 ∷ tokens_if simple_tokens (option_view simple_view x.0.1)) (λ x. x.1.now) depth tokens.now result }
     ensures formed { IfOk result (λ x. IsNoneOr IsPost (option_view simple_view x.0.1)) }
 {

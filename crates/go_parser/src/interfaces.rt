@@ -34,11 +34,7 @@ pub(crate) fn interface_body(alloc: Global, tokens: &[Token], depth: u32) -> Par
 }
 
 /// Parses the methods of an interface and its closing brace.
-fn methods(
-    alloc: Global,
-    tokens: &[Token],
-    depth: u32,
-) -> Parsed<'_, (Vec<Item<MethodSpec>>, usize)>
+fn methods(alloc: Global, tokens: &[Token], depth: u32) -> Parsed<'_, (Vec<Item<MethodSpec>>, u32)>
     ensures exact { Parses (A Methods ∷ []) (λ x. items_spelled Kind.Semicolon method_spelled x.0.0.items ++ (sign Kind.RightBrace x.0.1 ∷ [])) (λ x. x.1.now) depth tokens.now result }
     ensures formed { IfOk result (λ x. IsOpenList IsMethodSpec (list_view method_view x.0.0.items)) }
 {

@@ -5,7 +5,7 @@ ghost use Rattle.go_scanner.specs.CutText.{tokens_in, token_at};
 ghost use Rattle.go_ast.specs.Kinds.{kind_of_keyword, kind_of_operator, kind_of_name, kind_of, kinds_of, place_of};
 
 use go_ast::syntax::{Kind, Token};
-use go_scanner::{Class, Keyword, Operator, Pieces};
+use go_scanner::{Class, Keyword, Operator, Pieces, short_number};
 use std::alloc::{AllocError, Global};
 
 /// The kind of a keyword.
@@ -114,7 +114,11 @@ pub(crate) fn kinds_of(alloc: Global, pieces: &Pieces) -> Result<Vec<Token>, All
     let count = pieces.tokens().len();
     for place in 0..count {
         let kind = kind_at(pieces, place);
-        tokens.push(Token { kind, place })?;
+        let number = short_number(place)?;
+        tokens.push(Token {
+            kind,
+            place: number,
+        })?;
     }
     Ok(tokens)
 }

@@ -16,7 +16,7 @@ use go_ast::tree::{BasicLit, Ident, Item};
 use std::alloc::Global;
 
 /// Parses one or more names, separated by commas.
-pub(crate) fn names(alloc: Global, tokens: &[Token], depth: u32) -> Parsed<'_, Vec<Item<usize>>>
+pub(crate) fn names(alloc: Global, tokens: &[Token], depth: u32) -> Parsed<'_, Vec<Item<u32>>>
     ensures exact { Parses (One (is Kind.Name) ∷ A MoreNames ∷ []) (λ x. names_spelled x.0.items) (λ x. x.1.now) depth tokens.now result }
     ensures formed { IfOk result (λ x. IsList Any (list_view same_index x.0.items)) }
 {

@@ -48,7 +48,7 @@ pub(crate) fn strength_at(tokens: &[Token]) -> u32
 }
 
 /// Parses a binary operator: the operator and its token index.
-pub(crate) fn binary_operator(tokens: &[Token], depth: u32) -> Parsed<'_, (BinaryOp, usize)>
+pub(crate) fn binary_operator(tokens: &[Token], depth: u32) -> Parsed<'_, (BinaryOp, u32)>
     ensures { Parses (One is_binary ∷ []) (λ x. sign (binary_kind x.0.0) x.0.1 ∷ []) (λ x. x.1.now) depth tokens.now result }
 {
     let Some((first, rest)) = next(tokens) else {
@@ -71,7 +71,7 @@ pub(crate) fn at_prefix(tokens: &[Token]) -> bool
 }
 
 /// Parses a prefix operator, which opens a level of nesting: the operator, its token index, and the number of levels open after it.
-pub(crate) fn open_prefix(tokens: &[Token], depth: u32) -> Parsed<'_, (PrefixOp, usize, u32)>
+pub(crate) fn open_prefix(tokens: &[Token], depth: u32) -> Parsed<'_, (PrefixOp, u32, u32)>
     ensures { OpensAs is_prefix (λ x. sign (prefix_kind x.0.0) x.0.1 ∷ []) (λ x. x.0.2) (λ x. x.1.now) depth tokens.now result }
 {
     let Some((first, rest)) = next(tokens) else {
@@ -87,7 +87,7 @@ pub(crate) fn open_prefix(tokens: &[Token], depth: u32) -> Parsed<'_, (PrefixOp,
 }
 
 /// The operand that a token of this kind is by itself, if any, names excepted.
-fn leaf_of(kind: Kind, place: usize) -> Option<Expr>
+fn leaf_of(kind: Kind, place: u32) -> Option<Expr>
     ensures { result ≡ leaf_of kind place }
 {
     match kind {

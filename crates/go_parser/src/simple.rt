@@ -74,7 +74,7 @@ pub(crate) fn exprs(
 }
 
 /// The list of one expression, with its comma.
-fn first_expr(alloc: Global, value: Expr, comma: Option<usize>) -> Result<Vec<ExprItem>, AllocError>
+fn first_expr(alloc: Global, value: Expr, comma: Option<u32>) -> Result<Vec<ExprItem>, AllocError>
     ensures spelled { IfOk result (λ v. exprs_spelled v.items ≡ expr_spelled value ++ sign_if Kind.Comma comma) }
     ensures alone { IfOk result (λ v. v.items ≡ record { value = value; comma = comma } ∷ []) }
 {
@@ -175,7 +175,7 @@ fn change(
     tokens: &[Token],
     depth: u32,
     setting: Setting,
-) -> Parsed<'_, (UpdateOp, usize, Box<Expr>)>
+) -> Parsed<'_, (UpdateOp, u32, Box<Expr>)>
     ensures exact { Parses (One is_update ∷ A (Expression (in_head (setting_of setting))) ∷ []) (λ x. sign (update_kind x.0.0) x.0.1 ∷ expr_spelled x.0.2.value) (λ x. x.1.now) depth tokens.now result }
     ensures formed { IfOk result (λ x. IsExprIn (in_head (setting_of setting)) (expr_view x.0.2.value)) }
 {

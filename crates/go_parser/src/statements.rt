@@ -103,7 +103,7 @@ fn for_stmt(alloc: Global, tokens: &[Token], depth: u32) -> Parsed<'_, Stmt>
 
 /// Parses an `if` statement whose `if` has been parsed.
 #[cycle(statement)]
-fn if_stmt(alloc: Global, at: usize, tokens: &[Token], depth: u32) -> Parsed<'_, Box<IfStmt>>
+fn if_stmt(alloc: Global, at: u32, tokens: &[Token], depth: u32) -> Parsed<'_, Box<IfStmt>>
     ensures exact { Continues (A IfHead ∷ []) (sign Kind.If at ∷ []) (λ x. if_spelled x.0.value) (λ x. x.1.now) depth tokens.now result }
     ensures formed { IfOk result (λ x. IsIf (if_view x.0.value)) }
 {

@@ -37,7 +37,7 @@ pub(crate) fn in_header(setting: Setting) -> bool
 }
 
 /// The identifier of this kind and token index, if the kind is one of identifiers.
-fn ident_of(kind: Kind, place: usize) -> Option<Ident>
+fn ident_of(kind: Kind, place: u32) -> Option<Ident>
     ensures { result ≡ ident_of kind place }
 {
     match kind {
@@ -61,7 +61,7 @@ pub(crate) fn ident(tokens: &[Token], depth: u32) -> Parsed<'_, Ident>
 }
 
 /// The literal of this kind and token index, if the kind is one of literals.
-fn basic_of(kind: Kind, place: usize) -> Option<BasicLit>
+fn basic_of(kind: Kind, place: u32) -> Option<BasicLit>
     ensures { result ≡ basic_of kind place }
 {
     match kind {
@@ -96,7 +96,7 @@ fn step_op(kind: Kind) -> Option<StepOp>
 }
 
 /// Parses a `++` or `--`: the operator and its token index.
-pub(crate) fn step(tokens: &[Token], depth: u32) -> Parsed<'_, (StepOp, usize)>
+pub(crate) fn step(tokens: &[Token], depth: u32) -> Parsed<'_, (StepOp, u32)>
     ensures { Parses (One is_step ∷ []) (λ x. sign (step_kind x.0.0) x.0.1 ∷ []) (λ x. x.1.now) depth tokens.now result }
 {
     let Some((first, rest)) = next(tokens) else {
@@ -133,7 +133,7 @@ fn update_op(kind: Kind) -> Option<UpdateOp>
 }
 
 /// Parses an operator such as `+=`: the operator and its token index.
-pub(crate) fn update(tokens: &[Token], depth: u32) -> Parsed<'_, (UpdateOp, usize)>
+pub(crate) fn update(tokens: &[Token], depth: u32) -> Parsed<'_, (UpdateOp, u32)>
     ensures { Parses (One is_update ∷ []) (λ x. sign (update_kind x.0.0) x.0.1 ∷ []) (λ x. x.1.now) depth tokens.now result }
 {
     let Some((first, rest)) = next(tokens) else {
@@ -173,7 +173,7 @@ fn set_op(kind: Kind, setting: Setting) -> Option<SetOp>
 }
 
 /// Parses a `=` or `:=`: the operator and its token index.
-pub(crate) fn set(tokens: &[Token], depth: u32, setting: Setting) -> Parsed<'_, (SetOp, usize)>
+pub(crate) fn set(tokens: &[Token], depth: u32, setting: Setting) -> Parsed<'_, (SetOp, u32)>
     ensures allowed { IfOk result (λ x. IsAllowed setting x.0.0) }
     ensures exact { Parses (One (may_set (setting_of setting)) ∷ []) (λ x. sign (set_kind x.0.0) x.0.1 ∷ []) (λ x. x.1.now) depth tokens.now result }
 {

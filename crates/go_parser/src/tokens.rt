@@ -45,7 +45,7 @@ pub(crate) fn is_kind(kind: Kind, wanted: Kind) -> bool
 }
 
 /// Parses one token of this kind: its token index.
-pub(crate) fn expect(tokens: &[Token], kind: Kind, depth: u32) -> Parsed<'_, usize>
+pub(crate) fn expect(tokens: &[Token], kind: Kind, depth: u32) -> Parsed<'_, u32>
     ensures { Parses (One (is kind) ∷ []) (λ x. sign kind x.0 ∷ []) (λ x. x.1.now) depth tokens.now result }
 {
     match next(tokens) {
@@ -65,7 +65,7 @@ pub(crate) fn at(tokens: &[Token], kind: Kind) -> bool
 }
 
 /// Parses one token of this kind, which opens a level of nesting: its token index, and the number of levels open after it.
-pub(crate) fn open(tokens: &[Token], kind: Kind, depth: u32) -> Parsed<'_, (usize, u32)>
+pub(crate) fn open(tokens: &[Token], kind: Kind, depth: u32) -> Parsed<'_, (u32, u32)>
     ensures { Opens kind (λ x. x.0.0) (λ x. x.0.1) (λ x. x.1.now) depth tokens.now result }
 {
     let Some((first, rest)) = next(tokens) else {
@@ -116,7 +116,7 @@ pub(crate) fn prefix_op(kind: Kind) -> Option<PrefixOp>
 }
 
 /// Parses a separator of this kind, if one comes next: its token index, and the tokens after it.
-pub(crate) fn separator(tokens: &[Token], kind: Kind) -> (Option<usize>, &[Token])
+pub(crate) fn separator(tokens: &[Token], kind: Kind) -> (Option<u32>, &[Token])
     ensures { Separates kind result.0 tokens.now result.1.now }
 {
     match next(tokens) {

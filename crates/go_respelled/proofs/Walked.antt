@@ -28,7 +28,7 @@ use Rattle.base_edits.specs.declared.edit.Edit.{Edit}
 use Rattle.base_edits.proofs.Steps.{drop_next, past_all, past_later, past_start, past_stops}
 use Rattle.go_respelled.specs.PieceEdits.{ArePieceEdits, IsEncodedString}
 use Rattle.go_respelled.specs.Renamings.{moved_piece, recut}
-use Rattle.go_respelled.specs.Replaced.{AreFollowing, AreMoved, FitsMoved, GoesOn, IsBehindSame, IsMovedBy, IsTokenBehind, MovesBefore, MovesStretch, PutsToken, ReplacesToken, Respell, passed}
+use Rattle.go_respelled.specs.Replaced.{AreFollowing, AreMoved, FitsMoved, GoesOn, IsBehindSame, IsMovedBy, IsTokenBehind, MovesBefore, PutsToken, ReplacesToken, Respell, passed}
 use Rattle.go_respelled.specs.declared.between.TokenBehind.{TokenBehind}
 use Rattle.go_respelled.specs.declared.moved.Cursor.{Cursor}
 use Rattle.go_respelled.specs.Trees.{KeepKinds}
@@ -179,10 +179,6 @@ pub past_near : (edits : List Edit) (c : Cursor) (t : Piece) → ArePast edits t
     ArePast edits t.span.end (passed c)
 past_near edits c t past order = past_later edits t.span.start t.span.end (passed c) past order
 
--- nothing lies before offset 0
-pub none_near : (edits : List Edit) (c : Cursor) → MovesStretch edits (record { cursor = c; limit = 0 })
-none_near edits c last past offset le less = absurd (omega (arith, less))
-
 pub moved_all : (edits : List Edit) (tokens : List Piece) (c : Cursor) (moved : List Piece) → length tokens ≤ length moved →
     AreMoved edits tokens c moved → moved ≡ map (moved_piece edits) tokens
 moved_all edits tokens c moved all so_far =
@@ -219,8 +215,8 @@ has_tokens old edits new tokens cut r is =
 
 -- the tokens move into the new text, so their ends are numbers of the machine
 
-fit_at : (size limit start end : ℕ) → size < limit → start ≤ end → end ≤ size → (start < limit) × (end < limit)
-fit_at size limit start end less order within = (omega arith, omega arith)
+fit_at : (size limit start end : ℕ) → size < limit → start ≤ end → end ≤ size → (start ≤ end) × (end < limit)
+fit_at size limit start end less order within = (order, omega arith)
 
 fit_from : (edits : List Edit) (from size : ℕ) (ts : List Piece) → size < 2 ^ 64 → FollowFrom from (map (moved_piece edits) ts) size → All (FitsMoved edits) ts
 fit_from edits from size ts less follow i d lt =

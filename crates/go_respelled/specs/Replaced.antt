@@ -27,6 +27,11 @@ pub record ReplacesToken (c : CutText) (e : Edit) : Type 0 where
   pub old : slice_get (tokens_in c) token ≡ Some (edited_piece class e)
   pub same_kind : kind_of_name e.text ≡ kind_of_name (slice_range c.text e.span.start e.span.end)
 
+-- The edits are in order, and each replaces a token by bytes that may take its place.
+pub record AreTokenEdits (c : CutText) (edits : List Edit) : Type 0 where
+  pub order : AreInOrder 0 edits
+  pub tokens : All (ReplacesToken c) edits
+
 -- The edits are in order, and make the new text of the old one.
 pub record Make (old : List ℕ) (edits : List Edit) (new : List ℕ) : Type 0 where
   pub order : AreInOrder 0 edits
@@ -86,9 +91,9 @@ MovesStretch edits at = (last : ℕ) → ArePast edits last (passed at.cursor) �
 abbrev pub IsMovedBy : Cursor → Piece → Piece → Type 0
 IsMovedBy c t new = new ≡ record { class = t.class; span = record { start = c.new + (t.span.start - c.old); end = c.new + (t.span.end - c.old) } }
 
--- Both ends of the token move to offsets below 2^64.
+-- Both ends of the token move to offsets below 2^64, the start not behind the end.
 abbrev pub FitsMoved : List Edit → Piece → Type 0
-FitsMoved edits t = (moved_offset edits t.span.start < 2 ^ 64) × (moved_offset edits t.span.end < 2 ^ 64)
+FitsMoved edits t = (moved_offset edits t.span.start ≤ moved_offset edits t.span.end) × (moved_offset edits t.span.end < 2 ^ 64)
 
 -- The tokens `moved` are the first old ones, moved by the edits. The cursor is past the edits that end at or before the last of them.
 pub record AreMoved (edits : List Edit) (tokens : List Piece) (c : Cursor) (moved : List Piece) : Type 0 where

@@ -1,6 +1,6 @@
 //! Moves tokens by edits, in one walk over both. Tokens between two edits move by the same cursor. No offset is computed that lies behind the
 //! new text, so none is too great.
-ghost use Rattle.std.specs.Prelude.{◌≡◌, ◌+◌, ◌-◌, ◌^◌, ◌<◌, ◌≤◌, ℕ, length, map, vec_capacity, IfOk};
+ghost use Rattle.std.specs.Prelude.{◌≡◌, ◌+◌, ◌-◌, ◌^◌, ◌<◌, ◌≤◌, ℕ, length, map, vec_capacity, IfOk, OnOk};
 ghost use Rattle.std.specs.List.{All};
 ghost use Rattle.base_edits.specs.Edits.{AreInOrder};
 ghost use Rattle.base_edits.specs.Moved.{moved_offset};
@@ -87,19 +87,26 @@ fn move_token(edits: &[Edit], cursor: Cursor, token: &Piece) -> (Cursor, Piece)
     (cursor, Piece { class, span })
 }
 
+/// A piece in little memory.
+fn compact(piece: &Piece) -> Result<CompactPiece, AllocError>
+    requires { piece.now.span.start ≤ piece.now.span.end }
+    ensures { IfOk result (λ made. made ≡ piece.now) }
+{
+    let span = piece.span;
+    let made = CompactPiece::new(piece.class, span.start, span.end - span.start)?;
+    Ok(made)
+}
+
 /// A token at the place to which a cursor moves both its ends.
-fn moved_by(cursor: Cursor, token: &Piece) -> Piece
+fn moved_by(cursor: Cursor, token: &CompactPiece) -> Result<CompactPiece, AllocError>
     requires behind { cursor.old ≤ token.now.span.start }
     requires order { token.now.span.start ≤ token.now.span.end }
     requires fits { cursor.new + (token.now.span.end - cursor.old) < 2 ^ 64 }
-    ensures { IsMovedBy cursor token.now result }
+    ensures { IfOk result (IsMovedBy cursor token.now) }
 {
-    let start = moved(cursor, token.span.start);
-    let end = moved(cursor, token.span.end);
-    Piece {
-        class: token.class,
-        span: Span { start, end },
-    }
+    let start = moved(cursor, token.start());
+    let token = token.starting_at(start)?;
+    Ok(token)
 }
 
 /// Where the next edit ends. A cursor moves all offsets before that.
@@ -112,23 +119,64 @@ fn next_end(edits: &[Edit], cursor: Cursor) -> usize
     }
 }
 
-/// Moves the next token. Where it ends before the limit, the cursor stays.
-fn move_next(edits: &[Edit], at: Stretch, token: &Piece) -> (Stretch, Piece)
+/// Moves a token that ends before the limit.
+fn move_near(edits: &[Edit], at: Stretch, token: &CompactPiece) -> Result<CompactPiece, AllocError>
     requires past { ArePast edits.now token.now.span.start (passed at.cursor) }
     requires moves { MovesStretch edits.now at }
     requires order { token.now.span.start ≤ token.now.span.end }
+    requires near { token.now.span.end < at.limit }
     requires fits { FitsMoved edits.now token.now }
-    ensures token { result.1 ≡ moved_piece edits.now token.now }
-    ensures past { ArePast edits.now token.now.span.end (passed result.0.cursor) }
-    ensures moves { MovesStretch edits.now result.0 }
+    ensures token { IfOk result (λ moved. moved ≡ moved_piece edits.now token.now) }
+    ensures past { IfOk result (λ _. ArePast edits.now token.now.span.end (passed at.cursor)) }
 {
-    if token.span.end < at.limit {
-        return (at, moved_by(at.cursor, token));
+    let moved = moved_by(at.cursor, token)?;
+    Ok(moved)
+}
+
+/// Moves the next tokens, up to the first that does not end before the limit.
+fn move_stretch(
+    edits: &[Edit],
+    tokens: &[CompactPiece],
+    at: Stretch,
+    moved: &mut Vec<CompactPiece>,
+) -> Result<(), AllocError>
+    requires moves { MovesStretch edits.now at }
+    requires fits { All (FitsMoved edits.now) tokens.now }
+    requires so_far { AreMoved edits.now tokens.now at.cursor moved.old.items }
+    requires room { length tokens.now ≤ vec_capacity moved.old }
+    ensures so_far { OnOk result (AreMoved edits.now tokens.now at.cursor moved.new.items) }
+    ensures longer { OnOk result (length moved.old.items ≤ length moved.new.items) }
+    ensures room { OnOk result (length tokens.now ≤ vec_capacity moved.new) }
+{
+    while moved.len() < tokens.len() {
+        let token = &tokens[moved.len()];
+        if at.limit <= token.end() {
+            return Ok(());
+        }
+        let token = move_near(edits, at, token)?;
+        moved.push_reserved(token);
     }
-    let step = move_token(edits, at.cursor, token);
+    Ok(())
+}
+
+/// Moves the next token, and passes the edits that end at or before its end.
+fn move_next(
+    edits: &[Edit],
+    cursor: Cursor,
+    token: &CompactPiece,
+) -> Result<(Stretch, CompactPiece), AllocError>
+    requires past { ArePast edits.now token.now.span.start (passed cursor) }
+    requires order { token.now.span.start ≤ token.now.span.end }
+    requires fits { FitsMoved edits.now token.now }
+    ensures token { IfOk result (λ step. step.1 ≡ moved_piece edits.now token.now) }
+    ensures past { IfOk result (λ step. ArePast edits.now token.now.span.end (passed step.0.cursor)) }
+    ensures moves { IfOk result (λ step. MovesStretch edits.now step.0) }
+{
+    let step = move_token(edits, cursor, &token.piece());
     let limit = next_end(edits, step.0);
     let cursor = step.0;
-    (Stretch { cursor, limit }, step.1)
+    let token = compact(&step.1)?;
+    Ok((Stretch { cursor, limit }, token))
 }
 
 /// The tokens at the places to which the edits move them. The list has no spare room.
@@ -143,18 +191,17 @@ pub(crate) fn moved_tokens(
     ensures { IfOk result (λ moved. moved.items ≡ map (moved_piece edits.now) tokens.now) }
 {
     let mut moved = Vec::with_capacity(alloc, tokens.len())?;
-    let cursor = Cursor {
+    let mut cursor = Cursor {
         edits: 0,
         old: 0,
         new: 0,
     };
-    let mut at = Stretch { cursor, limit: 0 };
     while moved.len() < tokens.len() {
-        let token = tokens[moved.len()].piece();
-        let step = move_next(edits, at, &token);
-        let token = CompactPiece::new(&step.1)?;
-        moved.push_reserved(token);
-        at = step.0;
+        let token = &tokens[moved.len()];
+        let step = move_next(edits, cursor, token)?;
+        moved.push_reserved(step.1);
+        move_stretch(edits, tokens, step.0, &mut moved)?;
+        cursor = step.0.cursor;
     }
     Ok(moved)
 }

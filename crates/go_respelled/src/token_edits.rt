@@ -1,15 +1,15 @@
-//! Whether an edit replaces a name by a name, or a string by a string.
-ghost use Rattle.std.specs.Prelude.{◌≡◌, ◌<◌, IfOk, IsTrue, length};
+//! Whether an edit replaces a name by a name, or a string by a string, and whether all edits of a text do.
+ghost use Rattle.std.specs.Prelude.{◌≡◌, ◌<◌, ◌≤◌, IfOk, IsTrue, length};
 ghost use Rattle.go_scanner.specs.declared.piece.Class.TheVariants.{Name};
 ghost use Rattle.go_scanner.specs.CutText.{tokens_in};
 ghost use Rattle.go_scanner.specs.Pieces.{IsPiece};
 ghost use Rattle.go_ast.specs.Kinds.{kind_of_name};
 ghost use Rattle.go_respelled.specs.PieceEdits.{IsEncodedString, MayStandFor};
-ghost use Rattle.go_respelled.specs.Replaced.{ReplacesToken};
+ghost use Rattle.go_respelled.specs.Replaced.{AreTokenEdits, ReplacesToken};
 
 use base_edits::Edit;
 use base_files::FileText;
-use go_scanner::{Class, Pieces, ScanRefusal, name_len, scan};
+use go_scanner::{Class, CompactPiece, Pieces, ScanRefusal, name_len, scan};
 use std::alloc::{AllocError, Global};
 
 /// Whether the bytes are a name, and no keyword.
@@ -87,4 +87,55 @@ pub(crate) fn replaces_token(
         return Ok(false);
     }
     may_stand_for(alloc, token.class, &edit.text)
+}
+
+/// Whether an edit begins at or behind an offset, and replaces the token of this number, if there is one.
+fn replaces_behind(
+    alloc: Global,
+    old: &Pieces,
+    number: usize,
+    offset: usize,
+    edit: &Edit,
+) -> Result<bool, AllocError>
+    ensures { IfOk result (λ replaces. IsTrue replaces → (offset ≤ edit.now.span.start) × (edit.now.span.start ≤ edit.now.span.end) × ReplacesToken old.now edit.now) }
+{
+    let tokens = old.tokens();
+    let span = edit.span;
+    if tokens.len() <= number || span.start < offset || span.end < span.start {
+        return Ok(false);
+    }
+    let replaces = replaces_token(alloc, old, number, edit)?;
+    Ok(replaces)
+}
+
+/// The number of the first token, from a number on, that begins at or behind an offset.
+fn token_from(tokens: &[CompactPiece], number: usize, offset: usize) -> usize
+    ensures { number ≤ result }
+{
+    let mut from = number;
+    while from < tokens.len() && tokens[from].start() < offset {
+        from += 1;
+    }
+    from
+}
+
+/// Whether the edits are in order, and each replaces a token by bytes that may take its place. The tokens are passed once.
+pub(crate) fn replace_tokens(
+    alloc: Global,
+    old: &Pieces,
+    edits: &[Edit],
+) -> Result<bool, AllocError>
+    ensures { IfOk result (λ replace. IsTrue replace → AreTokenEdits old.now edits.now) }
+{
+    let mut number = 0;
+    let mut at = 0;
+    for edit in edits {
+        number = token_from(old.tokens(), number, edit.span.start);
+        let replaces = replaces_behind(alloc, old, number, at, edit)?;
+        if !replaces {
+            return Ok(false);
+        }
+        at = edit.span.end;
+    }
+    Ok(true)
 }

@@ -24,7 +24,7 @@ mod trivia;
 mod words;
 
 pub use characters::{continues_name, is_letter};
-pub use compact_piece::CompactPiece;
+pub use compact_piece::{CompactPiece, short_number};
 pub use front::name_len;
 pub use integers::integer_value;
 pub use keywords::Keyword;

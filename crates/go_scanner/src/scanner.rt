@@ -10,7 +10,7 @@ use crate::front::front;
 use crate::piece::{Class, Piece};
 use crate::pieces::Pieces;
 use crate::refusal::{ScanRefusal, TextFault};
-use crate::tokens::{add_piece, keep_token, semicolon};
+use crate::tokens::{add_piece, keep_semicolon};
 use crate::trail::Trail;
 use base_files::{FaultKind, FileText, Span};
 use std::alloc::Global;
@@ -62,7 +62,7 @@ fn cut(alloc: Global, text: &[u8]) -> Result<(Trail<Piece>, Vec<CompactPiece>), 
     }
     match due {
         Some(end) => {
-            keep_token(&mut tokens, &semicolon(end))?;
+            keep_semicolon(&mut tokens, end)?;
             Ok((pieces, tokens))
         }
         None => Ok((pieces, tokens)),

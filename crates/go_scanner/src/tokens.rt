@@ -1,13 +1,12 @@
 //! Makes tokens of pieces: drops trivia and inserts semicolons (Go specification, "Semicolons").
-ghost use Rattle.std.specs.Prelude.{◌≡◌, ◌==◌, ◌≤◌, ◌∷◌, ◌++◌, [], length, IfOk, OnOk};
+ghost use Rattle.std.specs.Prelude.{◌≡◌, ◌==◌, ◌+◌, ◌≤◌, ◌∷◌, ◌++◌, [], length, IfOk, OnOk};
 ghost use Rattle.std.specs.List.{list_any};
-ghost use Rattle.go_scanner.specs.Tokens.{is_trivia, ends_statement, ends_line, AddsTokensOf};
+ghost use Rattle.go_scanner.specs.Tokens.{is_trivia, ends_statement, ends_line, semicolon, AddsTokensOf};
 
 use crate::compact_piece::CompactPiece;
 use crate::keywords::Keyword;
 use crate::operators::Operator;
 use crate::piece::{Class, Piece};
-use base_files::Span;
 use std::alloc::AllocError;
 
 /// Whether pieces of this class are no tokens: blanks, newlines, comments and the byte order mark.
@@ -66,23 +65,34 @@ fn ends_line(text: &[u8], piece: &Piece) -> bool
     }
 }
 
-/// An inserted semicolon: an empty token at this offset.
-pub fn semicolon(at: usize) -> Piece
-    ensures { result ≡ record { class = Class.Operator Operator.Semicolon; span = record { start = at; end = at } } }
+/// Appends the token of a class that begins at an offset and has a length.
+fn keep_token(
+    found: &mut Vec<CompactPiece>,
+    class: Class,
+    start: usize,
+    len: usize,
+) -> Result<(), AllocError>
+    ensures { OnOk result (found.new.items ≡ found.old.items ++ (record { class = class; span = record { start = start; end = len + start } }) ∷ []) }
 {
-    Piece {
-        class: Class::Operator(Operator::Semicolon),
-        span: Span { start: at, end: at },
-    }
-}
-
-/// Appends a token.
-pub fn keep_token(found: &mut Vec<CompactPiece>, token: &Piece) -> Result<(), AllocError>
-    ensures { OnOk result (found.new.items ≡ found.old.items ++ token.now ∷ []) }
-{
-    let token = CompactPiece::new(token)?;
+    let token = CompactPiece::new(class, start, len)?;
     found.push(token)?;
     Ok(())
+}
+
+/// Appends an inserted semicolon: an empty token at this offset.
+pub fn keep_semicolon(found: &mut Vec<CompactPiece>, at: usize) -> Result<(), AllocError>
+    ensures { OnOk result (found.new.items ≡ found.old.items ++ semicolon at ∷ []) }
+{
+    keep_token(found, Class::Operator(Operator::Semicolon), at, 0)
+}
+
+/// Appends the token of a piece.
+fn keep_piece(found: &mut Vec<CompactPiece>, piece: &Piece) -> Result<(), AllocError>
+    requires { piece.now.span.start ≤ piece.now.span.end }
+    ensures { OnOk result (found.new.items ≡ found.old.items ++ piece.now ∷ []) }
+{
+    let span = piece.span;
+    keep_token(found, piece.class, span.start, span.end - span.start)
 }
 
 /// Adds the token of one piece, and before it the semicolon that is due if the piece ends a line. `due` and the result are the offset at
@@ -98,7 +108,7 @@ pub fn add_piece(
     ensures { IfOk result (λ next. AddsTokensOf text.now found.old.items due piece.now found.new.items next) }
 {
     if !is_trivia(piece.class) {
-        keep_token(found, piece)?;
+        keep_piece(found, piece)?;
         if ends_statement(piece.class) {
             return Ok(Some(piece.span.end));
         }
@@ -109,7 +119,7 @@ pub fn add_piece(
     }
     match due {
         Some(at) => {
-            keep_token(found, &semicolon(at))?;
+            keep_semicolon(found, at)?;
             Ok(None)
         }
         None => Ok(None),

@@ -36,7 +36,7 @@ link_before : (s : TokenSpellings) (l : Link) (others : LinkTrees) → link_site
 unfolding link_sites link_view
 link_before s (link.Selector d n) others = refl
 link_before s (link.Index' o p e c) others = sym (ap (λ z. z ++ link_sites s others) (append-nil (expr_sites s (expr_view e))))
-link_before s (link.Call' o shape row c) others = sym (ap (λ z. z ++ link_sites s others) (append-nil (argument_sites s (arguments_view row))))
+link_before s (link.Call' o c shape row) others = sym (ap (λ z. z ++ link_sites s others) (append-nil (argument_sites s (arguments_view row))))
 
 link_row : (s : TokenSpellings) {n : _} (row : Row_of-Link n) → link_sites s (links_view row) ≡ flat_map (link_part s) (items-the_row-Link n row)
 unfolding link_sites links_view
@@ -72,7 +72,13 @@ unfolding expr_sites expr_view
 binary_parts s first rest = ap (λ z. expr_sites s (expr_view first.value) ++ z)
     (operand_row s (hidden-the_row-Operand-1 rest) ∙ ap (flat_map (operand_part s)) (items_hidden-the_row-Operand-1 rest))
 
-pub call_parts : (s : TokenSpellings) (o : ℕ) (arguments : _) (c : ℕ) → link_part s (link.Call o arguments c) ≡ flat_map (argument_part s) arguments.items
+named_binary_parts : (s : TokenSpellings) (n : ℕ) (rest : _) →
+    expr_sites s (expr_view (expr.NamedBinary n rest)) ≡ expr_sites s (Name n) ++ flat_map (operand_part s) rest.items
+unfolding expr_sites expr_view
+named_binary_parts s n rest = ap (λ z. expr_sites s (Name n) ++ z)
+    (operand_row s (hidden-the_row-Operand-1 rest) ∙ ap (flat_map (operand_part s)) (items_hidden-the_row-Operand-1 rest))
+
+pub call_parts : (s : TokenSpellings) (o : ℕ) (arguments : _) (c : ℕ) → link_part s (link.Call o c arguments) ≡ flat_map (argument_part s) arguments.items
 unfolding link_sites link_view
 call_parts s o arguments c = append-nil _ ∙ argument_row s (hidden-the_row-ExprItem-2 arguments) ∙
     ap (flat_map (argument_part s)) (items_hidden-the_row-ExprItem-2 arguments)
@@ -111,7 +117,12 @@ binary_from s e first rest v xs ee ev ex =
     ap (λ z. expr_sites s (expr_view z) ++ flat_map (operand_part s) xs) ev ∙ ap (λ z. expr_sites s (expr_view first.value) ++ flat_map (operand_part s) z) ex ∙
     sym (binary_parts s first rest) ∙ ap (λ z. expr_sites s (expr_view z)) (sym ee)
 
-pub call_from : (s : TokenSpellings) (l : Link) (o : ℕ) (arguments : _) (c : ℕ) (xs : List ExprItem) → l ≡ link.Call o arguments c → xs ≡ arguments.items →
+pub named_binary_from : (s : TokenSpellings) (e : Expr) (n : ℕ) (rest : _) (xs : List Operand) → e ≡ expr.NamedBinary n rest → xs ≡ rest.items →
+    expr_sites s (Name n) ++ flat_map (operand_part s) xs ≡ expr_sites s (expr_view e)
+named_binary_from s e n rest xs ee ex =
+    ap (λ z. expr_sites s (Name n) ++ flat_map (operand_part s) z) ex ∙ sym (named_binary_parts s n rest) ∙ ap (λ z. expr_sites s (expr_view z)) (sym ee)
+
+pub call_from : (s : TokenSpellings) (l : Link) (o : ℕ) (arguments : _) (c : ℕ) (xs : List ExprItem) → l ≡ link.Call o c arguments → xs ≡ arguments.items →
     flat_map (argument_part s) xs ≡ link_part s l
 call_from s l o arguments c xs el ex = ap (flat_map (argument_part s)) ex ∙ sym (call_parts s o arguments c) ∙ ap (link_part s) (sym el)
 

@@ -103,6 +103,7 @@ left_default s b q (expr.Address' at p l) no_name no_blank = refl
 left_default s b q (expr.Chain' p e shape row) no_name no_blank = refl
 left_default s b q (expr.Binary' p e shape row) no_name no_blank = refl
 left_default s b q (expr.NamedChain' n shape row) no_name no_blank = refl
+left_default s b q (expr.NamedBinary' n shape row) no_name no_blank = refl
 
 pub assigned_default : (s : TokenSpellings) (e : Expr) → ((n : ℕ) → e ≡ expr.Blank n → ⊥) → expr_sites s (expr_view e) ≡ assigned_sites s (expr_view e)
 unfolding expr_view
@@ -117,6 +118,7 @@ assigned_default s (expr.Address' at p l) no_blank = refl
 assigned_default s (expr.Chain' p e shape row) no_blank = refl
 assigned_default s (expr.Binary' p e shape row) no_blank = refl
 assigned_default s (expr.NamedChain' n shape row) no_blank = refl
+assigned_default s (expr.NamedBinary' n shape row) no_blank = refl
 
 pub assign_from : (s : TokenSpellings) (b : Block) (q : ℕ) (x : SimpleStmt) (left right : _) (p : ℕ) (ls rs : List ExprItem) → x ≡ simple.Assign left p right →
     ls ≡ left.items → rs ≡ right.items →

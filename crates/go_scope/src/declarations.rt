@@ -21,7 +21,7 @@ use std::alloc::AllocError;
 fn add_globals<'a>(
     source: &RankedFile<'a>,
     found: &mut Vec<Identifier<'a>>,
-    names: &[Item<usize>],
+    names: &[Item<u32>],
 ) -> Result<(), AllocError>
     ensures { OnOk result (AddsTo found.old.items found.new.items (list_sites (global_name (as_source source.now)) (list_view same_index names.now))) }
 {
@@ -35,7 +35,7 @@ fn add_globals<'a>(
 fn add_members<'a>(
     source: &RankedFile<'a>,
     found: &mut Vec<Identifier<'a>>,
-    names: &[Item<usize>],
+    names: &[Item<u32>],
 ) -> Result<(), AllocError>
     ensures { OnOk result (AddsTo found.old.items found.new.items (list_sites (member_name (as_source source.now)) (list_view same_index names.now))) }
 {
@@ -112,9 +112,9 @@ fn add_method<'a>(
 ) -> Result<(), AllocError>
     ensures { OnOk result (AddsTo found.old.items found.new.items (method_sites (as_source source.now) (method_view method.now))) }
 {
-    let block = Block::Inner(source.rank, method.open, method.close);
+    let block = Block::Inner(source.rank, method.open as usize, method.close as usize);
     source.add(found, method.name, Role::NotLexical(Purpose::Member))?;
-    add_params(source, found, block, method.close, &method.params)?;
+    add_params(source, found, block, method.close as usize, &method.params)?;
     add_results(source, found, &method.results)
 }
 
@@ -205,7 +205,7 @@ fn function_role(source: &RankedFile<'_>, func: &FuncDecl) -> Role
 {
     match &func.receiver {
         Some(_) => Role::NotLexical(Purpose::Member),
-        None if source.spelling(func.name) == b"init".as_slice() => {
+        None if source.spelling(func.name as usize) == b"init".as_slice() => {
             Role::NotLexical(Purpose::InitFunction)
         }
         None => Role::Declaring(Block::Package, 0),
@@ -220,8 +220,8 @@ fn add_func<'a>(
 ) -> Result<(), AllocError>
     ensures { OnOk result (AddsTo found.old.items found.new.items (func_sites (as_source source.now) (func_view func.now))) }
 {
-    let start = func.body.open;
-    let block = Block::Inner(source.rank, start, func.body.close);
+    let start = func.body.open as usize;
+    let block = Block::Inner(source.rank, start, func.body.close as usize);
     add_receiver(source, found, block, start, &func.receiver)?;
     source.add(found, func.name, function_role(source, func))?;
     add_params(source, found, block, start, &func.params)?;
@@ -233,7 +233,7 @@ fn add_func<'a>(
 fn add_import_name<'a>(
     source: &RankedFile<'a>,
     found: &mut Vec<Identifier<'a>>,
-    name: Option<usize>,
+    name: Option<u32>,
 ) -> Result<(), AllocError>
     ensures { OnOk result (AddsTo found.old.items found.new.items (import_name (as_source source.now) name)) }
 {
@@ -244,7 +244,7 @@ fn add_import_name<'a>(
 }
 
 /// The purpose of an import's string literal, by whether the import has a name.
-fn import_purpose(name: Option<usize>) -> Purpose
+fn import_purpose(name: Option<u32>) -> Purpose
     ensures { result ≡ import_purpose name }
 {
     match name {

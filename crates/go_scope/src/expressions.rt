@@ -8,7 +8,7 @@ ghost use Rattle.go_ast.specs.Tree.{no_link};
 
 use crate::model::{Identifier, Purpose, Role};
 use crate::source::RankedFile;
-use go_ast::tree::{CompositeLit, Expr, Link, TypeExpr};
+use go_ast::tree::{CompositeLit, Expr, Link, Operand, TypeExpr};
 use std::alloc::AllocError;
 
 /// Adds the identifiers of a type.
@@ -57,10 +57,11 @@ pub(crate) fn add_expr<'a>(
         }
         Expr::Binary { first, rest } => {
             add_expr(source, found, first)?;
-            for operand in rest {
-                add_expr(source, found, &operand.value)?;
-            }
-            Ok(())
+            add_operands(source, found, rest)
+        }
+        Expr::NamedBinary { name, rest } => {
+            source.add(found, *name, Role::Use)?;
+            add_operands(source, found, rest)
         }
     }
 }
@@ -76,6 +77,21 @@ fn add_links<'a>(
 {
     for link in links {
         add_link(source, found, link)?;
+    }
+    Ok(())
+}
+
+/// Adds the identifiers of operands.
+#[cycle(expression)]
+fn add_operands<'a>(
+    source: &RankedFile<'a>,
+    found: &mut Vec<Identifier<'a>>,
+    operands: &[Operand],
+) -> Result<(), AllocError>
+    ensures { OnOk result (AddsTo found.old.items found.new.items (flat_map (λ operand. expr_sites (as_source source.now) (expr_view operand.value)) operands.now)) }
+{
+    for operand in operands {
+        add_expr(source, found, &operand.value)?;
     }
     Ok(())
 }

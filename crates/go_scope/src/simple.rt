@@ -226,7 +226,7 @@ pub(crate) fn add_locals<'a>(
         Group::Several { items, close, .. } => {
             for item in items {
                 let behind = item.separator.unwrap_or(*close);
-                add_local(source, found, block, behind, &item.value)?;
+                add_local(source, found, block, behind as usize, &item.value)?;
             }
             Ok(())
         }
@@ -244,7 +244,13 @@ pub(crate) fn add_init<'a>(
 {
     match init {
         None => Ok(()),
-        Some(init) => add_optional(source, found, block, init.semicolon, &init.statement),
+        Some(init) => add_optional(
+            source,
+            found,
+            block,
+            init.semicolon as usize,
+            &init.statement,
+        ),
     }
 }
 
@@ -282,7 +288,7 @@ pub(crate) fn add_header<'a>(
             post,
             ..
         } => {
-            add_optional(source, found, block, *first, init)?;
+            add_optional(source, found, block, *first as usize, init)?;
             add_condition(source, found, condition)?;
             add_optional(source, found, block, brace, post)
         }

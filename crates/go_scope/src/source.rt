@@ -27,11 +27,12 @@ impl<'a> RankedFile<'a> {
     pub(crate) fn add(
         &self,
         found: &mut Vec<Identifier<'a>>,
-        token: usize,
+        token: u32,
         role: Role,
     ) -> Result<(), AllocError>
         ensures { OnOk result (AddsTo found.old.items found.new.items (site (as_source self.now) token role ∷ [])) }
     {
+        let token = token as usize;
         let name = self.spelling(token);
         let place = Position {
             file: self.rank,

@@ -30,8 +30,8 @@ pub(crate) fn add_statement<'a>(
         Stmt::Block(inner) => add_block(source, found, inner),
         Stmt::If(branch) => add_if(source, found, following, branch),
         Stmt::For { at, header, body } => {
-            let round = Block::Inner(source.rank, *at, following);
-            add_header(source, found, round, body.open, header)?;
+            let round = Block::Inner(source.rank, *at as usize, following);
+            add_header(source, found, round, body.open as usize, header)?;
             add_block(source, found, body)
         }
         Stmt::Break(_) => Ok(()),
@@ -49,10 +49,10 @@ pub(crate) fn add_block<'a>(
 ) -> Result<(), AllocError>
     ensures { OnOk result (AddsTo found.old.items found.new.items (block_sites (as_source source.now) (block_view block.now))) }
 {
-    let inner = Block::Inner(source.rank, block.open, block.close);
+    let inner = Block::Inner(source.rank, block.open as usize, block.close as usize);
     for item in &block.statements {
         let behind = item.semicolon.unwrap_or(block.close);
-        add_statement(source, found, inner, behind, &item.statement)?;
+        add_statement(source, found, inner, behind as usize, &item.statement)?;
     }
     Ok(())
 }
@@ -67,7 +67,7 @@ fn add_if<'a>(
 ) -> Result<(), AllocError>
     ensures { OnOk result (AddsTo found.old.items found.new.items (if_sites (as_source source.now) following (if_view branch.now))) }
 {
-    let round = Block::Inner(source.rank, branch.at, following);
+    let round = Block::Inner(source.rank, branch.at as usize, following);
     add_init(source, found, round, &branch.init)?;
     add_expr(source, found, &branch.condition)?;
     add_block(source, found, &branch.body)?;

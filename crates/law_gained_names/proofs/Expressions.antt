@@ -60,6 +60,9 @@ module _ (g : ℕ → ℕ) where
         let rest = operands row in
         (expr.Binary' p one.0 shape rest.0, λ i. tree.Binary (one.1 i) (rest.1 i))
     expression (expr.NamedChain' n shape row) = let rest = links row in (expr.NamedChain' (g n) shape rest.0, ap (tree.Chain (tree.Name (g n))) rest.1)
+    expression (expr.NamedBinary' n shape row) =
+        let rest = operands row in
+        (expr.NamedBinary' (g n) shape rest.0, ap (tree.Binary (tree.Name (g n))) rest.1)
 
     composite : (l : CompositeLit) → Shows literal_view (literal_by g (literal_view l))
     composite (CompositeLit' t o shape row c) =
@@ -72,9 +75,9 @@ module _ (g : ℕ → ℕ) where
     linked (link.Index' o p e c) =
         let one = expression e in
         (link.Index' (g o) p one.0 (g c), λ others new e. λ i. tree.index (g o) (one.1 i) (g c) (e i))
-    linked (link.Call' o shape row c) =
+    linked (link.Call' o c shape row) =
         let all = arguments row in
-        (link.Call' (g o) shape all.0 (g c), λ others new e. λ i. tree.call (g o) (all.1 i) (g c) (e i))
+        (link.Call' (g o) (g c) shape all.0, λ others new e. λ i. tree.call (g o) (all.1 i) (g c) (e i))
 
     links : {m : _} (row : Row_of-Link m) → (new : Row_of-Link m) × (links_view new ≡ links_by g (links_view row))
     links end_of-Link = (end_of-Link, refl)

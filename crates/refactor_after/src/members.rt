@@ -132,7 +132,7 @@ fn new_methods(
         let function = functions[rank];
         let at = Position {
             file: function.file,
-            index: function.func.name,
+            index: function.func.name as usize,
         };
         add_after(alloc, &mut names, moves, unit.files, owners[rank], at)?;
     }

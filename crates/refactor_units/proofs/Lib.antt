@@ -2,6 +2,8 @@
 pub mod PlainRenames
 pub mod UnnamedRenames
 pub mod LocalRenames
+pub mod Missed
+pub mod RefusedNames
 pub mod LevelAt
 pub mod LevelRenames
 pub mod PlannedObjects

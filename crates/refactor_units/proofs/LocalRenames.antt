@@ -55,7 +55,8 @@ module _ (snapshot : Snapshot) (path : List ℕ) (offset : ℕ) (h : IsLocalAt s
   right = renamed.renaming.may.renamable.asked.right
 
   is_package : IsCheckedPackage w known h.declared_in
-  is_package = package_stays w w h.known known h.right right h.declared_in (same_closure w h.declared_in.path) h.is_package
+  is_package = package_stays w w h.known known h.right right h.declared_in (same_closure w h.declared_in.path)
+      h.is_package.is_package
 
   abbrev d : Declaration
   d = renamed.renaming.may.renamable.asked.declaration

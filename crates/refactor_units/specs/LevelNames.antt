@@ -5,6 +5,7 @@ use Rattle.base_files.specs.Workspace.{Workspace}
 use Rattle.go_scope.specs.Bindings.{Declares, IsPackageLevel}
 use Rattle.types_declared.specs.Package.{Package}
 use Rattle.workspace_check.specs.Verdicts.{Verdicts, AreVerdicts}
+use Rattle.refs_binding.specs.declared.declaration.Declaration.{Declaration}
 use Rattle.refs_binding.specs.declared.declaration.Declaration.TheVariants.{Declared}
 use Rattle.refs_binding.specs.Binding.{IsPredeclaredNumber}
 use Rattle.refs_binding.specs.Indexed.{IsPackageNumbered}
@@ -33,6 +34,19 @@ pub record ChangesLevel (at : Numbered) (n : ℕ) (name : List ℕ) (c : NameCha
   pub is_package : IsPackageNumbered at own
   pub is_level : IsLevelNumber own n
   pub is_change : c ≡ change_of_name own n name
+
+-- No package of the number has a package-level declaration `n`.
+abbrev pub HasNoLevelNumber : Numbered → ℕ → Type 0
+HasNoLevelNumber at n = (p : Package) → IsPackageNumbered at p → IsLevelNumber p n → ⊥
+
+-- The declaration is a package-level one, to which the change gives this name.
+pub record IsLevelOf (w : Workspace) (known : Verdicts) (d : Declaration) (name : List ℕ) (c : NameChange) : Type 0 where
+  pub declared_in : Package
+  pub is_package : IsCheckedPackage w known declared_in
+  pub number : ℕ
+  pub is_level : IsLevelNumber declared_in number
+  pub is_declared : d ≡ Declared declared_in.path number
+  pub is_change : c ≡ change_of_name declared_in number name
 
 -- The identifier at the byte is bound to a package-level declaration, to which the change gives this name. The paths of packages are legible.
 pub record IsLevelAt (w : Workspace) (path : List ℕ) (offset : ℕ) (name : List ℕ) (c : NameChange) : Type 0 where

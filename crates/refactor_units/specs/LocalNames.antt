@@ -7,7 +7,7 @@ use Rattle.workspace_check.specs.Verdicts.{Verdicts, AreVerdicts}
 use Rattle.refs_binding.specs.declared.declaration.Declaration.{Declaration}
 use Rattle.refs_binding.specs.declared.declaration.Declaration.TheVariants.{Declared}
 use Rattle.refs_binding.specs.Binding.{IsPredeclaredNumber}
-use Rattle.refs_binding.specs.Uses.{IsCheckedPackage, HasDeclaration}
+use Rattle.refs_binding.specs.Uses.{IsFilePackage, HasDeclaration}
 use Rattle.refactor_rename.specs.Literals.{IsUnnamedImport}
 
 -- `n` declares in the package `p`. It is neither predeclared nor package-level, and is no import without a name.
@@ -22,12 +22,12 @@ pub record IsLocalNumber (p : Package) (n : ℕ) : Type 0 where
 abbrev pub IsLocalOf : Package → Declaration → Type 0
 IsLocalOf p d = (n : ℕ) × (d ≡ Declared p.path n) × IsLocalNumber p n
 
--- The identifier at the byte is bound to such a declaration.
+-- The identifier at the byte is bound to such a declaration, of the package of the file.
 pub record IsLocalAt (w : Workspace) (path : List ℕ) (offset : ℕ) : Type 0 where
   pub known : Verdicts
   pub right : AreVerdicts w known
   pub declared_in : Package
-  pub is_package : IsCheckedPackage w known declared_in
+  pub is_package : IsFilePackage w known path declared_in
   pub number : ℕ
   pub is_local : IsLocalNumber declared_in number
   pub has : HasDeclaration w known path offset (Declared declared_in.path number)

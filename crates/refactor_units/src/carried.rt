@@ -1,7 +1,9 @@
 //! The names with which the units of all packages are carried over a planned rename.
-ghost use Rattle.std.specs.Prelude.{◌≡◌, [], ◌∷◌, IfOk, IfSome};
+ghost use Rattle.std.specs.Prelude.{◌≡◌, [], ◌∷◌, IfErr, IfNone, IfOk, IfSome};
 ghost use Rattle.workspace_check.specs.Found.{IsFound};
-ghost use Rattle.refactor_units.specs.CarriedNames.{CarriesPlanned, CarriesRename};
+ghost use Rattle.build_names.specs.Words.{NameChange};
+ghost use Rattle.refactor_units.specs.CarriedNames.{CarriesPlanned, CarriesRename, HasCarriedName, RefusesCarried};
+ghost use Rattle.refactor_units.specs.LevelNames.{IsLevelAt};
 
 use crate::level::level_name_at;
 use crate::local::names_local;
@@ -30,7 +32,8 @@ fn names_level(
     offset: usize,
     name: &str,
 ) -> Result<Option<Vec<GivenName>>, AllocError>
-    ensures { IfOk result (λ names. IfSome names (λ given. CarriesRename workspace.now.graph path.now offset name.now given.items)) }
+    ensures carries { IfOk result (λ names. IfSome names (λ given. CarriesRename workspace.now.graph path.now offset name.now given.items)) }
+    ensures finds { IfOk result (λ names. IfNone names ((c : NameChange) → IsLevelAt workspace.now.graph path.now offset name.now c → ⊥)) }
 {
     workspace.has_no_faults();
     match level_name_at(alloc, workspace, path, offset, name)? {
@@ -48,7 +51,8 @@ fn names_carried(
     offset: usize,
     name: &str,
 ) -> Result<Option<Vec<GivenName>>, AllocError>
-    ensures { IfOk result (λ names. IfSome names (λ given. CarriesRename workspace.now.graph path.now offset name.now given.items)) }
+    ensures carries { IfOk result (λ names. IfSome names (λ given. CarriesRename workspace.now.graph path.now offset name.now given.items)) }
+    ensures finds { IfOk result (λ names. IfNone names (HasCarriedName workspace.now.graph path.now offset name.now → ⊥)) }
 {
     workspace.has_no_faults();
     if names_local(alloc, workspace, path, offset)? {
@@ -58,7 +62,7 @@ fn names_carried(
 }
 
 /// The names that known units get behind the planned rename of the identifier at a byte to `name`. `None` where no names are known with which
-/// units are carried over. Only speed rests on that.
+/// units are carried over.
 pub fn carried_names(
     alloc: Global,
     snapshot: &Snapshot,
@@ -68,7 +72,9 @@ pub fn carried_names(
     name: &str,
 ) -> Result<Option<Vec<GivenName>>, Refusal>
     requires { IsFound snapshot.now.files found.now }
-    ensures { IfOk result (λ names. IfSome names (λ given. CarriesPlanned snapshot.now path.now offset name.now given.items)) }
+    ensures carries { IfOk result (λ names. IfSome names (λ given. CarriesPlanned snapshot.now path.now offset name.now given.items)) }
+    ensures finds { IfOk result (λ names. IfNone names (HasCarriedName snapshot.now.files path.now offset name.now → ⊥)) }
+    ensures refuses { IfErr result (RefusesCarried snapshot.now.files path.now) }
 {
     let path = Path::read(alloc, path, 2)?;
     match refuse_faults(alloc, &snapshot.files, &found.findings) {

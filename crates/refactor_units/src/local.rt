@@ -8,7 +8,7 @@ ghost use Rattle.refs_binding.specs.Indexed.{IsPackageNumber, IsPackageNumbered}
 ghost use Rattle.refactor_rename.specs.Literals.{IsUnnamedImport};
 ghost use Rattle.refactor_units.specs.LocalNames.{IsLocalNumber, IsLocalOf, IsLocalAt};
 
-use base_files::Path;
+use base_files::{Path, Refusal};
 use go_scope::identifiers::PREDECLARED;
 use go_scope::model::Block;
 use refs_binding::indexed::{Numbered, known_of};
@@ -49,7 +49,7 @@ fn is_local_number(unit: Package<'_>, n: usize) -> bool
 
 /// Whether a declaration is such a one of the package.
 fn is_local(unit: Package<'_>, declaration: &Declaration) -> bool
-    ensures { IsTrue result → IsLocalOf (package_of unit.entry) declaration.now }
+    ensures { IsTrue result ↔ IsLocalOf (package_of unit.entry) declaration.now }
 {
     match declaration {
         Declaration::Declared(path, n) => {
@@ -59,7 +59,7 @@ fn is_local(unit: Package<'_>, declaration: &Declaration) -> bool
     }
 }
 
-/// Whether the identifier at a byte of a file of a package is bound to a local declaration of this. Only speed rests on a no.
+/// Whether the identifier at a byte of a file of a package is bound to a local declaration of this.
 fn names_local_by(
     alloc: Global,
     at: Numbered<'_>,
@@ -70,12 +70,13 @@ fn names_local_by(
     requires numbered { IsPackageNumber at }
     requires unit { IsPackageNumbered at (package_of unit) }
     requires folder { slice_get (package_paths at.workspace.now.graph) at.number ≡ Some (folder path.now) }
-    ensures { IfOk result (λ is. IsTrue is → IsLocalAt at.entry.workspace.now.graph path.now offset) }
+    ensures { IfOk result (λ is. IsTrue is ↔ IsLocalAt at.entry.workspace.now.graph path.now offset) }
 {
     at.workspace.has_no_faults();
     let index = Index::of(alloc, unit)?;
     let of = known_of(at, unit, &index);
     match declaration_in_package(alloc, at.workspace, &of, path, offset) {
+        Err(Refusal::Memory) => Err(AllocError),
         Err(_) => Ok(false),
         Ok(declaration) => Ok(is_local(of.unit, &declaration)),
     }
@@ -90,7 +91,7 @@ fn names_local_in(
 ) -> Result<bool, AllocError>
     requires numbered { IsPackageNumber at }
     requires folder { slice_get (package_paths at.workspace.now.graph) at.number ≡ Some (folder path.now) }
-    ensures { IfOk result (λ is. IsTrue is → IsLocalAt at.entry.workspace.now.graph path.now offset) }
+    ensures { IfOk result (λ is. IsTrue is ↔ IsLocalAt at.entry.workspace.now.graph path.now offset) }
 {
     let reader = PackageReader::of(alloc, at)?;
     let table = reader.table(alloc)?;
@@ -104,7 +105,7 @@ pub(crate) fn names_local(
     path: &Path,
     offset: usize,
 ) -> Result<bool, AllocError>
-    ensures { IfOk result (λ is. IsTrue is → IsLocalAt workspace.now.graph path.now offset) }
+    ensures { IfOk result (λ is. IsTrue is ↔ IsLocalAt workspace.now.graph path.now offset) }
 {
     match workspace.number_of(path.folder()) {
         None => Ok(false),

@@ -72,7 +72,7 @@ pub fn method_places(
         let function = functions[rank];
         let at = Position {
             file: function.file,
-            index: function.func.name,
+            index: function.func.name as usize,
         };
         places.push(marked(marks[rank], at))?;
     }

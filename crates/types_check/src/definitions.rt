@@ -203,7 +203,7 @@ fn set_method(
     requires broken { AreBroken (package_of of.now.pkg) of.now.broken.now }
     ensures { OnOk result (SetsMethodOf (package_of of.now.pkg) rank (function_of function.entry) (definition_of definition.old) (definition_of definition.new)) }
 {
-    let name = of.pkg.spelling(function.file, function.func.name);
+    let name = of.pkg.spelling(function.file, function.func.name as usize);
     let key = Vec::from_slice(alloc, name)?;
     let package = of.pkg.path.clone()?;
     let made = Method {

@@ -154,7 +154,7 @@ fn package_name(alloc: Global, pkg: Package<'_>) -> Result<Vec<u8>, AllocError>
 {
     match pkg.files.first() {
         None => Ok(Vec::new(alloc)),
-        Some(file) => Vec::from_slice(alloc, file.spelling(file.file().name)),
+        Some(file) => Vec::from_slice(alloc, file.spelling(file.file().name as usize)),
     }
 }
 

@@ -55,7 +55,7 @@ fn add_names<'a>(
     for name in &spec.names {
         found.push(Variable {
             file,
-            name: name.value,
+            name: name.value as usize,
             var_type: &spec.var_type,
         })?;
     }

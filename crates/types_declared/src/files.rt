@@ -23,7 +23,7 @@ pub fn literal(alloc: Global, file: &FileTree, token: usize) -> Result<Option<Ve
 pub fn clause_token(file: &FileTree) -> usize
     ensures { result ≡ (source_of file.now).tree.name }
 {
-    file.file().name
+    file.file().name as usize
 }
 
 /// The name in a file's package clause.

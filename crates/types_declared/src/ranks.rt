@@ -71,7 +71,7 @@ fn type_places(alloc: Global, types: &[TypeDef<'_>]) -> Result<Vec<Position>, Al
     for definition in types {
         places.push(Position {
             file: definition.file,
-            index: definition.spec.name,
+            index: definition.spec.name as usize,
         })?;
     }
     Ok(places)
@@ -86,7 +86,7 @@ fn function_places(alloc: Global, functions: &[Function<'_>]) -> Result<Vec<Posi
     for function in functions {
         places.push(Position {
             file: function.file,
-            index: function.func.name,
+            index: function.func.name as usize,
         })?;
     }
     Ok(places)

@@ -163,9 +163,9 @@ pub fn named_type(
     ensures { IfOk result (λ t. IsNamedBy (package_of pkg.entry) file (type_view written.now) (option_map type_of t)) }
 {
     match written {
-        TypeExpr::Local(name) => local_type(pkg, index, file, *name),
+        TypeExpr::Local(name) => local_type(pkg, index, file, *name as usize),
         TypeExpr::Imported { package, name, .. } => {
-            match imported_type(pkg, index, file, *package, *name) {
+            match imported_type(pkg, index, file, *package as usize, *name as usize) {
                 None => Ok(None),
                 Some(own) => Ok(Some(own.copy(alloc)?)),
             }
@@ -208,7 +208,7 @@ pub fn mentioned(
     ensures { IsMentionedBy (package_of pkg.entry) file (type_view written.now) result }
 {
     match written {
-        TypeExpr::Local(name) => local_definition(pkg, index, file, *name),
+        TypeExpr::Local(name) => local_definition(pkg, index, file, *name as usize),
         TypeExpr::Imported { .. } => None,
         TypeExpr::Pointer { target, .. } => mentioned(pkg, index, file, target),
         TypeExpr::Slice { element, .. } => mentioned(pkg, index, file, element),

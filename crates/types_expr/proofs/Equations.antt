@@ -19,9 +19,9 @@ use Rattle.types_expr.specs.Types.{Meaning, Value, Untyped, Broken, PlainType}
 use Rattle.types_expr.specs.World.{World, Locals, name_meaning}
 use Rattle.types_expr.specs.Judge.{Judged, JudgedList, ListValue, Seen, none_seen, judge, judge_value, judge_links, judge_link, judge_operands, judge_arguments}
 use Rattle.types_expr.specs.Judge.{judge_literal, judge_elements, judge_type, means, select, followed, operation, value_before, prefix_of, address_of}
-use Rattle.types_expr.specs.Judge.{index_rule, call_rule, with_element, element_key, seen_after, literal_of}
+use Rattle.types_expr.specs.Judge.{as_value, index_rule, call_rule, with_element, element_key, seen_after, literal_of}
 use Rattle.types_expr.specs.Found.{AddsJudged, AddsJudgedList}
-use Rattle.types_expr.proofs.Trees.{chain_tree, named_chain_tree, binary_tree, call_tree, literal_tree}
+use Rattle.types_expr.proofs.Trees.{chain_tree, named_binary_tree, named_chain_tree, binary_tree, call_tree, literal_tree}
 
 pub ok_map : {X E : Type 0} {P Q : X → Type 0} (r : Result X E) → ((x : X) → P x → Q x) → IfOk r P → IfOk r Q
 ok_map (Ok x) f p = f x p
@@ -113,6 +113,16 @@ binary_found w locals b rest is x y xs hx hy hxs start hs =
     ∙ (ap (λ z. judge_operands w locals start (judge_value w locals (expr_view z)) (operands_in rest.items)) (sym hx)
     ∙ ap (λ z. judge_operands w locals start (judge_value w locals (expr_view x)) (operands_in z)) (sym hxs))))
 
+named_binary_judged : (w : World) (locals : Locals) (n : ℕ) (rest : _) → judge w locals (expr_view (expr.NamedBinary n rest)) ≡
+    judge_operands w locals n (followed (means (name_meaning w locals n)) (as_value n)) (operands_in rest.items)
+unfolding judge first_token place_of
+named_binary_judged w locals n rest = ap (judge w locals) (named_binary_tree n rest)
+
+pub named_binary_found : (w : World) (locals : Locals) {e : Expr} (n : ℕ) (rest : _) → e ≡ expr.NamedBinary n rest → (xs : List Operand) → xs ≡ rest.items →
+    judge w locals (expr_view e) ≡ judge_operands w locals n (followed (means (name_meaning w locals n)) (as_value n)) (operands_in xs)
+named_binary_found w locals n rest is xs hxs = ap (λ x. judge w locals (expr_view x)) is ∙ (named_binary_judged w locals n rest ∙
+    ap (λ ys. judge_operands w locals n (followed (means (name_meaning w locals n)) (as_value n)) (operands_in ys)) (sym hxs))
+
 -- one link
 
 pub selector_judged : (w : World) (locals : Locals) (s p : ℕ) {l : Link} (d n : ℕ) (m : Meaning) → l ≡ link.Selector d n →
@@ -128,11 +138,11 @@ index_judged w locals s p o e c m is v h = ap (λ x. judge_link w locals s p (li
     ap (λ x. index_rule w s p (expr_view x) (judge_value w locals (expr_view x)) m) (sym h)
 
 call_here : (w : World) (locals : Locals) (s p o : ℕ) (xs : _) (c : ℕ) (m : Meaning) →
-    judge_link w locals s p (link_view (link.Call o xs c) tree.no_link) m ≡ call_rule w s p (judge_arguments w locals (arguments_in xs.items)) m
+    judge_link w locals s p (link_view (link.Call o c xs) tree.no_link) m ≡ call_rule w s p (judge_arguments w locals (arguments_in xs.items)) m
 unfolding judge_link
 call_here w locals s p o xs c m = ap (λ x. judge_link w locals s p x m) (call_tree o xs c tree.no_link)
 
-pub call_judged : (w : World) (locals : Locals) (s p : ℕ) {l : Link} (o : ℕ) (xs : _) (c : ℕ) (m : Meaning) → l ≡ link.Call o xs c →
+pub call_judged : (w : World) (locals : Locals) (s p : ℕ) {l : Link} (o : ℕ) (xs : _) (c : ℕ) (m : Meaning) → l ≡ link.Call o c xs →
     (items : List ExprItem) → items ≡ xs.items →
     judge_link w locals s p (link_view l tree.no_link) m ≡ call_rule w s p (judge_arguments w locals (arguments_in items)) m
 call_judged w locals s p o xs c m is items h = ap (λ x. judge_link w locals s p (link_view x tree.no_link) m) is ∙
@@ -146,7 +156,7 @@ pub links_step : (w : World) (locals : Locals) (s p : ℕ) (k : Judged) (l : Lin
 unfolding judge_links judge_link links_in link_view
 links_step w locals s p k (link.Selector d n) rest = refl
 links_step w locals s p k (link.Index' o q e c) rest = refl
-links_step w locals s p k (link.Call' o shape row c) rest = refl
+links_step w locals s p k (link.Call' o c shape row) rest = refl
 
 pub links_end : (w : World) (locals : Locals) (s p : ℕ) (k : Judged) → judge_links w locals s p k (links_in []) ≡ k
 unfolding judge_links links_in

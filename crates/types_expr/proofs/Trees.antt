@@ -36,13 +36,18 @@ unfolding expr_view
 binary_tree first rest = ap (tree.Binary (expr_view first.value))
     (operand_row (hidden-the_row-Operand-1 rest) ∙ ap operands_in (items_hidden-the_row-Operand-1 rest))
 
+pub named_binary_tree : (n : ℕ) (rest : _) → expr_view (expr.NamedBinary n rest) ≡ tree.Binary (tree.Name n) (operands_in rest.items)
+unfolding expr_view
+named_binary_tree n rest = ap (tree.Binary (tree.Name n))
+    (operand_row (hidden-the_row-Operand-1 rest) ∙ ap operands_in (items_hidden-the_row-Operand-1 rest))
+
 argument_row : {n : _} (row : Row_of-ExprItem n) → arguments_view row ≡ arguments_in (items-the_row-ExprItem n row)
 unfolding arguments_view arguments_in
 argument_row end_of-ExprItem = refl
 argument_row (more_of-ExprItem e c rest) = ap (tree.argument (expr_view e) c) (argument_row rest)
 
 pub call_tree : (o : ℕ) (arguments : _) (c : ℕ) (others : tree.LinkTrees) →
-    link_view (link.Call o arguments c) others ≡ tree.call o (arguments_in arguments.items) c others
+    link_view (link.Call o c arguments) others ≡ tree.call o (arguments_in arguments.items) c others
 unfolding link_view
 call_tree o arguments c others = ap (λ xs. tree.call o xs c others)
     (argument_row (hidden-the_row-ExprItem-2 arguments) ∙ ap arguments_in (items_hidden-the_row-ExprItem-2 arguments))
@@ -77,4 +82,4 @@ pub place_step : (start here : ℕ) (l : Link) (rest : tree.LinkTrees) →
 unfolding place_of_links link_view
 place_step start here (link.Selector d n) rest = refl
 place_step start here (link.Index' o p e c) rest = refl
-place_step start here (link.Call' o shape row c) rest = refl
+place_step start here (link.Call' o c shape row) rest = refl

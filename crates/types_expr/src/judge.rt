@@ -30,13 +30,13 @@ pub fn judge<'w>(
     match e {
         Expr::Number(_) => Ok(Meaning::value(ValueKind::Untyped(Basic::Int))),
         Expr::Text(_) => Ok(Meaning::value(ValueKind::Untyped(Basic::String))),
-        Expr::Name(place) => scope.name_meaning(alloc, *place),
+        Expr::Name(place) => scope.name_meaning(alloc, *place as usize),
         Expr::Blank(_) => Ok(Meaning::Broken),
         Expr::Composite(lit) => literal(alloc, scope, lit, found),
         Expr::Paren { inner, .. } => judge_value(alloc, scope, inner, found),
         Expr::Prefix { op, at, operand } => {
             let meaning = judge_value(alloc, scope, operand, found)?;
-            found.prefix(alloc, scope.world, *op, *at, meaning)
+            found.prefix(alloc, scope.world, *op, *at as usize, meaning)
         }
         Expr::Address { literal: lit, .. } => {
             let meaning = literal(alloc, scope, lit, found)?;
@@ -50,16 +50,21 @@ pub fn judge<'w>(
             chain(alloc, scope, at, meaning, links, found)
         }
         Expr::NamedChain { name, links } => {
-            let meaning = scope.name_meaning(alloc, *name)?;
+            let meaning = scope.name_meaning(alloc, *name as usize)?;
             let at = FaultPlaces {
-                start: *name,
-                place: *name,
+                start: *name as usize,
+                place: *name as usize,
             };
             chain(alloc, scope, at, meaning, links, found)
         }
         Expr::Binary { first, rest } => {
             let meaning = judge_value(alloc, scope, first, found)?;
             binary(alloc, scope, first_token(first), meaning, rest, found)
+        }
+        Expr::NamedBinary { name, rest } => {
+            let own = scope.name_meaning(alloc, *name as usize)?;
+            let meaning = found.as_value(*name as usize, own)?;
+            binary(alloc, scope, *name as usize, meaning, rest, found)
         }
     }
 }
@@ -134,7 +139,13 @@ pub fn judge_link<'w>(
     ensures { IfOk result (λ m. AddsJudged (judge_link (world_of scope.entry.world.now) (locals_of scope.entry.locals.now) at.start at.place (link_view next.now no_link) (meaning_of meaning.entry)) found.old found.new (meaning_of m)) }
 {
     match next {
-        Link::Selector { name, .. } => found.select(alloc, scope, at.place, *name, meaning),
+        Link::Selector { name, .. } => found.select(
+            alloc,
+            scope,
+            at.place,
+            *name as usize,
+            meaning,
+        ),
         Link::Index { index, .. } => {
             let operand = found.as_value(at.place, meaning)?;
             let value = judge_value(alloc, scope, index, found)?;

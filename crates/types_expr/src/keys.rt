@@ -196,9 +196,9 @@ impl FoundInFile {
                 wanted: world.element_type(literal_type),
             });
         };
-        let found = world.key(literal_type, seen, key.name);
+        let found = world.key(literal_type, seen, key.name as usize);
         seen.add(found)?;
-        self.note_key(alloc, world, literal_type, key.name, found)?;
+        self.note_key(alloc, world, literal_type, key.name as usize, found)?;
         Ok(ElementKey {
             whole: found.is_whole(),
             unkeyed: false,

@@ -21,10 +21,10 @@ pub(crate) fn first_of_type(t: &TypeExpr) -> usize
     ensures { result ≡ first_of_type (type_view t.now) }
 {
     match t {
-        TypeExpr::Local(name) => *name,
-        TypeExpr::Imported { package, .. } => *package,
-        TypeExpr::Pointer { star, .. } => *star,
-        TypeExpr::Slice { open, .. } => *open,
+        TypeExpr::Local(name) => *name as usize,
+        TypeExpr::Imported { package, .. } => *package as usize,
+        TypeExpr::Pointer { star, .. } => *star as usize,
+        TypeExpr::Slice { open, .. } => *open as usize,
     }
 }
 
@@ -34,14 +34,17 @@ pub fn first_token(e: &Expr) -> usize
     ensures { result ≡ first_token (expr_view e.now) }
 {
     match e {
-        Expr::Number(place) | Expr::Text(place) | Expr::Name(place) | Expr::Blank(place) => *place,
+        Expr::Number(place) | Expr::Text(place) | Expr::Name(place) | Expr::Blank(place) => {
+            *place as usize
+        }
         Expr::Composite(literal) => first_of_type(&literal.literal_type),
-        Expr::Paren { open, .. } => *open,
-        Expr::Prefix { at, .. } => *at,
-        Expr::Address { at, .. } => *at,
+        Expr::Paren { open, .. } => *open as usize,
+        Expr::Prefix { at, .. } => *at as usize,
+        Expr::Address { at, .. } => *at as usize,
         Expr::Chain { first, .. } => first_token(first),
         Expr::Binary { first, .. } => first_token(first),
-        Expr::NamedChain { name, .. } => *name,
+        Expr::NamedChain { name, .. } => *name as usize,
+        Expr::NamedBinary { name, .. } => *name as usize,
     }
 }
 
@@ -52,7 +55,7 @@ pub fn place_of(e: &Expr) -> usize
 {
     match e {
         Expr::Chain { first, links } => chain_place(first_token(first), links),
-        Expr::NamedChain { name, links } => chain_place(*name, links),
+        Expr::NamedChain { name, links } => chain_place(*name as usize, links),
         _ => first_token(e),
     }
 }
@@ -74,7 +77,7 @@ pub fn place_after_link(start: usize, link: &Link) -> usize
     ensures { result ≡ place_after_link start (link_view link.now no_link) }
 {
     match link {
-        Link::Selector { name, .. } => *name,
+        Link::Selector { name, .. } => *name as usize,
         Link::Index { .. } => start,
         Link::Call { .. } => start,
     }

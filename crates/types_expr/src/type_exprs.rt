@@ -98,9 +98,9 @@ impl FoundInFile {
         ensures { IfOk result (λ own. AddsType (judge_type (world_of world.now) (type_view written.now)) self.old self.new (option_map type_of own)) }
     {
         match written {
-            TypeExpr::Local(name) => self.named_type(alloc, world, *name),
+            TypeExpr::Local(name) => self.named_type(alloc, world, *name as usize),
             TypeExpr::Imported { package, name, .. } => {
-                self.imported_type(alloc, world, *package, *name)
+                self.imported_type(alloc, world, *package as usize, *name as usize)
             }
             TypeExpr::Pointer { target, .. } => {
                 let target = self.judge_type(alloc, world, target)?;

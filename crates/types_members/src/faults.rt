@@ -71,7 +71,7 @@ fn add_methods(
         let counts = counting[rank];
         let fault = Fault {
             file: function.file,
-            token: function.func.name,
+            token: function.func.name as usize,
             kind: FaultKind::Repeated,
         };
         push_if(found, is_displaced(owner, counts), fault)?;
@@ -97,7 +97,7 @@ fn add_recursive(
         let holds_itself = recursive[rank];
         let fault = Fault {
             file: definition.file,
-            token: definition.spec.name,
+            token: definition.spec.name as usize,
             kind: FaultKind::Recursive,
         };
         push_if(found, holds_itself, fault)?;

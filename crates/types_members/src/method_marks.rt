@@ -149,7 +149,7 @@ fn note_function<'a>(
     match owned.owner {
         None => Ok(false),
         Some(definition) => {
-            let name = pkg.spelling(function.file, function.func.name);
+            let name = pkg.spelling(function.file, function.func.name as usize);
             let method = MethodName { definition, name };
             note_method(alloc, pkg, names, structs, underlying, method)
         }

@@ -16,7 +16,7 @@ fn owner(pkg: Package<'_>, index: &Index<'_>, function: Function<'_>) -> Option<
 {
     match &function.func.receiver {
         None => None,
-        Some(receiver) => local_definition(pkg, index, function.file, receiver.type_name),
+        Some(receiver) => local_definition(pkg, index, function.file, receiver.type_name as usize),
     }
 }
 

@@ -18,7 +18,7 @@ fn held_as(pkg: Package<'_>, index: &Index<'_>, file: usize, written: &TypeExpr)
         (λ r. IsBareName (package_of pkg.entry) file (type_view written.now) r × ((other : ℕ) → IsBareName (package_of pkg.entry) file (type_view written.now) other → other ≡ r)) }
 {
     match written {
-        TypeExpr::Local(name) => local_definition(pkg, index, file, *name),
+        TypeExpr::Local(name) => local_definition(pkg, index, file, *name as usize),
         TypeExpr::Imported { .. } => None,
         TypeExpr::Pointer { .. } => None,
         TypeExpr::Slice { .. } => None,

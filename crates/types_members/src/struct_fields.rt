@@ -35,7 +35,7 @@ fn add_names<'a>(
         found.push(FieldDef {
             definition,
             file,
-            name: name.value,
+            name: name.value as usize,
             field_type: &field.field_type,
         })?;
     }

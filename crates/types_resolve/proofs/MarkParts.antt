@@ -57,6 +57,7 @@ not_a_name p file (expr.Address' at q l) other h = h
 not_a_name p file (expr.Chain' q e shape row) other h = h
 not_a_name p file (expr.Binary' q e shape row) other h = h
 not_a_name p file (expr.NamedChain' n shape row) other h = h
+not_a_name p file (expr.NamedBinary' n shape row) other h = h
 
 pub some_at : (p : Laid) (file : ℕ) (xs : List ExprItem) (i : ℕ) (d : ExprItem) → i < length xs → DeclaresName p file (expr_view (get_or xs i d).value) →
     SomeDeclares p file (exprs_view xs)

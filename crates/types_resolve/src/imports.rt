@@ -46,9 +46,9 @@ fn add_import(
     ensures { OnOk result (AddsFaults found.old.items found.new.items (IsFaultOfImport (state_in states.now) ((rank, source_of file.now), import_view spec.now))) }
 {
     go_scanner::laws::one_string_value();
-    match literal(alloc, file, spec.path)? {
+    match literal(alloc, file, spec.path as usize)? {
         None => Ok(()),
-        Some(path) => add_state(found, rank, spec.path, states.state(&path)),
+        Some(path) => add_state(found, rank, spec.path as usize, states.state(&path)),
     }
 }
 

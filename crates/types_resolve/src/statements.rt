@@ -29,7 +29,7 @@ fn declares_name(scope: FileScope<'_>, left: &Expr) -> bool
     ensures { IsTrue result ↔ DeclaresName (laid_in scope.entry.table.now) scope.entry.rank (expr_view left.now) }
 {
     match left {
-        Expr::Name(token) => declares_at(scope.table, scope.rank, *token),
+        Expr::Name(token) => declares_at(scope.table, scope.rank, *token as usize),
         _ => false,
     }
 }
@@ -72,7 +72,7 @@ fn add_simple(
     ensures { OnOk result (AddsEach (IsFaultOfMark (laid_in scope.entry.table.now) scope.entry.rank) found.old.items found.new.items (simple_marks (simple_view statement.now))) }
 {
     match statement {
-        SimpleStmt::Define { left, at, .. } => add_define(found, scope, left, *at),
+        SimpleStmt::Define { left, at, .. } => add_define(found, scope, left, *at as usize),
         SimpleStmt::Expr(_) => Ok(()),
         SimpleStmt::Step { .. } => Ok(()),
         SimpleStmt::Update { .. } => Ok(()),
@@ -166,8 +166,8 @@ fn add_statement(
             add_header(found, scope, header)?;
             add_block(found, scope, true, body)
         }
-        Stmt::Break(at) => add_stray(found, scope, in_for, *at),
-        Stmt::Continue(at) => add_stray(found, scope, in_for, *at),
+        Stmt::Break(at) => add_stray(found, scope, in_for, *at as usize),
+        Stmt::Continue(at) => add_stray(found, scope, in_for, *at as usize),
         Stmt::Return { .. } => Ok(()),
     }
 }

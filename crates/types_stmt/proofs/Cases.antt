@@ -25,6 +25,7 @@ assigned_default w ls (expr.Address' at p l) no_blank = refl
 assigned_default w ls (expr.Chain' p e shape row) no_blank = refl
 assigned_default w ls (expr.Binary' p e shape row) no_blank = refl
 assigned_default w ls (expr.NamedChain' n shape row) no_blank = refl
+assigned_default w ls (expr.NamedBinary' n shape row) no_blank = refl
 
 pub defined_default : (w : World) (ls : Locals) (e : Expr) → ((n : ℕ) → e ≡ expr.Blank n → ⊥) → ((n : ℕ) → e ≡ expr.Name n → ⊥) →
     left_side (Wants None) (followed (judge_value w ls (expr_view e)) (no_name (place_of (expr_view e)))) ≡ defined_one w ls (expr_view e)
@@ -40,6 +41,7 @@ defined_default w ls (expr.Address' at p l) no_blank no_such = refl
 defined_default w ls (expr.Chain' p e shape row) no_blank no_such = refl
 defined_default w ls (expr.Binary' p e shape row) no_blank no_such = refl
 defined_default w ls (expr.NamedChain' n shape row) no_blank no_such = refl
+defined_default w ls (expr.NamedBinary' n shape row) no_blank no_such = refl
 
 pub values_default : (p : ℕ) (m : Meaning) → ((ts : _) → m ≡ meaning.Results ts → ⊥) → one_value p (as_value p (meaning_of m)) ≡ values_of p (meaning_of m)
 unfolding meaning_of values_of

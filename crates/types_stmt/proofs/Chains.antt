@@ -24,23 +24,23 @@ not_end : (xs : List Link) (l : Link) → is_end (links_in (xs ++ (l ∷ []))) �
 unfolding links_in link_view
 not_end [] (link.Selector d n) = refl
 not_end [] (link.Index' o p e c) = refl
-not_end [] (link.Call' o shape row c) = refl
+not_end [] (link.Call' o c shape row) = refl
 not_end (link.Selector d n ∷ xs) l = refl
 not_end (link.Index' o p e c ∷ xs) l = refl
-not_end (link.Call' o shape row c ∷ xs) l = refl
+not_end (link.Call' o c shape row ∷ xs) l = refl
 
 pub without_last_links : (xs : List Link) (l : Link) → without_last (links_in (xs ++ (l ∷ []))) ≡ links_in xs
 unfolding links_in link_view without_last
 without_last_links [] (link.Selector d n) = refl
 without_last_links [] (link.Index' o p e c) = refl
-without_last_links [] (link.Call' o shape row c) = refl
+without_last_links [] (link.Call' o c shape row) = refl
 without_last_links (link.Selector d n ∷ xs) l =
     ap (λ (b : Bool). if b then no_link else selector d n (without_last (links_in (xs ++ (l ∷ []))))) (not_end xs l) ∙
     ap (λ x. selector d n x) (without_last_links xs l)
 without_last_links (link.Index' o p e c ∷ xs) l =
     ap (λ (b : Bool). if b then no_link else index o (expr_view e) c (without_last (links_in (xs ++ (l ∷ []))))) (not_end xs l) ∙
     ap (λ x. index o (expr_view e) c x) (without_last_links xs l)
-without_last_links (link.Call' o shape row c ∷ xs) l =
+without_last_links (link.Call' o c shape row ∷ xs) l =
     ap (λ (b : Bool). if b then no_link else call o (arguments_view row) c (without_last (links_in (xs ++ (l ∷ []))))) (not_end xs l) ∙
     ap (λ x. call o (arguments_view row) c x) (without_last_links xs l)
 
@@ -50,7 +50,7 @@ unfolding links_in link_view ends_in_call
 ends_as_last [] l = refl
 ends_as_last (link.Selector d n ∷ xs) l = ends_as_last xs l
 ends_as_last (link.Index' o p e c ∷ xs) l = ends_as_last xs l
-ends_as_last (link.Call' o shape row c ∷ xs) l = ap (λ b. b || ends_in_call (links_in (xs ++ (l ∷ [])))) (not_end xs l) ∙ ends_as_last xs l
+ends_as_last (link.Call' o c shape row ∷ xs) l = ap (λ b. b || ends_in_call (links_in (xs ++ (l ∷ [])))) (not_end xs l) ∙ ends_as_last xs l
 
 -- the judgement of links, continued from that of the links before them
 pub links_append : (w : World) (ls : Locals) (start here : ℕ) (j : Judged) (xs ys : List Link) →
@@ -61,7 +61,7 @@ links_append w ls start here j [] ys = refl
 links_append w ls start here j (link.Selector d n ∷ xs) ys = links_append w ls start n (followed j (select w ls here n)) xs ys
 links_append w ls start here j (link.Index' o p e c ∷ xs) ys =
     links_append w ls start start (followed j (index_rule w start here (expr_view e) (judge_value w ls (expr_view e)))) xs ys
-links_append w ls start here j (link.Call' o shape row c ∷ xs) ys =
+links_append w ls start here j (link.Call' o c shape row ∷ xs) ys =
     links_append w ls start start (followed j (call_rule w start here (judge_arguments w ls (arguments_view row)))) xs ys
 
 -- the token at which links report their faults depends on the last link alone
@@ -70,7 +70,7 @@ pub place_behind_last : (start here : ℕ) (xs : List Link) (l : Link) →
 unfolding links_in link_view place_of_links
 place_behind_last start here [] (link.Selector d n) = refl
 place_behind_last start here [] (link.Index' o p e c) = refl
-place_behind_last start here [] (link.Call' o shape row c) = refl
+place_behind_last start here [] (link.Call' o c shape row) = refl
 place_behind_last start here (x ∷ xs) l = place_step start here x (links_in (xs ++ (l ∷ []))) ∙
     place_behind_last start (place_after_link start (link_view x no_link)) xs l
 

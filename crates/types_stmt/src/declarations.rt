@@ -27,11 +27,11 @@ fn literal_value(literal: &BasicLit) -> ListValue
 {
     match literal {
         BasicLit::Number(place) => ListValue {
-            place: *place,
+            place: *place as usize,
             kind: Some(ValueKind::Untyped(Basic::Int)),
         },
         BasicLit::Text(place) => ListValue {
-            place: *place,
+            place: *place as usize,
             kind: Some(ValueKind::Untyped(Basic::String)),
         },
     }
@@ -51,7 +51,7 @@ fn literal_values(alloc: Global, literals: &[Item<BasicLit>]) -> Result<Vec<List
 /// Returns the targets of variables of the type `own`, one for each name.
 fn global_targets(
     alloc: Global,
-    names: &[Item<usize>],
+    names: &[Item<u32>],
     own: &Option<GoType>,
 ) -> Result<Vec<Target>, AllocError>
     ensures { IfOk result (λ ts. map target_of ts.items ≡ map (λ i. Wants (option_map type_of own.now)) (list_view same_index names.now)) }
@@ -65,12 +65,12 @@ fn global_targets(
 
 /// Returns the token of the first name, 0 where there is none.
 #[tactic(auto, unfolding(crate::specs::Declarations::first_name))]
-fn first_name(names: &[Item<usize>]) -> usize
+fn first_name(names: &[Item<u32>]) -> usize
     ensures { result ≡ first_name (list_view same_index names.now) }
 {
     match names {
         [] => 0,
-        [first, ..] => first.value,
+        [first, ..] => first.value as usize,
     }
 }
 
@@ -79,7 +79,7 @@ fn first_name(names: &[Item<usize>]) -> usize
 fn note_value_faults(
     alloc: Global,
     world: &World<'_>,
-    names: &[Item<usize>],
+    names: &[Item<u32>],
     own: &Option<GoType>,
     literals: &[Item<BasicLit>],
     found: &mut FoundInFile,
@@ -149,7 +149,7 @@ fn note_body_faults(
             Ok(())
         }
         TypeBody::Struct { fields, .. } => note_field_faults(alloc, world, fields, found),
-        TypeBody::Interface { at, .. } => note_fault(*at, found),
+        TypeBody::Interface { at, .. } => note_fault(*at as usize, found),
     }
 }
 

@@ -48,7 +48,7 @@ impl CheckedBody {
             Decl::Var { group, .. } => self.check_globals(alloc, world, group),
             Decl::Type { group, .. } => self.check_types(alloc, world, group),
             Decl::Func { func, .. } => {
-                let named_init = is_init(world, func.name);
+                let named_init = is_init(world, func.name as usize);
                 self.check_function(alloc, world, named_init, func)
             }
         }

@@ -59,7 +59,7 @@ fn receiver_type(
 ) -> Result<Option<GoType>, AllocError>
     ensures { IfOk result (λ t. AddsType (judge_receiver (world_of world.now) (receiver_view receiver.now)) found.old found.new (option_map type_of t)) }
 {
-    let base = receiver_base(alloc, world, receiver.type_name, found)?;
+    let base = receiver_base(alloc, world, receiver.type_name as usize, found)?;
     match (receiver.star, base) {
         (Some(_), Some(own)) => Ok(Some(GoType::Pointer(Box::new(alloc, own)?))),
         (_, base) => Ok(base),
@@ -183,7 +183,7 @@ impl CheckedBody {
         self.check_params(alloc, world, &func.params)?;
         let results = results_of(alloc, world, &func.results, &mut self.found)?;
         let is_bad = is_bad_init(is_init, func, &results);
-        note_if(is_bad, func.name, &mut self.found)?;
+        note_if(is_bad, func.name as usize, &mut self.found)?;
         self.check_block(alloc, world, &results, &func.body)
     }
 }

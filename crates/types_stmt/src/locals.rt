@@ -46,8 +46,8 @@ fn defined_name(world: &World<'_>, expr: &Expr) -> Option<usize>
 {
     match expr {
         Expr::Name(place) => {
-            if declares(world, *place) {
-                Some(*place)
+            if declares(world, *place as usize) {
+                Some(*place as usize)
             } else {
                 None
             }
@@ -77,7 +77,7 @@ pub(crate) fn named(ident: &Ident) -> Option<usize>
     ensures { result ≡ named (ident_view ident.now) }
 {
     match ident {
-        Ident::Named(place) => Some(*place),
+        Ident::Named(place) => Some(*place as usize),
         Ident::Blank(_) => None,
     }
 }
@@ -113,7 +113,7 @@ fn ident_place(ident: &Ident) -> usize
     ensures { result ≡ ident_place (ident_view ident.now) }
 {
     match ident {
-        Ident::Named(place) | Ident::Blank(place) => *place,
+        Ident::Named(place) | Ident::Blank(place) => *place as usize,
     }
 }
 

@@ -309,7 +309,7 @@ fn defined_one(
     match expr {
         Expr::Blank(_) => Ok(Target::Takes),
         Expr::Name(place) => {
-            if declares(scope.world, *place) {
+            if declares(scope.world, *place as usize) {
                 return Ok(Target::Takes);
             }
             let meaning = judge_value(alloc, scope, expr, found)?;

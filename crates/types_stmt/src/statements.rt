@@ -151,7 +151,13 @@ impl CheckedBody {
             }
             Stmt::Break(_) => Ok(()),
             Stmt::Continue(_) => Ok(()),
-            Stmt::Return { at, values } => self.check_return(alloc, world, *at, results, values),
+            Stmt::Return { at, values } => self.check_return(
+                alloc,
+                world,
+                *at as usize,
+                results,
+                values,
+            ),
         }
     }
 

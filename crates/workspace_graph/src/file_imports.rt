@@ -21,7 +21,7 @@ fn add_items(literals: &mut Vec<usize>, items: &[Item<ImportSpec>]) -> Result<()
     ensures { OnOk result (literals.new.items ≡ literals.old.items ++ map (λ item. item.value.path) items.now) }
 {
     for item in items {
-        literals.push(item.value.path)?;
+        literals.push(item.value.path as usize)?;
     }
     Ok(())
 }
@@ -32,7 +32,7 @@ fn add_group(literals: &mut Vec<usize>, group: &Group<ImportSpec>) -> Result<(),
 {
     match group {
         Group::Single(spec) => {
-            literals.push(spec.path)?;
+            literals.push(spec.path as usize)?;
             Ok(())
         }
         Group::Several { items, .. } => add_items(literals, items),

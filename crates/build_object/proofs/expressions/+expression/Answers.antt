@@ -18,7 +18,7 @@ use Rattle.build_object.proofs.Links.{same_item, operations_turn, literal_broken
 use Rattle.build_object.proofs.Going.{puts_on, puts_from, plain_lines, grouped_lines, settled_lines, no_lines, goes_as, goes_behind_as, goes_selector}
 use Rattle.build_object.proofs.Going.{goes_index, goes_call, over_none, over_turn, over_end}
 use Rattle.build_object.proofs.Trees.{number_here, text_here, name_here, blank_here, composite_here, paren_here, prefix_here, address_here, chain_here}
-use Rattle.build_object.proofs.Trees.{named_chain_here}
+use Rattle.build_object.proofs.Trees.{named_binary_here, named_chain_here}
 use Rattle.build_object.proofs.Trees.{binary_here, selector_here, index_here, call_here, arguments_step, arguments_end, keyed_step, keyed_end, bare_step}
 use Rattle.build_object.proofs.Trees.{bare_end, operations_end}
 use Rattle.build_object.proofs.expressions.+expression.Goals as goal
@@ -90,6 +90,13 @@ operand-returns-in_ok-operations-in-Binary t c = on_ok_weaker c.operand-in-Binar
     (binary_here (source_of c.args.scope.source.now) c.args.scope.slots.now.places.items _ _ c.in-Binary.is _ _ c.deref-in-Binary-2.ensures
     c.deref-in-Binary.ensures.value) ∙ plain_lines c.args.want _)
     (puts_from c.in_ok-operations-in-Binary.ensures q)) c.operand-in-Binary.ensures
+
+pub operand-returns-in_ok-operations-in-NamedBinary : goal.operand-returns-in_ok-operations-in-NamedBinary
+operand-returns-in_ok-operations-in-NamedBinary t c = on_ok_weaker c.put_name-in-NamedBinary.result
+    (λ q. puts_as (ap (lines_for c.args.want)
+    (named_binary_here (source_of c.args.scope.source.now) c.args.scope.slots.now.places.items _ _ c.in-NamedBinary.is _
+    c.deref-in-NamedBinary.ensures.value) ∙ plain_lines c.args.want _)
+    (puts_from c.in_ok-operations-in-NamedBinary.ensures q)) c.put_name-in-NamedBinary.ensures
 
 pub link-returns-in-Selector : goal.link-returns-in-Selector
 link-returns-in-Selector t c = ok_map c.put_selector.result

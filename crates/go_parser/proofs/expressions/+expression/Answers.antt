@@ -9,13 +9,13 @@ use Rattle.go_parser.specs.Parsing.{list_rest}
 use Rattle.go_ast.specs.Flatten.{sign, prefix_kind, all_tokens, expr_tokens, type_tokens}
 use Rattle.go_ast.specs.View.{expr_view, literal_view}
 use Rattle.go_ast.specs.WellFormed.{IsExpr, IsExprIn, IsLiteral, strength_of}
-use Rattle.go_parser.specs.Grouping.{Each, IsLink, IsUnary, IsOperand, is_slice, is_literal_type, literal_type_of}
+use Rattle.go_parser.specs.Grouping.{Each, IsLink, IsUnary, IsOperand, IsOperandOf, is_slice, is_literal_type, literal_type_of}
 use Rattle.go_ast.specs.declared.tree.Element.{Element}
 use Rattle.go_ast.specs.declared.tree.ExprItem.{ExprItem}
 use Rattle.go_parser.proofs.Grouping.{so_far_none, so_far_push, each_push, composite_grouped, name_grouped, prefix_grouped, address_grouped, paren_grouped}
-use Rattle.go_parser.proofs.Grouping.{binary_grouped, binary_strength, literal_wf, literal_typed, selector_wf, index_wf, call_wf, IsJoined}
+use Rattle.go_parser.proofs.Grouping.{literal_wf, literal_typed, selector_wf, index_wf, call_wf}
 use Rattle.go_parser.proofs.Grouping.{IsSeparatedSoFar, named_not_in_header, not_zero, operator_strength}
-use Rattle.go_parser.specs.Spelling.{expr_spelled, literal_spelled, link_spelled, expr_item_spelled, element_spelled}
+use Rattle.go_parser.specs.Spelling.{expr_spelled, literal_spelled, link_spelled, operand_spelled, expr_item_spelled, element_spelled}
 use Rattle.go_parser.proofs.MachineSteps.{exits, fails_first, fails_later, fails_rule, fails_leads, fails_more, fails_after, read_then, read_rule}
 use Rattle.go_parser.proofs.MachineSteps.{read_to_close, read_as, read_on, read_led, read_through, leads_here, leads_then, leads_close, leads_rule, leads_on}
 use Rattle.go_parser.proofs.MachineSteps.{leads_as, leads_after, leads_to_end, tail_rule, tail_on, tail_through, continued_by}
@@ -24,7 +24,7 @@ use Rattle.go_parser.proofs.Passages.{unary_literal, unary_name, address_name, a
 use Rattle.go_parser.proofs.Lengths.{expr_some, element_some, read_no_longer, read_shorter, leads_no_longer, leads_shorter, separator_no_longer}
 use Rattle.go_parser.proofs.Strengths.{some_operator, as_expression}
 use Rattle.go_parser.proofs.Spelled.{all_tokens_push, no_tokens, none_tokens, name_tokens, composite_tokens, address_tokens, paren_tokens, prefix_tokens}
-use Rattle.go_parser.proofs.Spelled.{binary_tokens, selector_tokens, index_tokens, call_tokens, literal_row_tokens, operand_spelled}
+use Rattle.go_parser.proofs.Spelled.{selector_tokens, index_tokens, call_tokens, literal_row_tokens}
 use Rattle.go_parser.proofs.expressions.+expression.Goals as goal
 
 pub addressed-returns-in_err-literal_type-clause-exact : goal.addressed-returns-in_err-literal_type-clause-exact
@@ -57,7 +57,7 @@ binary-operators-init t c = record {
       (sym (none_tokens operand_spelled) ∙ ap (all_tokens operand_spelled) (sym c.new-operands.ensures.items));
   kept = refl;
   grouped =
-      subst (Each (IsJoined c.args.header c.args.strength)) (sym c.new-operands.ensures.items) tt;
+      subst (Each (IsOperandOf c.args.header c.args.strength)) (sym c.new-operands.ensures.items) tt;
   weaker = c.in_ok-first.ensures.ends;
   shorter = omega arith;
 }
@@ -81,8 +81,8 @@ binary-operators-preserved t c = record {
       (leads_then c.in_ok-op.ensures c.in_ok-value.ensures.exact)))
       (all_tokens_push operand_spelled _ _ ∙ ap (all_tokens operand_spelled) (sym c.in_ok-push.ensures.items));
   kept = c.operators.invariant.kept;
-  grouped = subst (Each (IsJoined c.args.header c.args.strength)) (sym c.in_ok-push.ensures.items)
-      (each_push (IsJoined c.args.header c.args.strength) _ _ c.operators.invariant.grouped (record {
+  grouped = subst (Each (IsOperandOf c.args.header c.args.strength)) (sym c.in_ok-push.ensures.items)
+      (each_push (IsOperandOf c.args.header c.args.strength) _ _ c.operators.invariant.grouped (record {
         same = (let s = operator_strength c.in_ok-op.op c.in_ok-op.at c.operators.rest.now c.in_ok-op.after.now c.in_ok-op.ensures.text in
             omega (arith, s, c.strength_at.ensures, c.operators-test.true));
         stronger = (let s = c.in_ok-value.ensures.strong in omega (arith, s));
@@ -102,8 +102,8 @@ binary-returns-then-is_empty-clause-exact t c = leads_as (leads_on c.in_ok-first
 
 pub binary-returns-clause-exact : goal.binary-returns-clause-exact
 binary-returns-clause-exact t c = leads_as (leads_on c.in_ok-first.ensures.exact c.operators.invariant.leads)
-    (ap (λ x. x ++ all_tokens operand_spelled c.operators.operands.items)
-    (ap expr_tokens (sym c.operators.invariant.kept) ∙ ap expr_spelled (sym c.in_ok-first-2.ensures.ok)) ∙ sym (binary_tokens _ _))
+    (ap (λ x. x ++ all_tokens operand_spelled c.operators.operands.items) (ap expr_tokens (sym c.operators.invariant.kept)) ∙
+    sym c.in_ok-whole.ensures.tokens)
 
 pub unary-returns-clause-exact : goal.unary-returns-clause-exact
 unary-returns-clause-exact t c = tail_rule _ _ _ _ _ _ c.operand.result (later (sym c.at.ensures ∙ c.if-at.false) last) c.operand.ensures.exact
@@ -533,15 +533,16 @@ chain-returns-clause-grouped t c = c.in_ok-whole.ensures.grouped c.args.header
     (λ e. not_zero (vec_len c.links.links) (sym c.is_empty.ensures ∙ c.if-is_empty.false) (c.links.links.ok.0 ∙ ap length e))
 
 pub binary-returns-clause-grouped : goal.binary-returns-clause-grouped
-binary-returns-clause-grouped t c = binary_grouped c.args.header c.args.strength _ _
-    (subst (IsExprIn c.args.header) (sym c.operators.invariant.kept ∙ ap expr_view (sym c.in_ok-first-2.ensures.ok)) c.in_ok-first.ensures.grouped)
-    (subst (λ x. c.args.strength < strength_of x) (sym c.operators.invariant.kept ∙ ap expr_view (sym c.in_ok-first-2.ensures.ok))
-    (let s = c.in_ok-first.ensures.strong in omega (arith, s))) c.operators.invariant.grouped
-    (λ e. not_zero (vec_len c.operators.operands) (sym c.is_empty.ensures ∙ c.if-is_empty.false) (c.operators.operands.ok.0 ∙ ap length e))
+binary-returns-clause-grouped t c = (c.in_ok-whole.ensures.grouped c.args.header c.args.strength
+    (subst (IsExprIn c.args.header) (sym c.operators.invariant.kept) c.in_ok-first.ensures.grouped)
+    (subst (λ x. c.args.strength < strength_of x) (sym c.operators.invariant.kept) (let s = c.in_ok-first.ensures.strong in omega (arith, s)))
+    c.operators.invariant.grouped
+    (λ e. not_zero (vec_len c.operators.operands) (sym c.is_empty.ensures ∙ c.if-is_empty.false) (c.operators.operands.ok.0 ∙ ap length e))).expr
 
 pub binary-returns-clause-strong : goal.binary-returns-clause-strong
-binary-returns-clause-strong t c = let s = binary_strength c.args.header c.args.strength c.in_ok-first-2.first c.operators.operands
-    (subst (IsExprIn c.args.header) (sym c.operators.invariant.kept ∙ ap expr_view (sym c.in_ok-first-2.ensures.ok)) c.in_ok-first.ensures.grouped)
-    (subst (λ x. c.args.strength < strength_of x) (sym c.operators.invariant.kept ∙ ap expr_view (sym c.in_ok-first-2.ensures.ok))
-    (let s = c.in_ok-first.ensures.strong in omega (arith, s))) c.operators.invariant.grouped
-    (λ e. not_zero (vec_len c.operators.operands) (sym c.is_empty.ensures ∙ c.if-is_empty.false) (c.operators.operands.ok.0 ∙ ap length e)) in omega (arith, s)
+binary-returns-clause-strong t c = let s = (c.in_ok-whole.ensures.grouped c.args.header c.args.strength
+    (subst (IsExprIn c.args.header) (sym c.operators.invariant.kept) c.in_ok-first.ensures.grouped)
+    (subst (λ x. c.args.strength < strength_of x) (sym c.operators.invariant.kept) (let s = c.in_ok-first.ensures.strong in omega (arith, s)))
+    c.operators.invariant.grouped
+    (λ e. not_zero (vec_len c.operators.operands) (sym c.is_empty.ensures ∙ c.if-is_empty.false) (c.operators.operands.ok.0 ∙ ap length e))).same in
+    omega (arith, s)

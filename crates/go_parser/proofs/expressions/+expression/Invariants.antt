@@ -12,8 +12,8 @@ use Rattle.go_parser.proofs.Grouping.{IsSeparatedSoFar}
 use Rattle.go_ast.specs.declared.tree.Element.{Element}
 use Rattle.go_ast.specs.declared.tree.ExprItem.{ExprItem}
 use Rattle.go_parser.specs.Strength.{strength_at}
-use Rattle.go_parser.proofs.Grouping.{IsJoined}
-use Rattle.go_parser.proofs.Spelled.{operand_spelled}
+use Rattle.go_parser.specs.Grouping.{IsOperandOf}
+use Rattle.go_parser.specs.Spelling.{operand_spelled}
 use Rattle.go_parser.proofs.expressions.+expression.Given as goal
 
 abbrev pub decreases-literal : goal.decreases-literal
@@ -53,7 +53,7 @@ abbrev pub invariant-binary-operators : goal.invariant-binary-operators
 invariant-binary-operators l = record {
   leads : Leads (A (Binaries l.header) ∷ []) (A (Binaries l.header) ∷ []) (all_tokens operand_spelled l.operands.items) l.depth l.initial.rest l.depth l.rest;
   kept : expr_view l.first ≡ expr_view l.initial.first;
-  grouped : Each (IsJoined l.header l.strength) l.operands.items;
+  grouped : Each (IsOperandOf l.header l.strength) l.operands.items;
   weaker : strength_at l.rest < l.strength + 1;
   shorter : length l.rest ≤ length l.initial.rest;
 }

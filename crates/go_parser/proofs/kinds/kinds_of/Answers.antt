@@ -13,7 +13,7 @@ loop-place-preserved c =
       so_far = ap (λ x. x ++ kinds_from (c.loop-place.place + 1) c.args.pieces.now.text (drop (c.loop-place.place + 1) (tokens_in c.args.pieces.now)))
           c.in_ok-push.ensures.items
           ∙ kinds_more c.loop-place.place c.args.pieces.now.text (tokens_in c.args.pieces.now) (semicolon 0) c.loop-place.tokens.items _ _
-          (omega (arith, n, c.loop-place-test.true)) (ap (λ k. token_of k c.loop-place.place) c.kind_at-kind.ensures) c.loop-place.invariant.so_far;
+          (omega (arith, n, c.loop-place-test.true)) (λ i. token_of (c.kind_at-kind.ensures i) (c.in_ok-number.ensures.fits i)) c.loop-place.invariant.so_far;
       within = omega (arith, n, c.loop-place-test.true);
     }
 

@@ -1,18 +1,16 @@
--- The answers to the goals of `respelling::respelled`.
-use Rattle.std.proofs.Common.{◌≡◌, subst, ◌∙◌, IfSome}
+-- The edits that were found make the text.
+use Rattle.std.proofs.Common.{ℕ, List, IfSome, sym, subst}
 use Rattle.go_scanner.specs.CutText.{CutText}
-use Rattle.go_ast.specs.SourceFile.{source_of}
-use Rattle.go_respelled.specs.Renamings.{recut}
+use Rattle.base_edits.specs.declared.edit.Edit.{Edit}
 use Rattle.go_respelled.specs.Replaced.{Respell}
-use Rattle.go_respelled.proofs.Walked.{respelled_file}
 use Rattle.go_respelled.proofs.respelling.respelled.Goals as goal
 
-pub sharing_tree-requires : goal.sharing_tree-requires
-sharing_tree-requires c =
-    let old = c.args.like.now.cut in
+pub respelled_tree-requires : goal.respelled_tree-requires
+respelled_tree-requires c =
     let edits = c.in-Some.edits.items in
+    let old = c.pieces-old.result.now in
     let new = c.bytes.result.now in
-    let respell : Respell old edits new = subst (λ (o : CutText). Respell o edits new) c.pieces-old.ensures
-    (subst (λ o. IfSome o (λ es. Respell c.pieces-old.result.now es.items new)) c.in-Some.is c.in_ok-edits.ensures) in
-    let same : c.in_ok-pieces.pieces ≡ recut edits old = c.in_ok-pieces.ensures ∙ (λ i. recut (c.deref.ensures.value i) (c.pieces-old.ensures i)) in
-    respelled_file c.in_ok-path.path (source_of c.args.like.now) edits new c.in_ok-pieces.pieces c.file.ensures.is_file respell same
+    let found : Respell old edits new = subst (λ o. IfSome o (λ es. Respell old es.items new)) c.in-Some.is c.in_ok-edits.ensures in
+    subst (λ (es : List Edit). Respell c.args.like.now.cut es c.args.text.now) (sym c.deref.ensures.value)
+    (subst (λ (text : List ℕ). Respell c.args.like.now.cut edits text) c.bytes.ensures
+    (subst (λ (o : CutText). Respell o edits new) c.pieces-old.ensures found))

@@ -34,13 +34,13 @@ returns-in-Err-clause-refused c =
       offset_is = refl;
     })
 
-pub returns-in_ok-keep_token-in-Some-due-clause-cut : goal.returns-in_ok-keep_token-in-Some-due-clause-cut
-returns-in_ok-keep_token-in-Some-due-clause-cut c =
+pub returns-in_ok-keep_semicolon-in-Some-due-clause-cut : goal.returns-in_ok-keep_semicolon-in-Some-due-clause-cut
+returns-in_ok-keep_semicolon-in-Some-due-clause-cut c =
     let text = c.args.text.now in
     let all : c.loop-at.at ≡ length text = omega (arith, c.loop-at-test.false, c.loop-at.invariant.fits) in
     let due : Scanned text c.loop-at.pieces.items c.loop-at.tokens.items _ c.loop-at.at =
     subst (λ d. Scanned text c.loop-at.pieces.items c.loop-at.tokens.items d c.loop-at.at) c.in-Some-due.is c.loop-at.invariant in
-    rw (c.in_ok-keep_token-in-Some-due.ensures, c.semicolon.ensures)
+    rw c.in_ok-keep_semicolon-in-Some-due.ensures
     (whole_due text c.loop-at.pieces.items c.loop-at.tokens.items c.in-Some-due.end c.loop-at.at c.in_default.ensures due all)
 
 pub returns-in-None-clause-cut : goal.returns-in-None-clause-cut

@@ -4,7 +4,7 @@ use Rattle.go_scope.specs.ExpressionSites.{expr_sites, literal_sites, link_sites
 use Rattle.go_scope.specs.IdentifierViews.{as_source}
 use Rattle.go_scope.proofs.Adding.{adds_none, adds_as, adds_then, call_adds, then_adds, each_step, each_all}
 use Rattle.go_scope.proofs.Parts.{leaf_none, link_part, operand_part, argument_part, element_part, chain_from, binary_from, call_from, index_from, literal_read}
-use Rattle.go_scope.proofs.Parts.{named_chain_from}
+use Rattle.go_scope.proofs.Parts.{named_binary_from, named_chain_from}
 use Rattle.go_ast.specs.View.{expr_view, literal_view, link_view}
 use Rattle.go_scope.proofs.expressions.+expression.Goals as goal
 
@@ -57,12 +57,19 @@ add_expr-returns-in_ok-add-in-NamedChain t c = then_adds _ _ c.add_links-in-Name
 pub add_links-returns : goal.add_links-returns
 add_links-returns t c = each_all (link_part (as_source c.args.source.now)) c.args.links.now c.loop-link.link-index (omega arith) c.loop-link.invariant
 
-pub add_expr-returns-after-loop-operand : goal.add_expr-returns-after-loop-operand
-add_expr-returns-after-loop-operand t c =
-    adds_as (adds_then c.in_ok-add_expr-in-Binary.ensures
-    (each_all (operand_part (as_source c.args.source.now)) c.deref-operand-items.result.now c.loop-operand.operand-index (omega arith)
-    c.loop-operand.invariant))
-    (binary_from _ _ c.in-Binary.first c.in-Binary.rest _ _ c.in-Binary.is c.deref-in-Binary.ensures c.deref-operand-items.ensures.value)
+pub add_expr-returns-in_ok-add_expr-in-Binary : goal.add_expr-returns-in_ok-add_expr-in-Binary
+add_expr-returns-in_ok-add_expr-in-Binary t c = then_adds _ _ c.add_operands.result c.in_ok-add_expr-in-Binary.ensures c.add_operands.ensures
+    (binary_from _ _ c.in-Binary.first c.in-Binary.rest _ _ c.in-Binary.is c.deref-in-Binary.ensures c.deref-in-Binary-2.ensures.value)
+
+pub add_expr-returns-in_ok-add-in-NamedBinary : goal.add_expr-returns-in_ok-add-in-NamedBinary
+unfolding expr_sites
+add_expr-returns-in_ok-add-in-NamedBinary t c = then_adds _ _ c.add_operands-in-NamedBinary.result c.in_ok-add-in-NamedBinary.ensures
+    c.add_operands-in-NamedBinary.ensures
+    (named_binary_from _ _ c.in-NamedBinary.name c.in-NamedBinary.rest _ c.in-NamedBinary.is c.deref-in-NamedBinary.ensures.value)
+
+pub add_operands-returns : goal.add_operands-returns
+add_operands-returns t c =
+    each_all (operand_part (as_source c.args.source.now)) c.args.operands.now c.loop-operand.operand-index (omega arith) c.loop-operand.invariant
 
 pub add_expr-returns-in-Number : goal.add_expr-returns-in-Number
 unfolding expr_sites expr_view
@@ -97,10 +104,10 @@ add_links-loop-link-preserved t c =
     each_step (link_part (as_source c.args.source.now)) c.args.links.now c.loop-link.link-index c.link-item.result (omega arith)
     c.link-item.is c.loop-link.invariant c.in_ok-add_link.ensures
 
-pub add_expr-loop-operand-preserved : goal.add_expr-loop-operand-preserved
-add_expr-loop-operand-preserved t c =
-    each_step (operand_part (as_source c.args.source.now)) c.deref-operand-items.result.now c.loop-operand.operand-index c.operand-item.result
-    (omega arith) c.operand-item.is c.loop-operand.invariant c.in_ok-add_expr-in-Binary-2.ensures
+pub add_operands-loop-operand-preserved : goal.add_operands-loop-operand-preserved
+add_operands-loop-operand-preserved t c =
+    each_step (operand_part (as_source c.args.source.now)) c.args.operands.now c.loop-operand.operand-index c.operand-item.result (omega arith)
+    c.operand-item.is c.loop-operand.invariant c.in_ok-add_expr.ensures
 
 pub add_link-loop-argument-preserved : goal.add_link-loop-argument-preserved
 add_link-loop-argument-preserved t c =

@@ -8,9 +8,9 @@ use Rattle.go_scope.proofs.expressions.+expression.Given as goal
 abbrev pub invariant-add_links-loop-link : goal.invariant-add_links-loop-link
 invariant-add_links-loop-link l = AddsTo l.initial.found.items l.found.items (flat_map (link_part (as_source l.source)) (take l.link-index l.links))
 
-abbrev pub invariant-add_expr-loop-operand : goal.invariant-add_expr-loop-operand
-invariant-add_expr-loop-operand l = AddsTo l.initial.found.items l.found.items
-    (flat_map (operand_part (as_source l.source)) (take l.operand-index l.operand-items))
+abbrev pub invariant-add_operands-loop-operand : goal.invariant-add_operands-loop-operand
+invariant-add_operands-loop-operand l = AddsTo l.initial.found.items l.found.items
+    (flat_map (operand_part (as_source l.source)) (take l.operand-index l.operands))
 
 abbrev pub invariant-add_link-loop-argument : goal.invariant-add_link-loop-argument
 invariant-add_link-loop-argument l = AddsTo l.initial.found.items l.found.items

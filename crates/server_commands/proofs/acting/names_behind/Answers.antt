@@ -13,4 +13,4 @@ pub returns-in-Ok : goal.returns-in-Ok
 returns-in-Ok c =
     let asked = c.args.asked in
     subst (λ (s : Snapshot). IfSome c.in-Ok.names (λ given. CarriesPlanned s asked.path.now asked.offset asked.name.now given.items))
-    c.get.ensures c.in-Ok.ensures
+    c.get.ensures c.in-Ok.ensures.carries

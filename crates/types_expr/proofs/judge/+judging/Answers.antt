@@ -20,7 +20,7 @@ use Rattle.types_expr.proofs.AddedJudgements.{reached_elements_as, adds_literal}
 use Rattle.types_expr.proofs.Equations.{ok_map, adds_as, list_as, number_judged, text_judged, name_judged, blank_judged, composite_judged, paren_judged}
 use Rattle.types_expr.proofs.Equations.{prefix_judged, address_judged, chain_found, binary_found, selector_judged, index_judged, call_judged, links_step}
 use Rattle.types_expr.proofs.Equations.{links_end, operands_step, operands_end, arguments_step, arguments_end, elements_step, elements_end, literal_found}
-use Rattle.types_expr.proofs.Equations.{named_chain_found}
+use Rattle.types_expr.proofs.Equations.{named_binary_found, named_chain_found}
 use Rattle.types_expr.proofs.judge.+judging.Goals as goal
 
 pub arguments-loop-argument-init : goal.arguments-loop-argument-init
@@ -158,6 +158,17 @@ judge-returns-in_ok-meaning-in-Binary t c =
     binary_found (world_of c.args.scope.world.now) (locals_of c.args.scope.locals.now) _ _ c.in-Binary.is _ c.deref-in-Binary-2.result.now _
     c.deref-in-Binary.ensures c.deref-in-Binary-2.ensures c.deref-in-Binary-3.ensures.value _ c.first_token.ensures in
     ok_map c.binary.result (λ m a. adds_as e (a.after _ _ c.in_ok-meaning-in-Binary.ensures)) c.binary.ensures
+
+pub judge-returns-in_ok-meaning-in-NamedBinary : goal.judge-returns-in_ok-meaning-in-NamedBinary
+judge-returns-in_ok-meaning-in-NamedBinary t c =
+    let w = world_of c.args.scope.world.now in
+    let ls = locals_of c.args.scope.locals.now in
+    let n = c.in-NamedBinary.name in
+    let e : judge w ls (expr_view c.args.e.now) ≡ judge_operands w ls n (followed (means (name_meaning w ls n)) (as_value n))
+    (operands_in c.deref-in-NamedBinary.result.now) =
+    named_binary_found w ls n c.in-NamedBinary.rest c.in-NamedBinary.is _ c.deref-in-NamedBinary.ensures.value in
+    ok_map c.binary-in-NamedBinary.result (λ m a. adds_as e (a.after _ _
+    (adds_then (as_value n) (adds_meaning c.args.found.now c.in_ok-own-in-NamedBinary.ensures) c.in_ok-meaning-in-NamedBinary.ensures))) c.binary-in-NamedBinary.ensures
 
 pub elements-loop-element-preserved : goal.elements-loop-element-preserved
 elements-loop-element-preserved t c =

@@ -3,7 +3,7 @@ use Rattle.std.proofs.Common.{◌-◌, ap, sym, ◌∙◌, refl, arith, inl, inr
 use Rattle.build_object.specs.SourceView.{source_of}
 use Rattle.build_object.specs.Operands.{Values}
 use Rattle.build_object.specs.Making.{mode_of}
-use Rattle.build_object.proofs.Trees.{number_here, text_here, name_here, blank_here, composite_here, paren_here, address_here, binary_here}
+use Rattle.build_object.proofs.Trees.{number_here, text_here, name_here, blank_here, composite_here, paren_here, address_here, binary_here, named_binary_here}
 use Rattle.build_object.proofs.Links.{chain_alone, chain_behind, named_alone, named_behind, prefix_stands}
 use Rattle.build_object.proofs.scope.SlotScope.+mode.Goals as goal
 
@@ -55,7 +55,10 @@ returns-in-Number t c = elim c.in-Number.is [
           | inl q ↦ prefix_stands (source_of c.args.self.source.now) c.args.self.slots.now.places.items _ _ _ q.3
           | inr r ↦ elim r [
             | inl q ↦ sym (ap (λ p. p.mode) (address_here (source_of c.args.self.source.now) c.args.self.slots.now.places.items _ _ q.2 _ refl))
-            | inr q ↦ sym (ap (λ p. p.mode) (binary_here (source_of c.args.self.source.now) c.args.self.slots.now.places.items _ _ q.2 _ _ refl refl))
+            | inr r ↦ elim r [
+              | inl q ↦ sym (ap (λ p. p.mode) (binary_here (source_of c.args.self.source.now) c.args.self.slots.now.places.items _ _ q.2 _ _ refl refl))
+              | inr q ↦ sym (ap (λ p. p.mode) (named_binary_here (source_of c.args.self.source.now) c.args.self.slots.now.places.items _ _ q.2 _ refl))
+            ]
           ]
         ]
       ]
