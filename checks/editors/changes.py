@@ -22,13 +22,13 @@ def renames():
 
 
 def renames_each_identifier():
-    """Each place of each file is renamed, or refused, as the model says."""
+    """Each place of each file is renamed, or refused, as the model says. A place behind an identifier is one of it."""
     with Client(FILES) as client:
         client.start()
         for path in ("tax/tax.go", "shop.go"):
             for at in range(len(FILES[path])):
                 try:
-                    wanted = f.renamed(FILES, path, at, "fresh")
+                    wanted = f.renamed(FILES, path, f.asked(FILES[path], at), "fresh")
                 except f.Refusal:
                     same(code(client, "textDocument/rename", client.at(path, at) | {"newName": "fresh"}), FAILED)
                     continue

@@ -33,6 +33,14 @@ def characters_before(text, offset):
     return len(text.encode("utf-8")[:offset].decode("utf-8"))
 
 
+def asked(text, offset):
+    """The begin of the identifier in or behind which an offset stands, or else the offset: an editor's cursor may stand behind a name."""
+    begin = offset
+    while begin and (not text[begin - 1].isascii() or text[begin - 1].isalnum() or text[begin - 1] == "_"):
+        begin -= 1
+    return begin
+
+
 def renamed(files, path, offset, name):
     """The texts of the files that a rename changes, by the model."""
     texts = texts_of(files)

@@ -29,6 +29,13 @@ local client = vim.lsp.start_client({
 wait("initialize", function()
   return ready
 end)
+-- Each Go file that is read into a buffer is one that is open, also one that a rename reads.
+vim.api.nvim_create_autocmd("BufReadPost", {
+  pattern = "*.go",
+  callback = function(event)
+    vim.lsp.buf_attach_client(event.buf, client)
+  end,
+})
 
 -- All texts that the client has: those of buffers, and else those on the disk.
 local function texts()
@@ -53,7 +60,6 @@ for _, step in ipairs(words("LSP_STEPS")) do
   local before = texts()
   if path then
     vim.cmd("edit " .. path)
-    vim.lsp.buf_attach_client(0, client)
     vim.api.nvim_win_set_cursor(0, { tonumber(line), tonumber(column) - 1 })
     vim.lsp.buf.rename(name)
   else

@@ -14,6 +14,7 @@ from urllib.parse import quote, unquote_to_bytes
 sys.path.insert(0, str(pathlib.Path(__file__).resolve().parents[2]))
 
 from checks.editors import positions as p
+from checks.editors.files import asked
 from checks.model.moves import plan_move
 from checks.model.refusals import Refusal, is_path
 from checks.model.renames import declaration_at, is_renamable, plan_rename
@@ -204,7 +205,7 @@ class Server:
         if path is None or self.prefix + path not in texts:
             return None, 0
         text = texts[self.prefix + path].decode("utf-8")
-        return self.prefix + path, len(text[: p.offset_of(text, at, self.encoding)].encode("utf-8"))
+        return self.prefix + path, len(text[: asked(text, p.offset_of(text, at, self.encoding))].encode("utf-8"))
 
     def range(self, path, offset, length):
         text = self.texts()[path].decode("utf-8")

@@ -1,4 +1,5 @@
 //! Why a session of the program ended before its input.
+use lsp_session::LspFault;
 use server_session::SessionFault;
 use std::alloc::AllocError;
 use thiserror::Error;
@@ -29,6 +30,17 @@ impl From<SessionFault> for ProgramFault {
             SessionFault::Read => ProgramFault::Read,
             SessionFault::Write => ProgramFault::Write,
             SessionFault::Turns => ProgramFault::Turns,
+        }
+    }
+}
+
+impl From<LspFault> for ProgramFault {
+    fn from(fault: LspFault) -> ProgramFault {
+        match fault {
+            LspFault::Memory => ProgramFault::Memory,
+            LspFault::Read => ProgramFault::Read,
+            LspFault::Write => ProgramFault::Write,
+            LspFault::Turns => ProgramFault::Turns,
         }
     }
 }

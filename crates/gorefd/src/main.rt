@@ -1,5 +1,5 @@
 //! The program `gorefd`. It serves one session over a book of its own, from standard input to standard output, or sessions on a socket. Or it
-//! does a command over a folder of Go files.
+//! does a command over a folder of Go files, or serves an editor.
 #![tactic(auto)]
 
 ghost use Rattle.std.specs.Io.KnownBytes.{Appends};
@@ -12,6 +12,7 @@ mod fault;
 
 use base_files::Limits;
 use fault::ProgramFault;
+use lsp_server::serve_editor;
 use server_session::{SessionFault, session_alone};
 use server_shared::OpenGate;
 use server_socket::{StopFault, serve, stop};
@@ -157,6 +158,26 @@ fn print_command(rt: &HostRuntime, came: Result<CommandOutcome, ToolFault>) -> E
     }
 }
 
+/// Serves an editor from standard input to standard output. Returns whether its session ended orderly.
+fn edit(rt: &HostRuntime, root: &str) -> Result<bool, ProgramFault> {
+    let alloc = rt.alloc();
+    let input = BufReader::new(alloc, rt.reader()).map_err(|_| ProgramFault::Memory)?;
+    let output = BufWriter::new(alloc, std::io::writer(rt)).map_err(|_| ProgramFault::Memory)?;
+    let (ended, _output) = serve_editor(rt, root, input, output);
+    Ok(ended?)
+}
+
+/// Serves an editor, and returns the exit status: 0 where its session ended orderly, else 1.
+fn serve_lsp(rt: &HostRuntime, root: &str) -> ExitCode
+    ensures { exit_status result ≤ 1 }
+{
+    match edit(rt, root) {
+        Ok(true) => ExitCode::SUCCESS,
+        Ok(false) => ExitCode::from(1),
+        Err(fault) => ended(rt, fault),
+    }
+}
+
 /// The words of the command line, the first of which is the program's name.
 fn words<R: Env + AllocGlobal>(rt: &R) -> Result<Vec<String>, RequestFault>
     ensures { IfErr result (IsUnread NOT_UTF8.now) }
@@ -190,6 +211,7 @@ fn main(rt: HostRuntime) -> ExitCode {
         Ok(Words::Move(options)) => print_command(&rt, move_package(&rt, &options)),
         Ok(Words::Uses(options)) => print_command(&rt, list_uses(&rt, &options)),
         Ok(Words::Faults(options)) => print_command(&rt, list_faults(&rt, &options)),
+        Ok(Words::Lsp(options)) => serve_lsp(&rt, options.root),
         Err(fault) => print_fault(&rt, &fault),
     }
 }

@@ -86,6 +86,14 @@ serving_app = with_subcommand (with_subcommand bare_app run_app.top) serve_app.t
 abbrev pub ending_app : App
 ending_app = with_subcommand serving_app stop_app.top
 
+-- the subcommand `lsp`
+abbrev pub lsp_app : App
+lsp_app = rooted_app (codes "lsp")
+
+-- the command line with the subcommands of sessions and of folders
+abbrev pub listing_app : App
+listing_app = with_subcommand (with_subcommand (with_subcommand (with_subcommand ending_app rename_app.top) move_app.top) faults_app.top) uses_app.top
+
 -- the program's command line, with all its subcommands
 abbrev pub gorefd : App
-gorefd = with_subcommand (with_subcommand (with_subcommand (with_subcommand ending_app rename_app.top) move_app.top) faults_app.top) uses_app.top
+gorefd = with_subcommand listing_app lsp_app.top

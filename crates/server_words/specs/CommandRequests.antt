@@ -5,8 +5,8 @@ use Rattle.clap.specs.Words.{Row, Text, first_of, one_of}
 use Rattle.server_words.specs.declared.requests.ServeOptions.{ServeOptions}
 use Rattle.server_words.specs.declared.requests.StopOptions.{StopOptions}
 use Rattle.server_words.specs.declared.requests.Words.{Words}
-use Rattle.server_words.specs.declared.requests.Words.TheVariants.{Faults, Move, Rename, Run, Serve, Stop, Uses}
-use Rattle.server_words.specs.ToolOptions.{AreFaultsOptions, AreMoveOptions, AreRenameOptions, AreUsesOptions}
+use Rattle.server_words.specs.declared.requests.Words.TheVariants.{Faults, Lsp, Move, Rename, Run, Serve, Stop, Uses}
+use Rattle.server_words.specs.ToolOptions.{AreFaultsOptions, AreLspOptions, AreMoveOptions, AreRenameOptions, AreUsesOptions}
 
 -- the option was given this number, which is from 1 to `most`
 abbrev pub IsOptionNumber : Text → ℕ → List Row → ℕ → Type 0
@@ -59,6 +59,7 @@ MakesRequest named (Rename options) = (rows : List Row) × (named ≡ Some (code
 MakesRequest named (Move options) = (rows : List Row) × (named ≡ Some (codes "move", rows)) × AreMoveOptions rows options
 MakesRequest named (Uses options) = (rows : List Row) × (named ≡ Some (codes "uses", rows)) × AreUsesOptions rows options
 MakesRequest named (Faults options) = (rows : List Row) × (named ≡ Some (codes "faults", rows)) × AreFaultsOptions rows options
+MakesRequest named (Lsp options) = (rows : List Row) × (named ≡ Some (codes "lsp", rows)) × AreLspOptions rows options
 
 -- the request that the subcommand makes, or none where it makes none
 abbrev pub FindsRequest : Option (Text × List Row) → Option Words → Type 0

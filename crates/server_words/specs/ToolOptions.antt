@@ -5,6 +5,7 @@ use Rattle.server_words.specs.declared.tools.RenameOptions.{RenameOptions}
 use Rattle.server_words.specs.declared.tools.MoveOptions.{MoveOptions}
 use Rattle.server_words.specs.declared.tools.UsesOptions.{UsesOptions}
 use Rattle.server_words.specs.declared.tools.FaultsOptions.{FaultsOptions}
+use Rattle.server_words.specs.declared.tools.LspOptions.{LspOptions}
 
 -- the options of `rename`
 pub record AreRenameOptions (rows : List Row) (options : RenameOptions) : Type 0 where
@@ -29,6 +30,10 @@ pub record AreUsesOptions (rows : List Row) (options : UsesOptions) : Type 0 whe
 abbrev pub AreFaultsOptions : List Row → FaultsOptions → Type 0
 AreFaultsOptions rows options = first_of (codes "root") rows ≡ Some options.root.now
 
+-- the options of `lsp`
+abbrev pub AreLspOptions : List Row → LspOptions → Type 0
+AreLspOptions rows options = first_of (codes "root") rows ≡ Some options.root.now
+
 -- the options of `rename`, or none where one is missing
 abbrev pub FindsRename : List Row → Option RenameOptions → Type 0
 FindsRename rows (Some options) = AreRenameOptions rows options
@@ -48,3 +53,8 @@ FindsUses rows None = (options : UsesOptions) → AreUsesOptions rows options �
 abbrev pub FindsFaults : List Row → Option FaultsOptions → Type 0
 FindsFaults rows (Some options) = AreFaultsOptions rows options
 FindsFaults rows None = (options : FaultsOptions) → AreFaultsOptions rows options → ⊥
+
+-- the options of `lsp`, or none where one is missing
+abbrev pub FindsLsp : List Row → Option LspOptions → Type 0
+FindsLsp rows (Some options) = AreLspOptions rows options
+FindsLsp rows None = (options : LspOptions) → AreLspOptions rows options → ⊥

@@ -10,6 +10,8 @@ ghost use Rattle.server_words.specs.CommandLine.{
   ending_app,
   faults_app,
   gorefd,
+  listing_app,
+  lsp_app,
   move_app,
   number_rule,
   option_rule,
@@ -247,6 +249,15 @@ fn faults_command<'a>(alloc: Global) -> Result<Command<'a>, AllocError>
     )
 }
 
+/// The subcommand `lsp`.
+fn lsp_command<'a>(alloc: Global) -> Result<Command<'a>, AllocError>
+    ensures app { IfOk result (λ command. app_of command ≡ lsp_app) }
+    ensures local { IfOk result (λ command. (fields_of command).has_globals ≡ false) }
+{
+    let about = "Serves an editor from standard input to standard output, as a language server";
+    rooted_command(alloc, "lsp", about)
+}
+
 /// The program's command line without its subcommands.
 fn bare_command<'a>(alloc: Global) -> Command<'a>
     ensures { app_of result ≡ bare_app }
@@ -287,13 +298,22 @@ fn with_changes<'a>(alloc: Global) -> Result<Command<'a>, AllocError>
     renaming.subcommand(moving)
 }
 
-/// The program's command line.
-pub(crate) fn command_line<'a>(alloc: Global) -> Result<Command<'a>, AllocError>
-    ensures { IfOk result (λ command. app_of command ≡ gorefd) }
+/// The command line with the subcommands of sessions and of folders.
+fn with_lists<'a>(alloc: Global) -> Result<Command<'a>, AllocError>
+    ensures { IfOk result (λ command. app_of command ≡ listing_app) }
 {
     let changing = with_changes(alloc)?;
     let faults = faults_command(alloc)?;
     let listing = changing.subcommand(faults)?;
     let uses = uses_command(alloc)?;
     listing.subcommand(uses)
+}
+
+/// The program's command line.
+pub(crate) fn command_line<'a>(alloc: Global) -> Result<Command<'a>, AllocError>
+    ensures { IfOk result (λ command. app_of command ≡ gorefd) }
+{
+    let listing = with_lists(alloc)?;
+    let lsp = lsp_command(alloc)?;
+    listing.subcommand(lsp)
 }

@@ -1,7 +1,7 @@
 //! Reads the words of the program's command line as a request, or finds the help, version or usage text to print.
 //!
 //! Crates above rely on: `read_request` returns the request of the words, or a text where `ReadsRequest` says so. A request is a session, a
-//! server with options in their ranges, or a command over a folder.
+//! server with options in their ranges, a command over a folder, or a language server.
 #![tactic(auto)]
 
 mod command_line;
@@ -11,4 +11,4 @@ mod tools;
 
 pub use reading::{RequestFault, read_request};
 pub use requests::{ServeOptions, StopOptions, Words};
-pub use tools::{FaultsOptions, MoveOptions, RenameOptions, UsesOptions};
+pub use tools::{FaultsOptions, LspOptions, MoveOptions, RenameOptions, UsesOptions};

@@ -4,8 +4,8 @@ ghost use Rattle.clap.specs.Words.{found_of, rows_of, subcommand_rows_of};
 ghost use Rattle.server_words.specs.CommandRequests.{FindsRequest, FindsNumber, FindsOptional, FindsServe, FindsStop};
 
 use crate::tools::{
-    FaultsOptions, MoveOptions, RenameOptions, UsesOptions, faults_options, move_options,
-    rename_options, uses_options, value,
+    FaultsOptions, LspOptions, MoveOptions, RenameOptions, UsesOptions, faults_options,
+    lsp_options, move_options, rename_options, uses_options, value,
 };
 use clap::ArgMatches;
 
@@ -43,6 +43,8 @@ pub enum Words<'a> {
     Uses(UsesOptions<'a>),
     /// List the faults of the files of a folder.
     Faults(FaultsOptions<'a>),
+    /// Serve an editor from standard input to standard output.
+    Lsp(LspOptions<'a>),
 }
 
 /// The number that an option was given, or `None` where it was given none from 1 to `most`.
@@ -161,6 +163,16 @@ fn faults_request<'a>(matches: &ArgMatches<'a>) -> Option<Words<'a>>
     }
 }
 
+/// The request of the subcommand `lsp` with these matches.
+fn lsp_request<'a>(matches: &ArgMatches<'a>) -> Option<Words<'a>>
+    ensures { FindsRequest (Some (codes "lsp", rows_of (found_of matches.now))) result }
+{
+    match lsp_options(matches) {
+        Some(options) => Some(Words::Lsp(options)),
+        None => None,
+    }
+}
+
 /// The request of the subcommand of this name with these matches.
 fn request_by<'a>(name: &str, matches: &ArgMatches<'a>) -> Option<Words<'a>>
     ensures { FindsRequest (Some (name.now, rows_of (found_of matches.now))) result }
@@ -173,6 +185,7 @@ fn request_by<'a>(name: &str, matches: &ArgMatches<'a>) -> Option<Words<'a>>
         "move" => move_request(matches),
         "uses" => uses_request(matches),
         "faults" => faults_request(matches),
+        "lsp" => lsp_request(matches),
         _ => None,
     }
 }

@@ -1,7 +1,7 @@
 //! The options of the subcommands that read a folder of Go files.
 ghost use Rattle.std.specs.Prelude.{◌≡◌, ◌↔◌, IsTrue, Some, codes, option_map};
 ghost use Rattle.clap.specs.Words.{first_of, found_of, rows_of};
-ghost use Rattle.server_words.specs.ToolOptions.{FindsFaults, FindsMove, FindsRename, FindsUses};
+ghost use Rattle.server_words.specs.ToolOptions.{FindsFaults, FindsLsp, FindsMove, FindsRename, FindsUses};
 
 use clap::ArgMatches;
 
@@ -33,6 +33,12 @@ pub struct UsesOptions<'a> {
 /// The options of `faults`: the folder.
 #[derive(Clone, Copy)]
 pub struct FaultsOptions<'a> {
+    pub root: &'a str,
+}
+
+/// The options of `lsp`: the folder, where the editor names none.
+#[derive(Clone, Copy)]
+pub struct LspOptions<'a> {
     pub root: &'a str,
 }
 
@@ -98,4 +104,12 @@ pub(crate) fn faults_options<'a>(matches: &ArgMatches<'a>) -> Option<FaultsOptio
 {
     let root = value(matches, "root")?;
     Some(FaultsOptions { root })
+}
+
+/// The options of `lsp`, or `None` where one is missing.
+pub(crate) fn lsp_options<'a>(matches: &ArgMatches<'a>) -> Option<LspOptions<'a>>
+    ensures { FindsLsp (rows_of (found_of matches.now)) result }
+{
+    let root = value(matches, "root")?;
+    Some(LspOptions { root })
 }

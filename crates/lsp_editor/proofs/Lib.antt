@@ -1,0 +1,4 @@
+-- The lemmas of this crate.
+pub mod Paths
+pub mod Heeded
+pub mod Noted

@@ -1,0 +1,5 @@
+-- The definitions of this crate.
+pub mod Folders
+pub mod Taken
+pub mod Editors
+pub mod Heeding

@@ -1,0 +1,14 @@
+-- The answers to the goals of `publishing::tell_closed`.
+use Rattle.std.proofs.Common.{map}
+use Rattle.serde_json.specs.View.{view}
+use Rattle.lsp_service.specs.Publishing.{PublishesClosed}
+use Rattle.lsp_service.proofs.Growing.{grows_both, grows_none}
+use Rattle.lsp_service.proofs.publishing.tell_closed.Goals as goal
+
+pub loop-name-init : goal.loop-name-init
+loop-name-init c = grows_none (PublishesClosed c.args.editor.now) (map view c.args.told.now.values.items)
+
+pub loop-name-preserved : goal.loop-name-preserved
+loop-name-preserved c =
+    grows_both (PublishesClosed c.args.editor.now) (map view c.args.told.now.values.items) (map view c.loop-name.told.values.items)
+    (map view c.tell_if_closed.new.told.values.items) c.loop-name.invariant c.in_ok-tell_if_closed.ensures

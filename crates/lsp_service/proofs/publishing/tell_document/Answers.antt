@@ -1,0 +1,12 @@
+-- The answers to the goals of `publishing::tell_document`.
+use Rattle.std.proofs.Common.{map, sym}
+use Rattle.serde_json.specs.View.{view}
+use Rattle.lsp_service.specs.Publishing.{PublishesOpen}
+use Rattle.lsp_service.proofs.Growing.{grows_none}
+use Rattle.lsp_service.proofs.publishing.tell_document.Goals as goal
+
+pub tell_opened-requires : goal.tell_opened-requires
+tell_opened-requires c = sym c.in-Some.ensures
+
+pub returns-in-None : goal.returns-in-None
+returns-in-None c = grows_none (PublishesOpen c.args.editor.now c.args.faults.now) (map view c.args.told.now.values.items)

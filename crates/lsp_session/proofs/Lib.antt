@@ -1,0 +1,4 @@
+-- The lemmas of this crate.
+pub mod Written
+pub mod GoneOn
+pub mod Paid

@@ -1,0 +1,5 @@
+-- The definitions of this crate.
+pub mod Outcomes
+pub mod Messages
+pub mod Paying
+pub mod Turns
