@@ -295,6 +295,8 @@ def build_constraints():
         "//+build ignore\n\npackage main\n",
         "// +build ignore\n// more\n\n// doc\npackage main\n",
         "\n\n// a\n\n// +build ignore\n\n// b\n\npackage main\n",
+        "\ufeff//go:build ignore\n\npackage main\n",
+        "\ufeff// +build ignore\n\npackage main\n",
     )
     kept = (
         "/* //go:build ignore */\npackage tax\n",
@@ -308,6 +310,7 @@ def build_constraints():
         "// +build ignore\npackage tax\n",
         "// +build ignore\n/* x */\n\npackage tax\n",
         "/* x */\n// +build ignore\n\npackage tax\n",
+        "\ufeff/* x */ //go:build ignore\n\npackage tax\n",
     )
     files = {f"tax/left{n:02}.go": text for n, text in enumerate(left)} | {f"tax/kept{n:02}.go": text for n, text in enumerate(kept)}
     notes = "".join(f"tax/left{n:02}.go: left out: it has a build constraint\n" for n in range(len(left)))
@@ -329,6 +332,17 @@ def no_module():
         same(folder.told("rename", "b/c/c.go:6:11", "Z"), (0, "a/a.go\nb/c/c.go\n", note))
         after = {"a/a.go": "package a\n\nvar Z int\n", "b/c/c.go": user.replace("a.X", "a.Z"), "top.go": "package top\n"}
         same(folder.texts(), after)
+
+
+def module_above():
+    """In a folder of a module, whose go.mod stands above it, it is told that the module's other packages are not seen."""
+    with Folder(FILES | {"tax/deep/d.go": "package deep\n\nvar X int\n"}) as folder:
+        real = os.path.realpath(folder.top)
+        note = f"{real}/go.mod: left out: this folder lies in its module, whose other packages are not seen\n"
+        left = "tax.go: left out: without a go.mod this folder has no path of a package\n"
+        status, out, err = run(["faults", "--root", str(folder.top / "tax")])
+        same((status, out, err.decode()), (0, b"", note + left))
+        same(folder.told("faults"), (0, "", ""))
 
 
 def kept_modes():
@@ -390,6 +404,61 @@ def moves():
         same(folder.told("move", "money/vat", "../x"), (1, "", "../x: this is no path of the files\n"))
         same(folder.told("move", "money/vat", "./money/vat/"), (1, "", "./money/vat/: this is so already\n"))
         same(folder.texts(), dict(sorted(after.items())))
+
+
+def moves_to_left_out():
+    """A package does not move to where its files would be left out, and a dry run does not show that either."""
+    with Folder(FILES | {"other/go.mod": "module example.com/other\n"}) as folder:
+        before = folder.texts()
+        for to in ("vendor/tax", "testdata", "_tax", "money/.tax/x", "other/tax", "other/deep/tax"):
+            told = (1, "", f"gorefd: {to}: Go files are left out there\n")
+            note = "other/: left out: it has a go.mod of its own\n"
+            same(folder.told("move", "tax", to), told)
+            same(folder.told("move", "--dry-run", "tax", to), told)
+            same(folder.texts(), before)
+            same(folder.told("faults"), (0, "", note))
+
+
+def moves_to_dangling_links():
+    """A folder does not move to where a symbolic link stands, wherever that leads."""
+    for to in ("nowhere", "tax"):
+        with Folder(FILES) as folder:
+            os.symlink(to, folder.top / "vat")
+            same(folder.told("move", "tax", "vat"), (1, "", "gorefd: vat: something stands there already\n"))
+            same(folder.texts() if to == "nowhere" else None, dict(sorted(FILES.items())) if to == "nowhere" else None)
+            same(folder.told("faults"), (0, "", ""))
+
+
+def long_names():
+    """A name that leaves no room for that of the new text is told; no file changes, and other runs go on."""
+    long = f"tax/{'n' * 230}.go"
+    with Folder(FILES | {long: "package tax\n\nvar more int\n"}) as folder:
+        before = folder.texts()
+        status, out, err = folder.told("rename", f"{long}:3:5", "less")
+        same((status, out, "File name too long" in err), (1, "", True))
+        same(folder.texts(), before)
+        same(folder.told("rename", "tax/tax.go:4:5", "Share"), (0, "shop.go\ntax/tax.go\n", ""))
+
+
+def gone_after_cut_off():
+    """A file that is gone since a run was cut off: a run that is taken back is taken back, and one that is finished leaves it away."""
+    paths = ["none/gone.go", "shop.go", "tax/gone.go", "tax/tax.go"]
+    new = {beside(path): RENAMED.get(path, "package x\n") for path in paths if path != "none/gone.go"}
+    journal = "".join(path + "\n" for path in paths) + f"\n\n{MARK}\n"
+    with Folder(FILES | {".gorefd-prepare": journal} | new) as folder:
+        notes = "".join(f"{path}: old: a run that was cut off is taken back\n" for path in paths)
+        same(folder.told("rename", "tax/tax.go:4:5", "Share"), (0, "shop.go\ntax/tax.go\n", notes))
+        same(folder.texts(), dict(sorted(RENAMED.items())))
+    with Folder(FILES | {".gorefd-commit": journal} | new) as folder:
+        why = "the file whose new text this is has changed since: remove this, and that file stays"
+        status, out, err = folder.told("faults")
+        same((status, out), (1, ""))
+        status, out, err = folder.told("rename", "tax/tax.go:4:5", "Part")
+        same((status, out, err.endswith(f"{beside('tax/gone.go')}: {why}\n")), (1, "", True))
+        os.remove(folder.top / beside("tax/gone.go"))
+        notes = "".join(f"{path}: new: a run that was cut off is finished\n" for path in paths)
+        same(folder.told("rename", "tax/tax.go:4:5", "Rate"), (0, "shop.go\ntax/tax.go\n", notes))
+        same(folder.texts(), dict(sorted(FILES.items())))
 
 
 def moved_links():
@@ -516,7 +585,11 @@ def strange_journals():
 
 def links_in_journals():
     """A journal that names a path behind a symbolic link to a folder is told, and nothing is moved from there or to there. Nor is a folder moved
-    to such a path."""
+    to such a path, nor to one at which something stands."""
+    with Folder(FILES | {".gorefd-commit": f"shop.go\ntax/tax.go\n{MARK}\n"}) as folder:
+        same(folder.told("rename", "tax/tax.go:4:5", "Share"), (1, "", "gorefd: tax/tax.go: something stands there already\n"))
+        (folder.top / ".gorefd-commit").unlink()
+        same(folder.texts(), dict(sorted(FILES.items())))
     journals = ("link/kept\nmine\n", "tax\nlink/tax\n", "link/kept/file\n\n\n")
     strange = ".gorefd-commit: this is no journal of a run: remove it"
     for journal in (*journals, None):
@@ -531,6 +604,19 @@ def links_in_journals():
             same(elsewhere.texts(), {"kept/file": "mine"})
             (folder.top / "link").unlink()
             same(folder.texts(), dict(sorted(FILES.items())))
+
+
+def no_regular_files():
+    """A pipe, a folder or a device in the place of `go.mod` or of a journal is told and not read, and no file changes."""
+    for name in ("go.mod", ".gorefd-commit", ".gorefd-prepare"):
+        left = {path: text for path, text in FILES.items() if path != name}
+        told = f"gorefd: {name}: it is no regular file\n"
+        for make in (os.mkfifo, os.mkdir, lambda place: os.symlink("/dev/zero", place)):
+            with Folder(left) as folder:
+                make(folder.top / name)
+                same(folder.told("rename", "tax/tax.go:4:5", "Share"), (1, "", told))
+                same(folder.told("faults"), (1, "", told))
+                same(folder.texts(), dict(sorted(left.items())))
 
 
 LOW = "package a\n\nvar Rate int = 2\n\nfunc Net(n int) int {\n\treturn n + Rate\n}\n"
@@ -696,9 +782,14 @@ CHECKS = (
     left_out,
     build_constraints,
     no_module,
+    module_above,
     kept_modes,
     kept_owners,
     moves,
+    moves_to_left_out,
+    moves_to_dangling_links,
+    long_names,
+    gone_after_cut_off,
     moved_links,
     moves_shown,
     taken_back,
@@ -707,6 +798,7 @@ CHECKS = (
     changed_after_cut_off,
     strange_journals,
     links_in_journals,
+    no_regular_files,
     cut_off_above,
     killed,
     changed_meanwhile,

@@ -18,7 +18,8 @@ use server_words::{MoveOptions, RenameOptions};
 use std::alloc::{AllocError, Global};
 use std::fs::File;
 use std::rt::Files;
-use tool_disk::ToolFault;
+use std::thread::Threads;
+use tool_disk::{ToolFault, refuse_left_out};
 use tool_text::plain_path;
 use tool_told::{CommandOutcome, NamedPlace, path_below, path_of};
 
@@ -80,7 +81,7 @@ fn rename_named<R: Files + AllocGlobal>(
 }
 
 /// Renames what is declared or used at a place, in all files of a folder.
-pub fn rename<R: Files<File = File> + AllocGlobal + Clone + Drop>(
+pub fn rename<R: Files<File = File> + Threads + AllocGlobal + Clone + Drop>(
     rt: &R,
     options: &RenameOptions<'_>,
 ) -> Result<CommandOutcome, ToolFault>
@@ -156,13 +157,22 @@ fn move_named<R: Files + AllocGlobal>(
     move_between(rt, opened, options, (from.as_str(), to.as_str()))
 }
 
+/// Refuses a new path of a folder at which its files would be left out. What is no path is refused by the plan.
+fn refuse_target<R: Files + AllocGlobal>(rt: &R, root: &str, to: &str) -> Result<(), ToolFault> {
+    match path_of(rt.alloc(), to)? {
+        Some(_) => refuse_left_out(rt, root, to),
+        None => Ok(()),
+    }
+}
+
 /// Moves the folder of a package, with all that lies in it, and changes its imports.
-pub fn move_package<R: Files<File = File> + AllocGlobal + Clone + Drop>(
+pub fn move_package<R: Files<File = File> + Threads + AllocGlobal + Clone + Drop>(
     rt: &R,
     options: &MoveOptions<'_>,
 ) -> Result<CommandOutcome, ToolFault>
     ensures { IfOk result (TellsSome (TellsMoveOf options.now)) }
 {
     let opened = Opened::to_write(rt, options.root, options.dry_run)?;
+    refuse_target(rt, options.root, plain_path(options.to))?;
     move_named(rt, &opened, options)
 }

@@ -21,6 +21,7 @@ use refactor_preserve::Planned;
 use std::alloc::{AllocError, Global};
 use std::fs::File;
 use std::rt::Files;
+use std::thread::Threads;
 use tool_disk::{
     FileOf, FolderWriting, HeldFolder, Loaded, ToolFault, hold, load, recover, refuse_cut_off,
     write_all,
@@ -43,7 +44,7 @@ pub(crate) struct Opened {
 
 impl Opened {
     /// Reads a folder, and checks its packages.
-    fn read<R: Files + AllocGlobal + Clone + Drop>(
+    fn read<R: Files + Threads + AllocGlobal + Clone + Drop>(
         rt: &R,
         root: &str,
         mut notes: Vec<u8>,
@@ -57,7 +58,7 @@ impl Opened {
         for line in &left_out {
             notes.extend_from_slice(line.as_bytes())?;
         }
-        let folder = CheckedFolder::of(rt.alloc(), files.into_snapshot())?;
+        let folder = CheckedFolder::of(rt, rt.alloc(), files.into_snapshot())?;
         Ok(Opened {
             folder,
             prefix,
@@ -67,7 +68,7 @@ impl Opened {
     }
 
     /// Opens a folder in which nothing is to be written.
-    pub(crate) fn to_read<R: Files + AllocGlobal + Clone + Drop>(
+    pub(crate) fn to_read<R: Files + Threads + AllocGlobal + Clone + Drop>(
         rt: &R,
         root: &str,
     ) -> Result<Opened, ToolFault> {
@@ -76,7 +77,7 @@ impl Opened {
     }
 
     /// Opens a folder in which something is to be written, unless files stay as they are.
-    pub(crate) fn to_write<R: Files<File = File> + AllocGlobal + Clone + Drop>(
+    pub(crate) fn to_write<R: Files<File = File> + Threads + AllocGlobal + Clone + Drop>(
         rt: &R,
         root: &str,
         dry_run: bool,

@@ -6,6 +6,7 @@ use crate::opened::Opened;
 use server_words::{FaultsOptions, UsesOptions};
 use std::alloc::{AllocError, Global};
 use std::rt::Files;
+use std::thread::Threads;
 use tool_disk::ToolFault;
 use tool_told::{CommandOutcome, NamedPlace, faults_outcome, uses_outcome};
 
@@ -42,7 +43,7 @@ fn uses_of_named(alloc: Global, opened: &Opened, word: &str) -> Result<CommandOu
 }
 
 /// Lists the uses of what is declared or used at a place.
-pub fn list_uses<R: Files + AllocGlobal + Clone + Drop>(
+pub fn list_uses<R: Files + Threads + AllocGlobal + Clone + Drop>(
     rt: &R,
     options: &UsesOptions<'_>,
 ) -> Result<CommandOutcome, ToolFault>
@@ -63,7 +64,7 @@ fn faults_of(alloc: Global, opened: &Opened) -> Result<CommandOutcome, AllocErro
 }
 
 /// Lists the faults of the Go files of a folder. It is done only where there is none.
-pub fn list_faults<R: Files + AllocGlobal + Clone + Drop>(
+pub fn list_faults<R: Files + Threads + AllocGlobal + Clone + Drop>(
     rt: &R,
     options: &FaultsOptions<'_>,
 ) -> Result<CommandOutcome, ToolFault>

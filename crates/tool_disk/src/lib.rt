@@ -17,5 +17,5 @@ pub use fault::{ToolFault, told};
 pub use folder::FolderFiles;
 pub use holding::{HeldFolder, hold};
 pub use recovery::{recover, refuse_cut_off};
-pub use walking::{Loaded, load};
+pub use walking::{Loaded, load, refuse_left_out};
 pub use writing::{FileOf, FolderWriting, write_all};

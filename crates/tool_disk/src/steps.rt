@@ -1,9 +1,9 @@
 //! Single steps on the disk: real paths, new files that are flushed, and the journals of a folder.
-use crate::fault::{ToolFault, at};
+use crate::fault::{ToolFault, at, told};
 use crate::paths::{below, folder_and_name};
 use std::fs::{File, Metadata, OpenFile, OpenOptions};
 use std::io::{ErrorKind, Write};
-use std::os::unix::fs::{MetadataExt, OpenOptionsExt, chown};
+use std::os::unix::fs::{MetadataExt, OpenOptionsExt, lchown};
 use std::rt::Files;
 use std::{fs, io};
 
@@ -27,6 +27,42 @@ pub(crate) fn real_path<R: Files + AllocGlobal>(
     let real = at(alloc, path, fs::canonicalize(rt, place.as_str()))?;
     let text = String::from_str(alloc, real.as_str())?;
     Ok(text)
+}
+
+/// The path of a file behind symbolic links, or its path where it leads to no file any more.
+pub(crate) fn real_or_own_path<R: Files + AllocGlobal>(
+    rt: &R,
+    root: &str,
+    path: &str,
+) -> Result<String, ToolFault> {
+    let alloc = rt.alloc();
+    let place = below(alloc, root, path)?;
+    match fs::canonicalize(rt, place.as_str()) {
+        Ok(real) => {
+            let text = String::from_str(alloc, real.as_str())?;
+            Ok(text)
+        }
+        Err(error) if error.kind() == ErrorKind::NotFound => Ok(place),
+        Err(error) => at(alloc, path, Err(error)),
+    }
+}
+
+/// Whether nothing stands at a place, not even a symbolic link that leads nowhere. Nothing stands where the name is too long.
+pub(crate) fn is_free<R: Files + AllocGlobal>(
+    rt: &R,
+    path: &str,
+    place: &str,
+) -> Result<bool, ToolFault> {
+    match fs::symlink_metadata(rt, place) {
+        Ok(_) => Ok(false),
+        Err(error) if is_of_nothing(&error) => Ok(true),
+        Err(error) => at(rt.alloc(), path, Err(error)),
+    }
+}
+
+/// Whether an error says that nothing can stand at a path.
+fn is_of_nothing(error: &io::Error) -> bool {
+    error.kind() == ErrorKind::NotFound || error.kind() == ErrorKind::InvalidFilename
 }
 
 /// Whether a symbolic link stands at a path. None does where nothing stands.
@@ -56,7 +92,8 @@ pub(crate) fn lies_behind_link<R: Files + AllocGlobal>(
     Ok(false)
 }
 
-/// Gives a new file the owner and the group of another one, where they differ, and its permissions.
+/// Gives a new file the owner and the group of another one, where they differ, and its permissions. A symbolic link that took its place
+/// meanwhile leads nowhere else.
 fn give_same<R: Files, F: OpenFile>(
     rt: &R,
     path: &str,
@@ -65,7 +102,7 @@ fn give_same<R: Files, F: OpenFile>(
 ) -> io::Result<()> {
     let new = file.metadata()?;
     if new.uid() != like.uid() || new.gid() != like.gid() {
-        chown(rt, path, Some(like.uid()), Some(like.gid()))?;
+        lchown(rt, path, Some(like.uid()), Some(like.gid()))?;
     }
     file.set_permissions(like.permissions())
 }
@@ -156,19 +193,39 @@ pub(crate) fn is_later<R: Files>(rt: &R, path: &str, other: &Metadata) -> io::Re
     Ok(changed_at(&data) > changed_at(other))
 }
 
+/// Reads a regular file, and opens nothing else.
+fn read_regular<R: Files + AllocGlobal>(rt: &R, place: &str) -> io::Result<Option<Vec<u8>>> {
+    if fs::metadata(rt, place)?.is_file() {
+        Ok(Some(fs::read(rt, place)?))
+    } else {
+        Ok(None)
+    }
+}
+
+/// The text of the file at a place, over symbolic links, or `None` where nothing stands there. Whatever else stands there is refused and not
+/// read: a pipe or a device may have no end.
+pub(crate) fn text_there<R: Files + AllocGlobal>(
+    rt: &R,
+    path: &str,
+    place: &str,
+) -> Result<Option<Vec<u8>>, ToolFault> {
+    let alloc = rt.alloc();
+    match read_regular(rt, place) {
+        Ok(Some(text)) => Ok(Some(text)),
+        Ok(None) => Err(told(alloc, path, "it is no regular file")),
+        Err(error) if error.kind() == ErrorKind::NotFound => Ok(None),
+        Err(error) => at(alloc, path, Err(error)),
+    }
+}
+
 /// The text of a journal of the folder, or `None` where there is none.
 pub(crate) fn journal_there<R: Files + AllocGlobal>(
     rt: &R,
     root: &str,
     name: &str,
 ) -> Result<Option<Vec<u8>>, ToolFault> {
-    let alloc = rt.alloc();
-    let path = below(alloc, root, name)?;
-    match fs::read(rt, path.as_str()) {
-        Ok(text) => Ok(Some(text)),
-        Err(error) if error.kind() == ErrorKind::NotFound => Ok(None),
-        Err(error) => at(alloc, name, Err(error)),
-    }
+    let path = below(rt.alloc(), root, name)?;
+    text_there(rt, name, path.as_str())
 }
 
 /// Removes a journal of the folder.

@@ -2,11 +2,11 @@
 use crate::fault::{ToolFault, at, told};
 use crate::folder::FolderFiles;
 use crate::paths::below;
+use crate::steps::text_there;
 use base_files::{FileText, Refusal};
 use std::alloc::Global;
 use std::fs;
 use std::fs::{DirEntry, FileType};
-use std::io::ErrorKind;
 use std::rt::Files;
 use tool_text::{has_build_line, module_path, names_platform, takes_file, takes_folder};
 
@@ -51,11 +51,10 @@ fn module_prefix(alloc: Global, text: &[u8]) -> Result<String, ToolFault> {
 /// What stands before a folder in the paths of its packages: the path of its module with a slash, or nothing without a `go.mod`.
 fn prefix_of<R: Files + AllocGlobal>(rt: &R, root: &str) -> Result<String, ToolFault> {
     let alloc = rt.alloc();
-    let path = below(alloc, root, "go.mod")?;
-    match fs::read(rt, path.as_str()) {
-        Ok(text) => module_prefix(alloc, text.as_slice()),
-        Err(error) if error.kind() == ErrorKind::NotFound => Ok(String::new(alloc)),
-        Err(error) => at(alloc, path.as_str(), Err(error)),
+    let place = below(alloc, root, "go.mod")?;
+    match text_there(rt, "go.mod", place.as_str())? {
+        Some(text) => module_prefix(alloc, text.as_slice()),
+        None => Ok(String::new(alloc)),
     }
 }
 
@@ -153,6 +152,45 @@ fn take_folder<R: Files + AllocGlobal>(
     }
 }
 
+/// Notes each module in which the folder lies: its other packages are not seen.
+fn note_modules_above<R: Files + AllocGlobal>(
+    rt: &R,
+    root: &str,
+    loaded: &mut Loaded,
+) -> Result<(), ToolFault> {
+    let alloc = rt.alloc();
+    let place = below(alloc, root, "")?;
+    let real = at(alloc, root, fs::canonicalize(rt, place.as_str()))?;
+    let mut folder = String::new(alloc);
+    for name in real.as_str().split('/') {
+        folder.push_str(name)?;
+        folder.push('/')?;
+        if is_module(rt, folder.as_str())? {
+            let path = below(alloc, folder.as_str(), "go.mod")?;
+            let why = "this folder lies in its module, whose other packages are not seen";
+            note(alloc, loaded, path.as_str(), why)?;
+        }
+    }
+    Ok(())
+}
+
+/// Refuses a path of a folder whose files would be left out: a folder on the way has a name that is not taken, or a `go.mod` of its own.
+pub fn refuse_left_out<R: Files + AllocGlobal>(
+    rt: &R,
+    root: &str,
+    path: &str,
+) -> Result<(), ToolFault> {
+    let alloc = rt.alloc();
+    let mut folder = below(alloc, root, "")?;
+    for name in path.split('/') {
+        folder = below(alloc, folder.as_str(), name)?;
+        if !takes_folder(name.as_bytes()) || is_module(rt, folder.as_str())? {
+            return Err(told(alloc, path, "Go files are left out there"));
+        }
+    }
+    Ok(())
+}
+
 /// Whether a path leads to a file, over symbolic links.
 fn leads_to_file<R: Files + AllocGlobal>(
     rt: &R,
@@ -226,11 +264,14 @@ pub fn load<R: Files + AllocGlobal + Clone + Drop>(
 ) -> Result<Loaded, ToolFault> {
     let alloc = rt.alloc();
     let prefix = prefix_of(rt, root)?;
-    let loaded = Loaded {
+    let mut loaded = Loaded {
         files: FolderFiles::new(alloc)?,
         prefix,
         notes: Vec::new(alloc),
     };
+    if loaded.prefix.is_empty() {
+        note_modules_above(rt, root, &mut loaded)?;
+    }
     let mut folders = Vec::new(alloc);
     folders.push(String::new(alloc))?;
     let mut walk = Walk {

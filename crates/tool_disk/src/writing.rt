@@ -10,11 +10,12 @@ ghost use Rattle.tool_disk.specs.Writes.{NotesOne, NotesPlaced, paths_of};
 use crate::fault::{ToolFault, at, told};
 use crate::paths::{below, beside, folder_and_name};
 use crate::steps::{
-    COMMIT, PREPARE, is_later, lies_behind_link, next_mark, real_path, remove_journal, sync,
-    sync_above, sync_folder, write_new,
+    COMMIT, PREPARE, is_free, is_later, lies_behind_link, next_mark, real_or_own_path, real_path,
+    remove_journal, sync, sync_above, sync_folder, text_there, write_new,
 };
 use std::alloc::{AllocError, Global};
 use std::fs;
+use std::fs::Metadata;
 use std::io::ErrorKind;
 use std::rt::Files;
 use tool_text::{is_line, push_lines};
@@ -113,12 +114,13 @@ fn sync_files<R: Files + AllocGlobal>(rt: &R, paths: &[String]) -> Result<(), To
     Ok(())
 }
 
-/// Flushes the folders of files by their real paths, so that the names in them stay. One is flushed once for files that follow one another.
+/// Flushes the folders of files by their real paths, so that the names in them stay. One is flushed once for files that follow one another, and
+/// none that is gone.
 fn sync_folders<R: Files + AllocGlobal>(rt: &R, paths: &[String]) -> Result<(), ToolFault> {
     let mut last = "";
     for path in paths {
         let (folder, _) = folder_and_name(path.as_str());
-        if last != folder {
+        if last != folder && !is_free(rt, folder, folder)? {
             at(rt.alloc(), folder, sync(rt, folder))?;
             last = folder;
         }
@@ -134,13 +136,12 @@ fn remove_beside<R: Files + AllocGlobal>(
     path: &str,
 ) -> Result<String, ToolFault> {
     let alloc = rt.alloc();
-    let place = real_path(rt, root, path)?;
+    let place = real_or_own_path(rt, root, path)?;
     let path = beside(alloc, place.as_str(), run.mark)?;
-    match fs::remove_file(rt, path.as_str()) {
-        Err(error) if error.kind() == ErrorKind::NotFound => Ok(path),
-        Err(error) => at(alloc, path.as_str(), Err(error)),
-        Ok(()) => Ok(path),
+    if !is_free(rt, path.as_str(), path.as_str())? {
+        at(alloc, path.as_str(), fs::remove_file(rt, path.as_str()))?;
     }
+    Ok(path)
 }
 
 /// Removes all new texts that a run has written, and that are not in place.
@@ -170,15 +171,27 @@ fn refuse_changed<R: Files + AllocGlobal>(
 ) -> Result<(), ToolFault> {
     let alloc = rt.alloc();
     let place = below(alloc, root, file.path)?;
-    let bytes = at(alloc, file.path, fs::read(rt, place.as_str()))?;
-    if bytes.as_slice() == file.text {
+    let Some(text) = text_there(rt, file.path, place.as_str())? else {
+        return Err(changed_since(alloc, file.path));
+    };
+    if text.as_slice() == file.text {
         Ok(())
     } else {
         Err(changed_since(alloc, file.path))
     }
 }
 
-/// Whether a file changed after its new text was written beside it. It is old no longer where that text is not there.
+/// Whether a file is gone, or was changed after another one.
+fn is_gone_or_later<R: Files + AllocGlobal>(
+    rt: &R,
+    path: &str,
+    place: &str,
+    other: &Metadata,
+) -> Result<bool, ToolFault> {
+    Ok(is_free(rt, path, place)? || at(rt.alloc(), path, is_later(rt, place, other))?)
+}
+
+/// Whether a file changed, or went, after its new text was written beside it. It is old no longer where that text is not there.
 fn has_changed<R: Files + AllocGlobal>(
     rt: &R,
     path: &str,
@@ -189,7 +202,7 @@ fn has_changed<R: Files + AllocGlobal>(
     match fs::metadata(rt, new) {
         Err(error) if error.kind() == ErrorKind::NotFound => Ok(false),
         Err(error) => at(alloc, path, Err(error)),
-        Ok(data) => at(alloc, path, is_later(rt, place, &data)),
+        Ok(data) => is_gone_or_later(rt, path, place, &data),
     }
 }
 
@@ -240,16 +253,13 @@ fn refuse_elsewhere<R: Files + AllocGlobal>(
 }
 
 /// Refuses a new path of a folder at which something stands.
-fn refuse_taken<R: Files + AllocGlobal>(
-    rt: &R,
-    writing: FolderWriting<'_>,
-) -> Result<(), ToolFault> {
+fn refuse_taken<R: Files + AllocGlobal>(rt: &R, root: &str, to: &str) -> Result<(), ToolFault> {
     let alloc = rt.alloc();
-    let to = below(alloc, writing.root, writing.to)?;
-    if !writing.to.is_empty() && at(alloc, writing.to, fs::exists(rt, to.as_str()))? {
-        Err(told(alloc, writing.to, "something stands there already"))
-    } else {
+    let place = below(alloc, root, to)?;
+    if to.is_empty() || is_free(rt, to, place.as_str())? {
         Ok(())
+    } else {
+        Err(told(alloc, to, "something stands there already"))
     }
 }
 
@@ -302,7 +312,7 @@ fn prepare<R: Files + AllocGlobal>(
     run: &DiskRun<'_>,
 ) -> Result<(), ToolFault> {
     refuse_elsewhere(rt, writing)?;
-    refuse_taken(rt, writing)?;
+    refuse_taken(rt, writing.root, writing.to)?;
     for file in writing.read {
         refuse_link(rt, writing, file.path)?;
     }
@@ -332,7 +342,7 @@ fn put_in_place<R: Files + AllocGlobal>(
     path: &str,
 ) -> Result<String, ToolFault> {
     let alloc = rt.alloc();
-    let place = real_path(rt, root, path)?;
+    let place = real_or_own_path(rt, root, path)?;
     let new = beside(alloc, place.as_str(), run.mark)?;
     refuse_later(rt, path, place.as_str(), new.as_str())?;
     match fs::rename(rt, new.as_str(), place.as_str()) {
@@ -342,7 +352,7 @@ fn put_in_place<R: Files + AllocGlobal>(
     }
 }
 
-/// Gives the folder that moves its new path, if there is one.
+/// Gives the folder that moves its new path, if there is one. Nothing may stand there.
 fn move_folder<R: Files + AllocGlobal>(
     rt: &R,
     root: &str,
@@ -351,6 +361,7 @@ fn move_folder<R: Files + AllocGlobal>(
     if run.from.is_empty() {
         return Ok(());
     }
+    refuse_taken(rt, root, run.to)?;
     let alloc = rt.alloc();
     let old = below(alloc, root, run.from)?;
     let new = below(alloc, root, run.to)?;

@@ -12,7 +12,9 @@ use refactor_preserve::Planned;
 use refs_uses::{Places, uses};
 use std::alloc::{AllocError, Global};
 use std::marker::Model;
-use workspace_check::{FileFault, Found, Known, faults, verdicts};
+use std::thread::Threads;
+use tool_threads::verdicts_together;
+use workspace_check::{FileFault, Found, faults};
 use workspace_snapshot::Snapshot;
 
 /// The files of a folder, with what was found in all packages. Contracts see the snapshot of the files alone.
@@ -37,12 +39,15 @@ impl Model for CheckedFolder {
 }
 
 impl CheckedFolder {
-    /// Checks the packages of all files.
-    pub fn of(alloc: Global, snapshot: Snapshot) -> Result<CheckedFolder, AllocError>
+    /// Checks the packages of all files, in several threads.
+    pub fn of<R: Threads>(
+        rt: &R,
+        alloc: Global,
+        snapshot: Snapshot,
+    ) -> Result<CheckedFolder, AllocError>
         ensures { IfOk result (λ checked. checked ≡ snapshot) }
     {
-        let nothing = Known::new(alloc);
-        let found = verdicts(alloc, &snapshot.files, &nothing)?;
+        let found = verdicts_together(rt, alloc, &snapshot.files)?;
         Ok(CheckedFolder { snapshot, found })
     }
 

@@ -69,9 +69,21 @@ has_plus_build seen (line ∷ lines) =
     else (if not (length (trimmed line) == 0) && not (starts_with nat_eq (trimmed line) (codes "//")) then false
     else has_plus_build (seen || is_build_comment (trimmed line)) lines)
 
+-- A byte order mark in UTF-8.
+abbrev pub order_mark : List ℕ
+order_mark = 239 ∷ 187 ∷ 191 ∷ []
+
+-- The text without a byte order mark at its begin, which Go skips.
+abbrev pub without_order_mark : List ℕ → List ℕ
+without_order_mark text = if starts_with nat_eq text order_mark then drop 3 text else text
+
+-- Whether one of these lines is a build constraint.
+abbrev pub is_constrained : List (List ℕ) → Bool
+is_constrained lines = has_go_build (Some false) lines || has_plus_build false lines
+
 -- Whether a Go file has a build constraint.
 abbrev pub has_build_line : List ℕ → Bool
-has_build_line text = has_go_build (Some false) (parts 10 text) || has_plus_build false (parts 10 text)
+has_build_line text = is_constrained (parts 10 (without_order_mark text))
 
 -- Whether the word is one of the words between blanks.
 abbrev pub is_among : List ℕ → List ℕ → Bool

@@ -18,6 +18,7 @@ ghost use Rattle.tool_text.specs.Taken.{
   names_platform,
   takes_file,
   takes_folder,
+  without_order_mark,
 };
 
 use crate::go_mod::{is_padding, trimmed};
@@ -156,10 +157,21 @@ fn has_plus_build(text: &[u8]) -> bool
     false
 }
 
+/// The text without a byte order mark at its begin, which Go skips.
+fn without_order_mark(text: &[u8]) -> &[u8]
+    ensures { result.now ≡ without_order_mark text.now }
+{
+    match text.strip_prefix(b"\xEF\xBB\xBF".as_slice()) {
+        Some(rest) => rest,
+        None => text,
+    }
+}
+
 /// Whether a Go file has a build constraint.
 pub fn has_build_line(text: &[u8]) -> bool
     ensures { result ≡ has_build_line text.now }
 {
+    let text = without_order_mark(text);
     has_go_build(text) || has_plus_build(text)
 }
 
