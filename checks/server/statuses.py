@@ -3,6 +3,7 @@
 The texts for command lines are those of their parser, `clap`, written down here. It calls the program by the name of its file.
 """
 
+import fcntl
 import os
 import pathlib
 import resource
@@ -30,6 +31,7 @@ Commands:
   move    Gives the folder of a package another path, and changes its imports
   faults  Lists the faults of the Go files of a folder
   uses    Lists the uses of what is declared or used at a place
+  lsp     Serves an editor from standard input to standard output, as a language server
 
 Options:
   -h, --help     Print help
@@ -86,7 +88,7 @@ def numbers(name, placeholder, most):
 
 
 BAD = [
-    ([], "error: 'gorefd' requires a subcommand but one was not provided\n  [subcommands: run, serve, stop, rename, move, faults, uses]" + ALL),
+    ([], "error: 'gorefd' requires a subcommand but one was not provided\n  [subcommands: run, serve, stop, rename, move, faults, uses, lsp]" + ALL),
     (["frob"], "error: unrecognized subcommand 'frob'" + ALL),
     ([""], "error: unrecognized subcommand ''" + ALL),
     (["help"], "error: unrecognized subcommand 'help'" + ALL),
@@ -364,6 +366,16 @@ def stopped():
         same(run(["stop", "--socket", server.path]), (1, b"", b"gorefd: no server is at work at this path\n"))
 
 
+def stopped_early():
+    """`gorefd stop` leaves no word at a server that holds its path and has no socket yet, so the server serves when it comes up."""
+    with tempfile.TemporaryDirectory() as folder:
+        path = os.path.join(folder, "s")
+        with open(path + ".lock", "w") as lock:
+            fcntl.flock(lock, fcntl.LOCK_EX)
+            same(run(["stop", "--socket", path]), (1, b"", b"gorefd: socket fault\n"))
+            same(os.path.getsize(path + ".lock"), 0)
+
+
 def silent_clients():
     """A client that sends nothing for three seconds is let go, and so is one that reads nothing. Who waits for packages is not."""
     with Server(1, 1, 3, more=["--idle", "3"]) as server:
@@ -458,6 +470,7 @@ CHECKS = (
     servers_at_once,
     after_a_kill,
     stopped,
+    stopped_early,
     silent_clients,
     told_start_and_end,
     foreign_locks,

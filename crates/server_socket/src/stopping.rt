@@ -43,15 +43,26 @@ fn held_lock<R: Files<File = File>>(rt: &R, place: &str) -> Result<File, StopFau
     }
 }
 
-/// Writes a word into the file of the lock, and connects to the socket, so that the server looks there. Waits until it lets the lock go.
-fn ask<R: Files<File = File> + Net>(rt: &R, lock: File, path: &str) -> io::Result<()> {
-    let mut lock = lock;
+/// Writes a word into the file of the lock, and connects to the socket, so that the server looks there.
+fn write_word<R: Net>(rt: &R, lock: &mut File, path: &str) -> io::Result<()> {
     lock.write_all(b"stop\n")?;
     drop(UnixStream::connect(rt, path)?);
+    Ok(())
+}
+
+/// Asks the server for its end, and waits until it lets the lock go. Where that fails the word is taken back, so that a server without a socket
+/// yet does not end at its first connection.
+fn ask<R: Net>(rt: &R, lock: File, path: &str) -> io::Result<()> {
+    let mut lock = lock;
+    if let Err(fault) = write_word(rt, &mut lock, path) {
+        let _ = lock.set_len(0);
+        return Err(fault);
+    }
     lock.lock()
 }
 
-/// Ends the server at a path, and returns once it has ended: its sessions have come to their ends, and its socket is gone.
+/// Ends the server at a path, and returns once it has ended: its sessions have come to their ends, and its socket is gone. A server that could
+/// not be asked goes on.
 pub fn stop<R: Files<File = File> + Net + AllocGlobal>(
     rt: &R,
     path: &str,
