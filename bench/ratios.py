@@ -4,9 +4,9 @@ Each row divides the instructions of one step by those of another step of the sa
 nor other programs change it. A row is red where its ratio is over the bound beside it, and the exit status is then 1.
 
 The bounds are 1.5 times the ratios of 2026-11-29 and 2026-11-30; those of `again`, `undone`, `moved` and `worked`, which were about 0.001
-or below, are 0.01, and that of `kinds` is 1.25 times. Each row has a change of a few words of the code: what is kept is then not used,
-though every answer stays right. The row is there to find such a change. No program with one of these changes was built, so no row was
-seen to be red.
+or below, are 0.01, that of `units`, which was 0.009, is 0.02, and that of `kinds` is 1.25 times. Each row has a change of a few words of
+the code: what is kept is then not used, though every answer stays right. The row is there to find such a change. No program with one of
+these changes was built, so no row was seen to be red.
 
     again     server_commands/src/acting.rt: `find_faults` teaches the desk nothing
     renamed   refactor_plan/src/kept_known.rt, `kept_known`: `known_but(alloc, known, number, 0)`
@@ -15,6 +15,7 @@ seen to be red.
     followed  refactor_follow/src/plain.rt, `plain_uses`: `Some(first) if false =>` and `_ => Ok(None)` in place of its arms
     beside    refactor_part/src/part.rt, `known_beside`: `own.copy(alloc, files.len())` in place of `with_kept(..)`
     worked    build_carry/src/learning.rt, `learned`: `if found.is_empty()` becomes `if true`
+    units     server_commands/src/desk.rt, `learn_units` of `Solo`: it keeps nothing
     leaf      build_carry/src/carried_known.rt, `kept_verdicts`: `if known.is_empty()` becomes `if true`
     hub       workspace_check/src/reuse.rt, `keeps_export_data`: `&& false` behind `are_alike(..)`
     kinds     go_parser/src/file_tree.rt, `parse_file_sharing`: `if false &&` in place of the `if` before `shared`
@@ -150,6 +151,16 @@ class Rows:
         built.end()
         return again / first
 
+    def units(self):
+        """The builds of all packages behind a rename of a local variable of what all use, by the first builds."""
+        built = self.session(star())
+        first = built.taken([("work", b"")] * (PACKAGES + 1))
+        path = "gen/hub/f.go"
+        built.taken([(f"rename {path}:#{star()[path].index(b'total')} amount", b"")])
+        again = built.taken([("work", b"")] * (PACKAGES + 1))
+        built.end()
+        return again / first
+
     def leaf(self):
         return self.behind("gen/p07/f.go")
 
@@ -190,6 +201,7 @@ BOUNDS = {
     "followed": ("a move of what all use, by the first faults", 0.35),
     "beside": ("faults behind a rename beside a package with faults, by the first faults", 0.036),
     "worked": ("faults behind builds of all packages, by the first faults", 0.01),
+    "units": ("builds behind a rename of a local of what all use, by the first builds", 0.02),
     "leaf": ("faults behind a put in a package that none imports, by the first faults", 0.05),
     "hub": ("faults behind a put in a package that all import, by the first faults", 0.075),
     "kinds": ("a put of other literals, by a put of one token more in each function", 0.75),

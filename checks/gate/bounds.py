@@ -2,10 +2,13 @@
 
     python3 -m checks.gate.bounds
 
-- A number over 65,536 stands in the code only where `GREAT` says: as a literal in any notation, the MAX of a type, a shift, a power, or a
-  product with a literal of three digits. No loop ends at a constant over it. Such a loop would be proved to end only after as many steps.
-  The end of a range that a loop goes through is made as the numbers below are. No condition of a loop names a limit, or a number made of one.
-  No loop to a literal or a constant stands in another one.
+- A number over 65,536 stands in the code only where `GREAT` says: as a literal in any notation, the MAX of a type, or a shift. A product or
+  a power stands only where `PRODUCTS` says. No loop ends at a constant over 65,536: it would be proved to end only after as many steps.
+- A range stands in the head of a `for`, in an index or in a pattern, so no iterator goes through one. No iterator is without an end, and
+  no text gives what is written a width. The end of a range that a loop goes through is made as the numbers below are. No condition of a
+  loop names a limit, or a number made of one.
+- No loop to a literal or a constant stands in another one, nor calls a function of its crate that has one. No function calls itself with a
+  number made smaller: two such calls in one body would take 2^64 steps from 64.
 - The number that `with_capacity`, `reserve`, `resize`, `from_elem` (and calls like these) or `vec![in alloc; value; number]` is given is
   made of literals, constants, lengths, parameters and results of functions whose contracts bound them (`result`, and `≤`, `≡` or `OkIff`), by `+`,
   `-`, `/`, `max`, `min` and `saturating_add` alone. Of fields only those named in `FIELDS` stand in it, so no limit does. So is what a
@@ -21,21 +24,35 @@ import sys
 from checks import TOP, crate_of
 from checks.gate.memory import OWNER, code_of
 
-# the lines on which a great number stands: limits, the greatest integers and characters of Go, a stack, an end behind all tokens,
+# the lines on which a great number stands: limits, the greatest integers and characters of Go, stacks, an end behind all tokens,
 # and the greatest offset that a kept token has room for
 GREAT = {
     "base_files/src/limits.rt": {"file_bytes: 1_048_576,", "total_bytes: 67_108_864,", "journal: 1_000_000,", "reads: 1_000_000_000,"},
     "go_respelled/src/moved.rt": {"None => usize::MAX,"},
-    "go_scanner/src/compact_piece.rt": {"if offset > u32::MAX as usize {"},
+    "go_scanner/src/compact_piece.rt": {"if number > u32::MAX as usize {"},
     "go_scanner/src/integers.rt": {"if sum < 1 << 63 { Some(sum) } else { None }"},
     "go_scanner/src/strings.rt": {"Some(number) => number < 0xD800 || (0xDFFF < number && number < 0x110000),"},
     "lsp_frames/src/frames.rt": {"pub(crate) const LARGEST_BODY: usize = 8_388_608;"},
     "server_socket/src/threads.rt": {"const STACK_BYTES: usize = 8_388_608;"},
     "server_words/src/command_line.rt": {'number_option(alloc, "stop-after", "K", 1_000_000).help(', 'number_option(alloc, "idle", "SECONDS", 1_000_000).help('},
     "server_words/src/requests.rt": {"Some(_) => Some(Some(number(matches, option, 1_000_000)?)),"},
+    "tool_threads/src/task.rt": {"const CHECK_STACK: usize = 8_388_608;"},
+}
+# the lines on which a product stands: of chunks of 64, of the room of tables of names, of digits, and of lines around a change
+PRODUCTS = {
+    "base_chunks/src/list.rt": {"&self.last[i - 64 * self.full.len()]", "let behind = i - 64 * self.full.len();"},
+    "go_scanner/src/integers.rt": {"let product = number.checked_mul(u64::from(base))?;"},
+    "go_scope/src/capacity.rt": {"identifiers.len() / 8 + 2 * PREDECLARED"},
+    "tool_text/src/hunks.rt": {"while next < pairs.len() && next - end <= 2 * CONTEXT {"},
 }
 LOOP = re.compile(r"^\s*(?:'\w+: )?(?:for\b.*\.\..*|while\b.*)")
-MADE_GREAT = re.compile(r"\bMAX\b|\bmax_value\b|<<|\bpow\b|(?<![!=<>])!0\b|\d{3}\s*\*|\*\s*\d{3}")
+MADE_GREAT = re.compile(r"\bMAX\b|\bmax_value\b|<<|(?<![!=<>])!0\b")
+PRODUCT = re.compile(r"[\w)\]] \* [\w(&*]|\*=|_?\b(?:\w+_)?(?:mul|pow|shl|square)\(|\bproduct(?:::<\w+>)?\(")
+ENDLESS = re.compile(r"(?<!#\[)\b(?:cycle|repeat|repeat_n|repeat_with|successors|from_fn)\(")
+WIDTH = re.compile(r"\{[^{}]*:[^{}]*[\d$*][^{}]*\}")
+INDEX = re.compile(r"\[[^\[\]]*\]")
+HEAD = re.compile(r"^\s*(?:'\w+: )?for \w+ in (?:[^({][^{]*|\([^{]*\)\.rev\(\)) \{$")
+OPEN_RANGE = re.compile(r"[\w)]\s*\.\.=?\s*[\w(*&]")
 TEXT = re.compile(r'b?"(?:[^"\\]|\\.)*"')
 ROOM = {"with_capacity", "with_capacity_and_hasher", "reserve", "reserve_exact", "resize", "resize_with", "from_elem", "repeat"}
 CALL = re.compile(r"(?<!fn )\b(\w+)(?:::<[^()]*>)?\(")
@@ -207,17 +224,56 @@ def far_loops(function, bounded, constants):
             yield function.code.count("\n", 0, found.start(1))
 
 
+def is_fixed(line):
+    """Whether a loop to a literal or a constant begins on the line."""
+    end = RANGE.match(line)
+    return bool(end) and not names_in(end[1]) and not LENGTH.search(end[1]) and "(" not in end[1]
+
+
 def fixed_loops(function):
     """The lines of a function on which a loop to a fixed number begins inside another one: they take the product of their numbers."""
     outer = []
     for number, line in enumerate(function.code.split("\n")):
         depth = len(line) - len(line.lstrip())
         outer = [one for one in outer if one < depth] if line.strip() else outer
-        end = RANGE.match(line)
-        if end and not names_in(end[1]) and not LENGTH.search(end[1]) and "(" not in end[1]:
+        if is_fixed(line):
             if outer:
                 yield number
             outer.append(depth)
+
+
+def calls_fixed(function, fixed):
+    """The lines of a function on which a loop to a fixed number calls a function that has one, of the same crate."""
+    outer = []
+    for number, line in enumerate(function.code.split("\n")):
+        depth = len(line) - len(line.lstrip())
+        outer = [one for one in outer if one < depth] if line.strip() else outer
+        if outer and set(re.findall(r"\b(\w+)\(", line)) & fixed:
+            yield number
+        if is_fixed(line):
+            outer.append(depth)
+
+
+def smaller_calls(function):
+    """The lines of a function on which it calls itself with a number made smaller."""
+    for call in re.finditer(rf"(?<!fn )\b{function.name}(?:::<[^()]*>)?\(", function.code):
+        if any(re.search(r" [-/] \w|>> \w|\b\w+_(?:sub|div|shr)\(", one) for one in arguments(function.code, call.end())):
+            yield function.code.count("\n", 0, call.start())
+
+
+def is_ranged(line):
+    """Whether a range stands on the line that is no head of a loop, no index and no pattern of bytes."""
+    bare = re.sub(r"b?'[^']*'", "", TEXT.sub("", line))
+    before = None
+    while before != bare:
+        before, bare = bare, INDEX.sub("", bare)
+    return bool(OPEN_RANGE.search(bare)) and not HEAD.match(bare)
+
+
+def is_product(line):
+    """Whether a product or a power stands on the line, an iterator without an end, or a text with the width of what is written."""
+    bare = TEXT.sub("", line)
+    return bool(PRODUCT.search(bare) or ENDLESS.search(bare) or any(WIDTH.search(text) for text in TEXT.findall(line)))
 
 
 def is_great(line):
@@ -250,16 +306,22 @@ def main():
         crates.setdefault(crate_of(path), []).extend(function for _, function in pairs)
     makers = makers_of([one for own in crates.values() for one in own])
     bounded = bounded_in(crates)
+    fixed = {crate: {one.name for one in own if any(is_fixed(line) for line in one.code.split("\n"))} for crate, own in crates.items()}
     constants = {name: is_sum(value, {}) for text in files.values() for name, value in CONSTANT.findall(text)}
     found = 0
     for path, text in files.items():
         lines, crate = text.splitlines(), crate_of(path)
         code, known = code_of(text), GREAT.get(str(path.relative_to(root)), set())
         wrong = {number: "a great number" for number, line in enumerate(code) if is_great(line) and line.strip() not in known}
+        products = PRODUCTS.get(str(path.relative_to(root)), set())
+        wrong |= {number: "a product" for number, line in enumerate(code) if is_product(line) and line.strip() not in known | products}
+        wrong |= {number: "a range" for number, line in enumerate(code) if is_ranged(line)}
         wrong |= {number: "a loop up to a great number" for number, line in enumerate(code) if is_endless(line, constants)}
         for begin, function in parts[path]:
             wrong |= {begin + line: "a loop without a bound" for line in far_loops(function, bounded[crate], constants)}
             wrong |= {begin + line: "a loop to a fixed number inside another" for line in fixed_loops(function)}
+            wrong |= {begin + line: "a loop to a fixed number inside another" for line in calls_fixed(function, fixed[crate])}
+            wrong |= {begin + line: "a recursion on a number" for line in smaller_calls(function)}
             wrong |= {begin + line: "room without a bound" for line in unbounded(function, makers, bounded[crate], constants)}
         for number, what in sorted(wrong.items()):
             found += 1

@@ -29,7 +29,7 @@ FULL = re.compile(r"\b\w+::JournalFull\b")
 ASKED = re.compile(r"if !\w+(\.\w+)*\.has_room\(.*\) \{$")
 REFUSED = r"From<Alloc(?:Error|Failed)\b"
 # conditions that are a want of memory, each with its crate
-CAUSES = {"if !are_made {": "server_socket", "if offset > u32::MAX as usize {": "go_scanner"}
+CAUSES = {"if !are_made {": "server_socket", "if number > u32::MAX as usize {": "go_scanner"}
 # calls of the standard library that fail for want of memory alone
 STANDARD = {"BufReader::new", "BufWriter::new", "clone", "collect", "vec"}
 OWNER = re.compile(r"(?:impl(?:<.*?>)?|trait)\s+(?:\S+ for )?(\w+)")
@@ -87,6 +87,12 @@ def is_given(lines, number, name):
     return bool(re.search(rf"\b{name}: Result<[^()]*\bAllocError>\s*[,)]", signature))
 
 
+def is_want(pattern):
+    """Whether each case of a pattern, or its condition, is want of memory."""
+    cases, _, condition = pattern.partition(" if ")
+    return all(WANT.search(one) or "ErrorKind::OutOfMemory" in one for one in (condition or cases).split("|"))
+
+
 def is_sound(lines, number, crate, answers):
     """Whether the place on the line makes want of memory of an allocation that was refused."""
     if re.search(r"\.checked_add\(.*\)\.ok_or\(AllocError\)(\?;)?$", lines[number].strip()):
@@ -97,7 +103,7 @@ def is_sound(lines, number, crate, answers):
     is_failed = False
     for line in around(lines, number):
         pattern = line.partition("=>")[0].strip() if "=>" in line else ""
-        if WANT.search(pattern) or "ErrorKind::OutOfMemory" in pattern or CAUSES.get(line) == crate:
+        if is_want(pattern) or CAUSES.get(line) == crate:
             return True
         is_failed = is_failed or pattern in ("Err(_)", "Err(_e)")
         if is_failed and "match " in line:
