@@ -17,7 +17,7 @@ import threading
 from concurrent.futures import ThreadPoolExecutor
 
 from checks.attack.rows import chosen, worked
-from checks.model.history import replies
+from checks.model.history import replies, size_of
 from checks.server import server as serving
 from checks.server.connections import whole_commands
 from checks.server.server import run, same
@@ -126,9 +126,12 @@ def numbers(sent, call, descriptor):
 
 
 def failed_read(name, sent, number, count):
-    """The read behind so many bytes fails. One more than there are is that behind the end of the last line."""
+    """The read behind so many bytes fails. One more than there are is that behind the end of the last line. An input that ends inside the line
+    of a put ends in two reads before it is answered: that of the line, and that of the body."""
     told = injected(sent, "read", "error=EIO", number)
-    read = sent if count > len(sent) else b"".join(whole_commands(sent[:count])[0])
+    left = whole_commands(sent)[1]
+    twice = b"\n" not in left and size_of(left) > 0
+    read = sent if count > len(sent) + twice else b"".join(whole_commands(sent[:count])[0])
     same((name, count, *told), (name, count, replies(read), *READ_FAULT))
 
 
