@@ -4,9 +4,10 @@ Each row divides the instructions of one step by those of another step of the sa
 nor other programs change it. A row is red where its ratio is over the bound beside it, and the exit status is then 1.
 
 The bounds are 1.5 times the ratios of 2026-11-29 and 2026-11-30; those of `again`, `undone`, `moved` and `worked`, which were about 0.001
-or below, are 0.01, that of `units`, which was 0.009, is 0.02, and that of `kinds` is 1.25 times. Each row has a change of a few words of
-the code: what is kept is then not used, though every answer stays right. The row is there to find such a change. No program with one of
-these changes was built, so no row was seen to be red.
+or below, are 0.01, that of `units`, which was 0.009, is 0.02, that of `kinds` is 1.25 times, and that of `order`, which was 5.4, is 6. Each
+row has a change of a few words of the code: what is kept is then not used, though every answer stays right. The row is there to find such a
+change. On 2026-11-30 native programs with these changes were built, and each row was over its bound: `order` at 6.6, `units` at 0.71, `names`
+at 0.80, `followed` at 0.75, `kinds` at 0.97, and the others at 1.0 or more.
 
     again     server_commands/src/acting.rt: `find_faults` teaches the desk nothing
     renamed   refactor_plan/src/kept_known.rt, `kept_known`: `known_but(alloc, known, number, 0)`
@@ -206,7 +207,7 @@ BOUNDS = {
     "hub": ("faults behind a put in a package that all import, by the first faults", 0.075),
     "kinds": ("a put of other literals, by a put of one token more in each function", 0.75),
     "names": ("a put of other names, by a put of one token more in each function", 0.39),
-    "order": ("first faults of a chain of 240 packages, by those of 60", 8),
+    "order": ("first faults of a chain of 240 packages, by those of 60", 6),
 }
 
 
