@@ -142,13 +142,18 @@ def statements():
                 yield f"_ = {typ}{{{value}}}"
 
 
-def texts(size=500):
-    """Files of so many statements, and the number of the line of the first."""
-    every = list(dict.fromkeys(statements()))
-    head = DECLARED + f"func F({PARAMETERS}) (int, string) {{\n"
+def in_files(every, head, end, size):
+    """Files of so many of these statements each, behind a head and before an end, and the number of the line of the first."""
+    every = list(dict.fromkeys(every))
     for at in range(0, len(every), size):
         some = every[at : at + size]
-        yield some, head.count("\n") + 1, head + "\n".join(some) + "\n_ = b.V\nreturn 1, g\n}\n"
+        yield some, head.count("\n") + 1, head + "\n".join(some) + end
+
+
+def texts():
+    """The files of all statements."""
+    head = DECLARED + f"func F({PARAMETERS}) (int, string) {{\n"
+    return in_files(statements(), head, "\n_ = b.V\nreturn 1, g\n}\n", 500)
 
 
 def put(basis, path, text):

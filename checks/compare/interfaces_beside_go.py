@@ -18,7 +18,7 @@ import sys
 import tempfile
 import time
 
-from checks.compare.beside_go import HERE, OPERATORS, form, show
+from checks.compare.beside_go import HERE, OPERATORS, form, in_files, show
 from checks.compare.beside_gorename import Folder, form_of, planned
 from checks.generate import interfaces
 from checks.model.identifiers import Identifiers
@@ -156,13 +156,10 @@ def statements():
                 yield f"_ = {typ}{{M: {value}}}" if typ[0] != "[" else "{}"
 
 
-def texts(size=400):
-    """Files of so many statements, and the number of the line of the first."""
-    every = list(dict.fromkeys(statements()))
+def texts():
+    """The files of all statements."""
     head = DECLARED + f"func F({PARAMETERS}) (I, E) {{\n"
-    for at in range(0, len(every), size):
-        some = every[at : at + size]
-        yield some, head.count("\n") + 1, head + "\n".join(some) + "\n_ = b.V\nreturn i, e\n}\n"
+    return in_files(statements(), head, "\n_ = b.V\nreturn i, e\n}\n", 400)
 
 
 def refused_by_model(workspace):
