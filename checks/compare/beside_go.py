@@ -124,11 +124,16 @@ PLACES = (
 LINKS = "_ = {0}(1)|{0}()|_ = {0}()|_ = {0}[0]|_ = {0}.x|_ = {0}.X|_ = {0}.y|_ = {0}.M()|_ = {0}.v()|{0}.w()|_ = {0}.p.s[0].i|{0}.x = 1".split("|")
 
 
+def operations(values):
+    """Each operator between each two of these values."""
+    for left in values:
+        for right in values:
+            yield from (f"_ = {left} {operator} {right}" for operator in OPERATORS)
+
+
 def statements():
     """Each stands on a line of its own, and none has a fault before the stage of types."""
-    for left in VALUES:
-        for right in VALUES:
-            yield from (f"_ = {left} {operator} {right}" for operator in OPERATORS)
+    yield from operations(VALUES)
     for value in VALUES:
         yield from (place.format(value) for place in PLACES)
         # no number before a point, no link behind `&T{}`, no name behind a package that it does not export

@@ -18,7 +18,7 @@ import sys
 import tempfile
 import time
 
-from checks.compare.beside_go import HERE, OPERATORS, form, in_files, show
+from checks.compare.beside_go import HERE, form, in_files, operations, show
 from checks.compare.beside_gorename import Folder, form_of, planned
 from checks.generate import interfaces
 from checks.model.identifiers import Identifiers
@@ -140,9 +140,7 @@ EXCUSED = re.compile("declared but not used|missing return")
 
 
 def statements():
-    for left in VALUES:
-        for right in VALUES:
-            yield from (f"_ = {left} {operator} {right}" for operator in OPERATORS)
+    yield from operations(VALUES)
     for value in VALUES:
         yield from (place.format(value) for place in PLACES)
         if value != "1":
