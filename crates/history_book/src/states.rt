@@ -66,7 +66,7 @@ fn make_move(
 {
     let Prepared { files, inverse } = way.prepare(current.files.files())?;
     let turned = inverse.set_aside();
-    let files = graph_after(alloc, &current.files, way.changed(), way.added(), files)?;
+    let files = graph_after(alloc, &current.files, way, files)?;
     let known = waking.known_awake(alloc, &files, current)?;
     let rest = current.rest(alloc, Some(waking))?;
     Ok(Moving {

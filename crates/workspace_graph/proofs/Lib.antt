@@ -40,3 +40,4 @@ pub mod GrownStops
 pub mod SameImports
 pub mod RenewedImports
 pub mod SetFiles
+pub mod KnownEdits

@@ -24,3 +24,4 @@ pub mod Orders
 pub mod Shifts
 pub mod Growth
 pub mod Drafts
+pub mod KnownEdits

@@ -10,6 +10,7 @@ ghost use Rattle.workspace_graph.specs.Drafts.{KnowsImports, MayKnowBefore, Puts
 ghost use Rattle.workspace_graph.specs.Borrows.{names};
 ghost use Rattle.workspace_graph.specs.Graphs.{paths_of};
 ghost use Rattle.workspace_graph.specs.ChangedFiles.{CoverChanges, ArePackages};
+ghost use Rattle.workspace_graph.specs.KnownEdits.{EditsMakeOf};
 ghost use Rattle.workspace_graph.specs.SameGoFiles.{DiffersOnlyAt};
 ghost use Rattle.workspace_graph.specs.SameImports.{HasTreeAlike};
 ghost use Rattle.workspace_graph.specs.InFolder.{tree_paths};
@@ -18,8 +19,9 @@ use crate::faulty_file::FaultyFile;
 use crate::file_imports::{FileImport, read_imports};
 use crate::folders::folders_of;
 use crate::in_folder::{fault_at, put_fault, put_tree, take_fault, take_tree, tree_at};
+use crate::known_edits::{KnownEdits, behind_path, tree_by_edits};
 use crate::package::ParsedPackage;
-use crate::parsed::{ParsedFile, parse};
+use crate::parsed::{ParsedFile, is_source_file, parse};
 use crate::renewed_imports::{ImportsChange, stay};
 use crate::same_imports::import_alike;
 use crate::shared_package::{SharedPackage, number_of};
@@ -192,6 +194,15 @@ fn set_text(
     }
 }
 
+/// Sets the file at the tree's path to this tree, which was parsed before.
+fn set_parsed(alloc: Global, draft: &mut Draft, tree: FileTree) -> Result<(), AllocError>
+    requires { IsDraft draft.old }
+    ensures { OnOk result (SetsText tree.path tree.cut.text draft.old draft.new) }
+{
+    is_source_file(&tree);
+    set_tree(alloc, draft, tree)
+}
+
 /// Sets the file at a path in the package's folder to that of a workspace. Where the workspace has none, the file is removed.
 fn set_file(alloc: Global, draft: &mut Draft, files: &Files, path: &Path) -> Result<(), AllocError>
     requires draft { IsDraft draft.old }
@@ -201,6 +212,27 @@ fn set_file(alloc: Global, draft: &mut Draft, files: &Files, path: &Path) -> Res
     match files.get(path) {
         Some(text) => set_text(alloc, draft, path, text),
         None => take_out(alloc, draft, path),
+    }
+}
+
+/// Sets the file at a path to that after a change. Its tree is made by the edits of the change of a number, where `tree_by_edits` can do so.
+fn set_path(
+    alloc: Global,
+    draft: &mut Draft,
+    known: KnownEdits<'_>,
+    change: usize,
+    path: &Path,
+) -> Result<(), AllocError>
+    requires draft { IsDraft draft.old }
+    requires of_package { is_of_package draft.old.package.path.items path.now ≡ true }
+    requires before { IsStrictlySortedBy path_cmp (paths_of known.before.now) }
+    requires edits { All (EditsMakeOf known.before.now known.files.now) known.changed.now }
+    ensures { OnOk result (SetsFile known.entry.files.now path.now draft.old draft.new) }
+{
+    let made = tree_by_edits(alloc, known, change, path)?;
+    match made {
+        Some(tree) => set_parsed(alloc, draft, tree),
+        None => set_file(alloc, draft, known.files, path),
     }
 }
 
@@ -215,39 +247,47 @@ fn draft_number(drafts: &[Draft], path: &[u8]) -> Option<usize>
     }
 }
 
-/// Sets the file at a path to that of a workspace, as `set_file` does. Other paths than those of Go files in the folders of drafts are
-/// passed over.
+/// Sets the file at a path to that after a change, as `set_path` does. Other paths than those of Go files in the folders of drafts are passed
+/// over.
 fn set_in(
     alloc: Global,
     drafts: &mut Vec<Draft>,
-    files: &Files,
+    known: KnownEdits<'_>,
+    change: usize,
     path: &Path,
 ) -> Result<(), AllocError>
     requires sorted { IsStrictlySortedBy path_cmp (draft_paths drafts.old.items) }
     requires drafts { All IsDraft drafts.old.items }
-    ensures { OnOk result (SetsFiles files.now (path.now ∷ []) drafts.old.items drafts.new.items) }
+    requires before { IsStrictlySortedBy path_cmp (paths_of known.before.now) }
+    requires edits { All (EditsMakeOf known.before.now known.files.now) known.changed.now }
+    ensures { OnOk result (SetsFiles known.entry.files.now (path.now ∷ []) drafts.old.items drafts.new.items) }
 {
     if path.is_go() {
         if let Some(number) = draft_number(drafts, path.folder()) {
-            return set_file(alloc, &mut drafts[number], files, path);
+            return set_path(alloc, &mut drafts[number], known, change, path);
         }
     }
     Ok(())
 }
 
-/// Sets the files at several paths to those of a workspace, as `set_in` does for one.
+/// Sets the files at several paths to those after a change, as `set_in` does for one. Changes whose edits are known stand in the order of the
+/// paths.
 fn set_all(
     alloc: Global,
     drafts: &mut Vec<Draft>,
-    files: &Files,
+    known: KnownEdits<'_>,
     paths: &[&Path],
 ) -> Result<(), AllocError>
     requires sorted { IsStrictlySortedBy path_cmp (draft_paths drafts.old.items) }
     requires drafts { All IsDraft drafts.old.items }
-    ensures { OnOk result (SetsFiles files.now (names paths.now) drafts.old.items drafts.new.items) }
+    requires before { IsStrictlySortedBy path_cmp (paths_of known.before.now) }
+    requires edits { All (EditsMakeOf known.before.now known.files.now) known.changed.now }
+    ensures { OnOk result (SetsFiles known.entry.files.now (names paths.now) drafts.old.items drafts.new.items) }
 {
+    let mut change = 0;
     for path in paths {
-        set_in(alloc, drafts, files, path)?;
+        set_in(alloc, drafts, known, change, path)?;
+        change = behind_path(known.changed, change, path);
     }
     Ok(())
 }
@@ -307,19 +347,19 @@ fn shared(alloc: Global, drafts: Vec<Draft>) -> Result<Vec<SharedPackage>, Alloc
     Ok(packages)
 }
 
-/// The packages in the folders of `paths`, with the files that the workspace `files` has at `paths`. A package without files stands for one
+/// The packages in the folders of `paths`, with the files that they have at `paths` after a change. A package without files stands for one
 /// that does not exist.
 pub(crate) fn packages_with(
     alloc: Global,
-    before: &[SharedPackage],
-    files: &Files,
+    known: KnownEdits<'_>,
     paths: &[&Path],
 ) -> Result<Vec<SharedPackage>, AllocError>
-    requires { IsStrictlySortedBy path_cmp (paths_of before.now) }
-    ensures { IfOk result (λ fresh. (v : Workspace) → ArePackages v before.now → DiffersOnlyAt (names paths.now) v files.now → CoverChanges v files.now fresh.items) }
+    requires before { IsStrictlySortedBy path_cmp (paths_of known.before.now) }
+    requires edits { All (EditsMakeOf known.before.now known.files.now) known.changed.now }
+    ensures { IfOk result (λ fresh. (v : Workspace) → ArePackages v known.entry.before.now → DiffersOnlyAt (names paths.now) v known.entry.files.now → CoverChanges v known.entry.files.now fresh.items) }
 {
     let folders = folders_of(alloc, paths)?;
-    let mut drafts = drafts_at(alloc, before, &folders)?;
-    set_all(alloc, &mut drafts, files, paths)?;
+    let mut drafts = drafts_at(alloc, known.before, &folders)?;
+    set_all(alloc, &mut drafts, known, paths)?;
     shared(alloc, drafts)
 }

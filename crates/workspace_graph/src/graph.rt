@@ -9,6 +9,7 @@ ghost use Rattle.workspace_graph.specs.Packages.{PackageImports, IsInClosure, Ar
 ghost use Rattle.workspace_graph.specs.Changed.{KeepsPath, has_file};
 ghost use Rattle.workspace_graph.specs.Borrows.{names};
 ghost use Rattle.workspace_graph.specs.Reaching.{AreBackMarks, AreImportersMarked, BuildsOn, MarksClosuresWith, ReachingMarks, AddsClosuresWith};
+ghost use Rattle.workspace_graph.specs.KnownEdits.{EditsMake};
 ghost use Rattle.workspace_graph.specs.SameGoFiles.{DiffersOnlyAt, DiffersOnlyIn, HasFiles};
 ghost use Rattle.workspace_graph.specs.declared.package.ParsedPackage.{ParsedPackage};
 ghost use Rattle.workspace_graph.specs.ChangedFiles.{CoverChanges};
@@ -25,6 +26,7 @@ use crate::changed::{keep_paths, keep_rows, replaced};
 use crate::drafts::packages_with;
 use crate::grown::{Grown, grown_links};
 use crate::import_links::ImportLinks;
+use crate::known_edits::KnownEdits;
 use crate::package::ParsedPackage;
 use crate::package_list::PackageList;
 use crate::packages_below::PackagesBelow;
@@ -32,6 +34,7 @@ use crate::rows::{EarlierGraph, rows};
 use crate::shared_links::SharedLinks;
 use crate::shared_package::{SharedPackage, number_of};
 use crate::updated::{Coming, one_that_comes, updated, with_coming};
+use base_edits::FileChange;
 use base_files::{Files, Path};
 use std::alloc::{AllocError, Global};
 use std::marker::Model;
@@ -115,8 +118,29 @@ impl Graph {
         requires { DiffersOnlyAt (names paths.now) before.now files }
         ensures { IfOk result (λ graph. graph ≡ files) }
     {
+        Graph::changed_by_edits(alloc, before, files, &[], paths)
+    }
+
+    /// The same, where the edits of files that stay at their paths are known. The tree of such a file is made of the one before, where they
+    /// replace names and interpreted strings alone. The changes stand in the order of the paths, or they are of no use.
+    pub fn changed_by_edits(
+        alloc: Global,
+        before: &Graph,
+        files: Files,
+        changed: &[FileChange],
+        paths: &[&Path],
+    ) -> Result<Graph, AllocError>
+        requires differs { DiffersOnlyAt (names paths.now) before.now files }
+        requires edits { All (EditsMake before.now files) changed.now }
+        ensures { IfOk result (λ graph. graph ≡ files) }
+    {
         let old: &Parts = &before.parts;
-        let fresh = packages_with(alloc, &old.packages, &files, paths)?;
+        let known = KnownEdits {
+            before: &old.packages,
+            changed,
+            files: &files,
+        };
+        let fresh = packages_with(alloc, known, paths)?;
         if keep_paths(&old.packages, &fresh) {
             return Graph::replaced(alloc, before, &fresh, files);
         }

@@ -1,8 +1,9 @@
 //! The packages of a workspace with their parsed files, and which imports which.
 //!
 //! Crates above rely on: a `Graph` has the packages of its files, by number in the order of their paths. Each file has its tree or its first
-//! fault. `Graph::changed` makes the graph after a change, and parses only named files. Its answers are exact: imports, importers,
-//! closures (`closure`), the packages whose closures have a marked one (`reaching`), the packages below one (`below`).
+//! fault. `Graph::changed` makes the graph after a change, and parses only named files; `Graph::changed_by_edits` does so where edits are known, and
+//! compares no texts. Its answers are exact: imports, importers, closures (`closure`), the packages whose closures have a marked one
+//! (`reaching`), the packages below one (`below`).
 #![tactic(auto)]
 
 mod among;
@@ -19,6 +20,7 @@ mod import_links;
 pub mod import_paths;
 mod importers;
 mod in_folder;
+mod known_edits;
 mod link_rows;
 mod order;
 mod package;

@@ -21,7 +21,7 @@ pub(crate) enum ParsedFile {
 }
 
 /// A lemma: the tree of a `FileTree` is the tree of its tokens.
-fn is_source_file(tree: &FileTree)
+pub(crate) fn is_source_file(tree: &FileTree)
     ensures { IsSourceFile (source_of tree.now) }
 {
     let _ = tree.file();

@@ -10,7 +10,10 @@ ghost use Rattle.workspace_graph.specs.ImportPaths.{ListsPaths, AnyImports};
 
 use crate::drafts::Draft;
 use crate::import_paths::import_paths;
+use crate::in_folder::tree_at;
 use crate::package::ParsedPackage;
+use base_files::Path;
+use go_ast::FileTree;
 use std::alloc::{AllocError, Global};
 use std::collections::BTreeSet;
 use std::marker::Model;
@@ -93,6 +96,13 @@ impl SharedPackage {
         ensures { result.now ≡ self.now }
     {
         &self.parts.package
+    }
+
+    /// The tree that the package has at a path, if it has one.
+    pub(crate) fn tree_at_path(&self, path: &Path) -> Option<&FileTree>
+        ensures { IfSome result (λ tree. Contains self.now.trees.items tree.now × (tree.now.path ≡ path.now)) }
+    {
+        tree_at(&self.parts.package.trees, path)
     }
 
     /// The path of the package.

@@ -2,7 +2,7 @@
 ghost use Rattle.std.specs.Prelude.{◌≡◌, IfOk};
 ghost use Rattle.base_edits.specs.EditSet.{edited};
 ghost use Rattle.base_edits.specs.Fits.{Fits};
-ghost use Rattle.base_edits.specs.Inverse.{IsInverse};
+ghost use Rattle.base_edits.specs.Inverse.{AreChanges, IsInverse};
 ghost use Rattle.workspace_graph.specs.Borrows.{names};
 ghost use Rattle.workspace_snapshot.specs.Made.{IsMadeByEdits};
 ghost use Rattle.workspace_graph.specs.SameGoFiles.{DiffersOnlyAt};
@@ -10,7 +10,7 @@ ghost use Rattle.workspace_graph.specs.SameGoFiles.{DiffersOnlyAt};
 use crate::change::{Change, ChangeKind};
 use crate::named::named_paths;
 use crate::snapshot::Snapshot;
-use base_edits::{EditSet, FileChange, Prepared, WayBack, prepare};
+use base_edits::{EditSet, FileChange, Inverse, Prepared, WayBack, prepare};
 use base_files::{FileText, Files, Path};
 use std::alloc::{AllocError, Global};
 use std::marker::Model;
@@ -46,20 +46,36 @@ impl Model for MadeChange {
     ghost invariant = { λ a. IsMadeByEdits a.change × IsInverse a.back a.change.files a.change.base };
 }
 
-/// The graph of the files after an edit set or an inverse, made from the graph before it. Only files that its changes name are looked at.
-pub fn graph_after(
+/// The graph of the files after changes, made from the graph before them. Only files that the changes name are looked at. The text of one that
+/// stays at its path is not compared with the one before: its edits are known.
+fn graph_with(
     alloc: Global,
     base: &Graph,
     changed: &[FileChange],
     added: &[(Path, FileText)],
     files: Files,
 ) -> Result<Graph, AllocError>
+    requires changes { AreChanges (record { changed = changed.now; added = added.now }) }
     requires fits { Fits (record { changed = changed.now; added = added.now }) base.now }
     requires files { files ≡ edited (record { changed = changed.now; added = added.now }) base.now }
     ensures { IfOk result (λ graph. graph ≡ files) }
 {
     let paths = named_paths(alloc, changed, added)?;
-    Graph::changed(alloc, base, files, &paths)
+    Graph::changed_by_edits(alloc, base, files, changed, &paths)
+}
+
+/// The graph of the files to which an inverse leads, made from the graph before it. Only files that the inverse names are looked at.
+pub fn graph_after(
+    alloc: Global,
+    base: &Graph,
+    way: &Inverse,
+    files: Files,
+) -> Result<Graph, AllocError>
+    requires fits { Fits way.now base.now }
+    requires files { files ≡ edited way.now base.now }
+    ensures { IfOk result (λ graph. graph ≡ files) }
+{
+    graph_with(alloc, base, way.changed(), way.added(), files)
 }
 
 impl MadeChange {
@@ -76,7 +92,7 @@ impl MadeChange {
         let base = &snapshot.files;
         let Prepared { files, inverse } = prepare(alloc, &edits, base.files())?;
         let back = inverse.set_aside();
-        let files = graph_after(alloc, base, edits.changed(), edits.added(), files)?;
+        let files = graph_with(alloc, base, edits.changed(), edits.added(), files)?;
         let change = Change {
             base: base.clone()?,
             kind,

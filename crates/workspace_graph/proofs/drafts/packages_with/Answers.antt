@@ -11,8 +11,8 @@ use Rattle.workspace_graph.proofs.drafts.packages_with.Goals as goal
 
 pub returns : goal.returns
 returns c =
-    let w = c.args.files.now in
-    let before = c.args.before.now in
+    let w = c.args.known.files.now in
+    let before = c.args.known.before.now in
     let folders = names c.in_ok-folders.folders.keys in
     let paths = names c.args.paths.now in
     let drafts = c.in_ok-drafts.drafts.items in

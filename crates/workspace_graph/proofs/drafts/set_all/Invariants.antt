@@ -5,4 +5,4 @@ use Rattle.workspace_graph.specs.Borrows.{names}
 use Rattle.workspace_graph.proofs.drafts.set_all.Given as goal
 
 abbrev pub invariant-loop-path : goal.invariant-loop-path
-invariant-loop-path l = SetsFiles l.files (names (take l.path-index l.paths)) l.initial.drafts.items l.drafts.items
+invariant-loop-path l = SetsFiles l.known.files.now (names (take l.path-index l.paths)) l.initial.drafts.items l.drafts.items

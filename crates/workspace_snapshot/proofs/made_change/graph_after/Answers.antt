@@ -1,17 +1,17 @@
--- Files at paths that no change names are equal before and after.
-use Rattle.std.proofs.Common.{List, ℕ, Bor, sym, subst}
-use Rattle.std.specs.List.{Contains}
+-- The inverse's changes are of each file in one way.
+use Rattle.std.proofs.Common.{◌≡◌, sym, ap, subst, ◌∙◌}
 use Rattle.base_files.specs.Workspace.{Workspace}
-use Rattle.base_edits.specs.EditSet.{FileChanges}
-use Rattle.workspace_graph.specs.Borrows.{names}
-use Rattle.workspace_graph.specs.SameGoFiles.{DiffersOnlyAt}
-use Rattle.workspace_snapshot.proofs.NamedPaths.{differs_only_at}
+use Rattle.base_edits.specs.EditSet.{FileChanges, edited}
+use Rattle.base_edits.specs.Fits.{Fits}
+use Rattle.base_edits.specs.Inverse.{AreChanges}
 use Rattle.workspace_snapshot.proofs.made_change.graph_after.Goals as goal
 
-pub changed-requires : goal.changed-requires
-changed-requires c =
-    let s : FileChanges = record { changed = c.args.changed.now; added = c.args.added.now } in
-    let paths = names c.deref.result.now in
-    subst (λ (w : Workspace). DiffersOnlyAt paths c.args.base.now w) (sym c.requires.files)
-    (differs_only_at s c.args.base.now c.requires.fits paths
-    (λ p named. subst (λ (ps : List (Bor (List ℕ))). Contains (names ps) p) (sym c.deref.ensures.value) (c.in_ok-paths.ensures p named)))
+pub graph_with-requires : goal.graph_with-requires
+graph_with-requires c =
+    let lists : ◌≡◌ {A = FileChanges} (record { changed = c.changed.result.now; added = c.added.result.now }) c.args.way.now =
+    (λ i. record { changed = c.changed.ensures.changed i; added = c.added.ensures i }) in
+    record {
+      changes = subst AreChanges (sym lists) c.changed.ensures.changes;
+      fits = subst (λ (s : FileChanges). Fits s c.args.base.now) (sym lists) c.requires.fits;
+      files = c.requires.files ∙ ap (λ (s : FileChanges). edited s c.args.base.now) (sym lists);
+    }
