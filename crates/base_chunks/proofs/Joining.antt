@@ -167,3 +167,9 @@ module _ {X : Type 0} where
   set_longer old i c lt e =
       let some : 0 < length c = omega (arith, e) in
       sym (replaced_length old (set old i c) i c (length (joined old) + 1) (replaces_set old i c c lt some refl) (omega (arith, e)))
+
+  -- a chunk with as many items set in place of another
+  pub set_as_long : (old : List (List X)) (i : ℕ) (c : List X) → i < length old → 0 < length c → length c ≡ length (get_or old i [])
+      → length (joined (set old i c)) ≡ length (joined old)
+  set_as_long old i c lt some e =
+      sym (replaced_length old (set old i c) i c (length (joined old)) (replaces_set old i c c lt some refl) (omega (arith, e)))

@@ -1,5 +1,5 @@
 //! Chunks: lists of items that several collections share.
-ghost use Rattle.std.specs.Prelude.{◌≡◌, ◌≤◌, length, insert, IfOk, IfErr, OnOk, OnErr};
+ghost use Rattle.std.specs.Prelude.{◌≡◌, ◌<◌, ◌≤◌, length, insert, slice_index_or, slice_set, IfOk, IfErr, OnOk, OnErr};
 
 use crate::share::Share;
 use std::alloc::{AllocError, Global};
@@ -54,6 +54,26 @@ impl<T: Drop> Chunk<T> {
             Err(refused) => Err(refused.value),
         }
     }
+}
+
+/// Sets the value of the entry at index `at` to that of an entry, unless the entries are shared: then `Err` returns the entry. The key stays.
+pub(crate) fn replace_value<K: Drop, V: Drop>(
+    chunk: &mut Chunk<(K, V)>,
+    at: usize,
+    entry: (K, V),
+) -> Result<(), (K, V)>
+    requires { at < length chunk.old }
+    ensures ok { OnOk result ((d : K × V) → chunk.new ≡ slice_set chunk.old at ((slice_index_or chunk.old at d).0, entry.1)) }
+    ensures err { OnErr result (chunk.new ≡ chunk.old) }
+    ensures back { IfErr result (λ back. back ≡ entry) }
+{
+    let Some(entries) = Arc::get_mut(&mut chunk.items) else {
+        return Err(entry);
+    };
+    let (key, value) = entry;
+    drop(key);
+    entries[at].1 = value;
+    Ok(())
 }
 
 impl<T: Drop> Share for Chunk<T> {

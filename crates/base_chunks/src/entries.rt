@@ -1,5 +1,5 @@
 //! Entries in the order of their keys, as a chunk of a map has them.
-ghost use Rattle.std.specs.Prelude.{◌≡◌, ◌<◌, ◌≤◌, false, IsTrue, IfOk, IfSome, length, take, drop, insert};
+ghost use Rattle.std.specs.Prelude.{◌≡◌, ◌<◌, ◌≤◌, false, IsTrue, IfOk, IfSome, length, take, drop, insert, slice_index_or, slice_set};
 ghost use Rattle.std.specs.Option.{option_copied};
 ghost use Rattle.std.specs.FinMap.{find, put};
 ghost use Rattle.base_chunks.specs.Entries.{without, Rises, IsAfterAll, is_after, is_at};
@@ -44,6 +44,20 @@ pub(crate) fn value_of<'a, K: Ord, V>(entries: &'a [(K, V)], key: &K) -> Option<
     let at = place(entries, key);
     if is_at(entries, at, key) {
         Some(&entries[at].1)
+    } else {
+        None
+    }
+}
+
+/// The index of the entry of a key, if there is one.
+pub(crate) fn index_of_key<K: Ord, V>(entries: &[(K, V)], key: &K) -> Option<usize>
+    requires { Rises K.cmp entries.now }
+    ensures within { IfSome result (λ at. at < length entries.now) }
+    ensures put { IfSome result (λ at. (value : V) (d : K × V) → put K.cmp key.now value entries.now ≡ slice_set entries.now at ((slice_index_or entries.now at d).0, value)) }
+{
+    let at = place(entries, key);
+    if is_at(entries, at, key) {
+        Some(at)
     } else {
         None
     }
