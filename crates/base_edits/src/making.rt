@@ -9,7 +9,7 @@ ghost use Rattle.base_edits.specs.Inverse.{reversed, undo_by, drop_by, undo_of, 
 ghost use Rattle.base_edits.specs.Made.{without_file, without_files, with_files, file_made, made};
 
 use crate::change::{Fate, FileChange};
-use crate::edit::Edits;
+use crate::edit::{Edit, Edits};
 use crate::new_text::new_text;
 use crate::reversing::reversed_edits;
 use base_files::{FileText, Files, Path};
@@ -69,6 +69,14 @@ fn drop_added(back: &mut Vec<FileChange>, added: &[(Path, FileText)]) -> Result<
     Ok(())
 }
 
+/// The last edit of the last change, if there is one.
+fn last_edit(changed: &[FileChange]) -> Option<&Edit> {
+    match changed.last() {
+        Some(change) => change.edits.as_slice().last(),
+        None => None,
+    }
+}
+
 /// Inserts the edited text of a change at the path `to`. Adds to the inverse the change that restores the old text, with the fate `fate`.
 fn put_edited(
     alloc: Global,
@@ -86,7 +94,7 @@ fn put_edited(
 {
     let edits = change.edits.as_slice();
     let new = new_text(alloc, text, edits)?;
-    let edits = reversed_edits(alloc, text, edits, &new)?;
+    let edits = reversed_edits(alloc, text, edits, &new, last_edit(&making.back))?;
     making.files.insert(to.clone()?, new)?;
     making.back.push(FileChange {
         path: to.clone()?,

@@ -24,12 +24,13 @@ fn restored(alloc: Global, bytes: &[u8], before: Option<&Edit>) -> Result<FileTe
     }
 }
 
-/// The edits of the new text that restore the old text.
+/// The edits of the new text that restore the old text. The first may share its text with the edit `before`, of another file.
 pub(crate) fn reversed_edits(
     alloc: Global,
     text: &FileText,
     edits: &[Edit],
     new_text: &FileText,
+    before: Option<&Edit>,
 ) -> Result<Edits, AllocError>
     requires order { AreInOrder 0 edits.now }
     requires within { LieWithin (length text.now) edits.now }
@@ -46,7 +47,7 @@ pub(crate) fn reversed_edits(
         let end = start + edit.text.len();
         prove!(end <= size);
         let replaced = &old[edit.span.start..edit.span.end];
-        let text = restored(alloc, replaced, back.last())?;
+        let text = restored(alloc, replaced, back.last().or(before))?;
         back.push(Edit {
             span: Span { start, end },
             text,

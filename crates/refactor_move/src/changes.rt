@@ -15,7 +15,7 @@ use std::collections::BTreeMap;
 fn copy(alloc: Global, edits: &[Edit]) -> Result<Edits, AllocError>
     ensures { IfOk result (λ copy. copy ≡ edits.now) }
 {
-    let mut copies = Vec::new(alloc);
+    let mut copies = Vec::with_capacity(alloc, edits.len())?;
     for edit in edits {
         copies.push(Edit {
             span: edit.span,

@@ -99,7 +99,7 @@ fn changes_in(
     requires each { (q : List ℕ) → Contains paths.now q ↔ IsPathToEdit renamed.now q }
     ensures { IfOk result (λ changed. AreSourceChanges workspace.now.graph (known_in workspace.now.findings) renamed.now changed.items) }
 {
-    let mut changed = Vec::new(alloc);
+    let mut changed = Vec::with_capacity(alloc, paths.len())?;
     let mut at = SearchStart {
         package: 0,
         place: 0,

@@ -72,7 +72,7 @@ pub(crate) fn replacements(
     ensures { IfOk result (λ edits. AreReplacements (source_of file.now) name.now here.now edits.items) }
 {
     let tokens = file.pieces().tokens();
-    let mut edits = Vec::new(alloc);
+    let mut edits = Vec::with_capacity(alloc, here.len())?;
     for k in 0..here.len() {
         add_replacement(&mut edits, tokens, here[k].offset, name)?;
     }

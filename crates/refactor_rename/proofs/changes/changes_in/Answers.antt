@@ -10,8 +10,8 @@ use Rattle.refactor_rename.proofs.changes.changes_in.Goals.{in-Some+in_ok-add_ch
 
 pub loop-path-init : goal.loop-path-init
 loop-path-init c =
-    changing_first c.args.workspace.now.graph (known_in c.args.workspace.now.findings) c.args.renamed.now c.args.paths.now c.new-changed.result.items
-    c.new-changed.ensures.items
+    changing_first c.args.workspace.now.graph (known_in c.args.workspace.now.findings) c.args.renamed.now c.args.paths.now c.in_ok-changed.changed.items
+    c.in_ok-changed.ensures.items
     c.requires.order (λ path h. (c.requires.each path).1 h)
 
 pub loop-path-preserved : goal.loop-path-preserved

@@ -14,8 +14,8 @@ use Rattle.refactor_rename.proofs.replacing.replacements.Goals as goal
 
 pub loop-k-init : goal.loop-k-init
 loop-k-init c =
-    placing_first c.tokens-tokens.result.now (length (source_of c.args.file.now).cut.text) c.args.name.now c.args.here.now c.new-edits.result.items
-    c.new-edits.ensures.items
+    placing_first c.tokens-tokens.result.now (length (source_of c.args.file.now).cut.text) c.args.name.now c.args.here.now c.in_ok-edits.edits.items
+    c.in_ok-edits.ensures.items
 
 pub add_replacement-requires : goal.add_replacement-requires
 add_replacement-requires c =
