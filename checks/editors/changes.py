@@ -6,7 +6,8 @@ import os
 from checks.editors import files as f
 from checks.editors.asking import FAILED, code, everywhere, places_of, renamed, text_of_error, texts, wanted_places
 from checks.editors.client import Client, Failed
-from checks.editors.files import FILES, TAX
+from checks.editors.documents import faults_of, wanted_faults
+from checks.editors.files import FILES, SHOP, TAX
 from checks.server.server import same
 
 
@@ -301,6 +302,53 @@ def undone():
             same(applied(client, "gorefd.redo"), wanted)
             same(texts(client), FILES | wanted)
         same(client.stop(), 0)
+
+
+def undone_in_order():
+    """Undo takes a rename back, and redo does it again, where the client opens the other files for it, one after another."""
+    with Client(FILES) as client:
+        client.start()
+        client.did_open("tax/tax.go")
+        told = renamed(client, "tax/tax.go", client.found("tax/tax.go", "Rate int"), "Share")
+        wanted = client.after(told)
+        client.apply_opening(told)
+        same(texts(client), FILES | wanted)
+        same(applied(client, "gorefd.undo"), {path: FILES[path] for path in wanted})
+        same(applied(client, "gorefd.redo"), wanted)
+        same(client.stop(), 0)
+
+
+def typed_behind_a_rename():
+    """What is typed behind a rename is published at once."""
+    with Client(FILES) as client:
+        client.start()
+        client.did_open("tax/tax.go")
+        client.apply_opening(renamed(client, "tax/tax.go", client.found("tax/tax.go", "Rate int"), "Share"))
+        same((faults_of(client, "tax/tax.go") or [], faults_of(client, "shop.go") or []), ([], []))
+        client.did_change("tax/tax.go", {"text": client.text("tax/tax.go").replace("price + Share", "price + Shar")})
+        same((len(wanted_faults(client, "tax/tax.go")), faults_of(client, "tax/tax.go")), (1, wanted_faults(client, "tax/tax.go")))
+        same(client.stop(), 0)
+
+
+def saved_behind_a_rename():
+    """Where an edit is not made and something else is typed, a save publishes what is there, and so does what comes behind a request."""
+
+    def saves(client):
+        client.notify("textDocument/didSave", {"textDocument": {"uri": client.uri("shop.go")}})
+
+    def asks(client):
+        same(code(client, "textDocument/prepareRename", client.at("shop.go", client.found("shop.go", "Total"))), FAILED)
+        client.did_open("tax/tax.go")
+
+    for goes_on in (saves, asks):
+        with Client(FILES) as client:
+            client.start()
+            client.did_open("shop.go")
+            renamed(client, "shop.go", client.found("shop.go", "Total"), "Sum")
+            client.did_change("shop.go", {"text": SHOP.replace("tax.Rate", "tax.Rat")})
+            goes_on(client)
+            same((len(wanted_faults(client, "shop.go")), faults_of(client, "shop.go")), (1, wanted_faults(client, "shop.go")))
+            same(client.stop(), 0)
 
 
 def nothing_to_undo():

@@ -273,12 +273,24 @@ class Client:
             texts[path] = positions.edited(self.text(path), edits, self.encoding)
         return texts
 
+    def change_by(self, path, edits):
+        """Changes an open document by text edits, and tells so."""
+        latest = sorted(edits, key=lambda e: (e["range"]["start"]["line"], e["range"]["start"]["character"]), reverse=True)
+        self.did_change(path, *({"range": e["range"], "text": e["newText"]} for e in latest))
+
     def apply(self, edit):
         """Does as an editor does: changes open documents and tells so; writes the other files."""
         for path, (_, edits) in self.edits_of(edit).items():
             if path in self.open:
-                latest = sorted(edits, key=lambda e: (e["range"]["start"]["line"], e["range"]["start"]["character"]), reverse=True)
-                self.did_change(path, *({"range": e["range"], "text": e["newText"]} for e in latest))
+                self.change_by(path, edits)
             else:
                 text = positions.edited(self.text(path), edits, self.encoding)
                 (self.top / path).write_bytes(text.encode("utf-8"))
+
+    def apply_opening(self, edit):
+        """Does as an editor does that writes no file: changes open documents, and then opens and changes the others, one after another."""
+        found = self.edits_of(edit)
+        for path in sorted(found, key=lambda path: path not in self.open):
+            if path not in self.open:
+                self.did_open(path)
+            self.change_by(path, found[path][1])

@@ -2,9 +2,10 @@
 
     python3 -m checks.editors.editing PROGRAM
 
-Done are the editors that are installed, of Neovim and Emacs; it tells which.
+Done are the editors that are installed, of Neovim, Emacs and Vim with ALE; it tells which.
 """
 
+import functools
 import os
 import pathlib
 import shutil
@@ -19,7 +20,9 @@ HERE = pathlib.Path(__file__).parent
 EDITORS = {
     "nvim": ["nvim", "--headless", "-u", "NONE", "-i", "NONE", "-c", f"luafile {HERE / 'neovim.lua'}"],
     "emacs": ["emacs", "--batch", "-l", str(HERE / "eglot.el")],
+    "vim": ["vim", "-N", "-u", "NONE", "-i", "NONE", "-es", "-S", str(HERE / "ale.vim")],
 }
+ALE = pathlib.Path("/usr/share/vim-ale")
 
 
 def step(files, path, text, name):
@@ -36,17 +39,21 @@ def written(editor, files, *steps):
             (pathlib.Path(top) / path).parent.mkdir(parents=True, exist_ok=True)
             (pathlib.Path(top) / path).write_text(text)
         words = {"LSP_CHECK": "\n".join([*PROGRAM, "lsp"]), "LSP_STEPS": "\n".join(steps)}
-        run = subprocess.run(EDITORS[editor], cwd=top, env=os.environ | words, capture_output=True, timeout=300)
+        run = subprocess.run(EDITORS[editor], cwd=top, env=os.environ | words, stdin=subprocess.DEVNULL, capture_output=True, timeout=300)
         if run.returncode:
             raise AssertionError(f"{editor} ended with {run.returncode}: {run.stderr.decode('utf-8', 'replace')}")
         return {path: (pathlib.Path(top) / path).read_text() for path in files}
 
 
-def with_each(check):
-    """The check with each editor that is installed."""
+def is_installed(editor):
+    return shutil.which(editor) and (editor != "vim" or ALE.exists())
+
+
+def with_each(check, without=()):
+    """The check with each editor that is installed, but for some."""
 
     def checked():
-        found = [editor for editor in EDITORS if shutil.which(editor)]
+        found = [editor for editor in EDITORS if editor not in without and is_installed(editor)]
         if not found:
             raise AssertionError("no editor is installed")
         for editor in found:
@@ -73,9 +80,9 @@ def renames_twice(editor):
     same(written(editor, FILES, step(FILES, "tax/tax.go", "Rate int", "Share"), step(once, "shop.go", "Total", "Sum")), twice)
 
 
-@with_each
+@functools.partial(with_each, without=("vim",))
 def takes_back(editor):
-    """Undo takes the rename back in all files, and redo does it again."""
+    """Undo takes the rename back in all files, and redo does it again. ALE executes no command."""
     at = FILES["tax/tax.go"].index("Rate int")
     once = FILES | f.renamed(FILES, "tax/tax.go", at, "Share")
     first = step(FILES, "tax/tax.go", "Rate int", "Share")

@@ -168,7 +168,7 @@ class Server:
             if refusal.code == 14:
                 words = "this identifier would be captured by " + ("a predeclared name" if by == "universe" else self.shown(by))
             return f"{self.shown(used)}: {words}"
-        if refusal.code == 9:
+        if refusal.code == 9 and lines[0]:
             place, _, kind = lines[0].rpartition(" ")
             return f"{self.shown(place)}: {kind}"
         return WORDS.get(refusal.code, "refused")

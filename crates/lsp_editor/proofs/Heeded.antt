@@ -1,7 +1,7 @@
 -- What notifications change, by the documents that are named.
-use Rattle.std.proofs.Common.{ℕ, ℤ, ◌≡◌, Bool, true, List, Option, Some, refl, ap, sym, subst}
+use Rattle.std.proofs.Common.{ℕ, ℤ, ◌≡◌, Bool, List, Option, Some, refl, ap, sym, subst}
 use Rattle.serde_json.specs.Data.{Data}
-use Rattle.lsp_documents.specs.Documents.{ChangesDocument, OpensDocument}
+use Rattle.lsp_documents.specs.Documents.{ChangesDocument}
 use Rattle.lsp_documents.specs.declared.changes.TextChange.{TextChange}
 use Rattle.lsp_documents.specs.declared.documents.Documents.{Documents}
 use Rattle.lsp_edits.specs.Naming.{NamesFile}
@@ -10,11 +10,6 @@ use Rattle.lsp_editor.specs.Editors.{with_documents}
 use Rattle.lsp_editor.specs.Heeding.{ChangesNamed, ChangesTo, ClosesNamed, FindsDocument, HeedsNotice, OpensAsked, OpensIf, OpensNamed, TakesDocument}
 use Rattle.lsp_editor.specs.declared.editor.Editor.{Editor}
 use Rattle.lsp_editor.specs.declared.heeding.Notice.TheVariants as notice
-
--- a document is opened
-pub opened_taken : (name : List ℕ) (opened : DocumentView) (old : Editor) (documents : Documents)
-    → OpensDocument name opened.0.0 opened.0.1 opened.1 old.documents documents → OpensIf true name opened old (with_documents old documents)
-opened_taken name opened old documents opens = (documents, opens, refl)
 
 -- a document is opened, if it is taken
 pub opened_named : (name : List ℕ) (opened : DocumentView) (taken b : Bool) (old new : Editor) → TakesDocument old.naming name opened.1 taken

@@ -2,3 +2,4 @@
 pub mod Paths
 pub mod Heeded
 pub mod Noted
+pub mod Keeping

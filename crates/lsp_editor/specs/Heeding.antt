@@ -9,7 +9,7 @@ use Rattle.lsp_edits.specs.declared.naming.FolderNaming.{FolderNaming}
 use Rattle.lsp_message.specs.Stages.{is_method}
 use Rattle.lsp_params.specs.Asked.{uri_of_document}
 use Rattle.lsp_params.specs.Changed.{ChangeView, DocumentView, changes_in, changes_view, opened_document, version_of_document}
-use Rattle.lsp_editor.specs.Editors.{stale, with_documents}
+use Rattle.lsp_editor.specs.Editors.{as_opened, as_settled, stale, with_documents}
 use Rattle.lsp_editor.specs.Taken.{takes_text}
 use Rattle.lsp_editor.specs.declared.editor.Editor.{Editor}
 use Rattle.lsp_editor.specs.declared.heeding.Notice.{Notice}
@@ -36,10 +36,10 @@ abbrev pub is_known : Notice → Bool
 is_known notice.Other = false
 is_known told = true
 
--- A document is opened, where it is taken.
+-- A document is opened, where it is taken. It may have the text from before edits that are awaited.
 abbrev pub OpensIf : Bool → (name : List ℕ) → DocumentView → Editor → Editor → Type 0
 OpensIf true name opened old new = (documents : Documents) × OpensDocument name opened.0.0 opened.0.1 opened.1 old.documents documents
-    × (new ≡ with_documents old documents)
+    × (new ≡ as_opened (with_documents old documents))
 OpensIf false name opened old new = new ≡ old
 
 -- A document is opened, where it has a name below the folder.
@@ -78,13 +78,13 @@ ClosesNamed None old new = new ≡ old
 ClosesNamed (Some name) old new =
     (documents : Documents) × IsOnlyChange name None old.documents documents × (new ≡ stale (with_documents old documents))
 
--- What a notification with parameters changes.
+-- What a notification with parameters changes. Behind a save, and behind changes on the disk, no edits are awaited any more.
 abbrev pub HeedsNotice : Notice → Data → Editor → Editor → Type 0
 HeedsNotice notice.Opened params old new = OpensAsked (opened_document params) old new
 HeedsNotice notice.Changed params old new = (name : Option (List ℕ)) × FindsDocument old.naming params name × ChangesNamed name params old new
 HeedsNotice notice.Closed params old new = (name : Option (List ℕ)) × FindsDocument old.naming params name × ClosesNamed name old new
-HeedsNotice notice.Saved params old new = new ≡ old
-HeedsNotice notice.FilesChanged params old new = new ≡ stale old
+HeedsNotice notice.Saved params old new = new ≡ as_settled old
+HeedsNotice notice.FilesChanged params old new = new ≡ stale (as_settled old)
 HeedsNotice notice.Other params old new = new ≡ old
 
 -- What a notification changes, and whether faults may have changed. One without parameters changes nothing.

@@ -3,3 +3,4 @@ pub mod Folders
 pub mod Taken
 pub mod Editors
 pub mod Heeding
+pub mod Publications

@@ -73,7 +73,9 @@ fn open_taken(
     ensures { OnOk result (OpensIf true name.now (document_view opened.entry) editor.old editor.new) }
 {
     let documents = &mut editor.documents;
-    documents.open(alloc, name, opened.uri, opened.version, opened.text)
+    documents.open(alloc, name, opened.uri, opened.version, opened.text)?;
+    editor.note_opened();
+    Ok(())
 }
 
 /// Opens a document of a name, where it is taken.
@@ -209,11 +211,16 @@ fn heed_with(
         Notice::Opened => open_given(alloc, editor, params),
         Notice::Changed => change(alloc, editor, params),
         Notice::Closed => close(alloc, editor, params),
+        Notice::Saved => {
+            editor.note_settled();
+            Ok(())
+        }
         Notice::FilesChanged => {
+            editor.note_settled();
             editor.is_stale = true;
             Ok(())
         }
-        Notice::Saved | Notice::Other => Ok(()),
+        Notice::Other => Ok(()),
     }
 }
 

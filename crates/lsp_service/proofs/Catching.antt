@@ -6,7 +6,7 @@ use Rattle.base_files.specs.declared.refusal.Refusal.{Refusal}
 use Rattle.lsp_documents.specs.declared.documents.Documents.{Documents}
 use Rattle.lsp_edits.specs.declared.naming.FolderNaming.{FolderNaming}
 use Rattle.lsp_editor.specs.declared.editor.Editor.{Editor}
-use Rattle.lsp_service.specs.Catching.{CatchesUp, Done, GivesDisk, GivesDocuments, ReadsFolder, ReadsIf, ThenGives, fresh_if, settled_if}
+use Rattle.lsp_service.specs.Catching.{CatchesUp, Done, GivesDisk, GivesDocuments, ReadsFolder, ReadsIf, ThenGives, fresh_if}
 use Rattle.lsp_service.specs.declared.failure.Failure.{Failure}
 
 module _ {D : Type 0} (takes_disk : D → Documents → Workspace → Result Bool Refusal → D → Type 0)
@@ -26,7 +26,3 @@ module _ {D : Type 0} (takes_disk : D → Documents → Workspace → Result Boo
       → ReadsIf takes_disk takes_documents old.is_stale old desk read mid between
       → ThenGives takes_disk takes_documents read mid between came new after → CatchesUp takes_disk takes_documents old desk came new after
   caught_up old mid new desk between after read came first behind = (read, mid, between, first, behind)
-
-  pub settled : (old given : Editor) (desk after : D) (came : Done) → GivesDocuments takes_disk takes_documents old desk came given after
-      → ThenGives takes_disk takes_documents (Ok tt) old desk came (settled_if came given) after
-  settled old given desk after came h = (given, h, refl)

@@ -1,3 +1,3 @@
 -- The lemmas of this crate.
-pub mod Growing
+pub mod Telling
 pub mod Catching

@@ -4,7 +4,7 @@ use Rattle.base_files.specs.Workspace.{Workspace}
 use Rattle.base_files.specs.declared.refusal.Refusal.{Refusal}
 use Rattle.lsp_documents.specs.declared.documents.Documents.{Documents}
 use Rattle.lsp_edits.specs.declared.naming.FolderNaming.{FolderNaming}
-use Rattle.lsp_editor.specs.Editors.{told_texts}
+use Rattle.lsp_editor.specs.Editors.{as_settled, is_awaiting, told_texts}
 use Rattle.lsp_editor.specs.declared.editor.Editor.{Editor}
 use Rattle.lsp_told.specs.Requests.{AskedOf, asks_at, renames, takes_back, will_rename}
 use Rattle.lsp_told.specs.declared.requests.Way.{Way}
@@ -35,7 +35,7 @@ fresh_if (Err failed) editor = editor
 
 -- The client has made the edits that it was told, where it has caught up.
 abbrev pub settled_if : Done → Editor → Editor
-settled_if (Ok done) editor = record editor { awaits_edit = false }
+settled_if (Ok done) editor = as_settled editor
 settled_if (Err failed) editor = editor
 
 -- Which way a request steps, if it is one to step.
@@ -45,13 +45,13 @@ step_in (renames asked) = None
 step_in (asks_at at asked) = None
 step_in (will_rename files) = None
 
-abbrev awaits_if : Option Way → (awaits_edit : Bool) → Bool
-awaits_if (Some way) awaits_edit = awaits_edit
-awaits_if None awaits_edit = false
+abbrev awaits_if : Option Way → (awaits : Bool) → Bool
+awaits_if (Some way) awaits = awaits
+awaits_if None awaits = false
 
 -- Whether the documents are enough for a request: it steps, and the edits that were told last need not be on the disk yet.
 abbrev pub needs_documents : Editor → AskedOf → Bool
-needs_documents editor asked = awaits_if (step_in asked) editor.awaits_edit
+needs_documents editor asked = awaits_if (step_in asked) (is_awaiting editor.awaited)
 
 module _ {D : Type 0} (takes_disk : D → Documents → Workspace → Result Bool Refusal → D → Type 0)
     (takes_documents : D → Documents → Result Bool Refusal → D → Type 0) where
@@ -89,6 +89,7 @@ module _ {D : Type 0} (takes_disk : D → Documents → Workspace → Result Boo
   CatchesUp old desk came new after = (read : Done) × (mid : Editor) × (between : D)
       × ReadsIf old.is_stale old desk read mid between × ThenGives read mid between came new after
 
+  -- The desk catches up, or gets the documents that are open alone.
   abbrev pub CatchesUpBy : (by_documents : Bool) → Editor → D → Done → Editor → D → Type 0
   CatchesUpBy true old desk came new after = GivesDocuments old desk came new after
   CatchesUpBy false old desk came new after = CatchesUp old desk came new after

@@ -1,6 +1,6 @@
 //! Gives a desk the texts that the client and the disk have.
 ghost use Rattle.lsp_told.specs.Requests.{request_view};
-ghost use Rattle.lsp_service.specs.Catching.{CatchesUp, CatchesUpFor, GivesDisk, GivesDocuments, NotesTaken, ReadsFolder, ReadsIf, ThenGives, all_done, needs_documents, noted, step_in};
+ghost use Rattle.lsp_service.specs.Catching.{CatchesUp, CatchesUpBy, CatchesUpFor, GivesDisk, GivesDocuments, NotesTaken, ReadsFolder, ReadsIf, ThenGives, all_done, needs_documents, noted, step_in};
 ghost use Rattle.std.specs.Prelude.{◌≡◌};
 
 use crate::desk::RequestDesk;
@@ -123,7 +123,7 @@ fn give_and_settle<D: RequestDesk>(
 {
     match give_documents(alloc, editor, desk) {
         Ok(()) => {
-            editor.awaits_edit = false;
+            editor.note_settled();
             Ok(())
         }
         Err(failure) => Err(failure),
@@ -161,8 +161,24 @@ fn needs_documents(editor: &Editor, request: EditorRequest<'_>) -> bool
     ensures { result ≡ needs_documents editor.now (request_view request.entry) }
 {
     match step_in(request) {
-        Some(_) => editor.awaits_edit,
+        Some(_) => editor.is_awaiting(),
         None => false,
+    }
+}
+
+/// Gives the desk the documents that are open, and nothing else where these are enough.
+pub(crate) fn catch_up_by<R: Files + AllocGlobal + Clone + Drop, D: RequestDesk>(
+    rt: &R,
+    editor: &mut Editor,
+    desk: &mut D,
+    by_documents: bool,
+) -> Result<(), Failure>
+    ensures { CatchesUpBy D.takes_disk D.takes_documents by_documents editor.old desk.old result editor.new desk.new }
+{
+    if by_documents {
+        give_documents(rt.alloc(), editor, desk)
+    } else {
+        catch_up(rt, editor, desk)
     }
 }
 
@@ -175,9 +191,6 @@ pub(crate) fn catch_up_for<R: Files + AllocGlobal + Clone + Drop, D: RequestDesk
 ) -> Result<(), Failure>
     ensures { CatchesUpFor D.takes_disk D.takes_documents (request_view request.entry) editor.old desk.old result editor.new desk.new }
 {
-    if needs_documents(editor, request) {
-        give_documents(rt.alloc(), editor, desk)
-    } else {
-        catch_up(rt, editor, desk)
-    }
+    let by_documents = needs_documents(editor, request);
+    catch_up_by(rt, editor, desk, by_documents)
 }

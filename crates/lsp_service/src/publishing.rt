@@ -1,90 +1,36 @@
 //! Publishes the faults of documents.
-ghost use Rattle.std.specs.Prelude.{[], ◌≡◌, ◌++◌, ◌∷◌, IfOk, None, OnOk, Some, map, string_bytes};
+ghost use Rattle.std.specs.Prelude.{[], ◌≡◌, ◌++◌, IfOk, OnOk, Some, false, map, option_map, string_bytes};
+ghost use Rattle.serde_json.specs.Data.{no_items};
 ghost use Rattle.serde_json.specs.View.{items_view, view};
-ghost use Rattle.lsp_answers.specs.Faults.{diagnostics_params};
+ghost use Rattle.serde_json.specs.Written.{items_have_float};
 ghost use Rattle.lsp_documents.specs.Changes.{text_made};
 ghost use Rattle.lsp_documents.specs.Documents.{document_at};
+ghost use Rattle.lsp_editor.specs.Publications.{compact_lines, publication_of, publication_view, published_view};
+ghost use Rattle.lsp_told.specs.Listed.{found_list};
 ghost use Rattle.lsp_service.specs.Catching.{all_done};
-ghost use Rattle.lsp_service.specs.Publishing.{GrowsByAll, IsButPublished, Publishes, PublishesAfter, PublishesClosed, PublishesOpen, PublishesUnless, ThenPublishes, WaitsIf, is_waiting_by};
+ghost use Rattle.lsp_service.specs.Publishing.{AreToldClosed, AreToldOpen, IsToldOpen, Publishes, PublishesAfter, PublishesClosed, PublishesOpen, PublishesUnless, ThenPublishes, WaitsIf, is_waiting_by, seen_by, told_closed, told_unless};
 
-use crate::catching_up::catch_up;
+use crate::catching_up::catch_up_by;
 use crate::desk::RequestDesk;
 use base_files::Refusal;
-use lsp_answers::diagnostics_params;
 use lsp_documents::Document;
-use lsp_editor::{Editor, Published};
+use lsp_editor::{Awaited, Editor, Publication, Published, is_told, lines_of, tell_publications};
 use lsp_told::faults_of;
 use serde_json::Value;
 use std::alloc::{AllocError, Global};
 use std::rt::Files;
 use workspace_check::FileFault;
 
-/// What is published: the parameters, and what is to be kept of it by the names of the documents.
-#[derive(Drop)]
-struct Publication {
-    values: Vec<Value>,
-    notes: Vec<(String, Published)>,
+/// An open document of a name.
+#[derive(Clone, Copy)]
+struct OpenDocument<'a> {
+    name: &'a str,
+    document: &'a Document,
 }
 
-impl Publication {
-    /// Nothing.
-    fn new(alloc: Global) -> Publication
-        ensures { result.values.items ≡ [] }
-    {
-        Publication {
-            values: Vec::new(alloc),
-            notes: Vec::new(alloc),
-        }
-    }
-
-    /// Keeps what is published of a document.
-    fn note(&mut self, alloc: Global, name: &str, published: Published) -> Result<(), AllocError>
-        ensures { OnOk result (self.new.values ≡ self.old.values) }
-    {
-        let name = String::from_str(alloc, name)?;
-        self.notes.push((name, published))?;
-        Ok(())
-    }
-
-    /// Adds the faults of a document.
-    fn push(
-        &mut self,
-        alloc: Global,
-        name: &str,
-        published: Published,
-        faults: Vec<Value>,
-    ) -> Result<(), AllocError>
-        ensures { OnOk result (map view self.new.values.items ≡ map view self.old.values.items ++ diagnostics_params (string_bytes published.uri) published.version (items_view faults.items) ∷ []) }
-    {
-        let uri = published.uri.as_str();
-        let value = diagnostics_params(alloc, uri, published.version, faults)?;
-        self.note(alloc, name, published)?;
-        self.values.push(value)?;
-        Ok(())
-    }
-}
-
-/// Faults as a text, a line for each.
-fn text_of(alloc: Global, faults: &[Value]) -> Result<String, AllocError> {
-    let mut text = String::new(alloc);
-    for fault in faults {
-        text.push_str(fault.to_string(alloc)?.as_str())?;
-        text.push_str("\n")?;
-    }
-    Ok(text)
-}
-
-/// Whether this was published last of a document; of an unpublished document that is nothing.
-fn is_told(editor: &Editor, name: &str, text: &str) -> bool {
-    match editor.published.get(name) {
-        Some(published) => published.text.as_str() == text,
-        None => text.is_empty(),
-    }
-}
-
-/// What is published of an open document. `text` is what is to be kept of its faults.
+/// What is kept of an open document. `text` are the lines of its faults.
 fn published_of(document: &Document, text: String) -> Result<Published, AllocError>
-    ensures { IfOk result (λ published. (string_bytes published.uri ≡ string_bytes document.now.uri) × (published.version ≡ document.now.version)) }
+    ensures { IfOk result (λ published. (string_bytes published.uri ≡ string_bytes document.now.uri) × (published.version ≡ document.now.version) × (published.text ≡ text)) }
 {
     let uri = document.uri.clone()?;
     Ok(Published {
@@ -94,196 +40,158 @@ fn published_of(document: &Document, text: String) -> Result<Published, AllocErr
     })
 }
 
-/// An open document whose text is known.
-#[derive(Clone, Copy)]
-struct OpenText<'a> {
-    name: &'a str,
-    document: &'a Document,
-    text: &'a [u8],
+/// What is published of an open document that has these faults. `text` are their lines.
+fn publication_of(
+    alloc: Global,
+    opened: OpenDocument<'_>,
+    text: String,
+    faults: Vec<Value>,
+) -> Result<Publication, AllocError>
+    requires { string_bytes text ≡ compact_lines (items_view faults.items) }
+    ensures { IfOk result (λ told. publication_view told ≡ publication_of opened.entry.name.now (string_bytes opened.entry.document.now.uri) opened.entry.document.now.version (items_view faults.items)) }
+{
+    let name = String::from_str(alloc, opened.name)?;
+    let published = published_of(opened.document, text)?;
+    Ok(Publication {
+        name,
+        published,
+        faults,
+    })
 }
 
-/// Adds the faults of an open document, unless they are told already.
+/// What is published of an open document that has these faults, unless they were told last.
+fn unless_told(
+    alloc: Global,
+    editor: &Editor,
+    opened: OpenDocument<'_>,
+    faults: Vec<Value>,
+) -> Result<Option<Publication>, AllocError>
+    requires { items_have_float (items_view faults.items) ≡ false }
+    ensures { IfOk result (λ told. option_map publication_view told ≡ told_unless editor.now (publication_of opened.entry.name.now (string_bytes opened.entry.document.now.uri) opened.entry.document.now.version (items_view faults.items))) }
+{
+    let lines = lines_of(alloc, faults.as_slice())?;
+    if is_told(editor, opened.name, lines.as_str()) {
+        Ok(None)
+    } else {
+        let one = publication_of(alloc, opened, lines, faults)?;
+        Ok(Some(one))
+    }
+}
+
+/// What is published of an open document that has this text.
 fn tell_text(
     alloc: Global,
     editor: &Editor,
-    opened: OpenText<'_>,
-    faults: &[FileFault],
-    told: &mut Publication,
-) -> Result<(), AllocError>
-    requires there { document_at editor.now.documents opened.name.now ≡ Some opened.document.now }
-    requires text { text_made opened.document.now.text ≡ Some opened.text.now }
-    ensures { OnOk result (GrowsByAll (PublishesOpen editor.now faults.now) (map view told.old.values.items) (map view told.new.values.items)) }
+    opened: OpenDocument<'_>,
+    text: &[u8],
+    found: &[FileFault],
+) -> Result<Option<Publication>, AllocError>
+    ensures { IfOk result (λ told. IsToldOpen editor.now found.now opened.entry.name.now opened.entry.document.now (Some text.now) (option_map publication_view told)) }
 {
-    let values = faults_of(alloc, editor.telling(), opened.name, opened.text, faults)?;
-    let shown = text_of(alloc, values.as_slice())?;
-    if is_told(editor, opened.name, shown.as_str()) {
-        return Ok(());
-    }
-    let published = published_of(opened.document, shown)?;
-    told.push(alloc, opened.name, published, values)
+    let faults = faults_of(alloc, editor.telling(), opened.name, text, found)?;
+    unless_told(alloc, editor, opened, faults)
 }
 
-/// Adds the faults of an open document, if its text is known and they are not told already.
-fn tell_opened(
+/// What is published of an open document. Of one whose text is not known that is nothing.
+fn tell_document(
     alloc: Global,
     editor: &Editor,
-    file: (&str, &Document),
-    faults: &[FileFault],
-    told: &mut Publication,
-) -> Result<(), AllocError>
-    requires { document_at editor.now.documents file.0.now ≡ Some file.1.now }
-    ensures { OnOk result (GrowsByAll (PublishesOpen editor.now faults.now) (map view told.old.values.items) (map view told.new.values.items)) }
+    opened: OpenDocument<'_>,
+    found: &[FileFault],
+) -> Result<Option<Publication>, AllocError>
+    ensures { IfOk result (λ told. IsToldOpen editor.now found.now opened.entry.name.now opened.entry.document.now (text_made opened.entry.document.now.text) (option_map publication_view told)) }
 {
-    let (name, document) = file;
-    match &document.text {
-        Some(text) => {
-            let opened = OpenText {
-                name,
-                document,
-                text: text.as_slice(),
-            };
-            tell_text(alloc, editor, opened, faults, told)
+    match &opened.document.text {
+        Some(text) => tell_text(alloc, editor, opened, text.as_slice(), found),
+        None => Ok(None),
+    }
+}
+
+/// Adds what is published of a document, if it is something.
+fn push_publication(all: &mut Vec<Publication>, one: Option<Publication>) -> Result<(), AllocError>
+    ensures { OnOk result (map publication_view all.new.items ≡ map publication_view all.old.items ++ found_list (option_map publication_view one)) }
+{
+    match one {
+        Some(publication) => {
+            all.push(publication)?;
+            Ok(())
         }
         None => Ok(()),
     }
 }
 
-/// Adds the faults of a document, if it is open and its text is known, and they are not told already.
-fn tell_document(
-    alloc: Global,
-    editor: &Editor,
-    name: &str,
-    faults: &[FileFault],
-    told: &mut Publication,
-) -> Result<(), AllocError>
-    ensures { OnOk result (GrowsByAll (PublishesOpen editor.now faults.now) (map view told.old.values.items) (map view told.new.values.items)) }
-{
-    match editor.documents.get(name) {
-        Some(document) => tell_opened(alloc, editor, (name, document), faults, told),
-        None => Ok(()),
-    }
-}
-
-/// Adds the faults of all documents that are open.
+/// What is published of all documents that are open.
 fn tell_documents(
     alloc: Global,
     editor: &Editor,
-    faults: &[FileFault],
-    told: &mut Publication,
-) -> Result<(), AllocError>
-    ensures { OnOk result (GrowsByAll (PublishesOpen editor.now faults.now) (map view told.old.values.items) (map view told.new.values.items)) }
+    found: &[FileFault],
+) -> Result<Vec<Publication>, AllocError>
+    ensures { IfOk result (λ told. AreToldOpen editor.now found.now (map publication_view told.items)) }
 {
-    for (name, _) in editor.documents.entries().iter() {
-        tell_document(alloc, editor, name.as_str(), faults, told)?;
+    let mut told = Vec::new(alloc);
+    for (name, document) in editor.documents.entries().iter() {
+        let opened = OpenDocument {
+            name: name.as_str(),
+            document,
+        };
+        let one = tell_document(alloc, editor, opened, found)?;
+        push_publication(&mut told, one)?;
     }
-    Ok(())
+    Ok(told)
 }
 
-/// What is published of a document that has no faults any more.
-fn without_faults(alloc: Global, published: &Published) -> Result<Published, AllocError> {
-    let uri = published.uri.clone()?;
-    Ok(Published {
-        uri,
-        version: published.version,
-        text: String::new(alloc),
-    })
-}
-
-/// Adds that a closed document has no faults, if faults of it were published.
-fn tell_cleared(
-    alloc: Global,
-    editor: &Editor,
-    name: &str,
-    published: &Published,
-    told: &mut Publication,
-) -> Result<(), AllocError>
-    requires { document_at editor.now.documents name.now ≡ None }
-    ensures { OnOk result (GrowsByAll (PublishesClosed editor.now) (map view told.old.values.items) (map view told.new.values.items)) }
-{
-    if published.text.as_str().is_empty() {
-        return Ok(());
-    }
-    let cleared = without_faults(alloc, published)?;
-    told.push(alloc, name, cleared, Vec::new(alloc))
-}
-
-/// Adds that a document has no faults, if it is closed and faults of it were published.
-fn tell_if_closed(
-    alloc: Global,
-    editor: &Editor,
-    name: &str,
-    published: &Published,
-    told: &mut Publication,
-) -> Result<(), AllocError>
-    ensures { OnOk result (GrowsByAll (PublishesClosed editor.now) (map view told.old.values.items) (map view told.new.values.items)) }
-{
-    match editor.documents.get(name) {
-        Some(_) => Ok(()),
-        None => tell_cleared(alloc, editor, name, published, told),
-    }
-}
-
-/// Adds that documents have no faults that are closed.
-fn tell_closed(alloc: Global, editor: &Editor, told: &mut Publication) -> Result<(), AllocError>
-    ensures { OnOk result (GrowsByAll (PublishesClosed editor.now) (map view told.old.values.items) (map view told.new.values.items)) }
-{
-    for (name, published) in editor.published.iter() {
-        tell_if_closed(alloc, editor, name.as_str(), published, told)?;
-    }
-    Ok(())
-}
-
-/// Adds the faults of the documents that are open, where the desk has caught up.
+/// What is published of the documents that are open, where the desk has caught up.
 fn tell_found<D: RequestDesk>(
     alloc: Global,
     editor: &Editor,
     desk: &mut D,
-    told: &mut Publication,
-) -> Result<(), AllocError>
-    ensures { OnOk result (ThenPublishes D.takes_disk D.takes_documents D.lists all_done editor.now desk.old (map view told.old.values.items) (map view told.new.values.items) desk.new) }
+) -> Result<Vec<Publication>, AllocError>
+    ensures { IfOk result (λ told. ThenPublishes D.lists all_done editor.now desk.old (map publication_view told.items) desk.new) }
 {
     match desk.faults(alloc) {
-        Ok(faults) => tell_documents(alloc, editor, faults.as_slice(), told),
-        Err(_) => Ok(()),
-    }
-}
-
-/// Adds the faults of the documents that are open, after the desk has caught up.
-fn tell_open<R: Files + AllocGlobal + Clone + Drop, D: RequestDesk>(
-    rt: &R,
-    editor: &mut Editor,
-    desk: &mut D,
-    told: &mut Publication,
-) -> Result<(), AllocError>
-    ensures { OnOk result (PublishesAfter D.takes_disk D.takes_documents D.lists editor.old desk.old (map view told.old.values.items) (map view told.new.values.items) editor.new desk.new) }
-{
-    match catch_up(rt, editor, desk) {
-        Ok(()) => tell_found(rt.alloc(), editor, desk, told),
-        Err(failure) => {
-            drop(failure);
-            Ok(())
+        Ok(found) => tell_documents(alloc, editor, found.as_slice()),
+        Err(refusal) => {
+            drop(refusal);
+            Ok(Vec::new(alloc))
         }
     }
 }
 
-/// Adds the faults of the documents that are open, unless the client is yet to make edits.
+/// What is published of the documents that are open. Before, the desk gets these, and while edits are awaited in other files nothing else.
+fn tell_open<R: Files + AllocGlobal + Clone + Drop, D: RequestDesk>(
+    rt: &R,
+    editor: &mut Editor,
+    desk: &mut D,
+) -> Result<Vec<Publication>, AllocError>
+    ensures { IfOk result (λ told. PublishesAfter D.takes_disk D.takes_documents D.lists editor.old desk.old (map publication_view told.items) editor.new desk.new) }
+{
+    let by_documents = editor.is_awaiting();
+    match catch_up_by(rt, editor, desk, by_documents) {
+        Ok(()) => tell_found(rt.alloc(), editor, desk),
+        Err(failure) => {
+            drop(failure);
+            Ok(Vec::new(rt.alloc()))
+        }
+    }
+}
+
+/// What is published of the documents that are open; that is nothing while edits in them are awaited.
 fn tell_unless<R: Files + AllocGlobal + Clone + Drop, D: RequestDesk>(
     rt: &R,
     editor: &mut Editor,
     desk: &mut D,
     waits: bool,
-    told: &mut Publication,
-) -> Result<(), AllocError>
-    ensures { OnOk result (PublishesUnless D.takes_disk D.takes_documents D.lists waits editor.old desk.old (map view told.old.values.items) (map view told.new.values.items) editor.new desk.new) }
+) -> Result<Vec<Publication>, AllocError>
+    ensures { IfOk result (λ told. PublishesUnless D.takes_disk D.takes_documents D.lists waits editor.old desk.old (map publication_view told.items) editor.new desk.new) }
 {
     if waits {
-        Ok(())
+        Ok(Vec::new(rt.alloc()))
     } else {
-        tell_open(rt, editor, desk, told)
+        tell_open(rt, editor, desk)
     }
 }
 
-/// Whether the client is yet to make edits, by whether a document differs from its file.
+/// Whether edits in documents are awaited, by whether a document differs from its file.
 fn is_waiting_by(differs: Result<bool, Refusal>) -> bool
     ensures { result ≡ is_waiting_by differs }
 {
@@ -293,35 +201,135 @@ fn is_waiting_by(differs: Result<bool, Refusal>) -> bool
     }
 }
 
-/// Whether the client is yet to make edits that it was told.
-fn is_waiting<D: RequestDesk>(alloc: Global, editor: &Editor, desk: &mut D) -> bool
-    ensures { WaitsIf D.differs editor.now.awaits_edit editor.now.documents desk.old result desk.new }
+/// Notes whether each document has the text from behind the edits that the client was told.
+fn note_seen(editor: &mut Editor, waits: bool)
+    ensures { editor.new ≡ seen_by waits editor.old }
 {
-    if editor.awaits_edit {
-        is_waiting_by(desk.differ(alloc, &editor.documents))
+    if waits {
+        return;
+    }
+    editor.note_made();
+}
+
+/// Whether a document is yet to get the edits that the client was told. It is noted where each has them.
+fn is_document_waiting<D: RequestDesk>(alloc: Global, editor: &mut Editor, desk: &mut D) -> bool
+    ensures { WaitsIf D.differs Awaited.Documents editor.old desk.old result editor.new desk.new }
+{
+    let waits = is_waiting_by(desk.differ(alloc, &editor.documents));
+    note_seen(editor, waits);
+    waits
+}
+
+/// Whether a document is yet to get edits that the client was told.
+fn is_waiting<D: RequestDesk>(alloc: Global, editor: &mut Editor, desk: &mut D) -> bool
+    ensures { WaitsIf D.differs editor.old.awaited editor.old desk.old result editor.new desk.new }
+{
+    match editor.awaited {
+        Awaited::Documents => is_document_waiting(alloc, editor, desk),
+        Awaited::Nothing => false,
+        Awaited::OtherFiles => false,
+    }
+}
+
+/// Publishes the faults of the documents that are open.
+fn publish_open<R: Files + AllocGlobal + Clone + Drop, D: RequestDesk>(
+    rt: &R,
+    editor: &mut Editor,
+    desk: &mut D,
+    values: &mut Vec<Value>,
+) -> Result<(), AllocError>
+    ensures { OnOk result (PublishesOpen D.takes_disk D.takes_documents D.differs D.lists editor.old desk.old (map view values.old.items) (map view values.new.items) editor.new desk.new) }
+{
+    let alloc = rt.alloc();
+    let waits = is_waiting(alloc, editor, desk);
+    let told = tell_unless(rt, editor, desk, waits)?;
+    tell_publications(alloc, editor, told, values)
+}
+
+/// What is kept of a document that has no faults any more.
+fn cleared_of(alloc: Global, published: &Published) -> Result<Published, AllocError>
+    ensures { IfOk result (λ cleared. (string_bytes cleared.uri ≡ string_bytes published.now.uri) × (cleared.version ≡ published.now.version) × (string_bytes cleared.text ≡ [])) }
+{
+    let uri = published.uri.clone()?;
+    Ok(Published {
+        uri,
+        version: published.version,
+        text: String::new(alloc),
+    })
+}
+
+/// What is published of a document that has no faults any more.
+fn without_faults(
+    alloc: Global,
+    name: &str,
+    published: &Published,
+) -> Result<Publication, AllocError>
+    ensures { IfOk result (λ told. publication_view told ≡ publication_of name.now (string_bytes published.now.uri) published.now.version no_items) }
+{
+    let name = String::from_str(alloc, name)?;
+    let published = cleared_of(alloc, published)?;
+    let faults = Vec::new(alloc);
+    Ok(Publication {
+        name,
+        published,
+        faults,
+    })
+}
+
+/// What is published of a document that is closed: that it has no faults, unless none were told last.
+fn tell_cleared(
+    alloc: Global,
+    editor: &Editor,
+    name: &str,
+    published: &Published,
+) -> Result<Option<Publication>, AllocError>
+    ensures { IfOk result (λ told. option_map publication_view told ≡ told_unless editor.now (publication_of name.now (string_bytes published.now.uri) published.now.version no_items)) }
+{
+    if is_told(editor, name, "") {
+        Ok(None)
     } else {
-        false
+        let one = without_faults(alloc, name, published)?;
+        Ok(Some(one))
     }
 }
 
-/// Keeps what was published of a document.
-fn note_one(editor: &mut Editor, name: String, published: Published) -> Result<(), AllocError>
-    ensures { IsButPublished editor.old editor.new }
+/// What is published of a document that was published before, if it is closed.
+fn tell_if_closed(
+    alloc: Global,
+    editor: &Editor,
+    name: &str,
+    published: &Published,
+) -> Result<Option<Publication>, AllocError>
+    ensures { IfOk result (λ told. option_map publication_view told ≡ told_closed editor.now (document_at editor.now.documents name.now) name.now (published_view published.now)) }
 {
-    match editor.published.insert(name, published) {
-        Ok(_) => Ok(()),
-        Err(_) => Err(AllocError),
+    match editor.documents.get(name) {
+        Some(_) => Ok(None),
+        None => tell_cleared(alloc, editor, name, published),
     }
 }
 
-/// Keeps what was published.
-fn note_all(editor: &mut Editor, notes: Vec<(String, Published)>) -> Result<(), AllocError>
-    ensures { IsButPublished editor.old editor.new }
+/// What is published of the documents that are closed.
+fn tell_closed(alloc: Global, editor: &Editor) -> Result<Vec<Publication>, AllocError>
+    ensures { IfOk result (λ told. AreToldClosed editor.now (map publication_view told.items)) }
 {
-    for (name, published) in notes {
-        note_one(editor, name, published)?;
+    let mut told = Vec::new(alloc);
+    for (name, published) in editor.published.iter() {
+        let one = tell_if_closed(alloc, editor, name.as_str(), published)?;
+        push_publication(&mut told, one)?;
     }
-    Ok(())
+    Ok(told)
+}
+
+/// Publishes that the documents that are closed have no faults.
+fn publish_closed(
+    alloc: Global,
+    editor: &mut Editor,
+    values: &mut Vec<Value>,
+) -> Result<(), AllocError>
+    ensures { OnOk result (PublishesClosed editor.old (map view values.old.items) (map view values.new.items) editor.new) }
+{
+    let told = tell_closed(alloc, editor)?;
+    tell_publications(alloc, editor, told, values)
 }
 
 /// Publishes what changed in the faults of documents. Returns the parameters of what is published.
@@ -333,11 +341,8 @@ pub(crate) fn publish<R: Files + AllocGlobal + Clone + Drop, D: RequestDesk>(
     ensures { IfOk result (λ told. Publishes D.takes_disk D.takes_documents D.differs D.lists editor.old desk.old (map view told.items) editor.new desk.new) }
 {
     let alloc = rt.alloc();
-    let mut told = Publication::new(alloc);
-    tell_closed(alloc, editor, &mut told)?;
-    let waits = is_waiting(alloc, editor, desk);
-    tell_unless(rt, editor, desk, waits, &mut told)?;
-    let Publication { values, notes } = told;
-    note_all(editor, notes)?;
+    let mut values = Vec::new(alloc);
+    publish_closed(alloc, editor, &mut values)?;
+    publish_open(rt, editor, desk, &mut values)?;
     Ok(values)
 }

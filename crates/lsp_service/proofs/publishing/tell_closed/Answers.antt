@@ -1,14 +1,33 @@
 -- The answers to the goals of `publishing::tell_closed`.
-use Rattle.std.proofs.Common.{map}
-use Rattle.serde_json.specs.View.{view}
-use Rattle.lsp_service.specs.Publishing.{PublishesClosed}
-use Rattle.lsp_service.proofs.Growing.{grows_both, grows_none}
+use Rattle.std.proofs.Common.{◌∙◌, ◌≡◌, String, ap, map, option_map, subst}
+use Rattle.std.specs.Map.Iter.{deref_pair}
+use Rattle.std.specs.declared.alloc.Global.{Global}
+use Rattle.std.proofs.lemmas.Map.Iter.{rest_all, rest_more}
+use Rattle.lsp_documents.specs.Documents.{document_at}
+use Rattle.lsp_editor.specs.Publications.{publication_view, published_view}
+use Rattle.lsp_editor.specs.declared.editor.Published.{Published}
+use Rattle.lsp_told.proofs.OneMore.{left_first, left_next, none_left}
+use Rattle.lsp_service.specs.Publishing.{IsToldClosed, told_closed}
 use Rattle.lsp_service.proofs.publishing.tell_closed.Goals as goal
 
 pub loop-name-init : goal.loop-name-init
-loop-name-init c = grows_none (PublishesClosed c.args.editor.now) (map view c.args.told.now.values.items)
+loop-name-init c =
+    left_first (IsToldClosed c.args.editor.now) c.args.editor.now.published.entries c.into_iter-name-iterator.result
+    (map publication_view c.new-told.result.items)
+    (c.into_iter-name-iterator.ensures.into_iter_gives ∙ c.iter-name-items.ensures.rest) (ap (map publication_view) c.new-told.ensures.items)
 
 pub loop-name-preserved : goal.loop-name-preserved
 loop-name-preserved c =
-    grows_both (PublishesClosed c.args.editor.now) (map view c.args.told.now.values.items) (map view c.loop-name.told.values.items)
-    (map view c.tell_if_closed.new.told.values.items) c.loop-name.invariant c.in_ok-tell_if_closed.ensures
+    let e : String Global × Published = (c.in-Some.name.now, c.in-Some.published.now) in
+    let one = option_map publication_view c.in_ok-one.one in
+    let left = rest_more deref_pair _ _ _ (c.in-Some.name, c.in-Some.published) c.in-Some.is c.next.ensures.steps in
+    left_next (IsToldClosed c.args.editor.now) c.args.editor.now.published.entries c.loop-name.name-iterator c.next.new.self e
+    (map publication_view c.loop-name.told.items) (map publication_view c.push_publication.new.all.items) one left
+    c.in_ok-push_publication.ensures
+    (subst (λ name. one ≡ told_closed c.args.editor.now (document_at c.args.editor.now.documents name) name (published_view c.in-Some.published.now))
+    c.as_str.ensures.value c.in_ok-one.ensures) c.loop-name.invariant
+
+pub returns : goal.returns
+returns c =
+    none_left (IsToldClosed c.args.editor.now) c.args.editor.now.published.entries c.loop-name.name-iterator
+    (map publication_view c.loop-name.told.items) (rest_all deref_pair _ _ _ c.in-None.is c.next.ensures.steps) c.loop-name.invariant

@@ -1,9 +1,11 @@
 -- The invariants of the loops of `publishing::tell_closed`.
 use Rattle.std.proofs.Common.{map}
-use Rattle.serde_json.specs.View.{view}
-use Rattle.lsp_service.specs.Publishing.{GrowsByAll, PublishesClosed}
+use Rattle.lsp_editor.specs.Publications.{publication_view}
+use Rattle.lsp_told.proofs.OneMore.{LeftOf}
+use Rattle.lsp_service.specs.Publishing.{IsToldClosed}
 use Rattle.lsp_service.proofs.publishing.tell_closed.Given as goal
 
--- closed documents were added
+-- what is told of the documents so far
 abbrev pub invariant-loop-name : goal.invariant-loop-name
-invariant-loop-name l = GrowsByAll (PublishesClosed l.editor) (map view l.initial.told.values.items) (map view l.told.values.items)
+invariant-loop-name l =
+    LeftOf (IsToldClosed l.editor) l.editor.published.entries l.name-iterator (map publication_view l.told.items)

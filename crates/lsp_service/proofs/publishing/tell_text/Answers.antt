@@ -1,23 +1,26 @@
 -- The answers to the goals of `publishing::tell_text`.
-use Rattle.std.proofs.Common.{map}
-use Rattle.std.proofs.lemmas.Result.{on_ok_weaker}
-use Rattle.std.specs.Prelude.{string_bytes}
-use Rattle.serde_json.specs.View.{items_view, view}
-use Rattle.lsp_answers.specs.Faults.{diagnostics_params}
-use Rattle.lsp_service.specs.Publishing.{PublishesOpen}
-use Rattle.lsp_service.proofs.Growing.{grows_none, grows_one, open_told}
+use Rattle.std.proofs.Common.{◌∙◌, ◌≡◌, Option, Some, ap, option_map, string_bytes}
+use Rattle.std.proofs.lemmas.Result.{IfOk-weaker}
+use Rattle.serde_json.specs.Data.{Items}
+use Rattle.serde_json.specs.View.{items_view}
+use Rattle.serde_json.specs.Written.{items_have_float}
+use Rattle.lsp_editor.specs.Publications.{publication_of, publication_view}
+use Rattle.lsp_editor.specs.declared.publications.Publication.{Publication}
+use Rattle.lsp_service.proofs.Telling.{float_free}
+use Rattle.lsp_service.specs.Publishing.{IsToldOpen, told_unless}
 use Rattle.lsp_service.proofs.publishing.tell_text.Goals as goal
 
-pub returns-then-is_told : goal.returns-then-is_told
-returns-then-is_told c = grows_none (PublishesOpen c.args.editor.now c.args.faults.now) (map view c.args.told.now.values.items)
+pub unless_told-requires : goal.unless_told-requires
+unless_told-requires c =
+    ap items_have_float c.in_ok-faults.ensures ∙ float_free c.telling.result c.args.opened.name.now c.args.text.now c.args.found.now
 
 pub returns : goal.returns
 returns c =
-    let opened = c.args.opened in
-    let published = c.in_ok-published.published in
-    on_ok_weaker c.push.result
-    (grows_one (PublishesOpen c.args.editor.now c.args.faults.now) (map view c.args.told.now.values.items) (map view c.push.new.self.values.items)
-    (diagnostics_params (string_bytes published.uri) published.version (items_view c.in_ok-values.values.items))
-    (open_told c.args.editor.now c.args.faults.now opened.name.now opened.text.now opened.document.now c.telling.result c.requires.there
-    c.requires.text c.telling.ensures (string_bytes published.uri) published.version (items_view c.in_ok-values.values.items)
-    c.in_ok-published.ensures.0 c.in_ok-published.ensures.1 c.in_ok-values.ensures)) c.push.ensures
+    let editor = c.args.editor.now in
+    let name = c.args.opened.name.now in
+    let document = c.args.opened.document.now in
+    let told_with = λ (faults : Items). told_unless editor (publication_of name (string_bytes document.uri) document.version faults) in
+    IfOk-weaker c.unless_told.result
+    (λ (told : Option Publication). option_map publication_view told ≡ told_with (items_view c.in_ok-faults.faults.items))
+    (λ (told : Option Publication). IsToldOpen editor c.args.found.now name document (Some c.args.text.now) (option_map publication_view told))
+    (λ told is. (c.telling.result, c.telling.ensures, is ∙ ap told_with c.in_ok-faults.ensures)) c.unless_told.ensures
