@@ -63,14 +63,16 @@ module _ (old new : States) (keeps : KeepStates old) (next : State) (back : File
   numbered : next.number ≡ old.next → next ≡ record { number = old.next; files = next.files; finished = next.finished }
   numbered number = λ k. record { number = number k; files = next.files; finished = next.finished }
 
-  pub gains_state : next.number ≡ old.next → new.next ≡ old.next + 1 → new.visit ≡ old.visit + 1 → GainsState limits old next new
-  gains_state number rises visit out = λ i. record {
+  pub gains_state : next.number ≡ old.next → new.next ≡ old.next + 1 → new.visit ≡ old.visit + 1 → new.begun ≡ old.begun →
+      GainsState limits old next new
+  gains_state number rises visit begun out = λ i. record {
     limits = limits;
     earlier = earlier_now i;
     current = (current ∙ numbered number) i;
     later = later_now i;
     next = rises i;
     visit = visit i;
+    begun = begun i;
     out = out;
   }
 

@@ -31,6 +31,7 @@ module _ (s : States) (current : State) (files : current.files ≡ s.current.fil
     later = resting_states (files i) s.ways.ahead s.later.items;
     next = s.next;
     visit = s.visit;
+    begun = s.begun;
     out = out;
   }
 

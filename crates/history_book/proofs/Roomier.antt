@@ -37,6 +37,7 @@ module _ (s : States) (other : Vec Resting Global) where
       later = resting_states s.current.files s.ways.ahead (same i);
       next = s.next;
       visit = s.visit;
+      begun = s.begun;
       out = out;
     }
 
@@ -57,6 +58,7 @@ module _ (s : States) (other : Vec Resting Global) where
       later = resting_states s.current.files s.ways.ahead s.later.items;
       next = s.next;
       visit = s.visit;
+      begun = s.begun;
       out = out;
     }
 

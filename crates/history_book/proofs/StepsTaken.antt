@@ -31,7 +31,7 @@ moved_count_forth : (a b c d n : ℕ) → b ≡ d + 1 → c ≡ a + 1 → a + b 
 moved_count_forth a b c d n e1 e2 le = omega arith
 
 module _ (old new : States) (keeps : KeepStates old) (moving : Moving) (waking : Resting) (current : new.current ≡ woken moving.files waking)
-    (next : new.next ≡ old.next) (visit : new.visit ≡ old.visit + 1) where
+    (next : new.next ≡ old.next) (visit : new.visit ≡ old.visit + 1) (begun : new.begun ≡ old.begun) where
   files_now : new.current.files ≡ moving.files
   files_now = ap (λ (s : State). s.files) current
 
@@ -66,7 +66,7 @@ module _ (old new : States) (keeps : KeepStates old) (moving : Moving) (waking :
     pub goes_back : IsOneStepOn new old old new
     goes_back limits out = (
       record { visit = visit; out = refl },
-      record { limits = refl; earlier = gone_back; later = come_back; next = next },
+      record { limits = refl; earlier = gone_back; later = come_back; next = next; begun = begun },
     )
 
     pub keeps_back : KeepStates new
@@ -109,7 +109,7 @@ module _ (old new : States) (keeps : KeepStates old) (moving : Moving) (waking :
     pub goes_forth : IsOneStepOn old new old new
     goes_forth limits out = (
       record { visit = visit; out = refl },
-      record { limits = refl; earlier = come_forth; later = gone_forth; next = sym next },
+      record { limits = refl; earlier = come_forth; later = gone_forth; next = sym next; begun = sym begun },
     )
 
     pub keeps_forth : KeepStates new

@@ -47,6 +47,7 @@ content_of s limits out = record {
   later = resting_states s.current.files s.ways.ahead s.later.items;
   next = s.next;
   visit = s.visit;
+  begun = s.begun;
   out = out;
 }
 

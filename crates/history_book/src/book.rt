@@ -1,13 +1,15 @@
 //! The book: the states of a workspace, the Jobs that are out, and the journal of the events.
-ghost use Rattle.std.specs.Prelude.{◌≡◌, ◌+◌, ◌*◌, ◌≤◌, ◌↔◌, max, IfOk, IsTrue, OnErr, OnOk, length, vec_capacity};
+ghost use Rattle.std.specs.Prelude.{◌≡◌, ◌+◌, ◌*◌, ◌^◌, ◌<◌, ◌≤◌, ◌↔◌, ◌⊎◌, max, IfErr, IfOk, IsTrue, OnErr, OnOk, length, vec_capacity};
 ghost use Rattle.workspace_check.specs.Found.{KnowsVerdicts};
-ghost use Rattle.history_machine.specs.Machine.{content, opening};
+ghost use Rattle.history_machine.specs.Machine.{closed, content, opening};
+ghost use Rattle.history_machine.specs.Chapters.{HasHistory};
 ghost use Rattle.history_machine.specs.JournalSteps.{JournalStep};
 ghost use Rattle.history_machine.specs.Run.{IsReplay};
 ghost use Rattle.history_machine.specs.Step.{Step, done, entries_due};
 ghost use Rattle.history_machine.specs.declared.event.Event.TheVariants.{Commit, Deliver};
 ghost use Rattle.history_book.specs.CurrentInputs.{HasCurrentInputs};
 ghost use Rattle.history_book.specs.Handed.{handed};
+ghost use Rattle.history_machine.specs.Waiting.{FindsWaiting};
 ghost use Rattle.history_book.specs.WorkLeft.{HasJob, IsWaitEnd};
 
 use crate::changing::enter_on_current;
@@ -16,9 +18,10 @@ use crate::{Asked, Content, Handed, Question, answer};
 use base_files::{Limits, Refusal};
 use build_kept::KnownUnits;
 use build_unit::{Built, Job};
-use history_machine::{Entry, EntryKind};
+use history_machine::{Entry, EntryKind, KnownSnapshot};
 use std::alloc::{AllocError, Global};
 use std::marker::Model;
+use std::mem;
 use workspace_check::Known;
 use workspace_graph::Graph;
 use workspace_snapshot::MadeChange;
@@ -31,12 +34,13 @@ pub struct Book {
     journal: Vec<Entry>,
 }
 
-/// The invariant of each book says that its content is the replay of its journal, and that all finished units are right.
+/// The invariant of each book says that its content is what its events make of the opening one, whatever journals were closed meanwhile. It
+/// also says that all finished units are right.
 impl Model for Book {
-    ghost use Rattle.std.specs.Prelude.{◌+◌, ◌≤◌, length, vec_capacity};
+    ghost use Rattle.std.specs.Prelude.{◌+◌, ◌^◌, ◌≤◌, length, vec_capacity};
     ghost use Rattle.history_machine.specs.Codes.{entry_code};
     ghost use Rattle.history_machine.specs.Machine.{Machine, with_journal};
-    ghost use Rattle.history_machine.specs.Run.{IsReplay};
+    ghost use Rattle.history_machine.specs.Chapters.{HasHistory};
     ghost use Rattle.history_machine.specs.Current.{UnitsAreCurrent};
     ghost use Rattle.std.specs.Coded.{codes};
     ghost use Rattle.build_unit.specs.Codes.{unit_code, workspace_code};
@@ -48,13 +52,14 @@ impl Model for Book {
     ghost view = { λ a. with_journal a.content a.journal.items };
 
     ghost invariant = { λ a.
-        (a.content.next ≤ length a.journal.items + 1)
-        × (a.content.visit ≤ length a.journal.items)
-        × (a.content.out.ticket ≤ length a.journal.items)
+        (a.content.next ≤ a.content.begun + length a.journal.items + 1)
+        × (a.content.visit ≤ a.content.begun + length a.journal.items)
+        × (a.content.out.ticket ≤ a.content.begun + length a.journal.items)
         × (length a.journal.items + length a.content.out.jobs ≤ a.content.limits.journal)
         × (length a.journal.items + length a.content.out.jobs ≤ vec_capacity a.journal)
-        × ∥ IsReplay a.content.limits a.journal.items a.content ∥₁
-        × UnitsAreCurrent (with_journal a.content a.journal.items) };
+        × ∥ HasHistory (with_journal a.content a.journal.items) ∥₁
+        × UnitsAreCurrent (with_journal a.content a.journal.items)
+        × (a.content.begun ≤ 2 ^ 63) };
 }
 
 /// For how many entries the journal needs room before a Take: its own, and that of its Job.
@@ -102,12 +107,20 @@ impl Book {
         })
     }
 
-    /// The entries of the events, each with its reply, the oldest first.
+    /// The entries of the events since a journal was closed, each with its reply, the oldest first.
     pub fn journal(&self) -> &[Entry]
         ensures journal { result.now ≡ self.now.journal }
-        ensures replay { ∥ IsReplay self.now.limits self.now.journal (content self.now) ∥₁ }
+        ensures reached { ∥ HasHistory self.now ∥₁ }
+        ensures replay { self.now.begun ≡ 0 → ∥ IsReplay self.now.limits self.now.journal (content self.now) ∥₁ }
     {
         self.journal.as_slice()
+    }
+
+    /// How many entries the journals have that were closed.
+    pub fn begun(&self) -> u64
+        ensures { result ≡ self.now.begun }
+    {
+        self.content.begun()
     }
 
     /// How many entries the journal has, and is still to have for the Jobs out.
@@ -134,11 +147,25 @@ impl Book {
         self.content.has_waiting()
     }
 
+    /// The number of the first package of the current state that waits to be built. It is no event.
+    pub fn first_waiting(&self) -> Option<usize>
+        ensures { FindsWaiting self.now.current self.now.out self.now.visit result }
+    {
+        self.content.first_waiting()
+    }
+
+    /// A snapshot of the current state, with what is known of its packages. It is no event.
+    pub fn snapshot(&self) -> Result<KnownSnapshot, AllocError>
+        ensures { IfOk result (λ snapshot. snapshot ≡ record { number = self.now.current.number; limits = self.now.limits; files = self.now.current.files }) }
+    {
+        self.content.snapshot()
+    }
+
     /// How a wait for all packages ends: `Ok` where each is finished, and a refusal where none can be built any more, since the journal is
     /// full. It is `None` where the wait goes on. It is no event.
     pub fn wait_end(&self) -> Option<Result<(), Refusal>>
         ensures end { IsWaitEnd self.now result }
-        ensures replay { ∥ IsReplay self.now.limits self.now.journal (content self.now) ∥₁ }
+        ensures reached { ∥ HasHistory self.now ∥₁ }
     {
         if self.content.has_all_finished() {
             return Some(Ok(()));
@@ -248,6 +275,26 @@ impl Book {
         ensures { self.new ≡ self.old }
     {
         self.content.learn_current_units(units);
+    }
+
+    /// Closes the journal, and returns its entries. The next one begins without entries, with room for those of the Jobs out. All else stays.
+    /// It is refused for want of memory for that room, or where the closed journals would have more than 2^63 entries. Then nothing changes.
+    pub fn close_chapter(&mut self) -> Result<Vec<Entry>, Refusal>
+        ensures entries { IfOk result (λ entries. entries.items ≡ self.old.journal) }
+        ensures closed { OnOk result (self.new ≡ closed self.old) }
+        ensures why { IfErr result (λ refusal. (refusal ≡ Refusal.Memory) ⊎ ((refusal ≡ Refusal.JournalFull) × (2 ^ 63 < self.old.begun + length self.old.journal))) }
+        ensures err { OnErr result (self.new ≡ self.old) }
+    {
+        let jobs = self.content.jobs();
+        let Book { content, journal } = self;
+        let entries = journal.len() as u64;
+        if !content.has_room(entries) {
+            return Err(Refusal::JournalFull);
+        }
+        let alloc = content.alloc;
+        let room = Vec::with_capacity(alloc, jobs)?;
+        content.count_closed(entries);
+        Ok(mem::replace(journal, room))
     }
 
     /// Ends the book, and returns the length of its journal.

@@ -1,5 +1,5 @@
 //! The content of a book: the states of a workspace, the Jobs that are out, and what each event makes of them.
-ghost use Rattle.std.specs.Prelude.{◌≡◌, ◌↔◌, ℕ, [], IfOk, IsTrue, List, length};
+ghost use Rattle.std.specs.Prelude.{◌≡◌, ◌↔◌, ◌+◌, ◌^◌, ◌≤◌, ℕ, [], IfOk, IsTrue, List, length};
 ghost use Rattle.workspace_check.specs.Found.{KnowsVerdicts};
 ghost use Rattle.build_unit.specs.Jobs.{IsOut};
 ghost use Rattle.build_unit.specs.Units.{IsUnitAt};
@@ -11,7 +11,7 @@ ghost use Rattle.history_book.specs.Handed.{handed};
 ghost use Rattle.history_book.specs.Outcomes.{HasOutcome};
 ghost use Rattle.history_book.specs.WorkLeft.{AreAllFinished};
 ghost use Rattle.history_machine.specs.Step.{AnswersOrLacks, committed, done, looked, taken};
-ghost use Rattle.history_machine.specs.Waiting.{WaitsIn};
+ghost use Rattle.history_machine.specs.Waiting.{FindsWaiting, WaitsIn};
 ghost use Rattle.history_machine.specs.declared.event.Event.TheVariants.{Commit, Deliver, GiveBack, Look, Redo, Take, Undo};
 
 use crate::deliveries::{DeliveryOutcome, outcome_of, outcome_on_current};
@@ -57,6 +57,9 @@ impl Model for Content {
 
     ghost invariant = { λ a. (a.history.ways.depth ≡ a.limits.undo_depth) × KeepStates a.history × AreKnownIn a.history.current.files a.ready };
 }
+
+/// How many entries the closed journals of a book have at most.
+const MOST_CLOSED: u64 = 1 << 63;
 
 /// Whether the base of a change has these files, byte for byte.
 fn is_based(change: &MadeChange, files: &Graph) -> bool
@@ -165,6 +168,7 @@ impl Content {
                 ways: History::new(alloc, limits.undo_depth),
                 next: 1,
                 visit: 0,
+                begun: 0,
             },
             out: Out::new(alloc),
             ready: None,
@@ -192,6 +196,29 @@ impl Content {
         self.out.is_out(job)
     }
 
+    /// Whether so many more entries can be counted as closed.
+    pub fn has_room(&self, entries: u64) -> bool
+        requires { self.now.begun ≤ 2 ^ 63 }
+        ensures { IsTrue result ↔ (self.now.begun + entries ≤ 2 ^ 63) }
+    {
+        entries <= MOST_CLOSED - self.history.begun
+    }
+
+    /// How many entries the journals have that were closed.
+    pub fn begun(&self) -> u64
+        ensures { result ≡ self.now.begun }
+    {
+        self.history.begun
+    }
+
+    /// Counts the entries of a journal that is closed.
+    pub fn count_closed(&mut self, entries: u64)
+        requires { self.old.begun + entries ≤ 2 ^ 63 }
+        ensures { self.new ≡ record self.old { begun = self.old.begun + entries } }
+    {
+        self.history.begun += entries;
+    }
+
     /// Whether no Job is out.
     pub fn has_no_job_out(&self) -> bool
         ensures { IsTrue result ↔ (length self.now.out.jobs ≡ 0) }
@@ -204,6 +231,20 @@ impl Content {
         ensures { IsTrue result ↔ ((p : List ℕ) × WaitsIn self.now p) }
     {
         has_package_waiting(&self.history.current, &self.out, self.history.visit)
+    }
+
+    /// The number of the first package of the current state that waits to be built.
+    pub fn first_waiting(&self) -> Option<usize>
+        ensures { FindsWaiting self.now.current self.now.out self.now.visit result }
+    {
+        first_waiting(&self.history.current, &self.out, self.history.visit)
+    }
+
+    /// A snapshot of the current state, with what is known of its packages. The files are shared.
+    pub fn snapshot(&self) -> Result<KnownSnapshot, AllocError>
+        ensures { IfOk result (λ snapshot. snapshot ≡ record { number = self.now.current.number; limits = self.now.limits; files = self.now.current.files }) }
+    {
+        self.history.current.snapshot(self.limits)
     }
 
     /// Whether each package of the current state is finished.
@@ -437,6 +478,7 @@ impl Content {
             ways,
             next: _,
             visit: _,
+            begun: _,
         } = history;
         drop(earlier);
         drop(current);

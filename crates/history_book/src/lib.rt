@@ -2,7 +2,8 @@
 //!
 //! Crates above rely on: `Book::step` makes one step of the machine of `history_machine`, whatever the question. Its contract, `Step`, says
 //! which reply comes and which state follows. A `Question` is one event, and the type of its answers determines the replies that it may
-//! get. The content of each book is the replay of its journal.
+//! get. Each book is what its events made of the opening state, whatever journals were closed; where none was, its content is the replay of its
+//! journal.
 #![tactic(auto)]
 
 mod answering;

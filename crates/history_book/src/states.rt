@@ -33,6 +33,8 @@ pub struct States {
     pub next: u64,
     /// How many visits have begun: each change, undo and redo begins one.
     pub visit: u64,
+    /// How many entries the journals have that were closed.
+    pub begun: u64,
 }
 
 /// What an undo or a redo makes before anything changes: the files of the state that wakes, and what it knows of their packages. Beside

@@ -1,13 +1,15 @@
 -- Runs one after another, and the journals that they leave.
-use Rattle.std.proofs.Common.{◌≡◌, ℕ, ◌+◌, ◌≤◌, List, [], ◌∷◌, ◌++◌, length, refl, sym, subst, arith}
+use Rattle.std.proofs.Common.{◌≡◌, ℕ, ◌+◌, ◌^◌, ◌≤◌, List, [], ◌∷◌, ◌++◌, length, refl, sym, subst, arith}
 use mathlib.Core.Logic.{∥∥₁_map}
 use Rattle.base_files.specs.declared.limits.Limits.{Limits}
 use Rattle.history_machine.specs.declared.entry.Entry.{Entry}
 use Rattle.history_machine.specs.declared.event.Event.{Event}
 use Rattle.history_machine.specs.declared.event.Reply.{Reply}
-use Rattle.history_machine.specs.Machine.{Content, Machine, content, opening, with_journal}
-use Rattle.history_machine.specs.Run.{IsReplay, Run, RunsAreLegal}
+use Rattle.history_machine.specs.Machine.{Content, Machine, content, with_journal}
+use Rattle.history_machine.specs.Chapters.{HasHistory}
+use Rattle.history_machine.specs.Run.{Run, RunsAreLegal}
 use Rattle.history_machine.specs.Step.{HasPlace, HasRoom, EntersEvent, Step}
+use Rattle.history_machine.proofs.Reaching.{reached_on}
 use Rattle.history_machine.proofs.Stepped.{kept_bounds, kept_step}
 
 pub Run-append : (old mid new : Machine) (es fs : List (Event × Reply)) → Run old es mid → Run mid fs new → Run old (es ++ fs) new
@@ -22,28 +24,22 @@ run_on old mid new es event reply run step = Run-append old mid new es ((event, 
 pub runs_are_legal : RunsAreLegal
 runs_are_legal limits events m run = ((content m, (events, run)), (events, run))
 
-pub replay_on : (limits : Limits) (old : Machine) (event : Event) (reply : Reply) (c : Content) (journal : List Entry) →
-    Step old event reply (with_journal c journal)
-    → ∥ IsReplay limits old.journal (content old) ∥₁ → ∥ IsReplay limits journal c ∥₁
-replay_on limits old event reply c journal step before =
-    ∥∥₁_map before (λ (is : IsReplay limits old.journal (content old)).
-    (is.0 ++ (event, reply) ∷ [], run_on (opening limits) old (with_journal c journal) is.0 event reply is.1 step))
-
 -- the invariant of a book with this content and this journal, which has room for so many entries
 abbrev pub BookInvariant : Content → List Entry → ℕ → Type 0
 BookInvariant c journal capacity =
-    (c.next ≤ length journal + 1)
-    × (c.visit ≤ length journal)
-    × (c.out.ticket ≤ length journal)
+    (c.next ≤ c.begun + length journal + 1)
+    × (c.visit ≤ c.begun + length journal)
+    × (c.out.ticket ≤ c.begun + length journal)
     × (length journal + length c.out.jobs ≤ c.limits.journal)
     × (length journal + length c.out.jobs ≤ capacity)
-    × ∥ IsReplay c.limits journal c ∥₁
+    × ∥ HasHistory (with_journal c journal) ∥₁
+    × (c.begun ≤ 2 ^ 63)
 
 -- the invariant stays where the journal stays and its room doesn't shrink
 pub holds_still : (c : Content) (journal journals : List Entry) (capacity more : ℕ) → journals ≡ journal → capacity ≤ more → BookInvariant c journal capacity →
     BookInvariant c journals more
 holds_still c journal journals capacity more same grows k =
-    subst (λ (x : List Entry). BookInvariant c x more) (sym same) (k.0, k.1, k.2, k.3, omega (arith, grows, k.4), k.5)
+    subst (λ (x : List Entry). BookInvariant c x more) (sym same) (k.0, k.1, k.2, k.3, omega (arith, grows, k.4), k.5, k.6)
 
 -- the invariant stays where an event is answered, once there is room for its entry
 pub holds_on : (old new : Content) (journal mid journals : List Entry) (capacity more last : ℕ) (event : Event) (reply : Reply)
@@ -65,7 +61,8 @@ holds_on old new journal mid journals capacity more last event reply k same grow
         one.0.ticket,
         subst (λ (l : Limits). length journals + length new.out.jobs ≤ l.journal) (sym one.1) one.0.room,
         subst (λ (n : ℕ). length journals + length new.out.jobs ≤ n) (sym is_last) two.0.room,
-        subst (λ (l : Limits). ∥ IsReplay l journals new ∥₁) (sym one.1) (replay_on old.limits m event reply new journals step k.5),
+        ∥∥₁_map k.5 (λ (is : HasHistory m). reached_on m (with_journal new journals) event reply one.1 step is),
+        subst (λ (n : ℕ). n ≤ 2 ^ 63) (sym one.2) k.6,
       ),
       step,
     )

@@ -3,6 +3,7 @@ pub mod Waits
 pub mod Fresh
 pub mod Replies
 pub mod Stepped
+pub mod Reaching
 pub mod Legal
 pub mod JournalSteps
 pub mod Journaled

@@ -165,26 +165,42 @@ record Fits (m : Machine) (most : ℕ) (c : Content) : Type 0 where
   ticket : c.out.ticket ≤ m.out.ticket + 1
   room : length m.journal + 1 + length c.out.jobs ≤ most
   limits : c.limits ≡ m.limits
+  begun : c.begun ≡ m.begun
 
 module _ (m : Machine) (most : ℕ) (due : entries_due m ≤ most) where
   stays : (c : Content) → c ≡ content m → entries_due m + 1 ≤ most → Fits m most c
   stays c is room = subst (Fits m most) (sym is) (record
-      { next = omega arith; visit = omega arith; ticket = omega arith; room = omega (arith, room); limits = refl })
+      { next = omega arith; visit = omega arith; ticket = omega arith; room = omega (arith, room); limits = refl; begun = refl })
 
-  moves : (c : Content) → c.next ≡ m.next → c.visit ≡ m.visit + 1 → c.out ≡ m.out → c.limits ≡ m.limits → entries_due m + 1 ≤ most → Fits m most c
-  moves c next visit out limits room =
+  moves : (c : Content) → c.next ≡ m.next → c.visit ≡ m.visit + 1 → c.out ≡ m.out → c.limits ≡ m.limits → c.begun ≡ m.begun → entries_due m + 1 ≤ most →
+      Fits m most c
+  moves c next visit out limits begun room =
       let jobs : length c.out.jobs ≡ length m.out.jobs = ap (λ (o : JobsOut). length o.jobs) out in
       let ticket : c.out.ticket ≡ m.out.ticket = ap (λ (o : JobsOut). o.ticket) out in
-      record { next = omega (arith, next); visit = omega (arith, visit); ticket = omega (arith, ticket); room = omega (arith, room, jobs); limits = limits }
+      record {
+        next = omega (arith, next);
+        visit = omega (arith, visit);
+        ticket = omega (arith, ticket);
+        room = omega (arith, room, jobs);
+        limits = limits;
+        begun = begun;
+      }
 
   spent : (job : JobRecord) (out : JobsOut) (c : Content) → RemovesJob m.out (label_of job) out → c.out ≡ out → c.next ≡ m.next → c.visit ≡ m.visit →
-      c.limits ≡ m.limits → Fits m most c
-  spent job out c lost is next visit limits =
+      c.limits ≡ m.limits → c.begun ≡ m.begun → Fits m most c
+  spent job out c lost is next visit limits begun =
       let within : lost.place < length m.out.jobs = slice_get_within m.out.jobs lost.place (label_of job) lost.at in
       let less : length c.out.jobs + 1 ≡ length m.out.jobs = ap (λ (o : JobsOut). length o.jobs + 1) (is ∙ lost.others) ∙
       length-remove m.out.jobs lost.place within in
       let ticket : c.out.ticket ≡ m.out.ticket = ap (λ (o : JobsOut). o.ticket) (is ∙ lost.others) in
-      record { next = omega (arith, next); visit = omega (arith, visit); ticket = omega (arith, ticket); room = omega (arith, due, less); limits = limits }
+      record {
+        next = omega (arith, next);
+        visit = omega (arith, visit);
+        ticket = omega (arith, ticket);
+        room = omega (arith, due, less);
+        limits = limits;
+        begun = begun;
+      }
 
   unknown : {A : Type 0} → ¬ A → A ⊎ (entries_due m + 1 ≤ most) → entries_due m + 1 ≤ most
   unknown none room = ⊎_elim (λ a. absurd (none a)) (λ h. h) room
@@ -193,32 +209,46 @@ module _ (m : Machine) (most : ℕ) (due : entries_due m ≤ most) where
   answer_fits Look (Looked view) c room a = stays c a.1 room
   answer_fits (Log asked) (Logged number line) c room a = stays c a.1 room
   answer_fits (Commit basis change) (Done number) c room a =
-      subst (Fits m most) (sym a.2.2) (record { next = omega arith; visit = omega arith; ticket = omega arith; room = omega (arith, room); limits = refl })
+      subst (Fits m most) (sym a.2.2) (record {
+        next = omega arith;
+        visit = omega arith;
+        ticket = omega arith;
+        room = omega (arith, room);
+        limits = refl;
+        begun = refl;
+      })
   answer_fits (Commit basis change) (Refused (Moved current)) c room a = stays c a.2 room
-  answer_fits (Undo basis) (Done number) c room a = moves c a.3.next a.2.visit a.2.out a.3.limits room
+  answer_fits (Undo basis) (Done number) c room a = moves c a.3.next a.2.visit a.2.out a.3.limits a.3.begun room
   answer_fits (Undo basis) (Refused (Moved current)) c room a = stays c a.2 room
   answer_fits (Undo basis) (Refused NothingToUndo) c room a = stays c a.2 room
-  answer_fits (Redo basis) (Done number) c room a = moves c (sym a.3.next) a.2.visit a.2.out (sym a.3.limits) room
+  answer_fits (Redo basis) (Done number) c room a = moves c (sym a.3.next) a.2.visit a.2.out (sym a.3.limits) (sym a.3.begun) room
   answer_fits (Redo basis) (Refused (Moved current)) c room a = stays c a.2 room
   answer_fits (Redo basis) (Refused NothingToRedo) c room a = stays c a.2 room
   answer_fits Take (Taken job) c room a =
       let one : length (m.out.jobs ++ label_of job ∷ []) ≡ length m.out.jobs + 1 = length-append m.out.jobs (label_of job ∷ []) in
-      subst (Fits m most) (sym a.1) (record { next = omega arith; visit = omega arith; ticket = omega arith; room = omega (arith, room, one); limits = refl })
+      subst (Fits m most) (sym a.1) (record {
+        next = omega arith;
+        visit = omega arith;
+        ticket = omega arith;
+        room = omega (arith, room, one);
+        limits = refl;
+        begun = refl;
+      })
   answer_fits Take (Refused NoJob) c room a = stays c a.1 (omega (arith, room))
   answer_fits (Deliver job built) (Back NoJob back unit) c room a = stays c a.2 (unknown a.0 room)
   answer_fits (Deliver job built) (Refused (Stale current)) c room a =
       spent job a.2.0 c a.2.1 (ap (λ (x : Content). x.out) a.2.2) (ap (λ (x : Content). x.next) a.2.2) (ap (λ (x : Content). x.visit) a.2.2)
-      (ap (λ (x : Content). x.limits) a.2.2)
+      (ap (λ (x : Content). x.limits) a.2.2) (ap (λ (x : Content). x.begun) a.2.2)
   answer_fits (Deliver job built) (Refused Already) c room a =
       spent job a.2.0 c a.2.1 (ap (λ (x : Content). x.out) a.2.2) (ap (λ (x : Content). x.next) a.2.2) (ap (λ (x : Content). x.visit) a.2.2)
-      (ap (λ (x : Content). x.limits) a.2.2)
+      (ap (λ (x : Content). x.limits) a.2.2) (ap (λ (x : Content). x.begun) a.2.2)
   answer_fits (Deliver job built) (Done number) c room a =
       spent job a.3.0 c a.3.2 (ap (λ (x : Content). x.out) a.3.4) (ap (λ (x : Content). x.next) a.3.4) (ap (λ (x : Content). x.visit) a.3.4)
-      (ap (λ (x : Content). x.limits) a.3.4)
+      (ap (λ (x : Content). x.limits) a.3.4) (ap (λ (x : Content). x.begun) a.3.4)
   answer_fits (GiveBack job) (Back NoJob back unit) c room a = stays c a.2 (unknown a.0 room)
   answer_fits (GiveBack job) (Done number) c room a =
       spent job a.1.0 c a.1.1 (ap (λ (x : Content). x.out) a.1.2) (ap (λ (x : Content). x.next) a.1.2) (ap (λ (x : Content). x.visit) a.1.2)
-      (ap (λ (x : Content). x.limits) a.1.2)
+      (ap (λ (x : Content). x.limits) a.1.2) (ap (λ (x : Content). x.begun) a.1.2)
   answer_fits event reply c room a = absurd a
 
 -- the event is answered and the journal gains its entry, or nothing changes
@@ -230,30 +260,33 @@ answered_or_same old journal event (Back Memory job unit) new journals k = inr (
 answered_or_same old journal event reply new journals k =
     inl (k.0, (let kept = records old journal event reply new journals k.0 k.1 k.2 in ap length kept.journal ∙ length-append journal _))
 
--- numbers, visits and tickets are at most as many as the entries, and the entries due are within the journal's limit
+-- numbers, visits and tickets are at most as many as the entries of all journals, and the entries due are within the journal's limit
 pub record AreBounded (c : Content) (entries most : ℕ) : Type 0 where
-  pub next : c.next ≤ entries + 1
-  pub visit : c.visit ≤ entries
-  pub ticket : c.out.ticket ≤ entries
+  pub next : c.next ≤ c.begun + entries + 1
+  pub visit : c.visit ≤ c.begun + entries
+  pub ticket : c.out.ticket ≤ c.begun + entries
   pub room : entries + length c.out.jobs ≤ most
 
 pub kept_bounds : (old : Machine) (most : ℕ) (event : Event) (reply : Reply) (c : Content) (journal : List Entry) →
     AreBounded (content old) (length old.journal) most → HasPlace most (entries_due old) old.out event
-    → EntersEvent (content old) old.journal event reply c journal → AreBounded c (length journal) most × (c.limits ≡ old.limits)
+    → EntersEvent (content old) old.journal event reply c journal →
+    AreBounded c (length journal) most × (c.limits ≡ old.limits) × (c.begun ≡ old.begun)
 kept_bounds old most event reply c journal bounds place k = ⊎_elim
     (λ (is : Answers (content old) event reply c × (length journal ≡ length old.journal + 1)).
     let fits = answer_fits old most bounds.room event reply c place is.0 in (
       record {
-        next = omega (arith, fits.next, bounds.next, is.1);
-        visit = omega (arith, fits.visit, bounds.visit, is.1);
-        ticket = omega (arith, fits.ticket, bounds.ticket, is.1);
+        next = omega (arith, fits.next, bounds.next, is.1, fits.begun);
+        visit = omega (arith, fits.visit, bounds.visit, is.1, fits.begun);
+        ticket = omega (arith, fits.ticket, bounds.ticket, is.1, fits.begun);
         room = omega (arith, fits.room, is.1);
       },
       fits.limits,
+      fits.begun,
     ))
     (λ (is : (c ≡ content old) × (journal ≡ old.journal)). (
       subst (λ (x : Content). AreBounded x (length journal) most) (sym is.0)
           (subst (λ (entries : List Entry). AreBounded (content old) (length entries) most) (sym is.1) bounds),
       ap (λ (x : Content). x.limits) is.0,
+      ap (λ (x : Content). x.begun) is.0,
     ))
     (answered_or_same (content old) old.journal event reply c journal k)

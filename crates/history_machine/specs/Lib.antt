@@ -11,5 +11,6 @@ pub mod Step
 pub mod JournalSteps
 pub mod MayReply
 pub mod Run
+pub mod Chapters
 pub mod Current
 pub mod Resting

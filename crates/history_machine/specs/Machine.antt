@@ -27,6 +27,8 @@ pub record Content : Type 0 where
   pub next : ℕ
   -- how many visits have begun: each admitted change, undo and redo begins one
   pub visit : ℕ
+  -- how many entries the journals have that were closed
+  pub begun : ℕ
   -- the Jobs that are out
   pub out : JobsOut
 
@@ -38,13 +40,23 @@ pub record Machine : Type 0 where
   pub later : List State
   pub next : ℕ
   pub visit : ℕ
+  pub begun : ℕ
   pub out : JobsOut
-  -- the entries of the events, each with its reply, the oldest first
+  -- the entries of the events since a journal was closed, each with its reply, the oldest first
   pub journal : List Entry
 
 -- the machine without its journal
 abbrev pub content : Machine → Content
-content m = record { limits = m.limits; earlier = m.earlier; current = m.current; later = m.later; next = m.next; visit = m.visit; out = m.out }
+content m = record {
+  limits = m.limits;
+  earlier = m.earlier;
+  current = m.current;
+  later = m.later;
+  next = m.next;
+  visit = m.visit;
+  begun = m.begun;
+  out = m.out;
+}
 
 -- the machine with this content and this journal
 abbrev pub with_journal : Content → List Entry → Machine
@@ -55,10 +67,14 @@ with_journal c journal = record {
   later = c.later;
   next = c.next;
   visit = c.visit;
-  out =
-      c.out;
+  begun = c.begun;
+  out = c.out;
   journal = journal;
 }
+
+-- the machine once its journal is closed: the next one has no entries yet, and all else stays
+abbrev pub closed : Machine → Machine
+closed m = record m { begun = m.begun + length m.journal; journal = [] }
 
 -- all states, from the oldest to the newest
 abbrev pub states : Content → List State
@@ -93,6 +109,7 @@ pub record IsOneBefore (n m : Content) : Type 0 where
   pub earlier : m.earlier ≡ n.earlier ++ n.current ∷ []
   pub later : n.later ≡ m.later ++ m.current ∷ []
   pub next : n.next ≡ m.next
+  pub begun : n.begun ≡ m.begun
 
 -- a visit begins, and the Jobs out stay
 pub record BeginsVisit (old new : Content) : Type 0 where
@@ -168,6 +185,7 @@ opening limits = record {
   later = [];
   next = 1;
   visit = 0;
+  begun = 0;
   out = record { ticket = 0; jobs = [] };
   journal = [];
 }

@@ -2,9 +2,9 @@
 ghost use Rattle.std.specs.Prelude.{◌≡◌, ◌↔◌, IfOk, IsTrue};
 ghost use Rattle.history_machine.specs.Kinds.{kind_name, reason_refusal};
 
-use crate::comparing::{SameParts, same_sets};
 use base_edits::EditSet;
 use base_files::Refusal;
+use base_packed::PackedSet;
 use std::alloc::{AllocError, Global};
 use std::marker::Model;
 use std::sync::Arc;
@@ -84,9 +84,9 @@ pub struct Line {
     pub out: Told,
 }
 
-/// The edits of a change. A clone shares them.
+/// The edits of a change, packed. A clone shares them.
 pub struct SharedEdits {
-    edits: Arc<EditSet, Global>,
+    edits: Arc<PackedSet, Global>,
 }
 
 /// Written out, so that crates above call it and need no proof of how each part is dropped.
@@ -107,29 +107,31 @@ impl Model for SharedEdits {
 }
 
 impl SharedEdits {
-    /// Moves an edit set behind a shared pointer.
+    /// Packs an edit set, and moves it behind a shared pointer.
     pub(crate) fn new(alloc: Global, edits: EditSet) -> Result<SharedEdits, AllocError>
         ensures { IfOk result (λ shared. shared ≡ edits) }
     {
-        let edits = Arc::new(alloc, edits)?;
+        let packed = PackedSet::new(alloc, &edits)?;
+        let edits = Arc::new(alloc, packed)?;
         Ok(SharedEdits { edits })
     }
 
-    /// The edit set.
-    pub fn edits(&self) -> &EditSet
-        ensures { result.now ≡ self.now }
+    /// Whether both are the same edits. Their texts are compared byte by byte.
+    fn same(&self, other: &SharedEdits) -> bool
+        ensures { IsTrue result ↔ (self.now ≡ other.now) }
     {
-        &self.edits
+        self.edits.same(&other.edits)
     }
 }
 
-impl SameParts for Option<SharedEdits> {
-    fn same(&self, other: &Option<SharedEdits>) -> bool {
-        match (self, other) {
-            (None, None) => true,
-            (Some(edits), Some(others)) => same_sets(edits.edits(), others.edits()),
-            _ => false,
-        }
+/// Whether both have the same edits, or none.
+fn have_same_edits(one: &Option<SharedEdits>, other: &Option<SharedEdits>) -> bool
+    ensures { IsTrue result ↔ (one.now ≡ other.now) }
+{
+    match (one, other) {
+        (None, None) => true,
+        (Some(edits), Some(others)) => edits.same(others),
+        _ => false,
     }
 }
 
@@ -185,6 +187,8 @@ impl Entry {
     pub fn same(&self, other: &Entry) -> bool
         ensures { IsTrue result ↔ (self.now ≡ other.now) }
     {
-        self.line == other.line && self.subject == other.subject && self.edits.same(&other.edits)
+        self.line == other.line
+            && self.subject == other.subject
+            && have_same_edits(&self.edits, &other.edits)
     }
 }

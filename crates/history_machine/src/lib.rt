@@ -4,7 +4,6 @@
 //! redo restore states, refusals change nothing, numbers are used once, and finished units are those of the current files.
 #![tactic(auto)]
 
-mod comparing;
 mod entry;
 mod entry_edits;
 mod event;

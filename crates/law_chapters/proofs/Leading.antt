@@ -1,8 +1,9 @@
 -- Runs over borders: they leave chapters, and lead as runs within one chapter do.
 use Rattle.std.proofs.Common.{◌≡◌, ◌+◌, ◌≤◌, List, [], ◌∷◌, ◌++◌, Some, None, refl, sym, ap, subst, ◌∙◌, arith}
 use Rattle.std.specs.List.{AllByRecursion}
+use Rattle.history_machine.specs.Chapters.{LeadsOver, Occurrence, RunsOver}
 use Rattle.history_machine.specs.Current.{UnitsAreCurrent}
-use Rattle.history_machine.specs.Machine.{Content, Machine, content, opening, with_journal}
+use Rattle.history_machine.specs.Machine.{Content, Machine, closed, content, opening, with_journal}
 use Rattle.history_machine.specs.Run.{Run}
 use Rattle.history_machine.specs.declared.entry.Entry.{Entry}
 use Rattle.history_machine.specs.declared.event.Event.{Event}
@@ -12,20 +13,20 @@ use Rattle.history_machine.proofs.Legal.{run_on}
 use Rattle.history_machine.proofs.NumberLaws.{run_next}
 use Rattle.history_machine.proofs.RunLaws.{SameReach, newest-push, quiet_run}
 use Rattle.law_history.proofs.Reached.{redo_reaches, undo_reaches}
-use Rattle.law_chapters.specs.Borders.{FinishedStayCurrent, IsQuiet, NumbersRiseOverBorders, Occurrence, RedoRestoresOverBorders, RunsOver}
-use Rattle.law_chapters.specs.Borders.{RunsLeaveChapters, UndoRestoresOverBorders, closed}
-use Rattle.law_chapters.specs.Chapters.{AreChapters}
+use Rattle.law_chapters.specs.Borders.{FinishedStayCurrent, IsQuiet, NumbersRiseOverBorders, RedoRestoresOverBorders, RunsLeaveChapters}
+use Rattle.law_chapters.specs.Borders.{UndoRestoresOverBorders}
 use Rattle.law_chapters.proofs.Replaying.{opening_units}
 
 -- a chapter has begun, and the run goes on from there
 leaves : (start : Content) (begun : List (Event × Reply)) (old : Machine) (course : List Occurrence) (journals : List (List Entry)) (new : Machine) →
-    Run (with_journal start []) begun old → RunsOver old course journals new → AreChapters start (journals ++ new.journal ∷ []) (content new)
+    Run (with_journal start []) begun old → RunsOver old course journals new → LeadsOver start journals new.journal (content new)
 leaves start begun old [] journals new run h =
     let whole : Run (with_journal start []) begun new = subst (λ (m : Machine). Run (with_journal start []) begun m) (sym h.1) run in
-    subst (λ (js : List (List Entry)). AreChapters start (js ++ new.journal ∷ []) (content new)) (sym h.0) (content new, (begun, whole), refl)
+    subst (λ (js : List (List Entry)). LeadsOver start js new.journal (content new)) (sym h.0) (start, refl, (begun, whole))
 leaves start begun old (None ∷ course) journals new run h =
-    subst (λ (js : List (List Entry)). AreChapters start (js ++ new.journal ∷ []) (content new)) (sym h.1)
-    (content old, (begun, run), leaves (content old) [] (closed old) course h.0 new refl h.2)
+    let rest = leaves (content (closed old)) [] (closed old) course h.0 new refl h.2 in
+    subst (λ (js : List (List Entry)). LeadsOver start js new.journal (content new)) (sym h.1)
+    (rest.0, (content old, (begun, run), rest.1), rest.2)
 leaves start begun old (Some e ∷ course) journals new run h =
     leaves start (begun ++ e ∷ []) h.0 course journals new (run_on (with_journal start []) old h.0 begun e.0 e.1 run h.1) h.2
 
@@ -37,7 +38,8 @@ runs_leave_chapters limits course journals m h = leaves (content (opening limits
 quiet_over : (old : Machine) (course : List Occurrence) (journals : List (List Entry)) (new : Machine) → RunsOver old course journals new →
     AllByRecursion IsQuiet course → SameReach (content old) (content new)
 quiet_over old [] journals new h quiet = record { earlier = ap (λ (m : Machine). m.earlier) h.1; later = ap (λ (m : Machine). m.later) h.1 }
-quiet_over old (None ∷ course) journals new h quiet = quiet_over (closed old) course h.0 new h.2 quiet.1
+quiet_over old (None ∷ course) journals new h quiet =
+    let rest = quiet_over (closed old) course h.0 new h.2 quiet.1 in record { earlier = rest.earlier; later = rest.later }
 quiet_over old (Some e ∷ course) journals new h quiet =
     let first = quiet_run old (e ∷ []) h.0 (h.0, h.1, refl) (quiet.0, tt) in
     let rest = quiet_over h.0 course journals new h.2 quiet.1 in

@@ -3,6 +3,7 @@ use Rattle.std.specs.Prelude.{◌≡◌, ℕ, ◌<◌, ⊤, List, [], ◌∷◌,
 use Rattle.std.specs.List.{AllByRecursion}
 use Rattle.base_files.specs.declared.limits.Limits.{Limits}
 use Rattle.workspace_snapshot.specs.declared.change.Change.{Change}
+use Rattle.history_machine.specs.Chapters.{LeadsOver, Occurrence, RunsOver}
 use Rattle.history_machine.specs.Current.{UnitsAreCurrent}
 use Rattle.history_machine.specs.Machine.{Machine, content, opening}
 use Rattle.history_machine.specs.Run.{IsAdmitted, Restores}
@@ -12,27 +13,11 @@ use Rattle.history_machine.specs.declared.event.Event.{Event}
 use Rattle.history_machine.specs.declared.event.Event.TheVariants.{Commit, Undo, Redo}
 use Rattle.history_machine.specs.declared.event.Reply.{Reply}
 use Rattle.history_machine.specs.declared.event.Reply.TheVariants.{Done}
-use Rattle.law_chapters.specs.Chapters.{AreChapters}
 
--- What happens next in a history: an event gets a reply, or, where there is none, the journal is closed.
-abbrev pub Occurrence : Type 0
-Occurrence = Option (Event × Reply)
-
--- the machine once its journal is closed: the next one has no entries yet, and all else stays
-abbrev pub closed : Machine → Machine
-closed m = record m { journal = [] }
-
--- From old, the machine may answer these events and close its journal, in order, and become new. Meanwhile it closes these journals.
-abbrev pub RunsOver : Machine → List Occurrence → List (List Entry) → Machine → Type 0
-RunsOver old [] journals new = (journals ≡ []) × (new ≡ old)
-RunsOver old (None ∷ course) journals new =
-    (later : List (List Entry)) × (journals ≡ old.journal ∷ later) × RunsOver (closed old) course later new
-RunsOver old (Some e ∷ course) journals new = (mid : Machine) × Step old e.0 e.1 mid × RunsOver mid course journals new
-
--- Such a run from the opening state leaves chapters: those that were closed, and the journal at the end.
+-- A run over borders from the opening state leaves chapters: those that were closed, and the journal at the end.
 abbrev pub RunsLeaveChapters : Type 0
 RunsLeaveChapters = (limits : Limits) (course : List Occurrence) (journals : List (List Entry)) (m : Machine) →
-    RunsOver (opening limits) course journals m → AreChapters (content (opening limits)) (journals ++ m.journal ∷ []) (content m)
+    RunsOver (opening limits) course journals m → LeadsOver (content (opening limits)) journals m.journal (content m)
 
 -- no change, undo or redo is admitted
 abbrev pub IsQuiet : Occurrence → Type 0

@@ -1,8 +1,8 @@
--- The end of a wait, as was found. The invariant of `Book` says that its content is the replay of its journal.
+-- The end of a wait, as was found. The invariant of `Book` says what its events make of the opening content.
 use Rattle.std.proofs.Common.{◌≡◌, ◌↔◌, IsTrue, length, refl, sym, subst, ◌∙◌}
 use Rattle.std.proofs.lemmas.Bool.{false≢true}
-use Rattle.history_machine.specs.Machine.{Machine, content, with_journal}
-use Rattle.history_machine.specs.Run.{IsReplay}
+use Rattle.history_machine.specs.Machine.{Machine, with_journal}
+use Rattle.history_machine.specs.Chapters.{HasHistory}
 use Rattle.history_book.specs.WorkLeft.{AreAllFinished}
 use Rattle.history_book.proofs.book.Book.wait_end.Goals as goal
 
@@ -10,8 +10,8 @@ pub returns-then-has_all_finished-clause-end : goal.returns-then-has_all_finishe
 returns-then-has_all_finished-clause-end c =
     subst (λ (x : Machine). AreAllFinished x.current) c.self.view_is (c.has_all_finished.ensures.0 c.if-has_all_finished.true)
 
-pub returns-then-has_all_finished-clause-replay : goal.returns-then-has_all_finished-clause-replay
-returns-then-has_all_finished-clause-replay c = subst (λ (x : Machine). ∥ IsReplay x.limits x.journal (content x) ∥₁) c.self.view_is c.self.invariant.5
+pub returns-then-has_all_finished-clause-reached : goal.returns-then-has_all_finished-clause-reached
+returns-then-has_all_finished-clause-reached c = subst (λ (x : Machine). ∥ HasHistory x ∥₁) c.self.view_is c.self.invariant.5
 
 pub returns-then-not-has_no_job_out-clause-end : goal.returns-then-not-has_no_job_out-clause-end
 returns-then-not-has_no_job_out-clause-end c =
@@ -23,8 +23,8 @@ returns-then-not-has_no_job_out-clause-end c =
     let jobs = subst (λ (x : Machine). IsTrue c.has_no_job_out.result ↔ (length x.out.jobs ≡ 0)) c.self.view_is none in
     (unfinished, λ stuck. false≢true (sym c.if-not-has_no_job_out.true ∙ jobs.1 stuck.2))
 
-pub returns-then-not-has_no_job_out-clause-replay : goal.returns-then-not-has_no_job_out-clause-replay
-returns-then-not-has_no_job_out-clause-replay c = subst (λ (x : Machine). ∥ IsReplay x.limits x.journal (content x) ∥₁) c.self.view_is c.self.invariant.5
+pub returns-then-not-has_no_job_out-clause-reached : goal.returns-then-not-has_no_job_out-clause-reached
+returns-then-not-has_no_job_out-clause-reached c = subst (λ (x : Machine). ∥ HasHistory x ∥₁) c.self.view_is c.self.invariant.5
 
 pub returns-then-not-has_room-clause-end : goal.returns-then-not-has_room-clause-end
 returns-then-not-has_room-clause-end c =
@@ -36,8 +36,8 @@ returns-then-not-has_room-clause-end c =
     let jobs = subst (λ (x : Machine). IsTrue c.has_no_job_out.result ↔ (length x.out.jobs ≡ 0)) c.self.view_is none in
     (refl, (unfinished, λ room. false≢true (sym c.if-not-has_room.true ∙ c.has_room.ensures.1 room), jobs.0 c.if-not-has_no_job_out.false))
 
-pub returns-then-not-has_room-clause-replay : goal.returns-then-not-has_room-clause-replay
-returns-then-not-has_room-clause-replay c = subst (λ (x : Machine). ∥ IsReplay x.limits x.journal (content x) ∥₁) c.self.view_is c.self.invariant.5
+pub returns-then-not-has_room-clause-reached : goal.returns-then-not-has_room-clause-reached
+returns-then-not-has_room-clause-reached c = subst (λ (x : Machine). ∥ HasHistory x ∥₁) c.self.view_is c.self.invariant.5
 
 pub returns-clause-end : goal.returns-clause-end
 returns-clause-end c =
@@ -47,5 +47,5 @@ returns-clause-end c =
     let unfinished : AreAllFinished c.args.self.now.current → ⊥ = λ is. false≢true (sym c.if-has_all_finished.false ∙ all.1 is) in
     (unfinished, λ stuck. stuck.1 (c.has_room.ensures.0 c.if-not-has_room.false))
 
-pub returns-clause-replay : goal.returns-clause-replay
-returns-clause-replay c = subst (λ (x : Machine). ∥ IsReplay x.limits x.journal (content x) ∥₁) c.self.view_is c.self.invariant.5
+pub returns-clause-reached : goal.returns-clause-reached
+returns-clause-reached c = subst (λ (x : Machine). ∥ HasHistory x ∥₁) c.self.view_is c.self.invariant.5

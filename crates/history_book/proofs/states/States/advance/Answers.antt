@@ -19,6 +19,7 @@ returns-clause-keeps c =
       ways = c.push.new.self;
       next = h.next + 1;
       visit = h.visit + 1;
+      begun = h.begun;
     } in
     keeps_gained h new c.requires.keeps c.args.next c.args.back c.requires.back c.in_ok-rest.rest c.in_ok-rest.ensures c.reserve.new.self room.behind room.depth
     (ap (λ (x : Inverses). x.behind) pushed ∙ ap (λ (b : FileChanges). latest c.reserve.new.self.depth (c.reserve.new.self.behind ++ b ∷ [])) back)
@@ -40,10 +41,11 @@ returns-clause-ok c =
       ways = c.push.new.self;
       next = h.next + 1;
       visit = h.visit + 1;
+      begun = h.begun;
     } in
     gains_state h new c.requires.keeps c.args.next c.args.back c.requires.back c.in_ok-rest.rest c.in_ok-rest.ensures c.reserve.new.self room.behind room.depth
     (ap (λ (x : Inverses). x.behind) pushed ∙ ap (λ (b : FileChanges). latest c.reserve.new.self.depth (c.reserve.new.self.behind ++ b ∷ [])) back)
     (ap (λ (x : Inverses). x.ahead) pushed) (ap (λ (x : Inverses). x.depth) pushed) c.replace.ensures.after c.args.limits c.requires.depth
     (c.keep_newest.ensures.items ∙ ap (latest c.args.limits.undo_depth) (c.push_reserved.ensures.items
     ∙ ap (λ xs. xs ++ c.in_ok-rest.rest ∷ []) c.make_room_for_one.ensures.items))
-    c.clear.ensures.items c.requires.number refl refl
+    c.clear.ensures.items c.requires.number refl refl refl

@@ -35,10 +35,11 @@ returns-clause-moves c =
       ways = c.went_back.new.self;
       next = h.next;
       visit = h.visit + 1;
+      begun = h.begun;
     } in
     let left = taken_last h.earlier.items c.pop.new.self.items c.pop.result c.unwrap-waking.result c.pop.ensures.items c.unwrap-waking.ensures in
     let steps = subst (λ (t : FileChanges). StepsBack h.ways t c.went_back.new.self) c.take_up.ensures c.went_back.ensures in
-    goes_back h new c.requires.keeps c.args.moving c.unwrap-waking.result (c.replace-left.ensures.after ∙ c.wake.ensures) refl refl steps c.requires.has left
+    goes_back h new c.requires.keeps c.args.moving c.unwrap-waking.result (c.replace-left.ensures.after ∙ c.wake.ensures) refl refl refl steps c.requires.has left
     c.push_reserved.ensures.items
 
 pub returns-clause-keeps : goal.returns-clause-keeps
@@ -51,8 +52,9 @@ returns-clause-keeps c =
       ways = c.went_back.new.self;
       next = h.next;
       visit = h.visit + 1;
+      begun = h.begun;
     } in
     let left = taken_last h.earlier.items c.pop.new.self.items c.pop.result c.unwrap-waking.result c.pop.ensures.items c.unwrap-waking.ensures in
     let steps = subst (λ (t : FileChanges). StepsBack h.ways t c.went_back.new.self) c.take_up.ensures c.went_back.ensures in
-    keeps_back h new c.requires.keeps c.args.moving c.unwrap-waking.result (c.replace-left.ensures.after ∙ c.wake.ensures) refl refl steps c.requires.has left
+    keeps_back h new c.requires.keeps c.args.moving c.unwrap-waking.result (c.replace-left.ensures.after ∙ c.wake.ensures) refl refl refl steps c.requires.has left
     c.push_reserved.ensures.items
