@@ -34,6 +34,38 @@ fn take_in(files: &Graph, verdict: &KnownVerdict, known: &mut Known) -> Result<(
     Ok(())
 }
 
+/// Takes in verdicts on packages of a workspace, each if no verdict on its package is known.
+pub fn take_in_each(
+    files: &Graph,
+    found: &[KnownVerdict],
+    known: &mut Known,
+) -> Result<(), AllocError>
+    requires found { AreVerdictsOf files.now found.now }
+    requires room { length (package_paths files.now) ≤ length known.old.verdicts.items }
+    requires known { KnowsVerdicts files.now known.old }
+    ensures room { OnOk result (length (package_paths files.now) ≤ length known.new.verdicts.items) }
+    ensures known { OnOk result (KnowsVerdicts files.now known.new) }
+{
+    for verdict in found {
+        take_in(files, verdict, known)?;
+    }
+    Ok(())
+}
+
+/// A copy of what is known of a workspace, with a place for each package.
+pub(crate) fn copy_with_places(
+    alloc: Global,
+    files: &Graph,
+    own: &Known,
+) -> Result<Known, AllocError>
+    requires { KnowsVerdicts files.now own.now }
+    ensures room { IfOk result (λ known. length (package_paths files.now) ≤ length known.verdicts.items) }
+    ensures known { IfOk result (KnowsVerdicts files.now) }
+{
+    let known = own.copy(alloc, files.len())?;
+    Ok(known)
+}
+
 /// Adds verdicts on some packages of a workspace to what is known of it.
 fn with_verdicts(
     alloc: Global,
@@ -45,10 +77,8 @@ fn with_verdicts(
     requires found { AreVerdictsOf files.now found.now }
     ensures { IfOk result (KnowsVerdicts files.now) }
 {
-    let mut known = own.get().copy(alloc, files.len())?;
-    for verdict in found {
-        take_in(files, verdict, &mut known)?;
-    }
+    let mut known = copy_with_places(alloc, files, own.get())?;
+    take_in_each(files, found, &mut known)?;
     SharedKnown::new(alloc, known)
 }
 

@@ -6,6 +6,7 @@
 //! makes only the events of its turns, and in each turn hands in the Job that it took (`TakesTurn`).
 #![tactic(auto)]
 
+mod ahead;
 mod caller;
 mod comparing;
 mod free_seats;
@@ -20,6 +21,7 @@ mod shared;
 mod work_turn;
 mod working;
 
+pub use ahead::{Ahead, Crew, NextStep};
 pub use caller::{AtSeat, Caller};
 pub use comparing::{are_counted, merged, seats_apart, seats_in_journal, seats_rise};
 pub use free_seats::FreeSeats;

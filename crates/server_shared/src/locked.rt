@@ -16,6 +16,7 @@ ghost use Rattle.server_shared.specs.SettledBook.{book_in};
 ghost use Rattle.server_shared.specs.Settled.{IsSettled, receipt_count};
 ghost use Rattle.server_shared.specs.LimitNumbers.{limit_numbers};
 
+use crate::ahead::{Crew, NextStep};
 use crate::comparing::merged;
 use crate::free_seats::FreeSeats;
 use crate::opening::Opening;
@@ -27,7 +28,7 @@ use build_kept::KnownUnits;
 use build_unit::Job;
 use history_book::{Book, Looking, Question, Taking};
 use history_machine::{Entry, EntryKind, Line, Told, View};
-use std::alloc::AllocError;
+use std::alloc::{AllocError, Global};
 use std::sync::ledger::{self, Share};
 use workspace_check::Known;
 use workspace_graph::Graph;
@@ -41,10 +42,13 @@ pub struct Locked<L: Opening> {
     pub is_stopped: bool,
     /// How many events changed the workspace or delivered a Job (`is_news`).
     pub news: u64,
+    /// The workers, and what they judge before their Jobs. Only speed rests on it.
+    pub(crate) crew: Crew,
     ghost counted: { length book.journal ≡ from + count.total },
     ghost from_is: { from ≡ L.from },
     ghost most_is: { book.limits.journal ≡ L.most },
     ghost limits_are: { limit_numbers book.limits ≡ L.limits },
+    ghost none_closed: { book.begun ≡ 0 },
 }
 
 /// Makes one step of a book, and returns a copy of the entry that it adds.
@@ -53,8 +57,18 @@ fn step_book<Q: Question>(book: &mut Book, question: Q) -> (Q::Answer, Option<En
     ensures kind { MayReply (Q.event question) (Q.reply result.0) }
     ensures most { book.new.limits.journal ≡ book.old.limits.journal }
     ensures limits { limit_numbers book.new.limits ≡ limit_numbers book.old.limits }
+    ensures begun { book.new.begun ≡ book.old.begun }
 {
     book.journal_step(question)
+}
+
+/// How many entries the journal of a book has, where none was closed.
+fn entries_now(book: &Book) -> u64
+    requires { book.now.begun ≡ 0 }
+    ensures index { result ≡ length book.now.journal }
+    ensures legal { IsReplayed book.now }
+{
+    book.journal().len() as u64
 }
 
 /// What is known of units, if it is of packages of these files.
@@ -122,7 +136,7 @@ impl<L: Opening> Locked<L> {
         ensures amount { share.new.amount ≡ share.old.amount + (if is_some result.1 then 1 else 0) }
         ensures parts { share.new.parts ≡ share.old.parts }
     {
-        let index = self.book.journal().len() as u64;
+        let index = entries_now(&self.book);
         let Locked {
             book,
             count,
@@ -224,6 +238,63 @@ impl<L: Opening> Locked<L> {
         self.book.learn(files, known);
     }
 
+    /// Counts a worker.
+    pub fn join(&mut self)
+        ensures book { self.new.book ≡ self.old.book }
+        ensures stopped { self.new.is_stopped ≡ self.old.is_stopped }
+        ensures news { self.new.news ≡ self.old.news }
+    {
+        self.crew.join();
+    }
+
+    /// What a worker does before it takes its next Job, unless memory is wanting.
+    fn looked_ahead(&mut self, alloc: Global) -> Result<NextStep, AllocError>
+        ensures book { self.new.book ≡ self.old.book }
+        ensures stopped { self.new.is_stopped ≡ self.old.is_stopped }
+        ensures news { self.new.news ≡ self.old.news }
+    {
+        if self.is_stopped || self.crew.is_alone() {
+            return Ok(NextStep::Take);
+        }
+        let Some(next) = self.book.first_waiting() else {
+            return Ok(NextStep::Take);
+        };
+        let snapshot = self.book.snapshot()?;
+        self.crew.before(alloc, snapshot, next)
+    }
+
+    /// What a worker does before it takes its next Job. It is no event. Where memory is wanting the worker takes the Job at once.
+    pub fn before_job(&mut self, alloc: Global) -> NextStep
+        ensures book { self.new.book ≡ self.old.book }
+        ensures stopped { self.new.is_stopped ≡ self.old.is_stopped }
+        ensures news { self.new.news ≡ self.old.news }
+    {
+        match self.looked_ahead(alloc) {
+            Ok(before) => before,
+            Err(_) => NextStep::Take,
+        }
+    }
+
+    /// Counts a worker that has judged packages of `files`, and has the book keep their findings. It is no event.
+    pub fn learn_ahead(&mut self, files: &Graph, known: Known)
+        requires { KnowsVerdicts files.now known }
+        ensures book { self.new.book ≡ self.old.book }
+        ensures stopped { self.new.is_stopped ≡ self.old.is_stopped }
+        ensures news { self.new.news ≡ self.old.news }
+    {
+        self.crew.end();
+        self.book.learn(files, known);
+    }
+
+    /// Counts a worker that could not judge packages, for want of memory.
+    pub fn end_ahead(&mut self)
+        ensures book { self.new.book ≡ self.old.book }
+        ensures stopped { self.new.is_stopped ≡ self.old.is_stopped }
+        ensures news { self.new.news ≡ self.old.news }
+    {
+        self.crew.end();
+    }
+
     /// What is known of units of packages of `files`, if these are the current files. It is no event.
     pub fn known_units(&self, files: &Graph) -> Option<KnownUnits>
         ensures { AreKnownIn files.now result }
@@ -270,7 +341,10 @@ impl<L: Opening> Locked<L> {
             from,
             is_stopped: _,
             news: _,
+            crew,
         } = self;
+        drop(crew);
+        let _entries = entries_now(&book);
         let settled = is_settled(from, book.journal(), seats.as_slice());
         let FreeSeats { share, left: _ } = free;
         let mut all = merged(share, seats);

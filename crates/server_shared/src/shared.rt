@@ -12,6 +12,7 @@ ghost use Rattle.server_shared.specs.Settled.{IsSettled, receipt_count};
 ghost use Rattle.server_shared.specs.Working.{LacksOnly};
 ghost use Rattle.server_shared.specs.LimitNumbers.{limit_numbers};
 
+use crate::ahead::{Ahead, Crew, NextStep};
 use crate::free_seats::FreeSeats;
 use crate::locked::{Locked, is_news, may_wake, turn_away};
 use crate::opening::Opening;
@@ -23,6 +24,7 @@ use build_kept::KnownUnits;
 use build_unit::Job;
 use history_book::{Book, Question};
 use history_machine::{EntryKind, Line, View};
+use std::alloc::Global;
 use std::sync::ledger::{Blank, Share};
 use std::sync::{Condvar, Mutex, Wait};
 use workspace_check::Known;
@@ -38,6 +40,8 @@ pub struct Shared<L: Opening> {
     news: Condvar,
     /// Where waits for all packages sleep.
     built: Condvar,
+    /// Where workers wait for verdicts that others find.
+    judged: Condvar,
     pub from: u64,
     ghost from_is: { from ≡ L.from },
 }
@@ -49,6 +53,7 @@ impl<L: Opening> Shared<L> {
         requires parts { blank.parts ≡ L.parts }
         requires seats { blank.parts ≡ seats }
         requires from { length book.journal ≡ L.from }
+        requires open { book.begun ≡ 0 }
         requires most { book.limits.journal ≡ L.most }
         requires limits { limit_numbers book.limits ≡ L.limits }
         ensures from { result.0.from ≡ length book.journal }
@@ -64,10 +69,12 @@ impl<L: Opening> Shared<L> {
                 from,
                 is_stopped: false,
                 news: 0,
+                crew: Crew::new(),
             }),
             work: Condvar::new(),
             news: Condvar::new(),
             built: Condvar::new(),
+            judged: Condvar::new(),
             from,
         };
         (shared, free)
@@ -219,12 +226,59 @@ impl<L: Opening> Shared<L> {
             work,
             news,
             built,
+            judged,
             from: _,
         } = self;
         drop(work);
         drop(news);
         drop(built);
+        drop(judged);
         locked.into_inner().settle(free, seats)
+    }
+
+    /// Counts a worker.
+    pub fn join<R: Wait>(&self, rt: &R) {
+        self.locked.lock(rt).join();
+    }
+
+    /// What a worker is to judge before its next Job, or `None` where it is to take this Job. It waits until a package waits to be built, and
+    /// while others judge what the Job needs.
+    fn next_ahead<R: Wait>(&self, rt: &R, alloc: Global) -> Option<Ahead> {
+        for _ in rt.forever() {
+            let mut locked = self
+                .work
+                .wait_while(rt, self.locked.lock(rt), |locked| locked.is_idle());
+            match locked.before_job(alloc) {
+                NextStep::Judge(ahead) => return Some(ahead),
+                NextStep::Wait => drop(self.judged.wait(rt, locked)),
+                NextStep::Take => return None,
+            }
+        }
+        unreachable!()
+    }
+
+    /// Judges packages, has the book keep their findings, and wakes the workers that wait for them.
+    fn judge<R: Wait>(&self, rt: &R, alloc: Global, ahead: &Ahead) {
+        match ahead.judged(alloc) {
+            Ok(known) => self
+                .locked
+                .lock(rt)
+                .learn_ahead(ahead.snapshot.files(), known),
+            Err(_) => self.locked.lock(rt).end_ahead(),
+        }
+        self.judged.notify_all();
+    }
+
+    /// Judges packages until the next Job needs no verdict on another package. No two workers judge the same package here. It is no event,
+    /// and no seat gains a receipt. Only speed rests on it.
+    pub fn judge_ahead<R: Wait>(&self, rt: &R, alloc: Global) {
+        for _ in rt.forever() {
+            let Some(ahead) = self.next_ahead(rt, alloc) else {
+                return;
+            };
+            self.work.notify_one();
+            self.judge(rt, alloc, &ahead);
+        }
     }
 
     /// How many events changed the workspace or delivered a Job, or `None` after the book was stopped.

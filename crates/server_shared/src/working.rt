@@ -15,8 +15,9 @@ use build_unit::Built;
 use std::alloc::Global;
 use std::sync::Wait;
 
-/// Takes, builds and delivers Jobs until the shared book is stopped. Where nothing is to be built it sleeps, and makes no event. Where memory
-/// is wanting it takes a few turns more. Then it waits for a change or a delivery, so that its turns don't fill the journal.
+/// Takes, builds and delivers Jobs until the shared book is stopped. Before a Job it judges packages that the Job needs, which is no event.
+/// Where nothing is to be built it sleeps, and makes no event. Where memory is wanting it takes a few turns more. Then it waits for a change
+/// or a delivery, so that its turns don't fill the journal.
 pub fn worker<L: Opening, R: Wait, G: Gate>(
     rt: &R,
     alloc: Global,
@@ -27,8 +28,10 @@ pub fn worker<L: Opening, R: Wait, G: Gate>(
     ensures works { (turns : ℕ) × TakesTurns (CallsWith L.most) turns seat.old seat.new }
     ensures gains { Gains IsWork seat.old seat.new }
 {
+    shared.join(rt);
     let mut lacks = 0;
     for _ in rt.forever() {
+        shared.judge_ahead(rt, alloc);
         let Some(news) = shared.news_unless_stopped(rt) else {
             return;
         };

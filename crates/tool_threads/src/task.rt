@@ -1,13 +1,13 @@
 //! What a thread is given to check a package, and what it promises of the verdicts that it finds.
-ghost use Rattle.std.specs.Prelude.{◌≡◌, ◌<◌, length, IfOk, IfSome};
-ghost use Rattle.base_files.specs.Packages.{package_paths};
-ghost use Rattle.workspace_check.specs.Found.{AreVerdictsOf, KnowsVerdicts};
+ghost use Rattle.std.specs.Prelude.{◌≡◌, IfOk, IfSome};
+ghost use Rattle.workspace_check.specs.Found.{KnowsVerdicts};
 ghost use Rattle.tool_threads.specs.Given.{GiveVerdictsOf};
 
+use build_carry::verdicts_at;
 use std::alloc::{AllocError, Global};
 use std::snapshot::Snapshot;
 use std::thread::{Builder, Promise, PromisedHandle, Threads};
-use workspace_check::{FoundPackage, Known, KnownVerdict, Progress, SharedKnown};
+use workspace_check::{KnownVerdict, SharedKnown};
 use workspace_graph::Graph;
 
 /// The stack of each thread, in bytes, whatever limit the program was started with. It is four times what a file at the limit of nesting takes.
@@ -39,46 +39,6 @@ pub(crate) type PackageThread = PromisedHandle<
     Result<Vec<KnownVerdict>, AllocError>,
     VerdictsPromised,
 >;
-
-/// The verdicts that are found where the package of a number is checked: those on it, and on the packages that it builds on.
-fn verdicts_with(
-    alloc: Global,
-    graph: &Graph,
-    number: usize,
-    known: &Known,
-) -> Result<Vec<KnownVerdict>, AllocError>
-    requires in_range { number < length (package_paths graph.now) }
-    requires known { KnowsVerdicts graph.now known.now }
-    ensures { IfOk result (λ found. AreVerdictsOf graph.now found.items) }
-{
-    let closure = graph.closure(alloc, number)?;
-    let progress = Progress::before(alloc, graph, number, closure.as_slice(), known)?;
-    let FoundPackage {
-        finding,
-        export_table,
-        found,
-    } = progress.finish(alloc, graph, number, known)?;
-    drop(finding);
-    drop(export_table);
-    Ok(found)
-}
-
-/// The verdicts that are found with the package of a number; none, where there is no such package.
-fn verdicts_at(
-    alloc: Global,
-    graph: &Graph,
-    number: usize,
-    known: &Known,
-) -> Result<Vec<KnownVerdict>, AllocError>
-    requires { KnowsVerdicts graph.now known.now }
-    ensures { IfOk result (λ found. AreVerdictsOf graph.now found.items) }
-{
-    if number < graph.len() {
-        verdicts_with(alloc, graph, number, known)
-    } else {
-        Ok(Vec::new(alloc))
-    }
-}
 
 impl PackageTask {
     /// The task of a package. It shares the workspace and what is known.

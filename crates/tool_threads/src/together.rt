@@ -4,11 +4,11 @@
 ghost use Rattle.std.specs.Prelude.{◌≡◌, ◌≤◌, ◌<◌, length, IfOk, IfSome, OnOk};
 ghost use Rattle.std.specs.List.{All};
 ghost use Rattle.base_files.specs.Packages.{package_paths};
-ghost use Rattle.workspace_check.specs.Found.{AreVerdictsOf, IsFound, KnowsVerdicts};
-ghost use Rattle.workspace_check.specs.KnownFindings.{IsKnownVerdict};
+ghost use Rattle.workspace_check.specs.Found.{IsFound, KnowsVerdicts};
 ghost use Rattle.tool_threads.specs.Given.{GiveVerdictsOf};
 
 use crate::task::{PackageTask, PackageThread};
+use build_carry::take_in_each;
 use std::alloc::{AllocError, Global};
 use std::thread::{Threads, join_promised};
 use workspace_check::{Found, Known, KnownVerdict, SharedKnown, verdicts};
@@ -119,39 +119,6 @@ fn verdicts_with_each<R: Threads>(
     Ok(parts)
 }
 
-/// Notes the verdict on a package, unless one is known.
-fn note_verdict(graph: &Graph, verdict: &KnownVerdict, known: &mut Known) -> Result<(), AllocError>
-    requires verdict { IsKnownVerdict graph.now verdict.now.finding.path verdict.now }
-    requires room { length (package_paths graph.now) ≤ length known.old.verdicts.items }
-    requires known { KnowsVerdicts graph.now known.old }
-    ensures room { OnOk result (length (package_paths graph.now) ≤ length known.new.verdicts.items) }
-    ensures known { OnOk result (KnowsVerdicts graph.now known.new) }
-{
-    let Some(number) = graph.number_of(verdict.path().path()) else {
-        return Ok(());
-    };
-    if known.get(number).is_some() {
-        return Ok(());
-    }
-    let copy = verdict.clone()?;
-    known.set(number, copy);
-    Ok(())
-}
-
-/// Notes verdicts.
-fn note_verdicts(graph: &Graph, found: &[KnownVerdict], known: &mut Known) -> Result<(), AllocError>
-    requires found { AreVerdictsOf graph.now found.now }
-    requires room { length (package_paths graph.now) ≤ length known.old.verdicts.items }
-    requires known { KnowsVerdicts graph.now known.old }
-    ensures room { OnOk result (length (package_paths graph.now) ≤ length known.new.verdicts.items) }
-    ensures known { OnOk result (KnowsVerdicts graph.now known.new) }
-{
-    for verdict in found {
-        note_verdict(graph, verdict, known)?;
-    }
-    Ok(())
-}
-
 /// Notes the verdicts that were found with a package.
 fn note_part(
     graph: &Graph,
@@ -165,7 +132,7 @@ fn note_part(
     ensures known { OnOk result (KnowsVerdicts graph.now known.new) }
 {
     match part {
-        Ok(found) => note_verdicts(graph, found.as_slice(), known),
+        Ok(found) => take_in_each(graph, found.as_slice(), known),
         Err(AllocError) => Err(AllocError),
     }
 }

@@ -2,6 +2,7 @@
 use Rattle.std.proofs.Common.{ap}
 use Rattle.base_files.specs.declared.limits.Limits.{Limits}
 use Rattle.server_shared.specs.LimitNumbers.{limit_numbers}
+use Rattle.history_machine.proofs.Reaching.{step_begun}
 use Rattle.history_machine.proofs.Replies.{may_reply}
 use Rattle.server_shared.proofs.StepLaws.{keeps_limits}
 use Rattle.server_shared.proofs.locked.step_book.Goals as goal
@@ -21,3 +22,8 @@ returns-clause-limits g c =
     ap limit_numbers
     (keeps_limits c.args.book.now (g.Q.Question.event c.args.question) (g.Q.Question.reply c.journal_step.result.0) c.journal_step.new.self
     c.journal_step.ensures.0)
+
+pub returns-clause-begun : goal.returns-clause-begun
+returns-clause-begun g c =
+    step_begun c.args.book.now (g.Q.Question.event c.args.question) (g.Q.Question.reply c.journal_step.result.0) c.journal_step.new.self
+    c.journal_step.ensures.0

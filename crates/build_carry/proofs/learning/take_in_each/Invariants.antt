@@ -2,7 +2,7 @@
 use Rattle.std.proofs.Common.{◌≤◌, length}
 use Rattle.base_files.specs.Packages.{package_paths}
 use Rattle.workspace_check.specs.Found.{KnowsVerdicts}
-use Rattle.build_carry.proofs.learning.with_verdicts.Given as goal
+use Rattle.build_carry.proofs.learning.take_in_each.Given as goal
 
 abbrev pub invariant-loop-verdict : goal.invariant-loop-verdict
 invariant-loop-verdict l = record {

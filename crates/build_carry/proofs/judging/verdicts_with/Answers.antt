@@ -3,7 +3,7 @@ use Rattle.std.proofs.Common.{sym, subst}
 use Rattle.std.specs.List.Sorted.{IsStrictlyIncreasing}
 use Rattle.workspace_graph.specs.Graphs.{ListsPackages}
 use Rattle.workspace_graph.specs.Packages.{IsInClosure}
-use Rattle.tool_threads.proofs.task.verdicts_with.Goals as goal
+use Rattle.build_carry.proofs.judging.verdicts_with.Goals as goal
 
 pub before-requires : goal.before-requires
 before-requires c =
