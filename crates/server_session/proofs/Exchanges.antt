@@ -1,5 +1,5 @@
 -- Exchanges, one after another.
-use Rattle.std.proofs.Common.{◌≡◌, ℕ, List, [], ◌∷◌, ◌++◌, refl, sym, inl, inr, append-nil, append_assoc}
+use Rattle.std.proofs.Common.{◌≡◌, ℕ, List, [], ◌∷◌, ◌++◌, refl, sym, subst, inl, inr, append-nil, append_assoc}
 use Rattle.std.specs.List.{flat_map}
 use Rattle.std.proofs.lemmas.Grind.{flat_map-append}
 use Rattle.base_files.specs.declared.limits.Limits.{Limits}
@@ -9,7 +9,7 @@ use Rattle.server_commands.specs.Wait.{WaitLaw}
 use Rattle.server_commands.specs.declared.response.Response.{Response}
 use Rattle.server_read.specs.declared.message.Message.{Message}
 use Rattle.server_read.specs.Wire.{Says, Reads}
-use Rattle.server_session.specs.Answers.{AnswersMessage, AnswersAll}
+use Rattle.server_session.specs.Answers.{AnswersMessage, AnswersAll, AnswersOneAtMost, AnswersSome}
 use Rattle.server_session.specs.Replies.{reply_text}
 use Rattle.server_session.specs.Transcript.{Exchange, BreaksOff, CutsOff}
 
@@ -25,6 +25,21 @@ AnswersAll-append steps waits old mid new [] ns [] ss h k = rw (← h) k
 AnswersAll-append steps waits old mid new [] ns (r ∷ rs) ss h k = absurd h
 AnswersAll-append steps waits old mid new (m ∷ ms) ns [] ss h k = absurd h
 AnswersAll-append steps waits old mid new (m ∷ ms) ns (r ∷ rs) ss h k = (h.0, h.1, AnswersAll-append steps waits h.0 mid new ms ns rs ss h.2 k)
+
+pub answers_none : {D : Type 0} (steps : D → Event → Reply → D → Type 0) (waits : WaitLaw D) (old : D) → AnswersSome steps waits old old
+answers_none steps waits old = ([], [], refl)
+
+-- some messages, and then one or none
+pub answers_more : {D : Type 0} (steps : D → Event → Reply → D → Type 0) (waits : WaitLaw D) (old mid new : D)
+    → AnswersSome steps waits old mid → AnswersOneAtMost steps waits mid new → AnswersSome steps waits old new
+answers_more {D} steps waits old mid new h k = elim k [
+  | inl same ↦ (h.0, h.1, subst (λ (x : D). AnswersAll steps waits old h.0 h.1 x) (sym same) h.2)
+  | inr one ↦ (
+    h.0 ++ one.0 ∷ [],
+    h.1 ++ one.1 ∷ [],
+    AnswersAll-append steps waits old mid new h.0 (one.0 ∷ []) h.1 (one.1 ∷ []) h.2 (new, one.2, refl),
+  )
+]
 
 -- the exchange of no message
 pub Exchange-none : {D : Type 0} (steps : D → Event → Reply → D → Type 0) (waits : WaitLaw D) (limits : Limits) (input : List ℕ) (old : D)

@@ -26,3 +26,11 @@ module _ {D : Type 0} (steps : D → Event → Reply → D → Type 0) (waits : 
   AnswersAll old (message ∷ messages) (reply ∷ replies) new = (mid : D) × AnswersMessage old message reply mid × AnswersAll mid messages replies new
   AnswersAll old [] (reply ∷ replies) new = ⊥
   AnswersAll old (message ∷ messages) [] new = ⊥
+
+  -- The desk answers one message, or none. Nothing else changes it.
+  abbrev pub AnswersOneAtMost : D → D → Type 0
+  AnswersOneAtMost old new = (new ≡ old) ⊎ ((message : Message) × (reply : Response) × AnswersMessage old message reply new)
+
+  -- The desk answers some messages, in order. Nothing else changes it.
+  abbrev pub AnswersSome : D → D → Type 0
+  AnswersSome old new = (messages : List Message) × (replies : List Response) × AnswersAll old messages replies new

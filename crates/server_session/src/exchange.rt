@@ -2,7 +2,7 @@
 ghost use Rattle.std.specs.Prelude.{◌≡◌, ◌+◌, ◌^◌, ◌≤◌, ◌<◌, IfOk, OnOk, IsTrue};
 ghost use Rattle.server_read.specs.Failures.{CountsFailure, WritesText};
 ghost use Rattle.server_session.specs.Replies.{reply_text};
-ghost use Rattle.server_session.specs.Answers.{AnswersMessage};
+ghost use Rattle.server_session.specs.Answers.{AnswersMessage, AnswersOneAtMost, AnswersSome};
 ghost use Rattle.server_session.specs.Awaits.{AwaitsNext, LeavesSent, StepLeavesSent};
 ghost use Rattle.server_session.specs.Transcript.{SessionEnds, CountsFaults, StepEnds};
 
@@ -92,7 +92,8 @@ fn send_reply<T: Sink>(sink: &mut T, reply: &WrittenReply, is_last: bool) -> Res
     if is_last { sink.flush() } else { Ok(()) }
 }
 
-/// Reads the next message, has it answered, and writes the reply. Returns false where the session ends.
+/// Reads the next message, has it answered, and writes the reply. Returns false where the session ends. The desk answers one message at most,
+/// whatever is known of the reader and the writer.
 fn serve_next<S: ByteSource, T: Sink, D: Desk>(
     alloc: Global,
     source: &mut S,
@@ -104,6 +105,7 @@ fn serve_next<S: ByteSource, T: Sink, D: Desk>(
     requires reads { S.reads source.old + reading.old.reads_left < 2 ^ 64 }
     ensures step { StepEnds D.steps D.waits limits.now (S.remaining source.old) (S.remaining source.new)
         (T.contents sink.old) (T.contents sink.new) desk.old desk.new result }
+    ensures answers { AnswersOneAtMost D.steps D.waits desk.old desk.new }
     ensures sent { StepLeavesSent (T.sent sink.new) result }
     ensures counted { CountsFaults (S.failures source.old) (S.failures source.new)
         (T.failures sink.old) (T.failures sink.new) result }
@@ -146,6 +148,7 @@ pub fn session<S: ByteSource, T: Sink, D: Desk>(
     requires { S.reads source.old + limits.reads < 2 ^ 64 }
     ensures session { SessionEnds D.steps D.waits limits (S.remaining source.old) (S.remaining source.new)
         (T.contents sink.old) (T.contents sink.new) desk.old desk.new result }
+    ensures answers { AnswersSome D.steps D.waits desk.old desk.new }
     ensures sent { LeavesSent (T.sent sink.new) result }
     ensures counted { CountsFaults (S.failures source.old) (S.failures source.new)
         (T.failures sink.old) (T.failures sink.new) result }

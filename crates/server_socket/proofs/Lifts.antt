@@ -24,7 +24,7 @@ use Rattle.server_commands.specs.Work.{Works, AfterTake, AfterDelivery, Builds, 
 use Rattle.server_session.specs.declared.exchange.SessionFault.{SessionFault}
 use Rattle.server_session.specs.declared.exchange.SessionFault.TheVariants.{Memory, Read, Write, Turns}
 use Rattle.server_session.specs.Conversing.{Converses}
-use Rattle.server_session.specs.Answers.{AnswersMessage, AnswersAll}
+use Rattle.server_session.specs.Answers.{AnswersMessage, AnswersAll, AnswersSome}
 use Rattle.server_session.specs.Transcript.{Exchange, BreaksOff, CutsOff, SessionEnds}
 
 module _ {D E : Type 0} (steps : D → Event → Reply → D → Type 0) (waits : WaitLaw D) (shown : E → Event → Reply → E → Type 0) (awaited : WaitLaw E)
@@ -138,6 +138,12 @@ module _ {D E : Type 0} (steps : D → Event → Reply → D → Type 0) (waits 
       let l = all_answered h.0 new ms rs h.2 in
       (l.0 ∙ k.0, (show h.0, k.1, l.1))
 
+  some_answered : (old new : D) (last : E) → (name new ≡ name old → last ≡ show new) → AnswersSome steps waits old new
+      → AnswersSome shown awaited (show old) last
+  some_answered old new last is h =
+      let k = all_answered old new h.0 h.1 h.2 in
+      (h.0, h.1, subst (λ (b : E). AnswersAll shown awaited (show old) h.0 h.1 b) (sym (is k.0)) k.1)
+
   module _ (limits : Limits) where
     exchanged : (input rest : List ℕ) (old new : D) (text : List ℕ) → Exchange steps waits limits input rest old new text
         → Lifts old new (λ a b. Exchange shown awaited limits input rest a b text)
@@ -198,4 +204,4 @@ module _ {D E : Type 0} (steps : D → Event → Reply → D → Type 0) (waits 
         → (first last : E) → first ≡ show old → (name new ≡ name old → last ≡ show new)
         → Converses shown awaited limits before held holds first last result
     conversed before held holds old new result h first last from is = subst (λ (a : E). Converses shown awaited limits before held holds a last result)
-        (sym from) (h.0, ended before h.0 held holds old new last result is h.1)
+        (sym from) (h.0, ended before h.0 held holds old new last result is h.1, some_answered old new last is h.2)

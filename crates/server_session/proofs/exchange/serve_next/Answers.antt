@@ -1,4 +1,5 @@
 -- The answers to the goals of `exchange::serve_next`.
+use Rattle.std.proofs.Common.{inl, inr, refl}
 use Rattle.std.proofs.lemmas.Result.{err_from_is_err_and}
 use Rattle.server_session.proofs.Served.{step_stopped, step_ended, step_answered, step_cut, step_refused, step_refused_cut}
 use Rattle.server_session.proofs.exchange.serve_next.Goals as goal
@@ -57,3 +58,21 @@ returns-in_ok-send_reply-in-Message-clause-step g c =
     c.answer-reply.new.desk
     c.in-Message.message c.answer-reply.result
     (rw c.in-Message.is at c.in_ok-await_message.ensures.awaits) c.answer-reply.ensures c.in_ok-send_reply-in-Message.ensures.written)
+
+pub returns-in_err-await_message-clause-answers : goal.returns-in_err-await_message-clause-answers
+returns-in_err-await_message-clause-answers g c = inl refl
+
+pub returns-in_err-print_reply-in-NoRoom-clause-answers : goal.returns-in_err-print_reply-in-NoRoom-clause-answers
+returns-in_err-print_reply-in-NoRoom-clause-answers g c = inl refl
+
+pub returns-in-End-clause-answers : goal.returns-in-End-clause-answers
+returns-in-End-clause-answers g c = inl refl
+
+pub returns-in_ok-print_reply-in-NoRoom-clause-answers : goal.returns-in_ok-print_reply-in-NoRoom-clause-answers
+returns-in_ok-print_reply-in-NoRoom-clause-answers g c = inl refl
+
+pub returns-in_err-send_reply-in-Message-clause-answers : goal.returns-in_err-send_reply-in-Message-clause-answers
+returns-in_err-send_reply-in-Message-clause-answers g c = inr (c.in-Message.message, c.answer-reply.result, c.answer-reply.ensures)
+
+pub returns-in_ok-send_reply-in-Message-clause-answers : goal.returns-in_ok-send_reply-in-Message-clause-answers
+returns-in_ok-send_reply-in-Message-clause-answers g c = inr (c.in-Message.message, c.answer-reply.result, c.answer-reply.ensures)
