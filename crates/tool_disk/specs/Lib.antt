@@ -1,3 +1,4 @@
 -- The definitions of this crate.
 pub mod Puts
+pub mod RunJournals
 pub mod Writes

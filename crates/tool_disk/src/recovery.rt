@@ -1,5 +1,9 @@
 //! Finishes or takes back a run that was cut off. While new texts are written beside their files, its journal lies at one path, and while they
 //! are put in place at another. In the second case the run is finished, and in the first taken back.
+ghost use Rattle.std.specs.Prelude.{◌≡◌, ◌↔◌, [], IfOk, IsTrue, MatchOption};
+ghost use Rattle.tool_disk.specs.RunJournals.{AreUtf8, FindsRunOf, IsRunMark, ReadsRun};
+ghost use Rattle.tool_text.specs.Journal.{bare_texts};
+
 use crate::fault::{ToolFault, told};
 use crate::paths::is_mark;
 use crate::steps::{COMMIT, PREPARE, journal_there, lies_behind_link, remove_journal};
@@ -46,7 +50,9 @@ fn are_below<R: Files + AllocGlobal>(
 }
 
 /// The texts of lines, or `None` where one is not UTF-8.
-fn texts_of<'a>(alloc: Global, lines: &[&'a [u8]]) -> Result<Option<Vec<&'a str>>, AllocError> {
+fn texts_of<'a>(alloc: Global, lines: &[&'a [u8]]) -> Result<Option<Vec<&'a str>>, AllocError>
+    ensures { IfOk result (λ texts. MatchOption texts (AreUtf8 lines.now → ⊥) (λ texts. bare_texts texts.items ≡ bare_texts lines.now)) }
+{
     let mut texts = Vec::new(alloc);
     for line in lines {
         match std::str::from_utf8(*line) {
@@ -57,33 +63,43 @@ fn texts_of<'a>(alloc: Global, lines: &[&'a [u8]]) -> Result<Option<Vec<&'a str>
     Ok(Some(texts))
 }
 
-/// The run of a journal, or `None` where the text is not the whole of one.
-fn read_run<'a>(alloc: Global, text: &'a [u8]) -> Result<Option<DiskRun<'a>>, AllocError> {
-    let lines = read_lines(alloc, text)?;
-    let Some(mut paths) = texts_of(alloc, lines.as_slice())? else {
-        return Ok(None);
-    };
-    let Some(behind) = paths.pop() else {
-        return Ok(None);
-    };
-    let Some(mark) = paths.pop() else {
-        return Ok(None);
-    };
-    let Some(to) = paths.pop() else {
-        return Ok(None);
-    };
-    let Some(from) = paths.pop() else {
-        return Ok(None);
-    };
-    if behind.is_empty() && is_mark(mark) {
-        Ok(Some(DiskRun {
+/// Whether these are the last parts of a whole journal: a mark, and nothing behind its line feed.
+fn is_end(mark: &str, behind: &str) -> bool
+    ensures { IsTrue result ↔ ((behind.now ≡ []) × IsRunMark mark.now) }
+{
+    behind.is_empty() && is_mark(mark)
+}
+
+/// The run whose journal has these parts, or `None` where they are not those of a whole one.
+fn run_of(texts: Vec<&str>) -> Option<DiskRun<'_>>
+    ensures { FindsRunOf (bare_texts texts.entry.items) result }
+{
+    let mut paths = texts;
+    let behind = paths.pop()?;
+    let mark = paths.pop()?;
+    let to = paths.pop()?;
+    let from = paths.pop()?;
+    if is_end(mark, behind) {
+        Some(DiskRun {
             from,
             to,
             mark,
             paths,
-        }))
+        })
     } else {
-        Ok(None)
+        None
+    }
+}
+
+/// The run of a journal, or `None` where the text is not the whole of one.
+fn read_run<'a>(alloc: Global, text: &'a [u8]) -> Result<Option<DiskRun<'a>>, AllocError>
+    ensures { IfOk result (λ run. ReadsRun text.now run) }
+{
+    let lines = read_lines(alloc, text)?;
+    let texts = texts_of(alloc, lines.as_slice())?;
+    match texts {
+        Some(texts) => Ok(run_of(texts)),
+        None => Ok(None),
     }
 }
 

@@ -4,8 +4,11 @@
 //!
 //! The names of the new texts have the mark of the run, which the journal names too. So a run finds its own new texts, and never those of
 //! another run, also where that was cut off in a folder above.
-ghost use Rattle.std.specs.Prelude.{◌≡◌, ◌++◌, ◌∷◌, [], IfOk, OnOk};
+ghost use Rattle.std.specs.Prelude.{ℕ, ◌≡◌, ◌≢◌, ◌↔◌, ◌++◌, ◌∷◌, [], IfOk, IsTrue, List, MatchOption, MatchResult, OnOk, nat_eq};
+ghost use Rattle.std.specs.List.{starts_with};
+ghost use Rattle.tool_disk.specs.RunJournals.{CanBeJournal, HaveLinePaths, LiesInFolder, journal_text, run_lines, texts_of_run};
 ghost use Rattle.tool_disk.specs.Writes.{NotesOne, NotesPlaced, paths_of};
+ghost use Rattle.tool_text.specs.Journal.{bare_texts};
 
 use crate::fault::{ToolFault, at, told};
 use crate::paths::{below, beside, folder_and_name};
@@ -60,17 +63,36 @@ fn paths<'a>(alloc: Global, files: &[FileOf<'a>]) -> Result<Vec<&'a str>, AllocE
 }
 
 /// Whether the path of each file can stand in a journal.
-fn all_lines(files: &[FileOf<'_>]) -> bool {
-    files.iter().all(|file| is_line(file.path))
+fn all_lines(files: &[FileOf<'_>]) -> bool
+    ensures { IsTrue result ↔ HaveLinePaths files.now }
+{
+    for file in files {
+        if !is_line(file.path) {
+            return false;
+        }
+    }
+    true
 }
 
 /// The lines of the journal of a run: the paths of the files, the folder that moves, its new path, and the mark.
-fn lines_of<'a>(alloc: Global, run: &DiskRun<'a>) -> Result<Vec<&'a str>, AllocError> {
+fn lines_of<'a>(alloc: Global, run: &DiskRun<'a>) -> Result<Vec<&'a str>, AllocError>
+    ensures { IfOk result (λ lines. bare_texts lines.items ≡ run_lines (texts_of_run run.now)) }
+{
     let mut lines = Vec::from_slice(alloc, run.paths.as_slice())?;
     lines.push(run.from)?;
     lines.push(run.to)?;
     lines.push(run.mark)?;
     Ok(lines)
+}
+
+/// The journal of a run.
+fn journal_of(alloc: Global, run: &DiskRun<'_>) -> Result<Vec<u8>, AllocError>
+    ensures { IfOk result (λ text. text.items ≡ journal_text (texts_of_run run.now)) }
+{
+    let lines = lines_of(alloc, run)?;
+    let mut text = Vec::new(alloc);
+    push_lines(&mut text, lines.as_slice())?;
+    Ok(text)
 }
 
 /// Writes the journal of a run.
@@ -80,9 +102,7 @@ fn write_journal<R: Files + AllocGlobal>(
     run: &DiskRun<'_>,
 ) -> Result<(), ToolFault> {
     let alloc = rt.alloc();
-    let lines = lines_of(alloc, run)?;
-    let mut text = Vec::new(alloc);
-    push_lines(&mut text, lines.as_slice())?;
+    let text = journal_of(alloc, run)?;
     let path = below(alloc, root, PREPARE)?;
     let written = write_new(rt, path.as_str(), text.as_slice(), None);
     at(alloc, PREPARE, written)?;
@@ -263,10 +283,26 @@ fn refuse_taken<R: Files + AllocGlobal>(rt: &R, root: &str, to: &str) -> Result<
     }
 }
 
+/// What a text has behind this front, if it begins with it.
+fn rest_after<'a>(text: &'a [u8], front: &[u8]) -> Option<&'a [u8]>
+    ensures { MatchOption result ((rest : List ℕ) → text.now ≢ front.now ++ rest) (λ rest. text.now ≡ front.now ++ rest.now) }
+{
+    text.strip_prefix(front)
+}
+
+/// Whether a text begins with a slash.
+fn is_slash_first(text: &[u8]) -> bool
+    ensures { result ≡ starts_with nat_eq text.now (47 ∷ []) }
+{
+    text.starts_with(b"/".as_slice())
+}
+
 /// Whether a path lies in a folder.
-fn lies_in(folder: &str, path: &str) -> bool {
-    match path.strip_prefix(folder) {
-        Some(rest) => rest.starts_with('/'),
+fn lies_in(folder: &str, path: &str) -> bool
+    ensures { IsTrue result ↔ LiesInFolder folder.now path.now }
+{
+    match rest_after(path.as_bytes(), folder.as_bytes()) {
+        Some(rest) => is_slash_first(rest),
         None => false,
     }
 }
@@ -493,9 +529,18 @@ fn sync_commit<R: Files + AllocGlobal>(rt: &R, root: &str) -> Result<(), ToolFau
     at(alloc, COMMIT, sync_folder(rt, path.as_str()))
 }
 
+/// Whether all paths can stand in a journal.
+fn can_be_journal(writing: FolderWriting<'_>) -> bool
+    ensures { IsTrue result ↔ CanBeJournal writing.entry }
+{
+    all_lines(writing.new) && is_line(writing.from) && is_line(writing.to)
+}
+
 /// Refuses a path that cannot stand in a journal.
-fn refuse_paths(alloc: Global, writing: FolderWriting<'_>) -> Result<(), ToolFault> {
-    if all_lines(writing.new) && is_line(writing.from) && is_line(writing.to) {
+fn refuse_paths(alloc: Global, writing: FolderWriting<'_>) -> Result<(), ToolFault>
+    ensures { MatchResult result (λ _. CanBeJournal writing.entry) (λ _. CanBeJournal writing.entry → ⊥) }
+{
+    if can_be_journal(writing) {
         Ok(())
     } else {
         Err(told(alloc, writing.root, "a path in it has a line feed"))
