@@ -7,8 +7,11 @@
 - A range stands in the head of a `for`, in an index or in a pattern, so no iterator goes through one. No iterator is without an end, and
   no text gives what is written a width. The end of a range that a loop goes through is made as the numbers below are. No condition of a
   loop names a limit, or a number made of one.
-- No loop to a literal or a constant stands in another one, nor calls a function of its crate that has one. No function calls itself with a
-  number made smaller: two such calls in one body would take 2^64 steps from 64.
+- No loop stands in another one but where `NESTED` says: three up to a length of 1,000,000 would take 10^18 steps. No loop to a literal or a
+  constant calls a function of its crate that has one.
+- Where a function calls itself, or is one of a cycle of calls, nothing is added, taken away, divided or cut off but where `CLIMBS` says: two
+  calls with a number one smaller take 2^64 steps from 64, and so do two with one less of a slice. So all that such calls get smaller by is a
+  step down a tree, or a token that was read.
 - The number that `with_capacity`, `reserve`, `resize`, `from_elem` (and calls like these) or `vec![in alloc; value; number]` is given is
   made of literals, constants, lengths, parameters and results of functions whose contracts bound them (`result`, and `≤`, `≡` or `OkIff`), by `+`,
   `-`, `/`, `max`, `min` and `saturating_add` alone. Of fields only those named in `FIELDS` stand in it, so no limit does. So is what a
@@ -18,6 +21,7 @@
 It ends with status 1 where it lists a place.
 """
 import copy
+import itertools
 import re
 import sys
 
@@ -25,16 +29,20 @@ from checks import TOP, crate_of
 from checks.gate.memory import OWNER, code_of
 
 # the lines on which a great number stands: limits, the greatest integers and characters of Go, stacks, an end behind all tokens,
-# and the greatest offset that a kept token has room for
+# and the greatest offset that a kept token or a kept change has room for
 GREAT = {
+    "base_packed/src/packing.rt": {"if number > u32::MAX as usize {"},
     "base_files/src/limits.rt": {"file_bytes: 1_048_576,", "total_bytes: 67_108_864,", "journal: 1_000_000,", "reads: 1_000_000_000,"},
     "go_respelled/src/moved.rt": {"None => usize::MAX,"},
     "go_scanner/src/compact_piece.rt": {"if number > u32::MAX as usize {"},
     "go_scanner/src/integers.rt": {"if sum < 1 << 63 { Some(sum) } else { None }"},
     "go_scanner/src/strings.rt": {"Some(number) => number < 0xD800 || (0xDFFF < number && number < 0x110000),"},
+    "history_book/src/content.rt": {"const MOST_CLOSED: u64 = 1 << 63;"},
     "lsp_frames/src/frames.rt": {"pub(crate) const LARGEST_BODY: usize = 8_388_608;"},
+    "server_socket/src/serving.rt": {"const MARK: u64 = 900_000;"},
     "server_socket/src/threads.rt": {"const STACK_BYTES: usize = 8_388_608;"},
-    "server_words/src/command_line.rt": {'number_option(alloc, "stop-after", "K", 1_000_000).help(', 'number_option(alloc, "idle", "SECONDS", 1_000_000).help('},
+    "server_words/src/command_line.rt": {'number_option(alloc, "stop-after", "K", 1_000_000).help(', 'number_option(alloc, "idle", "SECONDS", 1_000_000).help(',
+                                             'number_option(alloc, "chapter", "ENTRIES", 1_000_000).help('},
     "server_words/src/requests.rt": {"Some(_) => Some(Some(number(matches, option, 1_000_000)?)),"},
     "tool_threads/src/task.rt": {"const CHECK_STACK: usize = 8_388_608;"},
 }
@@ -45,6 +53,20 @@ PRODUCTS = {
     "go_scope/src/capacity.rt": {"identifiers.len() / 8 + 2 * PREDECLARED"},
     "tool_text/src/hunks.rt": {"while next < pairs.len() && next - end <= 2 * CONTEXT {"},
 }
+# the lines on which a loop begins inside another one: over the links of each number
+NESTED = {"types_members/src/components.rt": {"for to in row(links, from) {"}}
+# the lines of functions that call themselves, or one of their name, on which something is added or taken away: levels of precedence, the
+# last link of a chain, and what is counted beside calls of another type's function
+CLIMBS = {
+    "base_chunks/src/list.rt": {"let len = self.len.checked_add(1).ok_or(AllocError)?;"},
+    "build_object/src/expressions.rt": {"OperandMode::Values(self.left_by_links(head, links, links.len() - 1))"},
+    "go_parser/src/expressions.rt": {
+        "let (first, rest) = binary(alloc, tokens, depth, header, strength + 1)?;",
+        "let (value, after) = binary(alloc, after, depth, header, strength + 1)?;",
+    },
+    "server_read/src/stream.rt": {"self.failures = self.failures.wrapping_add(1);", "self.reads += 1;"},
+    "workspace_graph/src/link_rows.rt": {"self.bounds.len() - 1"},
+}
 LOOP = re.compile(r"^\s*(?:'\w+: )?(?:for\b.*\.\..*|while\b.*)")
 MADE_GREAT = re.compile(r"\bMAX\b|\bmax_value\b|<<|(?<![!=<>])!0\b")
 PRODUCT = re.compile(r"[\w)\]] \* [\w(&*]|\*=|_?\b(?:\w+_)?(?:mul|pow|shl|square)\(|\bproduct(?:::<\w+>)?\(")
@@ -52,6 +74,9 @@ ENDLESS = re.compile(r"(?<!#\[)\b(?:cycle|repeat|repeat_n|repeat_with|successors
 WIDTH = re.compile(r"\{[^{}]*:[^{}]*[\d$*][^{}]*\}")
 INDEX = re.compile(r"\[[^\[\]]*\]")
 HEAD = re.compile(r"^\s*(?:'\w+: )?for \w+ in (?:[^({][^{]*|\([^{]*\)\.rev\(\)) \{$")
+BEGINS_LOOP = re.compile(r"^\s*(?:'\w+: )?(?:for\b(?!<)|while\b|loop\b)")
+CLIMB = re.compile(r" [-/+%] \w|[-/+]=| >>=? \w|_(?:sub|div|shr|add|rem)\(|\[[^\[\]]*\.\.|@ \.\.|\.(?:split\w*|skip|chunks\w*|windows|strip_\w+|abs_diff)\(")
+BOUND_OF_TYPE = re.compile(r"\b[A-Z]\w*: [\w ]+(?: \+ [\w ]+)+")
 OPEN_RANGE = re.compile(r"[\w)]\s*\.\.=?\s*[\w(*&]")
 TEXT = re.compile(r'b?"(?:[^"\\]|\\.)*"')
 ROOM = {"with_capacity", "with_capacity_and_hasher", "reserve", "reserve_exact", "resize", "resize_with", "from_elem", "repeat"}
@@ -78,8 +103,8 @@ TYPES = {"as", "usize", "u64", "u32", "self", "Self"}
 class Function:
     """A function: where it begins and ends, its parameters, its contract, and the numbers that it has from bounded ones."""
 
-    def __init__(self, crate, name, owner, text, code):
-        self.crate, self.name, self.owner, self.code = crate, name, owner, code
+    def __init__(self, crate, name, owner, text, code, is_in_cycle):
+        self.crate, self.name, self.owner, self.code, self.is_in_cycle = crate, name, owner, code, is_in_cycle
         head = re.split(r"(?m)^ *\{$" if re.search(r"\b(requires|ensures)\b", text) else r"\{ *$", text, maxsplit=1)[0]
         given, _, self.contract = head.partition("->")
         given = given[given.index("(") + 1:] if "(" in given else ""
@@ -96,7 +121,9 @@ def functions(crate, text):
         name = re.search(r"fn (\w+)", lines[begin])[1]
         heads = [line for line in lines[:begin] if re.match(r"impl|(?:pub(?:\(\w+\))? )?trait |\}", line)]
         owner = OWNER.match(heads[-1]) if heads and lines[begin].startswith(" ") else None
-        yield begin, Function(crate, name, owner[1] if owner else None, "\n".join(lines[begin:end]), "\n".join(code[begin:end]))
+        above = list(itertools.takewhile(lambda line: re.match(r" *(?:///|#\[)", line), reversed(lines[:begin])))
+        is_in_cycle = any(line.strip().startswith("#[cycle(") for line in above)
+        yield begin, Function(crate, name, owner[1] if owner else None, "\n".join(lines[begin:end]), "\n".join(code[begin:end]), is_in_cycle)
 
 
 def arguments(code, start, mark=","):
@@ -230,13 +257,13 @@ def is_fixed(line):
     return bool(end) and not names_in(end[1]) and not LENGTH.search(end[1]) and "(" not in end[1]
 
 
-def fixed_loops(function):
-    """The lines of a function on which a loop to a fixed number begins inside another one: they take the product of their numbers."""
+def inner_loops(function):
+    """The lines of a function on which a loop begins inside another one."""
     outer = []
     for number, line in enumerate(function.code.split("\n")):
         depth = len(line) - len(line.lstrip())
         outer = [one for one in outer if one < depth] if line.strip() else outer
-        if is_fixed(line):
+        if BEGINS_LOOP.match(line):
             if outer:
                 yield number
             outer.append(depth)
@@ -254,11 +281,17 @@ def calls_fixed(function, fixed):
             outer.append(depth)
 
 
-def smaller_calls(function):
-    """The lines of a function on which it calls itself with a number made smaller."""
-    for call in re.finditer(rf"(?<!fn )\b{function.name}(?:::<[^()]*>)?\(", function.code):
-        if any(re.search(r" [-/] \w|>> \w|\b\w+_(?:sub|div|shr)\(", one) for one in arguments(function.code, call.end())):
-            yield function.code.count("\n", 0, call.start())
+def is_recursive(function):
+    """Whether a function is one of a cycle of calls, or calls a function of its name: itself, or one of the same name of another type."""
+    before = r"(?:\.|\b(?:Self|" + function.owner + r")(?:::<[^()]*>)?::)" if function.owner else r"(?<![\w.:])(?<!fn )"
+    return function.is_in_cycle or bool(re.search(rf"{before}{function.name}(?:::<[^()]*>)?\(", function.code))
+
+
+def climbing(function):
+    """The lines of a function that calls itself, or is one of a cycle of calls, on which something is added, taken away, divided or cut."""
+    for number, line in enumerate(function.code.split("\n") if is_recursive(function) else ()):
+        if CLIMB.search(BOUND_OF_TYPE.sub("", TEXT.sub("", line))):
+            yield number
 
 
 def is_ranged(line):
@@ -313,15 +346,15 @@ def main():
         lines, crate = text.splitlines(), crate_of(path)
         code, known = code_of(text), GREAT.get(str(path.relative_to(root)), set())
         wrong = {number: "a great number" for number, line in enumerate(code) if is_great(line) and line.strip() not in known}
-        products = PRODUCTS.get(str(path.relative_to(root)), set())
+        products, nested, climbs = (listed.get(str(path.relative_to(root)), set()) for listed in (PRODUCTS, NESTED, CLIMBS))
         wrong |= {number: "a product" for number, line in enumerate(code) if is_product(line) and line.strip() not in known | products}
         wrong |= {number: "a range" for number, line in enumerate(code) if is_ranged(line)}
         wrong |= {number: "a loop up to a great number" for number, line in enumerate(code) if is_endless(line, constants)}
         for begin, function in parts[path]:
             wrong |= {begin + line: "a loop without a bound" for line in far_loops(function, bounded[crate], constants)}
-            wrong |= {begin + line: "a loop to a fixed number inside another" for line in fixed_loops(function)}
+            wrong |= {begin + line: "a loop inside another" for line in inner_loops(function) if lines[begin + line].strip() not in nested}
             wrong |= {begin + line: "a loop to a fixed number inside another" for line in calls_fixed(function, fixed[crate])}
-            wrong |= {begin + line: "a recursion on a number" for line in smaller_calls(function)}
+            wrong |= {begin + line: "a recursion on a number or a part" for line in climbing(function) if lines[begin + line].strip() not in climbs}
             wrong |= {begin + line: "room without a bound" for line in unbounded(function, makers, bounded[crate], constants)}
         for number, what in sorted(wrong.items()):
             found += 1

@@ -9,7 +9,7 @@ Want of memory is `AllocError`, a variant `Memory` (as `Refusal::Memory`) or `No
 - in the arm `Err(_)` of a match on a call that fails for want of memory alone, or on what a function is given of such a call, as its
   type tells, or by `map_err` behind such a call,
 - where a thread of `server_socket` could not be made (`if !are_made`), for which a server has no other fault,
-- for an offset of 2^32 or more, for which a kept token has no room (`go_scanner`),
+- for an offset of 2^32 or more, for which a kept token has no room (`go_scanner`), nor has a kept change (`base_packed`),
 - for a sum of lengths that passes what can be addressed (`checked_add(..).ok_or(AllocError)`), as the library does where it grows.
 
 No `use` brings in such a variant by its own name or by `*`, and none gives `AllocError` another.
@@ -28,8 +28,8 @@ BROUGHT = re.compile(r"\buse\b.*(?:::|\{|, )(?:Memory|NoRoom|JournalFull|\*)|\b(
 FULL = re.compile(r"\b\w+::JournalFull\b")
 ASKED = re.compile(r"if !\w+(\.\w+)*\.has_room\(.*\) \{$")
 REFUSED = r"From<Alloc(?:Error|Failed)\b"
-# conditions that are a want of memory, each with its crate
-CAUSES = {"if !are_made {": "server_socket", "if number > u32::MAX as usize {": "go_scanner"}
+# conditions that are a want of memory, each with its crates
+CAUSES = {"if !are_made {": {"server_socket"}, "if number > u32::MAX as usize {": {"go_scanner", "base_packed"}}
 # calls of the standard library that fail for want of memory alone
 STANDARD = {"BufReader::new", "BufWriter::new", "clone", "collect", "vec"}
 OWNER = re.compile(r"(?:impl(?:<.*?>)?|trait)\s+(?:\S+ for )?(\w+)")
@@ -103,7 +103,7 @@ def is_sound(lines, number, crate, answers):
     is_failed = False
     for line in around(lines, number):
         pattern = line.partition("=>")[0].strip() if "=>" in line else ""
-        if is_want(pattern) or CAUSES.get(line) == crate:
+        if is_want(pattern) or crate in CAUSES.get(line, ()):
             return True
         is_failed = is_failed or pattern in ("Err(_)", "Err(_e)")
         if is_failed and "match " in line:
