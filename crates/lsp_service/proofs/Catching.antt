@@ -1,12 +1,12 @@
 -- A desk that gets texts.
 use Rattle.std.proofs.Common.{◌≡◌, Bool, inl, inr, refl}
-use Rattle.std.specs.Prelude.{Result, Ok, Err}
+use Rattle.std.specs.Prelude.{Result, Err}
 use Rattle.base_files.specs.Workspace.{Workspace}
 use Rattle.base_files.specs.declared.refusal.Refusal.{Refusal}
 use Rattle.lsp_documents.specs.declared.documents.Documents.{Documents}
 use Rattle.lsp_edits.specs.declared.naming.FolderNaming.{FolderNaming}
 use Rattle.lsp_editor.specs.declared.editor.Editor.{Editor}
-use Rattle.lsp_service.specs.Catching.{CatchesUp, Done, GivesDisk, GivesDocuments, ReadsFolder, ReadsIf, ThenGives, fresh_if}
+use Rattle.lsp_service.specs.Catching.{CatchesUp, Done, GivesDisk, ReadsFolder, ReadsIf, ThenGives, fresh_if}
 use Rattle.lsp_service.specs.declared.failure.Failure.{Failure}
 
 module _ {D : Type 0} (takes_disk : D → Documents → Workspace → Result Bool Refusal → D → Type 0)

@@ -74,8 +74,7 @@ fn give_loaded<D: RequestDesk>(
 {
     let Loaded { files, prefix, .. } = loaded;
     editor.naming.prefix = prefix;
-    let snapshot = files.into_snapshot();
-    match give_disk(alloc, editor, desk, snapshot.files.files()) {
+    match give_disk(alloc, editor, desk, files.files()) {
         Ok(()) => {
             editor.is_stale = false;
             Ok(())

@@ -22,7 +22,7 @@ use Rattle.tool_told.specs.Telling.{faults_text, places_text, refusal_text, rewr
 use Rattle.tool_told.specs.declared.outcome.CommandOutcome.{CommandOutcome}
 use Rattle.tool_told.specs.declared.rewriting.Rewrite.{Rewrite}
 use Rattle.tool_told.specs.declared.telling.Naming.{Naming}
-use Rattle.tool_commands.specs.Told.{IsAskedPlace, IsNamingOf, TellsChange, TellsFaults, TellsMove, TellsRefusal, TellsSome, TellsUses, TellsWriting}
+use Rattle.tool_commands.specs.Told.{IsAskedPlace, IsNamingOf, TellsChange, TellsFaults, TellsMove, TellsRefusal, TellsUses, TellsWriting}
 use Rattle.tool_commands.specs.declared.opened.Opened.{Opened}
 
 -- the place of a byte whose file was read
@@ -34,11 +34,6 @@ asked_there files path own offset (Some text) there same is_path got is is_true 
     let at_own : FindsText files own (Some text.now) = record { at_path = λ _. got; no_path = λ no. absurd (no is_own) } in
     subst (λ p. IsAskedPlace files p offset (Some record { path = own; offset = offset })) same (Some text.now, at_own, refl)
 asked_there files path own offset None there same is_path got is is_true = absurd (false≢true (sym is ∙ is_true))
-
--- what is told of a folder that was opened is told of some
-pub tells_some : {E : Type 0} (P : Opened → CommandOutcome → Type 0) (opened : Opened) (r : Result CommandOutcome E)
-    → IfOk r (P opened) → IfOk r (TellsSome P)
-tells_some P opened r = ok_map r (λ outcome tells. (opened, tells))
 
 -- a move that is made or shown
 pub tells_moved : {E : Type 0} (opened : Opened) (r : Result CommandOutcome E) (from to source target : List ℕ) (dry_run : Bool) (change : Change)

@@ -88,7 +88,9 @@ pub fn rename<R: Files<File = File> + Threads + AllocGlobal + Clone + Drop>(
     ensures { IfOk result (TellsSome (TellsRenameOf options.now)) }
 {
     let opened = Opened::to_write(rt, options.root, options.dry_run)?;
-    rename_named(rt, &opened, options)
+    let outcome = rename_named(rt, &opened, options)?;
+    opened.leave();
+    Ok(outcome)
 }
 
 /// Whether a refused move is about the folder that was to move: it has no package, or its path is none.
@@ -174,5 +176,7 @@ pub fn move_package<R: Files<File = File> + Threads + AllocGlobal + Clone + Drop
 {
     let opened = Opened::to_write(rt, options.root, options.dry_run)?;
     refuse_target(rt, options.root, plain_path(options.to))?;
-    move_named(rt, &opened, options)
+    let outcome = move_named(rt, &opened, options)?;
+    opened.leave();
+    Ok(outcome)
 }

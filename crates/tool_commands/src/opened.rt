@@ -20,6 +20,7 @@ use base_files::{Place, Refusal};
 use refactor_preserve::Planned;
 use std::alloc::{AllocError, Global};
 use std::fs::File;
+use std::mem;
 use std::rt::Files;
 use std::thread::Threads;
 use tool_disk::{
@@ -58,7 +59,8 @@ impl Opened {
         for line in &left_out {
             notes.extend_from_slice(line.as_bytes())?;
         }
-        let folder = CheckedFolder::of(rt, rt.alloc(), files.into_snapshot())?;
+        let snapshot = files.into_snapshot(rt, rt.alloc())?;
+        let folder = CheckedFolder::of(rt, rt.alloc(), snapshot)?;
         Ok(Opened {
             folder,
             prefix,
@@ -89,6 +91,20 @@ impl Opened {
         let mut notes = Vec::new(rt.alloc());
         recover(rt, root, &mut notes)?;
         Opened::read(rt, root, notes, Some(held))
+    }
+
+    /// Ends the work in the folder. What was read is not given back piece by piece, since the program ends behind it.
+    pub(crate) fn leave(self) {
+        let Opened {
+            folder,
+            prefix,
+            notes,
+            held,
+        } = self;
+        mem::forget(folder);
+        drop(prefix);
+        drop(notes);
+        drop(held);
     }
 
     /// How places in its files are told.

@@ -51,6 +51,7 @@ pub fn list_uses<R: Files + Threads + AllocGlobal + Clone + Drop>(
 {
     let opened = Opened::to_read(rt, options.root)?;
     let outcome = uses_of_named(rt.alloc(), &opened, options.place)?;
+    opened.leave();
     Ok(outcome)
 }
 
@@ -72,5 +73,6 @@ pub fn list_faults<R: Files + Threads + AllocGlobal + Clone + Drop>(
 {
     let opened = Opened::to_read(rt, options.root)?;
     let outcome = faults_of(rt.alloc(), &opened)?;
+    opened.leave();
     Ok(outcome)
 }

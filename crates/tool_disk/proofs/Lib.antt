@@ -1,3 +1,4 @@
 -- The lemmas of this crate.
+pub mod FolderPackages
 pub mod Notes
 pub mod RunJournals

@@ -1,7 +1,8 @@
 //! Reads the Go files of a folder on the disk, as Go finds them. Writes changed files so that each is old or new whatever happens.
 //!
-//! Crates above rely on: `FolderFiles::put` adds a file exactly as a put of a session does. A journal is read as the run of which it was
-//! written. No contract tells what a file gives or takes, so checks with real folders stand for the rest.
+//! Crates above rely on: `FolderFiles::put` adds a file exactly as a put of a session does, and `into_snapshot` parses all of them in several
+//! threads. A journal is read as the run of which it was written. No contract tells what a file gives or takes, so checks with real folders
+//! stand for the rest.
 #![tactic(auto)]
 
 mod fault;

@@ -1,8 +1,12 @@
 //! Single steps on the disk: real paths, new files that are flushed, and the journals of a folder.
+ghost use Rattle.std.specs.Prelude.{◌≡◌, ◌+◌, [], IfOk, min};
+ghost use Rattle.std.specs.Fs.{metadata_len};
+
 use crate::fault::{ToolFault, at, told};
 use crate::paths::{below, folder_and_name};
+use std::alloc::{AllocError, Global};
 use std::fs::{File, Metadata, OpenFile, OpenOptions};
-use std::io::{ErrorKind, Write};
+use std::io::{ErrorKind, Read, Write};
 use std::os::unix::fs::{MetadataExt, OpenOptionsExt, lchown};
 use std::rt::Files;
 use std::{fs, io};
@@ -12,6 +16,9 @@ pub(crate) const PREPARE: &str = ".gorefd-prepare";
 
 /// The journal while new texts are put in place.
 pub(crate) const COMMIT: &str = ".gorefd-commit";
+
+/// How much room a file is given before it is read, at most, in bytes. A longer file is read all the same.
+const MOST_ROOM: u64 = 65_536;
 
 /// The permissions of a file that its owner alone may read.
 const OWN_ALONE: u32 = 0o600;
@@ -193,10 +200,34 @@ pub(crate) fn is_later<R: Files>(rt: &R, path: &str, other: &Metadata) -> io::Re
     Ok(changed_at(&data) > changed_at(other))
 }
 
+/// The room that a file is given before it is read: its length and a byte more, so that one read takes it and a second one finds its end.
+fn room_for(metadata: &Metadata) -> usize
+    ensures { result ≡ min (metadata_len metadata.now) 65536 + 1 }
+{
+    let length = metadata.len().min(MOST_ROOM);
+    (length as usize) + 1
+}
+
+/// No bytes, with room for a file.
+fn with_room(alloc: Global, metadata: &Metadata) -> Result<Vec<u8>, AllocError>
+    ensures { IfOk result (λ bytes. bytes.items ≡ []) }
+{
+    Vec::with_capacity(alloc, room_for(metadata))
+}
+
+/// Reads a file to its end, whatever length it was said to have.
+pub(crate) fn read_whole<R: Files + AllocGlobal>(rt: &R, place: &str) -> io::Result<Vec<u8>> {
+    let mut file = fs::open(rt, place)?;
+    let metadata = file.metadata()?;
+    let mut bytes = with_room(rt.alloc(), &metadata)?;
+    file.read_to_end(&mut bytes)?;
+    Ok(bytes)
+}
+
 /// Reads a regular file, and opens nothing else.
 fn read_regular<R: Files + AllocGlobal>(rt: &R, place: &str) -> io::Result<Option<Vec<u8>>> {
     if fs::metadata(rt, place)?.is_file() {
-        Ok(Some(fs::read(rt, place)?))
+        Ok(Some(read_whole(rt, place)?))
     } else {
         Ok(None)
     }

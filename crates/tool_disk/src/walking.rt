@@ -2,7 +2,7 @@
 use crate::fault::{ToolFault, at, told};
 use crate::folder::FolderFiles;
 use crate::paths::below;
-use crate::steps::text_there;
+use crate::steps::{read_whole, text_there};
 use base_files::{FileText, Refusal};
 use std::alloc::Global;
 use std::fs;
@@ -83,7 +83,7 @@ fn read_file<R: Files + AllocGlobal>(
 ) -> Result<(), ToolFault> {
     let alloc = rt.alloc();
     let place = below(alloc, walk.root, path)?;
-    let bytes = at(alloc, path, fs::read(rt, place.as_str()))?;
+    let bytes = at(alloc, path, read_whole(rt, place.as_str()))?;
     if has_build_line(bytes.as_slice()) {
         note(alloc, &mut walk.loaded, path, "it has a build constraint")
     } else {
@@ -265,7 +265,7 @@ pub fn load<R: Files + AllocGlobal + Clone + Drop>(
     let alloc = rt.alloc();
     let prefix = prefix_of(rt, root)?;
     let mut loaded = Loaded {
-        files: FolderFiles::new(alloc)?,
+        files: FolderFiles::new(alloc),
         prefix,
         notes: Vec::new(alloc),
     };

@@ -41,3 +41,4 @@ pub mod SameImports
 pub mod RenewedImports
 pub mod SetFiles
 pub mod KnownEdits
+pub mod SharedFolders

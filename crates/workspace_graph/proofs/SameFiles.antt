@@ -93,9 +93,14 @@ module _ (test : List ℕ → Bool) where
         (λ q. at w q ∙ agree q ∙ sym (at v q)))
         ∙ entries-from_sorted path_cmp (passed (entries v)) (ordered v)
 
+-- two workspaces with the same Go files in a folder have the same files of its package
+pub same_in : (v w : Workspace) (p : List ℕ) → ((path : List ℕ) → is_go path ≡ true → folder path ≡ p → get w path ≡ get v path) →
+    package_files w p ≡ package_files v p
+same_in v w p same = one_list (is_of_package p) v w (λ q is.
+    let parts = and_parts (is_go q) (pointwise ◌==◌ (folder q) p) is in
+    same q parts.0 ((bytes_decides (folder q) p).0 parts.1))
+
 -- two workspaces that differ only in some folders have the same files in any other
 pub same_files : (folders : List (List ℕ)) (v w : Workspace) → DiffersOnlyIn folders v w → (p : List ℕ) → (Contains folders p → ⊥) →
     package_files w p ≡ package_files v p
-same_files folders v w same p apart = one_list (is_of_package p) v w (λ q is.
-    let parts = and_parts (is_go q) (pointwise ◌==◌ (folder q) p) is in
-    same q parts.0 (λ has. apart (subst (Contains folders) ((bytes_decides (folder q) p).0 parts.1) has)))
+same_files folders v w same p apart = same_in v w p (λ q go e. same q go (λ has. apart (subst (Contains folders) e has)))

@@ -12,6 +12,10 @@ use Rattle.workspace_graph.specs.declared.package.ParsedPackage.{ParsedPackage}
 abbrev pub DiffersOnlyIn : List (List ℕ) → Workspace → Workspace → Type 0
 DiffersOnlyIn folders before after = (path : List ℕ) → is_go path ≡ true → (Contains folders (folder path) → ⊥) → files.get after path ≡ files.get before path
 
+-- The Go files whose folders are in `folders` are the same in both workspaces.
+abbrev pub AreSameIn : List (List ℕ) → Workspace → Workspace → Type 0
+AreSameIn folders v w = (path : List ℕ) → is_go path ≡ true → Contains folders (folder path) → files.get w path ≡ files.get v path
+
 -- The Go files whose paths are not in `paths` are the same in both workspaces.
 abbrev pub DiffersOnlyAt : List (List ℕ) → Workspace → Workspace → Type 0
 DiffersOnlyAt paths before after = (path : List ℕ) → is_go path ≡ true → (Contains paths path → ⊥) → files.get after path ≡ files.get before path

@@ -10,7 +10,7 @@ ghost use Rattle.workspace_graph.specs.Changed.{KeepsPath, has_file};
 ghost use Rattle.workspace_graph.specs.Borrows.{names};
 ghost use Rattle.workspace_graph.specs.Reaching.{AreBackMarks, AreImportersMarked, BuildsOn, MarksClosuresWith, ReachingMarks, AddsClosuresWith};
 ghost use Rattle.workspace_graph.specs.KnownEdits.{EditsMake};
-ghost use Rattle.workspace_graph.specs.SameGoFiles.{DiffersOnlyAt, DiffersOnlyIn, HasFiles};
+ghost use Rattle.workspace_graph.specs.SameGoFiles.{AreSameIn, DiffersOnlyAt, DiffersOnlyIn, HasFiles};
 ghost use Rattle.workspace_graph.specs.declared.package.ParsedPackage.{ParsedPackage};
 ghost use Rattle.workspace_graph.specs.ChangedFiles.{CoverChanges};
 ghost use Rattle.workspace_graph.specs.Updated.{IsPlace};
@@ -148,6 +148,24 @@ impl Graph {
             return Graph::grown(alloc, before, coming, files);
         }
         let packages = updated(&old.packages, &fresh)?;
+        Graph::made(alloc, Some(old), files, packages)
+    }
+
+    /// The graph of `files`, whose Go files are those of `other` in the folders of its packages, and those of `before` in all other folders.
+    /// It shares the packages of both, so no file is parsed.
+    pub fn with_packages(
+        alloc: Global,
+        before: &Graph,
+        other: &Graph,
+        files: Files,
+    ) -> Result<Graph, AllocError>
+        requires differs { DiffersOnlyIn (package_paths other.now) before.now files }
+        requires same { AreSameIn (package_paths other.now) other.now files }
+        ensures { IfOk result (λ graph. graph ≡ files) }
+    {
+        let old: &Parts = &before.parts;
+        let fresh: &Parts = &other.parts;
+        let packages = updated(&old.packages, &fresh.packages)?;
         Graph::made(alloc, Some(old), files, packages)
     }
 

@@ -21,7 +21,7 @@ fn sizes_fit(files: &Files, each: usize, all: usize) -> bool
 }
 
 /// Whether the files keep the limits on bytes and on the number of files.
-fn files_fit(limits: &Limits, files: &Files) -> bool
+pub fn files_fit(limits: &Limits, files: &Files) -> bool
     ensures { IsTrue result ↔ FilesFit limits.now files.now }
 {
     files.len() <= limits.files && sizes_fit(files, limits.file_bytes, limits.total_bytes)

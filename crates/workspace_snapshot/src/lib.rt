@@ -12,7 +12,7 @@ mod plan;
 mod snapshot;
 
 pub use change::{Change, ChangeKind};
-pub use fits::fits_limits;
+pub use fits::{files_fit, fits_limits};
 pub use made_change::{MadeChange, graph_after};
-pub use plan::{plan_del, plan_put};
+pub use plan::{has_text, plan_del, plan_put};
 pub use snapshot::Snapshot;

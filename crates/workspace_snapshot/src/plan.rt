@@ -13,7 +13,7 @@ use base_files::{FileText, Files, Path, Refusal};
 use std::alloc::{AllocError, Global};
 
 /// Whether the file at the path exists and has the text.
-fn has_text(files: &Files, path: &Path, text: &FileText) -> bool
+pub fn has_text(files: &Files, path: &Path, text: &FileText) -> bool
     ensures { IsTrue result ↔ (map.get files.now path.now ≡ Some text.now) }
 {
     match files.get(path) {

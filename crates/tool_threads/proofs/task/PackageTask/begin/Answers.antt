@@ -7,7 +7,8 @@ use Rattle.server_shared.proofs.SendsFound.{verdict_sent}
 use Rattle.base_files.specs.Workspace.{Workspace}
 use Rattle.tool_threads.specs.Given.{GiveVerdictsOf}
 use Rattle.tool_threads.specs.declared.task.VerdictsPromised.{VerdictsPromised}
-use Rattle.tool_threads.proofs.SendsTask.{one_sent, task_sent}
+use Rattle.workspace_parsing.proofs.SendsTask.{one_sent}
+use Rattle.tool_threads.proofs.SendsTask.{task_sent}
 use Rattle.tool_threads.proofs.task.PackageTask.begin.Goals as goal
 
 pub spawn_with-requires-clause-keeps : goal.spawn_with-requires-clause-keeps

@@ -1,0 +1,10 @@
+-- The lemmas of this crate.
+pub mod AllPaths
+pub mod Parts
+pub mod PackageFiles
+pub mod JoinedParts
+pub mod PutPackages
+pub mod Kept
+pub mod SendsTrees
+pub mod SendsGraph
+pub mod SendsTask

@@ -1,0 +1,25 @@
+-- The files may go to their thread, which keeps its promise: they are those of the promise.
+use Rattle.std.proofs.Common.{◌∙◌, ap, subst, sym}
+use denote.Exit.{no}
+use denote.Param.Send.{arg_send, param_send, sendable}
+use Rattle.std.proofs.Crossing.{crosses}
+use Rattle.base_files.specs.Workspace.{Workspace}
+use Rattle.workspace_parsing.specs.Shares.{GivesGraph}
+use Rattle.workspace_parsing.specs.declared.task.GraphPromised.{GraphPromised}
+use Rattle.workspace_parsing.proofs.SendsGraph.{graph_sent}
+use Rattle.workspace_parsing.proofs.SendsTask.{one_sent, parse_sent}
+use Rattle.workspace_parsing.proofs.task.ParseTask.begin.Goals as goal
+
+pub spawn_with-requires-clause-keeps : goal.spawn_with-requires-clause-keeps
+spawn_with-requires-clause-keeps g c = λ κs outlived r post. subst (λ (w : Workspace). GivesGraph w r) (sym c.of.ensures) post
+
+pub spawn_with-requires-send-F : goal.spawn_with-requires-send-F
+spawn_with-requires-send-F g c = λ κs outlived. param_send 2 _ (arg_send _ no _ (one_sent _ _ parse_sent))
+
+pub spawn_with-requires-send-T : goal.spawn_with-requires-send-T
+spawn_with-requires-send-T g c = λ κs outlived. search (sendable, crosses, graph_sent) depth 30 fits 50000
+
+pub returns-in-Ok : goal.returns-in-Ok
+returns-in-Ok g c =
+    let kept = rw c.in-Ok.is at c.spawn_with.ensures.ok in
+    ap (λ (p : GraphPromised). p.files.value) kept ∙ c.of.ensures
