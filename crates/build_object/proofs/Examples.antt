@@ -14,7 +14,7 @@ use Rattle.go_ast.specs.Tree.{StatementTree, StatementTrees, no_statement, state
 use Rattle.types_expr.specs.declared.types.Basic.TheVariants as basic
 use Rattle.types_expr.specs.declared.types.Builtin.TheVariants as builtin
 use Rattle.types_expr.specs.declared.symbol.Symbol.{Symbol}
-use Rattle.types_expr.specs.Types.{PlainType, BasicType, Defined, Pointer, Slice, Struct, Typed, Untyped, Nil, Value, TypeName}
+use Rattle.types_expr.specs.Types.{PlainType, BasicType, Defined, Pointer, Slice, Struct, Typed, Untyped, Nil, Value, TypeName, AFieldOf}
 use Rattle.types_expr.specs.Types.{Function, BuiltinName, Package, Broken}
 use Rattle.types_expr.specs.World.{Bound, Means, Member, AField, AMethod}
 use Rattle.types_expr.specs.World.{Local as LocalName}
@@ -65,7 +65,7 @@ first_bound n =
 
 abbrev first_source : Source
 first_source = record {
-  world = record { bound = first_bound; member = λ n t. None; definition = λ s. Struct s };
+  world = record { bound = first_bound; member = λ n t. None; definition = λ s. Struct s; implements = λ t s. false };
   before = λ n. None;
   global = λ n. if n == 4 || n == 16 then Some (here (codes "x")) else (if n == 8 then Some (here (codes "F")) else None);
   truth = λ n. false;
@@ -112,7 +112,7 @@ second_bound n =
 
 abbrev second_source : Source
 second_source = record {
-  world = record { bound = second_bound; member = λ n t. None; definition = λ s. Struct s };
+  world = record { bound = second_bound; member = λ n t. None; definition = λ s. Struct s; implements = λ t s. false };
   before = λ n. None;
   global = λ n. None;
   truth = λ n. false;
@@ -199,13 +199,13 @@ member_symbol n = record { «package» = codes "a"; rank = n }
 
 abbrev form_member : ℕ → Option Member
 form_member n =
-    if n == 40 || (n == 41 || n == 46) then Some (AField (member_symbol 5) int) else
+    if n == 40 || (n == 41 || n == 46) then Some (AField (member_symbol 5) (AFieldOf int)) else
     (if n == 42 || n == 43 then Some (AMethod (member_symbol 6) false (record { parameters = []; results = int ∷ [] }))
     else (if n == 44 || n == 45 then Some (AMethod (member_symbol 7) true (record { parameters = []; results = [] })) else None))
 
 abbrev forms : Source
 forms = record {
-  world = record { bound = form_bound; member = λ n t. form_member n; definition = λ s. Struct s };
+  world = record { bound = form_bound; member = λ n t. form_member n; definition = λ s. Struct s; implements = λ t s. false };
   before = λ n. if n == 41 || (n == 43 || n == 45) then Some (Pointer (Defined struct_t)) else
       (if n == 40 || (n == 42 || (n == 44 || n == 46)) then Some (Defined struct_t) else None);
   global = λ n. if n == 13 then Some (here (codes "v")) else

@@ -8,7 +8,7 @@ use Rattle.go_ast.specs.declared.tree.Item as items
 use Rattle.go_ast.specs.declared.tree.FieldDecl.{FieldDecl}
 use Rattle.go_ast.specs.Tree.{Item}
 use Rattle.go_ast.specs.View.{list_view}
-use Rattle.go_ast.specs.FileView.{field_view, same_index}
+use Rattle.go_ast.specs.FileView.{field_view}
 use Rattle.go_ast.specs.SourceFile.{SourceFile}
 use Rattle.types_declared.specs.declared.declared.Function.{Function}
 use Rattle.types_declared.specs.DeclaredView.{function_of as placed_function}
@@ -83,11 +83,11 @@ module _ (path : List ℕ) (files : List SourceFile) (fs : List Function) (n : �
 
 -- Fields
 
-pub positions_length : (k : ℕ) (xs : List (Item ℕ)) → length (positions_from k xs) ≡ length xs
+pub positions_length : {X : Type 0} (k : ℕ) (xs : List X) → length (positions_from k xs) ≡ length xs
 positions_length k [] = refl
 positions_length k (x ∷ xs) = ap suc (positions_length (suc k) xs)
 
-positions_append : (k : ℕ) (xs ys : List (Item ℕ)) → positions_from k (xs ++ ys) ≡ positions_from k xs ++ positions_from (k + length xs) ys
+positions_append : {X : Type 0} (k : ℕ) (xs ys : List X) → positions_from k (xs ++ ys) ≡ positions_from k xs ++ positions_from (k + length xs) ys
 positions_append k [] ys = let e : k ≡ k + 0 = omega arith in ap (λ n. positions_from n ys) e
 positions_append k (x ∷ xs) ys =
     let e : suc k + length xs ≡ k + suc (length xs) = omega arith in
@@ -96,24 +96,24 @@ positions_append k (x ∷ xs) ys =
 pub positions_within : (begin p : ℕ) (now new : List ℕ) → begin ≤ length now → new ≡ now ++ (p ∷ []) → begin ≤ length new
 positions_within begin p now new h e = let grown : length new ≡ length now + 1 = ap length e ∙ length-append now (p ∷ []) in omega arith
 
-no_name : items.Item ℕ
+pub no_name : items.Item ℕ
 no_name = record { value = 0; separator = None }
 
-pub positions_step : (begin : ℕ) (now new total : List ℕ) (xs : List (items.Item ℕ)) (i : ℕ) → begin ≤ length now → i < length xs →
-    now ++ positions_from (length now - begin) (list_view same_index (drop i xs)) ≡ total → new ≡ now ++ ((length now - begin) ∷ []) →
-    new ++ positions_from (length new - begin) (list_view same_index (drop (i + 1) xs)) ≡ total
-positions_step begin now new total xs i within lt h e =
-    let grown : length new ≡ length now + 1 = ap length e ∙ length-append now ((length now - begin) ∷ []) in
-    let next : length new - begin ≡ suc (length now - begin) = omega arith in
-    ap (λ z. z ++ positions_from (length new - begin) (list_view same_index (drop (i + 1) xs))) e
-    ∙ (append_assoc now ((length now - begin) ∷ []) (positions_from (length new - begin) (list_view same_index (drop (i + 1) xs)))
-    ∙ (ap (λ k. now ++ ((length now - begin) ∷ positions_from k (list_view same_index (drop (i + 1) xs)))) next
-    ∙ (ap (λ ys. now ++ positions_from (length now - begin) (list_view same_index ys)) (sym (drop_more xs i no_name lt)) ∙ h)))
+module _ {X Y : Type 0} (view : X → Y) (begin : ℕ) (now total : List ℕ) (xs : List (items.Item X)) (i : ℕ) where
+  pub positions_step : (new : List ℕ) (x : items.Item X) → begin ≤ length now → i < length xs →
+      now ++ positions_from (length now - begin) (list_view view (drop i xs)) ≡ total → new ≡ now ++ ((length now - begin) ∷ []) →
+      new ++ positions_from (length new - begin) (list_view view (drop (i + 1) xs)) ≡ total
+  positions_step new x within lt h e =
+      let grown : length new ≡ length now + 1 = ap length e ∙ length-append now ((length now - begin) ∷ []) in
+      let next : length new - begin ≡ suc (length now - begin) = omega arith in
+      ap (λ z. z ++ positions_from (length new - begin) (list_view view (drop (i + 1) xs))) e
+      ∙ (append_assoc now ((length now - begin) ∷ []) (positions_from (length new - begin) (list_view view (drop (i + 1) xs)))
+      ∙ (ap (λ k. now ++ ((length now - begin) ∷ positions_from k (list_view view (drop (i + 1) xs)))) next
+      ∙ (ap (λ ys. now ++ positions_from (length now - begin) (list_view view ys)) (sym (drop_more xs i x lt)) ∙ h)))
 
-pub positions_end : (begin : ℕ) (now total : List ℕ) (xs : List (items.Item ℕ)) (i : ℕ) → length xs ≤ i →
-    now ++ positions_from (length now - begin) (list_view same_index (drop i xs)) ≡ total → now ≡ total
-positions_end begin now total xs i all h = sym (append-nil now) ∙
-    (ap (λ ys. now ++ positions_from (length now - begin) (list_view same_index ys)) (sym (drop_of_length-le xs all)) ∙ h)
+  pub positions_end : length xs ≤ i → now ++ positions_from (length now - begin) (list_view view (drop i xs)) ≡ total → now ≡ total
+  positions_end all h = sym (append-nil now) ∙
+      (ap (λ ys. now ++ positions_from (length now - begin) (list_view view ys)) (sym (drop_of_length-le xs all)) ∙ h)
 
 -- the names of the fields of a struct
 abbrev pub struct_names : List (items.Item FieldDecl) → List (Item ℕ)

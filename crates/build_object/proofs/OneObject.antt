@@ -28,6 +28,7 @@ use Rattle.build_object.specs.ObjectText.{object_text}
 use Rattle.build_object.specs.Sources.{type_before, HasQualifier, IsGlobalAt, DenotesGlobal, IsTextAt, IsSourceOf, AreImports, IsObjectOf, IsObjectText}
 use Rattle.build_object.specs.Sources as source
 use Rattle.workspace_graph.proofs.SortedLists.{one_sorted}
+use Rattle.types_expr.specs.Judge.{members_of}
 
 -- the declaration of a package's block that a name is bound to
 
@@ -74,7 +75,7 @@ pub one_source : (p : Package) → WellFormed p.layout → TokensRise p.files �
 one_source p formed rising files_of file f s t a b =
     let world = has_one_world p formed rising file f s.world t.world a.world b.world in
     let before : s.before ≡ t.before = fun_ext (λ token. a.before token ∙
-    (ap (λ w. type_before (check_file w (is_init f) f.tree).uses token) world ∙ sym (b.before token))) in
+    (ap (λ w. type_before (members_of (check_file w (is_init f) f.tree).uses) token) world ∙ sym (b.before token))) in
     let global : s.global ≡ t.global = fun_ext (λ token. one_global p formed file token (s.global token) (t.global token) (a.global token) (b.global token)) in
     let truth : s.truth ≡ t.truth = fun_ext (λ token. same_from_decides (s.truth token) (t.truth token) (a.truth token) (b.truth token)) in
     let number : s.number ≡ t.number = fun_ext (λ token. a.number token ∙ sym (b.number token)) in

@@ -13,6 +13,7 @@ use Rattle.types_expr.specs.Found.{use_of}
 use Rattle.types_expr.specs.View.{type_of}
 use Rattle.types_expr.specs.World as plain
 use Rattle.types_expr.specs.WorldView.{world_of, name_in, token_spelling}
+use Rattle.types_expr.specs.Judge.{members_of}
 use Rattle.types_stmt.specs.Declarations.{check_file}
 use Rattle.types_declared.specs.DeclaredView.{type_of as definition_of}
 use Rattle.types_declared.specs.Package.{Package, declared_types, spelled, spelled_at}
@@ -61,11 +62,12 @@ used_from before (u ∷ us) token = used_by_test before us u token (u.place == t
 
 pub uses_found : (p : Package) (file : ℕ) (f : SourceFile) (w : plain.World) (uses : _) → HasOneWorld p → slice_get p.files file ≡ Some f →
     IsWorldOf p file f w → AreUsesIn p file uses →
-    uses ≡ (check_file w (is_init f) f.tree).uses
+    uses ≡ (members_of (check_file w (is_init f) f.tree).uses)
 uses_found p file f w uses one at judged are =
     let same : are.source ≡ f = same_Some are.source f (sym are.in_file ∙ at) in
     let alike : are.world ≡ w = one file f are.world w (subst (λ s. IsWorldOf p file s are.world) same are.judged_by) judged in
-    are.found ∙ (ap (λ s. (check_file are.world (is_init s) s.tree).uses) same ∙ ap (λ v. (check_file v (is_init f) f.tree).uses) alike)
+    are.found ∙ (ap (λ s. (members_of (check_file are.world (is_init s) s.tree).uses)) same ∙
+    ap (λ v. (members_of (check_file v (is_init f) f.tree).uses)) alike)
 
 -- names of packages
 

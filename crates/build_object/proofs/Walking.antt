@@ -1,6 +1,6 @@
 -- What is found by going over the parts of a list, one after another.
 use Rattle.std.proofs.Common.{true, false, if◌then◌else◌, ℕ, zero, suc, ◌≡◌, ◌+◌, ◌<◌, ◌≤◌, ◌∷◌, ◌++◌, [], List, length, take, map, get_or, refl, ap}
-use Rattle.std.proofs.Common.{sym, ◌∙◌, arith, length-append}
+use Rattle.std.proofs.Common.{sym, ◌∙◌, ◌-◌, arith, length-append}
 use Rattle.std.specs.Prelude.{None, Some, option_map, slice_get}
 use Rattle.std.specs.List.{flat_map, enumerate_from}
 use Rattle.std.proofs.lemmas.List.{take_more, take_all}
@@ -131,7 +131,7 @@ module _ (path : List ℕ) (files : List SourceFile) (fs : List PlacedFunction) 
 
 -- Fields
 
-pub position_here : (begin : ℕ) (xs : List (Item ℕ)) (n : ℕ) → n < length xs → slice_get (positions_from begin xs) n ≡ Some (begin + n)
+pub position_here : {X : Type 0} (begin : ℕ) (xs : List X) (n : ℕ) → n < length xs → slice_get (positions_from begin xs) n ≡ Some (begin + n)
 position_here begin [] n lt = absurd (omega (arith, lt))
 position_here begin (x ∷ xs) zero lt = ap Some (let e : begin ≡ begin + 0 = omega arith in e)
 position_here begin (x ∷ xs) (suc n) lt = position_here (suc begin) xs n (omega (arith, lt)) ∙
@@ -163,6 +163,21 @@ fields_behind fs rank rest e =
     let same : length (positions_from 0 (names_of_fields (list_view field_view fs))) ≡ length (flat_map field_names fs) =
     positions_length 0 (names_of_fields (list_view field_view fs)) ∙ ap length (same_names fs) in
     omega (arith, e, same)
+
+-- the methods that an interface asks for
+
+module _ {X Y : Type 0} (view : X → Y) (xs : List (items.Item X)) (rank : ℕ) where
+  counted : length (list_view view xs) ≡ length xs
+  counted = length-map xs (item_view view)
+
+  pub asked_here : rank < length xs → slice_get (positions_from 0 (list_view view xs)) rank ≡ Some rank
+  asked_here lt = position_here 0 (list_view view xs) rank (let short : rank < length (list_view view xs) = omega (arith, lt, counted) in short)
+      ∙ ap Some (let e : 0 + rank ≡ rank = omega arith in e)
+
+  pub asked_behind : length xs ≤ rank → rank ≡ length (positions_from 0 (list_view view xs)) + (rank - length xs)
+  asked_behind all =
+      let same : length (positions_from 0 (list_view view xs)) ≡ length xs = positions_length 0 (list_view view xs) ∙ counted in
+      omega (arith, all, same)
 
 in_each : {A B C : Type 0} (f : B → List C) (g : A → List B) (xs : List A) → flat_map f (flat_map g xs) ≡ flat_map (λ x. flat_map f (g x)) xs
 in_each f g [] = refl

@@ -69,10 +69,10 @@ functions_behind path files k (f ∷ fs) = function_behind path files k f ∷ fu
 abbrev pub function_names : (path : List ℕ) → List SourceFile → List FunctionName
 function_names path files = functions_behind path files 0 (declared_functions files)
 
--- Fields, by their ranks: the position of each in its struct, from 0.
+-- Written members, by their ranks: the position of a field in its struct, and of a method in the interface that asks for it, from 0.
 
--- The positions of these field names, from n on.
-abbrev pub positions_from : ℕ → List (Item ℕ) → List ℕ
+-- The positions of these names or methods, from n on.
+abbrev pub positions_from : {X : Type 0} → ℕ → List X → List ℕ
 positions_from n [] = []
 positions_from n (i ∷ is) = n ∷ positions_from (suc n) is
 
@@ -80,17 +80,17 @@ positions_from n (i ∷ is) = n ∷ positions_from (suc n) is
 abbrev pub names_of_fields : List (Item FieldTree) → List (Item ℕ)
 names_of_fields fs = flat_map (λ i. i.value.names) fs
 
--- The positions of the fields of a type definition's body.
+-- The positions of the members that a type definition's body writes.
 abbrev pub body_positions : BodyTree → List ℕ
 body_positions (Other t) = []
 body_positions (Struct k o fs c) = positions_from 0 (names_of_fields fs)
-body_positions (Interface k o ms c) = []
+body_positions (Interface k o ms c) = positions_from 0 ms
 
--- The positions of the fields of a type definition.
+-- The positions of the members that a type definition writes.
 abbrev pub type_positions : PlacedType → List ℕ
 type_positions t = body_positions t.spec.body
 
--- The positions of all fields of a package, by their ranks.
+-- The positions of all written members of a package, by their ranks.
 abbrev pub field_positions : List SourceFile → List ℕ
 field_positions files = flat_map type_positions (declared_types files)
 

@@ -10,7 +10,7 @@ use Rattle.go_scope.specs.Table.{IsFoundAt}
 use Rattle.types_declared.specs.Files.{HasLiteral, package_name}
 use Rattle.types_expr.specs.declared.symbol.Symbol.{Symbol}
 use Rattle.types_expr.specs.Types.{PlainType}
-use Rattle.types_expr.specs.Judge.{MemberUse}
+use Rattle.types_expr.specs.Judge.{MemberUse, members_of}
 use Rattle.types_stmt.specs.Declarations.{check_file}
 use Rattle.workspace_graph.specs.Packages.{ImportsPath}
 use Rattle.types_declared.specs.Package.{Package, spelled}
@@ -65,7 +65,7 @@ IsTextAt source token (Some value) = HasLiteral source token value
 -- `s` is the source of the code of a file of the package. There is at most one. `files_of` gives the files of packages by their paths.
 pub record IsSourceOf (p : Package) (files_of : List ℕ → List SourceFile) (file : ℕ) (f : SourceFile) (s : Source) : Type 0 where
   pub world : IsWorldOf p file f s.world
-  pub before : (token : ℕ) → s.before token ≡ type_before (check_file s.world (is_init f) f.tree).uses token
+  pub before : (token : ℕ) → s.before token ≡ type_before (members_of (check_file s.world (is_init f) f.tree).uses) token
   pub global : (token : ℕ) → DenotesGlobal p file token (s.global token)
   pub truth : (token : ℕ) → (s.truth token ≡ true) ↔ IsTrueAt p file token
   pub number : (token : ℕ) → s.number token ≡ literal_number (spelling_of f token)

@@ -2,7 +2,7 @@
 ghost use Rattle.std.specs.Prelude.{◌≡◌, ◌<◌, ◌≤◌, ◌+◌, ◌-◌, ◌^◌, ◌++◌, length, map, IfOk, OnOk};
 ghost use Rattle.std.specs.List.{flat_map};
 ghost use Rattle.go_ast.specs.View.{list_view};
-ghost use Rattle.go_ast.specs.FileView.{body_view, field_view};
+ghost use Rattle.go_ast.specs.FileView.{body_view, field_view, method_view};
 ghost use Rattle.go_ast.specs.SourceFile.{source_of};
 ghost use Rattle.types_declared.specs.DeclaredView.{type_of, function_of as placed_function};
 ghost use Rattle.build_object.specs.LineView.{global_of, function_of};
@@ -12,7 +12,7 @@ ghost use Rattle.build_object.specs.NamesView.{AreTablesOf};
 use crate::instructions::{FunctionName, GlobalName};
 use crate::packages::DeclaredTables;
 use go_ast::FileTree;
-use go_ast::tree::{FieldDecl, Item, TypeBody};
+use go_ast::tree::{FieldDecl, Item, MethodSpec, TypeBody};
 use std::alloc::{AllocError, Global};
 use types_declared::{Declared, Function, TypeDef};
 
@@ -157,7 +157,19 @@ fn add_fields(positions: &mut Vec<usize>, fields: &[Item<FieldDecl>]) -> Result<
     Ok(())
 }
 
-/// Adds the positions of the fields of a type definition's body.
+/// Adds the positions of the methods that an interface asks for.
+fn add_asked(positions: &mut Vec<usize>, methods: &[Item<MethodSpec>]) -> Result<(), AllocError>
+    ensures { OnOk result (positions.new.items ≡ positions.old.items ++ positions_from 0 (list_view method_view methods.now)) }
+{
+    let begin = positions.len();
+    for _method in methods {
+        let number = positions.len() - begin;
+        positions.push(number)?;
+    }
+    Ok(())
+}
+
+/// Adds the positions of the members that a type definition's body writes.
 #[tactic(auto, unfolding(go_ast::specs::FileView::body_view))]
 fn add_body(positions: &mut Vec<usize>, body: &TypeBody) -> Result<(), AllocError>
     ensures { OnOk result (positions.new.items ≡ positions.old.items ++ body_positions (body_view body.now)) }
@@ -165,11 +177,11 @@ fn add_body(positions: &mut Vec<usize>, body: &TypeBody) -> Result<(), AllocErro
     match body {
         TypeBody::Type(_) => Ok(()),
         TypeBody::Struct { fields, .. } => add_fields(positions, fields),
-        TypeBody::Interface { .. } => Ok(()),
+        TypeBody::Interface { methods, .. } => add_asked(positions, methods),
     }
 }
 
-/// The positions of all fields of a package in their structs.
+/// The positions of all written members of a package, by their ranks.
 #[tactic(auto, unfolding(go_ast::specs::FileView::type_spec_view))]
 fn field_positions(alloc: Global, types: &[TypeDef<'_>]) -> Result<Vec<usize>, AllocError>
     ensures { IfOk result (λ positions. positions.items ≡ flat_map type_positions (map type_of types.now)) }

@@ -1,7 +1,7 @@
 //! Finds the declaration with a rank by going over the files of a package. Of most packages in a closure none is asked for.
 ghost use Rattle.std.specs.Prelude.{◌≡◌, ◌<◌, length, map, option_map, slice_get, take};
 ghost use Rattle.go_ast.specs.View.{group_view, list_view};
-ghost use Rattle.go_ast.specs.FileView.{decl_view, field_view, type_spec_view};
+ghost use Rattle.go_ast.specs.FileView.{decl_view, field_view, method_view, type_spec_view};
 ghost use Rattle.go_ast.specs.SourceFile.{source_of};
 ghost use Rattle.types_declared.specs.Files.{group_items};
 ghost use Rattle.types_declared.specs.DeclaredView.{type_of, function_of as placed_function};
@@ -12,7 +12,7 @@ ghost use Rattle.std.specs.List.{flat_map};
 
 use crate::names::initializers_with;
 use go_ast::FileTree;
-use go_ast::tree::{Decl, FieldDecl, Group, Item, TypeBody, TypeSpec};
+use go_ast::tree::{Decl, FieldDecl, Group, Item, MethodSpec, TypeBody, TypeSpec};
 use types_declared::{Function, TypeDef};
 
 /// The type definition with this rank in a `type`, or the rank that is left behind it.
@@ -166,6 +166,18 @@ fn position_in_fields(fields: &[Item<FieldDecl>], rank: usize) -> Result<usize, 
     Err(rest)
 }
 
+/// The position of the method with this rank among those that an interface asks for, or the rank that is left behind them.
+fn position_in_asked(methods: &[Item<MethodSpec>], rank: usize) -> Result<usize, usize>
+    ensures { FindsRank (λ n. n) (positions_from 0 (list_view method_view methods.now)) rank result }
+{
+    let count = methods.len();
+    if rank < count {
+        Ok(rank)
+    } else {
+        Err(rank - count)
+    }
+}
+
 /// The position in its struct of the field with this rank in a type definition, or the rank that is left behind it.
 #[tactic(auto, unfolding(go_ast::specs::FileView::body_view, go_ast::specs::FileView::type_spec_view))]
 fn position_in_spec(spec: &TypeSpec, rank: usize) -> Result<usize, usize>
@@ -174,7 +186,7 @@ fn position_in_spec(spec: &TypeSpec, rank: usize) -> Result<usize, usize>
     match &spec.body {
         TypeBody::Type(_) => Err(rank),
         TypeBody::Struct { fields, .. } => position_in_fields(fields, rank),
-        TypeBody::Interface { .. } => Err(rank),
+        TypeBody::Interface { methods, .. } => position_in_asked(methods, rank),
     }
 }
 

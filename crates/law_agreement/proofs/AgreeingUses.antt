@@ -6,7 +6,8 @@ use Rattle.std.proofs.lemmas.Bool.{cases_Bool, true≢false}
 use Rattle.base_lemmas.proofs.Elements.{nothing_in, first_in, later_in, first_or_later}
 use Rattle.go_ast.specs.Tree.{DeclTree, VarDecl, TypeDecl, FuncDecl, FileTree}
 use Rattle.types_expr.specs.declared.symbol.Symbol.{Symbol}
-use Rattle.types_expr.specs.Judge.{MemberUse}
+use Rattle.types_expr.specs.Judge.{MemberUse, members_of}
+use Rattle.types_expr.proofs.NoteLists.{member_noted}
 use Rattle.types_expr.specs.Types.{PlainType, same_type}
 use Rattle.types_expr.specs.World.{World}
 use Rattle.types_stmt.specs.Declarations.{check_file}
@@ -72,9 +73,10 @@ AgreeAtCommonUses v w a b = (u x : MemberUse) → Contains a u → Contains b x 
 
 module _ (v w : World) (old new : ℕ → Bool) (f : FileTree) (keeps : (d : DeclTree) → Contains f.decls d → AgreesOnInit old new d)
     (bound : (token : ℕ) → w.bound token ≡ v.bound token) (definition : (s : Symbol) → w.definition s ≡ v.definition s)
-    (agree : AgreeAtCommonUses v w (check_file v old f).uses (check_file w new f).uses) where
+    (implements : (t : PlainType) (s : Symbol) → w.implements t s ≡ v.implements t s)
+    (agree : AgreeAtCommonUses v w (members_of (check_file v old f).uses) (members_of (check_file w new f).uses)) where
   abbrev uses : List MemberUse
-  uses = (check_file w new f).uses
+  uses = members_of (check_file w new f).uses
 
   chosen : Bool → Members
   chosen b token t = if b then w.member token t else v.member token t
@@ -88,7 +90,8 @@ module _ (v w : World) (old new : ℕ → Bool) (f : FileTree) (keeps : (d : Dec
   as_new = files_ask w between new new f (λ d has. keeps_itself new d) (record {
     bound = λ token. sym (bound token);
     definition = λ s. sym (definition s);
-    members = λ u has. ap (λ b. chosen b u.place u.before) (asks uses u has);
+    implements = λ t s. sym (implements t s);
+    members = λ u has. ap (λ b. chosen b u.place u.before) (asks uses u (member_noted (check_file w new f).uses u has));
   })
 
   as_old : check_file between new f ≡ check_file v old f
@@ -96,10 +99,11 @@ module _ (v w : World) (old new : ℕ → Bool) (f : FileTree) (keeps : (d : Dec
   as_old = files_ask v between old new f keeps (record {
     bound = λ token. refl;
     definition = λ s. refl;
+    implements = λ t s. refl;
     members = λ u has. elim (cases_Bool (is_asked uses u.place u.before)) [
       | inl common ↦
           let x = asked_by uses u.place u.before common in
-          ap (λ b. chosen b u.place u.before) common ∙ agree u x.asked has x.among x.place x.before
+          ap (λ b. chosen b u.place u.before) common ∙ agree u x.asked (member_noted (check_file v old f).uses u has) x.among x.place x.before
       | inr other ↦ ap (λ b. chosen b u.place u.before) other
     ];
   })

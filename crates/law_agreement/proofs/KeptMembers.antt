@@ -33,6 +33,7 @@ use Rattle.law_changed_types.proofs.Alike.{of_bound}
 use Rattle.law_agreement.proofs.Premises.{IsKeptRename, KeptMembersStay}
 use Rattle.law_agreement.proofs.UnboundStay.{field_counts, method_counts}
 use Rattle.law_agreement.proofs.KeptUses.{q, is, relaid, stays, finds_same, same_members, use_selects}
+use Rattle.types_expr.specs.Judge.{members_of}
 
 module _ (w : Workspace) (known : Verdicts) (d : Declaration) (name : List ℕ) (s : FileChanges) (after : Verdicts)
     (kept : IsKeptRename w known d name s after) (p : Package) (was : IsCheckedPackage w known p) (u : ℕ) (place : Place)
@@ -74,8 +75,9 @@ module _ (w : Workspace) (known : Verdicts) (d : Declaration) (name : List ℕ) 
       let to : slice_get new.files at.file ≡ Some g = file_after w known after d name s kept.rename p new was is_new lies.path at.file f b.judged.in_file in
       let z = have_worlds x kept.sound after kept.right new is_new at.file g to in
       let found = finds_same w known d name s after kept p was at.file f g v z.0 b.judged.in_file to b.judged.judged_by z.1 in
-      let among : Contains (check_file v (is_init f) f.tree).uses b.found = subst (λ us. Contains us b.found) b.judged.found b.is_use in
-      let among_now : Contains (check_file z.0 (is_init g) g.tree).uses b.found = subst (λ (c : FoundSoFar). Contains c.uses b.found) (sym found) among in
+      let among : Contains (members_of (check_file v (is_init f) f.tree).uses) b.found = subst (λ us. Contains us b.found) b.judged.found b.is_use in
+      let among_now : Contains (members_of (check_file z.0 (is_init g) g.tree).uses) b.found =
+      subst (λ (c : FoundSoFar). Contains (members_of c.uses) b.found) (sym found) among in
       let same = same_members w known d name s after kept p was at.file f g v z.0 b.judged.in_file to b.judged.judged_by z.1 b.found b.found among among_now
       refl refl in
       let now : z.0.member b.found.place b.found.before ≡ Some b.member = same ∙ ap (λ i. v.member i b.found.before) b.at ∙ b.is_member in

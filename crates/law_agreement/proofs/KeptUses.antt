@@ -11,7 +11,7 @@ use Rattle.go_ast.specs.SourceFile.{SourceFile, spelling_of}
 use Rattle.go_scope.specs.declared.model.Position.{Position}
 use Rattle.go_scope.specs.Table.{LiesAt}
 use Rattle.types_expr.specs.declared.symbol.Symbol.{Symbol}
-use Rattle.types_expr.specs.Judge.{MemberUse}
+use Rattle.types_expr.specs.Judge.{MemberUse, members_of}
 use Rattle.types_expr.specs.Types.{PlainType, Underlying}
 use Rattle.types_expr.specs.World.{World, Definition, Member, member_by}
 use Rattle.types_stmt.specs.Declarations.{check_file}
@@ -45,6 +45,7 @@ use Rattle.law_renamed_workspaces.proofs.MembersAfterwards.{member_stays}
 use Rattle.law_renamed_workspaces.proofs.UsesOfMembers.{IsUseAt, is_use_at}
 use Rattle.law_renamed_workspaces.proofs.Inits.{same_tree, keep_inits}
 use Rattle.law_agreement.proofs.Premises.{IsKeptRename}
+use Rattle.law_renamed_workspaces.proofs.NoInterfaces.{implements_alike}
 use Rattle.law_agreement.proofs.AgreeingUses.{AgreeAtCommonUses, same_found}
 use Rattle.law_agreement.proofs.KeptNames.{there, begins_moved, bound_after, same_member}
 use Rattle.law_agreement.proofs.KeptPackages.{IsKeptPackage, is_kept, kept_under, members_below}
@@ -55,10 +56,10 @@ use Rattle.law_agreement.proofs.Selecting.{selects}
 
 -- A use that is found in a file of a package names its member.
 member_used : (p : Package) (file : ℕ) (f : SourceFile) (v : World) → slice_get p.files file ≡ Some f → IsWorldOf p file f v → (u : MemberUse) →
-    Contains (check_file v (is_init f) f.tree).uses u → (n : ℕ) → LiesAt p.layout (record { file = file; index = u.place }) n → (m : Member) →
+    Contains (members_of (check_file v (is_init f) f.tree).uses) u → (n : ℕ) → LiesAt p.layout (record { file = file; index = u.place }) n → (m : Member) →
     v.member u.place u.before ≡ Some m → BindsByMember p n (declaration_of m)
 member_used p file f v at judged u has n stands m is = record {
-  uses = (check_file v (is_init f) f.tree).uses;
+  uses = members_of (check_file v (is_init f) f.tree).uses;
   judged = record {
     source = f;
     in_file = subst (λ k. slice_get p.files k ≡ Some f) (sym stands.1) at;
@@ -159,7 +160,8 @@ module _ (w : Workspace) (known : Verdicts) (d : Declaration) (name : List ℕ) 
         (selected es now.are_definitions ds judged.are_definitions (spelling_of g place) before m there)
 
     -- A use that is found before and afterwards, of one type.
-    module _ (u y : MemberUse) (has : Contains (check_file v (is_init f) f.tree).uses u) (has_now : Contains (check_file z (is_init g) g.tree).uses y)
+    module _ (u y : MemberUse) (has : Contains (members_of (check_file v (is_init f) f.tree).uses) u)
+        (has_now : Contains (members_of (check_file z (is_init g) g.tree).uses) y)
         (places : y.place ≡ u.place) (befores : y.before ≡ u.before) where
       abbrev a : IsUseAt p file v u
       a = is_use_at w sound known right p was file f at v judged u has
@@ -222,13 +224,14 @@ module _ (w : Workspace) (known : Verdicts) (d : Declaration) (name : List ℕ) 
     trees : g.tree ≡ f.tree
     trees = same_tree p.files q.files relaid.trees file f g at to
 
-    agree : AgreeAtCommonUses v z (check_file v (is_init f) f.tree).uses (check_file z (is_init g) f.tree).uses
+    agree : AgreeAtCommonUses v z (members_of (check_file v (is_init f) f.tree).uses) (members_of (check_file z (is_init g) f.tree).uses)
     agree u y has has_now places befores =
-        same_members u y has (subst (λ t. Contains (check_file z (is_init g) t).uses y) (sym trees) has_now) places befores
+        same_members u y has (subst (λ t. Contains (members_of (check_file z (is_init g) t).uses) y) (sym trees) has_now) places befores
 
     -- so the same is found
     pub finds_same : check_file z (is_init g) g.tree ≡ check_file v (is_init f) f.tree
     finds_same =
         ap (λ t. check_file z (is_init g) t) trees
         ∙ same_found v z (is_init f) (is_init g) f.tree
-        (keep_inits w x known after p q was.is_checked is.is_checked relaid.layout relaid.size file f g at to trees) both.0 both.1 agree
+        (keep_inits w x known after p q was.is_checked is.is_checked relaid.layout relaid.size file f g at to trees) both.0 both.1
+        (implements_alike w sound known right p was q file f g v z judged now both.1) agree

@@ -5,7 +5,7 @@ use Rattle.std.proofs.lemmas.Option.{none-some, same_Some}
 use Rattle.base_files.specs.Workspace.{Workspace}
 use Rattle.types_expr.specs.declared.symbol.Symbol.{Symbol}
 use Rattle.types_expr.specs.Types.{PlainType, BasicType, Defined, Pointer, Slice, Underlying, Plain, PointerTo, SliceOf, underlying_by}
-use Rattle.types_expr.specs.Types.{Struct as StructOf}
+use Rattle.types_expr.specs.Types.{Struct as StructOf, Interface as InterfaceOf}
 use Rattle.types_expr.specs.World.{Definition, field_owner, owner, struct_of, struct_or_target}
 use Rattle.types_declared.specs.Definitions.{AreDefinitions}
 use Rattle.types_declared.specs.Package.{Package}
@@ -30,12 +30,14 @@ module _ (w : Workspace) (sound : ListsFaults w []) (known : Verdicts) (right : 
   struct_home (Plain b) h s e = absurd (none-some s e)
   struct_home (PointerTo t) h s e = absurd (none-some s e)
   struct_home (SliceOf t) h s e = absurd (none-some s e)
+  struct_home (InterfaceOf x) h s e = absurd (none-some s e)
   struct_home (StructOf x) h s e = subst (λ (z : Symbol). ReachesPath w p.path z.package) (same_Some x s e) h
 
   target_home : (u : Underlying) → IsHomeUnder w p.path u → (s : Symbol) → struct_or_target definition_of u ≡ Some s → ReachesPath w p.path s.package
   target_home (Plain b) h s e = absurd (none-some s e)
   target_home (PointerTo t) h s e = struct_home (underlying_by definition_of t) (type_home t h) s e
   target_home (SliceOf t) h s e = absurd (none-some s e)
+  target_home (InterfaceOf x) h s e = subst (λ (z : Symbol). ReachesPath w p.path z.package) (same_Some x s e) h
   target_home (StructOf x) h s e = struct_home (StructOf x) h s e
 
   owner_home : (t : PlainType) (s : Symbol) → owner t ≡ Some s → ReachesPath w p.path s.package → IsHome w p.path t

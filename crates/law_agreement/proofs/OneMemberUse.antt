@@ -6,7 +6,7 @@ use Rattle.base_files.specs.Workspace.{Workspace}
 use Rattle.go_ast.specs.SourceFile.{SourceFile, IsSourceFile}
 use Rattle.law_tokens.proofs.HeldBytes.{source_file_at}
 use Rattle.law_tokens.proofs.OwnPaths.{package_sources, part_at}
-use Rattle.types_expr.specs.Judge.{MemberUse}
+use Rattle.types_expr.specs.Judge.{MemberUse, members_of}
 use Rattle.types_expr.specs.World.{World}
 use Rattle.types_stmt.specs.Declarations.{check_file}
 use Rattle.types_declared.specs.Package.{Package, spelled}
@@ -47,8 +47,9 @@ module _ (w : Workspace) (known : Verdicts) (p : Package) (is : IsCheckedPackage
   one_found file token d e a b =
       let s = a.judged.source in
       let lists : b.uses ≡ a.uses = one_list p one_world_each file b.uses a.uses b.judged a.judged in
-      let here : Contains (check_file a.judged.world (is_init s) s.tree).uses a.found = subst (λ us. Contains us a.found) a.judged.found a.is_use in
-      let other : Contains (check_file a.judged.world (is_init s) s.tree).uses b.found =
+      let here : Contains (members_of (check_file a.judged.world (is_init s) s.tree).uses) a.found =
+      subst (λ us. Contains us a.found) a.judged.found a.is_use in
+      let other : Contains (members_of (check_file a.judged.world (is_init s) s.tree).uses) b.found =
       subst (λ us. Contains us b.found) (lists ∙ a.judged.found) b.is_use in
       one_at_token a.judged.world (is_init s) s (is_source file s a.judged.in_file) a.found b.found here other (a.at ∙ sym b.at)
 

@@ -1,64 +1,93 @@
 -- Definitions of a moved package: their fields and methods.
 use Rattle.std.proofs.Common.{ℕ, suc, ◌≡◌, List, [], ◌∷◌, map, Option, Some, None, option_map, refl, sym, ap, ◌∙◌, subst}
 use Rattle.std.specs.Prelude.{All, slice_get}
-use Rattle.std.proofs.lemmas.List.Elements.{All-nil, All-cons, All-head, All-tail, All-append, All-map, recursion_from_All}
-use Rattle.go_ast.specs.Tree.{Item, FieldTree, BodyTree, Other}
+use Rattle.std.proofs.lemmas.List.Elements.{All-nil, All-head, All-tail, All-append, All-map, recursion_from_All}
+use Rattle.go_ast.specs.Tree.{Item, FieldTree, MethodTree, BodyTree, Other, ParamTree, ResultTree}
 use Rattle.go_ast.specs.Tree as tree
 use Rattle.law_tokens.proofs.Elements.{all_got}
 use Rattle.types_expr.specs.declared.symbol.Symbol.{Symbol}
-use Rattle.types_expr.specs.Types.{Defined, Underlying, Signature}
+use Rattle.types_expr.specs.Types.{Defined, Underlying, Signature, WrittenAs, AFieldOf, AMethodOf}
 use Rattle.types_expr.specs.Types.{Struct as StructOf}
 use Rattle.types_expr.specs.World.{Definition, Field, Method}
 use Rattle.types_declared.specs.Package.{Package, PlacedType, PlacedFunction, package_types, package_functions, symbol_in}
-use Rattle.types_declared.specs.Written.{written_types}
+use Rattle.types_declared.specs.Written.{written_types, signature_types}
 use Rattle.types_declared.specs.Definitions.{HasUnderlying, PlacedField, body_fields, fields_from, package_fields, IsFieldOf, IsCountingField, IsMethodOf}
 use Rattle.types_declared.specs.Definitions.{HasFieldNamed, of_own, of_imported, IsCountingMethod, IsFoundField, IsFoundSignature, IsFoundMethod}
-use Rattle.types_declared.specs.Definitions.{IsUnderlyingOf, has, has_none, IsDefinition}
+use Rattle.types_declared.specs.Definitions.{IsUnderlyingOf, has, has_none, IsDefinition, WrittenForm, OfType, OfSignature, OfForm, HasForm}
 use Rattle.law_changed_types.specs.SameBindings.{IsDotted}
 use Rattle.law_changed_types.proofs.Alike.{got_by}
-use Rattle.law_changed_types.proofs.Parts.{all_given, all_alike}
-use Rattle.law_changed_types.specs.Moved.{PathMap, IsInjective, moved_symbol, moved_underlying, moved_signature}
+use Rattle.law_changed_types.proofs.Parts.{all_given, all_alike, of_mapped, of_asked, all_of_left, all_of_right, of_parameters}
+use Rattle.law_changed_types.specs.Moved.{PathMap, IsInjective, moved_symbol, moved_underlying, moved_signature, moved_form}
 use Rattle.law_changed_types.proofs.Moving.{ap2}
 use Rattle.law_changed_types.specs.MovedPackage.{IsMovedPackage, moved_field, moved_method, moved_definition}
 use Rattle.law_changed_types.proofs.Inversions.{some_back, struct_back}
 use Rattle.law_changed_types.proofs.Written.{same_place_types, same_place_functions, dotted, symbols, binds, binds_back, declares_type, declares_type_back}
 use Rattle.law_changed_types.proofs.Written.{type_of, type_of_back}
 use Rattle.law_changed_types.proofs.Underlying.{other_path, own_symbol, has_underlying, underlying_back}
-use Rattle.law_changed_types.proofs.MovedTypesMeanings.{signature_of, signature_back}
+use Rattle.law_changed_types.proofs.MovedTypesMeanings.{signature_of, signature_back, written_signature, written_signature_back}
+use Rattle.types_declared.specs.MeaningOf.{parameter_types, result_types}
 
 -- the types of fields follow dots, where they are qualified
 
-of_mapped : {X Y : Type 0} (P : Y → Type 0) (f : X → Y) (xs : List X) → All P (map f xs) → All (λ x. P (f x)) xs
-of_mapped P f [] h = All-nil (λ x. P (f x))
-of_mapped P f (x ∷ xs) h = All-cons (λ x. P (f x)) x xs (All-head P (f x) (map f xs) h) (of_mapped P f xs (All-tail P (f x) (map f xs) h))
-
 body_dotted : (p : Package) (rank file : ℕ) (b : BodyTree) → All (IsDotted p file) (written_types b) →
-    All (λ (f : PlacedField). IsDotted p f.file f.type_use) (body_fields rank file b)
-body_dotted p rank file (Other t) h = All-nil (λ (f : PlacedField). IsDotted p f.file f.type_use)
-body_dotted p rank file (tree.Interface k o ms c) h = All-nil (λ (f : PlacedField). IsDotted p f.file f.type_use)
+    All (λ (f : PlacedField). OfForm (IsDotted p f.file) f.form) (body_fields rank file b)
+body_dotted p rank file (Other t) h = All-nil (λ (f : PlacedField). OfForm (IsDotted p f.file) f.form)
+body_dotted p rank file (tree.Interface k o ms c) h =
+    All-map (λ (f : PlacedField). OfForm (IsDotted p f.file) f.form) (λ (i : Item MethodTree). record {
+      definition = rank;
+      file = file;
+      name = i.value.name;
+      form = OfSignature i.value.params i.value.result;
+    }) ms (of_asked (IsDotted p file) ms h)
 body_dotted p rank file (tree.Struct k o fs c) h =
-    let P : PlacedField → Type 0 = λ f. IsDotted p f.file f.type_use in
+    let P : PlacedField → Type 0 = λ f. OfForm (IsDotted p f.file) f.form in
     let Q : Item FieldTree → Type 0 = λ i. IsDotted p file i.value.type_use in
     let placed : Item FieldTree → Item ℕ → PlacedField = λ i n.
-    record { definition = rank; file = file; name = n.value; type_use = i.value.type_use } in
+    record { definition = rank; file = file; name = n.value; form = OfType i.value.type_use } in
     all_given P Q (λ i. map (placed i) i.value.names)
     (λ i d. All-map P (placed i) i.value.names (all_alike (Q i) d i.value.names)) fs
     (of_mapped (IsDotted p file) (λ (i : Item FieldTree). i.value.type_use) fs h)
 
 fields_dotted : (p : Package) (rank : ℕ) (ds : List PlacedType) → All (λ d. All (IsDotted p d.file) (written_types d.spec.body)) ds →
-    All (λ (f : PlacedField). IsDotted p f.file f.type_use) (fields_from rank ds)
-fields_dotted p rank [] h = All-nil (λ (f : PlacedField). IsDotted p f.file f.type_use)
+    All (λ (f : PlacedField). OfForm (IsDotted p f.file) f.form) (fields_from rank ds)
+fields_dotted p rank [] h = All-nil (λ (f : PlacedField). OfForm (IsDotted p f.file) f.form)
 fields_dotted p rank (d ∷ ds) h =
     let P : PlacedType → Type 0 = λ d. All (IsDotted p d.file) (written_types d.spec.body) in
-    All-append (λ (f : PlacedField). IsDotted p f.file f.type_use) (body_fields rank d.file d.spec.body) (fields_from (suc rank) ds)
+    All-append (λ (f : PlacedField). OfForm (IsDotted p f.file) f.form) (body_fields rank d.file d.spec.body) (fields_from (suc rank) ds)
     (body_dotted p rank d.file d.spec.body (All-head P d ds h)) (fields_dotted p (suc rank) ds (All-tail P d ds h))
 
 module _ (g : PathMap) (inj : IsInjective g) (p q : Package) (a : IsMovedPackage g p q) where
-  field_dotted : (rank : ℕ) (f : PlacedField) → slice_get (package_fields p) rank ≡ Some f → IsDotted p f.file f.type_use
+  field_dotted : (rank : ℕ) (f : PlacedField) → slice_get (package_fields p) rank ≡ Some f → OfForm (IsDotted p f.file) f.form
   field_dotted rank f at =
-      let P : PlacedField → Type 0 = λ f. IsDotted p f.file f.type_use in
+      let P : PlacedField → Type 0 = λ f. OfForm (IsDotted p f.file) f.form in
       all_got P (package_fields p) rank f
       (recursion_from_All P (package_fields p) (fields_dotted p 0 (package_types p) (dotted g inj p q a).definitions)) at
+
+  -- the parameters and results of a method that an interface asks for
+  params_dotted : (file : ℕ) (ps : List (Item ParamTree)) (r : ResultTree) → All (IsDotted p file) (signature_types ps r) →
+      All (IsDotted p file) (parameter_types ps)
+  params_dotted file ps r dots =
+      of_parameters (IsDotted p file) ps (all_of_left (IsDotted p file) (map (λ (i : Item ParamTree). i.value.type_use) ps) (result_types r) dots)
+
+  rest_dotted : (file : ℕ) (ps : List (Item ParamTree)) (r : ResultTree) → All (IsDotted p file) (signature_types ps r) → All (IsDotted p file) (result_types r)
+  rest_dotted file ps r dots = all_of_right (IsDotted p file) (map (λ (i : Item ParamTree). i.value.type_use) ps) (result_types r) dots
+
+  form_of : (file : ℕ) (form : WrittenForm) (t : WrittenAs) → OfForm (IsDotted p file) form → HasForm p file form t → HasForm q file form (moved_form g t)
+  form_of file (OfType tree) (AFieldOf t) dots h = type_of g inj p q a file tree t dots h
+  form_of file (OfType tree) (AMethodOf s) dots h = absurd h
+  form_of file (OfSignature ps r) (AFieldOf t) dots h = absurd h
+  form_of file (OfSignature ps r) (AMethodOf s) dots h =
+      written_signature g inj p q a file ps r s (params_dotted file ps r dots) (rest_dotted file ps r dots) h
+
+  form_back : (file : ℕ) (form : WrittenForm) (t : WrittenAs) → OfForm (IsDotted p file) form → HasForm q file form t →
+      (x : WrittenAs) × ((t ≡ moved_form g x) × HasForm p file form x)
+  form_back file (OfType tree) (AFieldOf t) dots h =
+      let x = type_of_back g inj p q a file tree t dots h in (AFieldOf x.0, (ap AFieldOf x.1.0, x.1.1))
+  form_back file (OfType tree) (AMethodOf s) dots h = absurd h
+  form_back file (OfSignature ps r) (AFieldOf t) dots h = absurd h
+  form_back file (OfSignature ps r) (AMethodOf s) dots h =
+      let x = written_signature_back g inj p q a file ps r s (params_dotted file ps r dots) (rest_dotted file ps r dots) h in
+      (AMethodOf x.0, (ap AMethodOf x.1.0, x.1.1))
 
   same_fields : package_fields q ≡ package_fields p
   same_fields = ap (fields_from 0) (same_place_types g inj p q a)
@@ -98,13 +127,13 @@ module _ (g : PathMap) (inj : IsInjective g) (p q : Package) (a : IsMovedPackage
       IsFoundField q definition name (option_map (moved_field g) x)
   found_field definition name None none = λ rank f t c h.
       let old = field_counts_back definition name rank f c in
-      let u = type_of_back g inj p q a f.file f.type_use t (field_dotted rank f old.is_field.has_rank) h in
+      let u = form_back f.file f.form t (field_dotted rank f old.is_field.has_rank) h in
       none rank f u.0 old u.1.1
   found_field definition name (Some x) h = (
     h.0,
     (
       field_counts definition name x.symbol.rank h.0 h.1.0,
-      type_of g inj p q a h.0.file h.0.type_use x.type_of (field_dotted x.symbol.rank h.0 h.1.0.is_field.has_rank) h.1.1,
+      form_of h.0.file h.0.form x.form (field_dotted x.symbol.rank h.0 h.1.0.is_field.has_rank) h.1.1,
       same_symbol x.symbol x.symbol.rank h.1.2,
       h.1.3,
     ),

@@ -2,16 +2,16 @@
 use Rattle.std.proofs.Common.{ℕ, suc, ◌≡◌, ◌+◌, ◌<◌, inl, inr, List, [], ◌∷◌, ◌++◌, map, ap, sym, ◌∙◌, refl, subst, arith}
 use Rattle.std.specs.Prelude.{All, Option, Some, slice_get}
 use Rattle.std.specs.List.{flat_map, enumerate_from}
-use Rattle.std.proofs.lemmas.List.Elements.{All-nil, All-cons, All-weaker, All-map, recursion_from_All}
+use Rattle.std.proofs.lemmas.List.Elements.{All-nil, All-cons, All-weaker, All-map, recursion_from_All, All-append}
 use Rattle.go_ast.specs.declared.syntax.Kind.TheVariants as kind
 use Rattle.go_ast.specs.declared.syntax.Token.{Token}
 use Rattle.go_ast.specs.Flatten.{sign, tokens_if, name_tokens, ident_tokens, basic_tokens, value_tokens, all_tokens, list_tokens, group_tokens, type_tokens}
 use Rattle.go_ast.specs.Flatten.{global_tokens, field_tokens, body_tokens, type_spec_tokens, receiver_tokens, param_tokens, result_tokens, block_tokens}
-use Rattle.go_ast.specs.Flatten.{func_tokens, imports_tokens, decl_tokens, flatten}
+use Rattle.go_ast.specs.Flatten.{func_tokens, imports_tokens, decl_tokens, flatten, method_tokens}
 use Rattle.go_ast.specs.Kinds.{kinds_of}
 use Rattle.go_ast.specs.SourceFile.{SourceFile, FileParts, IsSourceFile, source_of}
 use Rattle.go_ast.specs.Tree.{Item, TypeTree, Local, Imported, Pointer, Slice, BodyTree, Other, Struct, Interface, FieldTree, ParamTree, ResultTree, no_result}
-use Rattle.go_ast.specs.Tree.{one_result, results, FuncTree, GlobalTree, TypeSpecTree, DeclTree, VarDecl, TypeDecl, FuncDecl, FileTree}
+use Rattle.go_ast.specs.Tree.{one_result, results, FuncTree, GlobalTree, TypeSpecTree, DeclTree, VarDecl, TypeDecl, FuncDecl, FileTree, MethodTree}
 use Rattle.go_scanner.specs.CutText.{tokens_in}
 use Rattle.go_scope.specs.declared.model.Position.{Position}
 use Rattle.go_scope.specs.Named.{with_names}
@@ -29,11 +29,12 @@ use Rattle.law_tokens.proofs.Roles.{consecutive, of_kind, named_role_told}
 use Rattle.types_declared.specs.Files.{RankedSource, group_items}
 use Rattle.types_declared.specs.Package.{Package, ExportData, PlacedVariable, PlacedType, PlacedFunction, variables_of, placed_type}
 use Rattle.types_declared.specs.Package.{decl_variables, decl_types, decl_functions}
-use Rattle.types_declared.specs.Written.{written_types}
+use Rattle.types_declared.specs.Written.{written_types, signature_types}
 use Rattle.types_declared.specs.MeaningOf.{parameter_types, result_types}
 use Rattle.types_info.specs.PackageOf.{package_in}
 use Rattle.law_changed_types.specs.SameBindings.{IsParsedPackage, IsSelectedAt, IsDotted, AreTypesDotted}
 use Rattle.law_changed_types.proofs.Parts.{IsPart, itself, back, part_of, inside, of_all, of_list, of_group, all_given, all_alike, identifier_among}
+use Rattle.law_changed_types.proofs.Parts.{of_parameters}
 
 -- the type expressions of one declaration, where each part of its tokens that is a type's satisfies D
 
@@ -55,35 +56,19 @@ module _ (D : TypeTree → Type 0) where
   unfolding field_tokens
   of_field f dots = dots f.type_use (back (list_tokens kind.Comma name_tokens f.names) (type_tokens f.type_use))
 
-  of_body : (b : BodyTree) → DotsIn (body_tokens b) → All D (written_types b)
-  unfolding body_tokens
-  of_body (Other t) dots = All-cons D t [] (dots t (itself (type_tokens t))) (All-nil D)
-  of_body (Struct s o fs c) dots =
-      let fields = list_tokens kind.Semicolon field_tokens fs in
-      let before = sign kind.Struct s ∷ (sign kind.LeftBrace o ∷ []) in
-      let after = sign kind.RightBrace c ∷ [] in
-      All-map D (λ (i : Item FieldTree). i.value.type_use) fs
-      (All-weaker (λ i. IsPart (field_tokens i.value) fields) (λ i. D i.value.type_use)
-      (λ i part. of_field i.value (narrowed (field_tokens i.value) (before ++ (fields ++ after)) (inside (field_tokens i.value) before fields after part) dots))
-      fs (of_list kind.Semicolon field_tokens fs))
-  of_body (Interface i o ms c) dots = All-nil D
-
-  of_spec : (t : TypeSpecTree) → DotsIn (type_spec_tokens t) → All D (written_types t.body)
-  unfolding type_spec_tokens
-  of_spec t dots = of_body t.body (narrowed (body_tokens t.body) (sign kind.Name t.name ∷ body_tokens t.body)
-      (back (sign kind.Name t.name ∷ []) (body_tokens t.body)) dots)
-
   of_param : (p : ParamTree) → DotsIn (param_tokens p) → D p.type_use
   unfolding param_tokens
   of_param p dots = dots p.type_use (back (list_tokens kind.Comma ident_tokens p.names) (type_tokens p.type_use))
 
-  of_params : (ps : List (Item ParamTree)) → DotsIn (list_tokens kind.Comma param_tokens ps) → All D (parameter_types ps)
-  of_params ps dots =
+  each_param : (ps : List (Item ParamTree)) → DotsIn (list_tokens kind.Comma param_tokens ps) → All D (map (λ i. i.value.type_use) ps)
+  each_param ps dots =
       let whole = list_tokens kind.Comma param_tokens ps in
-      all_given D (λ i. IsPart (param_tokens i.value) whole) (λ (i : Item ParamTree). map (λ n. i.value.type_use) i.value.names)
-      (λ i part. All-map D (λ n. i.value.type_use) i.value.names
-      (all_alike (D i.value.type_use) (of_param i.value (narrowed (param_tokens i.value) whole part dots)) i.value.names)) ps
-      (of_list kind.Comma param_tokens ps)
+      All-map D (λ (i : Item ParamTree). i.value.type_use) ps
+      (All-weaker (λ i. IsPart (param_tokens i.value) whole) (λ i. D i.value.type_use)
+      (λ i part. of_param i.value (narrowed (param_tokens i.value) whole part dots)) ps (of_list kind.Comma param_tokens ps))
+
+  of_params : (ps : List (Item ParamTree)) → DotsIn (list_tokens kind.Comma param_tokens ps) → All D (parameter_types ps)
+  of_params ps dots = of_parameters D ps (each_param ps dots)
 
   of_result : (r : ResultTree) → DotsIn (result_tokens r) → All D (result_types r)
   unfolding result_tokens
@@ -95,6 +80,45 @@ module _ (D : TypeTree → Type 0) where
       (All-weaker (λ i. IsPart (type_tokens i.value) types) (λ i. D i.value)
       (λ i part. dots i.value (inside (type_tokens i.value) (sign kind.LeftParen o ∷ []) types (sign kind.RightParen c ∷ []) part)) ts
       (of_list kind.Comma type_tokens ts))
+
+  of_method : (m : MethodTree) → DotsIn (method_tokens m) → All D (signature_types m.params m.result)
+  unfolding method_tokens
+  of_method m dots =
+      let params = list_tokens kind.Comma param_tokens m.params in
+      let types = result_tokens m.result in
+      let before = sign kind.Name m.name ∷ (sign kind.LeftParen m.lparen ∷ []) in
+      let after = sign kind.RightParen m.rparen ∷ types in
+      let whole = before ++ (params ++ after) in
+      All-append D (map (λ (i : Item ParamTree). i.value.type_use) m.params) (result_types m.result)
+      (each_param m.params (narrowed params whole (inside params before params after (itself params)) dots))
+      (of_result m.result (narrowed types whole
+      (part_of types (params ++ after) whole
+      (part_of types after (params ++ after) (back (sign kind.RightParen m.rparen ∷ []) types) (back params after)) (back before (params ++ after))) dots))
+
+  of_body : (b : BodyTree) → DotsIn (body_tokens b) → All D (written_types b)
+  unfolding body_tokens
+  of_body (Other t) dots = All-cons D t [] (dots t (itself (type_tokens t))) (All-nil D)
+  of_body (Struct s o fs c) dots =
+      let fields = list_tokens kind.Semicolon field_tokens fs in
+      let before = sign kind.Struct s ∷ (sign kind.LeftBrace o ∷ []) in
+      let after = sign kind.RightBrace c ∷ [] in
+      All-map D (λ (i : Item FieldTree). i.value.type_use) fs
+      (All-weaker (λ i. IsPart (field_tokens i.value) fields) (λ i. D i.value.type_use)
+      (λ i part. of_field i.value (narrowed (field_tokens i.value) (before ++ (fields ++ after)) (inside (field_tokens i.value) before fields after part) dots))
+      fs (of_list kind.Semicolon field_tokens fs))
+  of_body (Interface w o ms c) dots =
+      let methods = list_tokens kind.Semicolon method_tokens ms in
+      let before = sign kind.Interface w ∷ (sign kind.LeftBrace o ∷ []) in
+      let after = sign kind.RightBrace c ∷ [] in
+      all_given D (λ i. IsPart (method_tokens i.value) methods) (λ (i : Item MethodTree). signature_types i.value.params i.value.result)
+      (λ i part. of_method i.value (narrowed (method_tokens i.value) (before ++ (methods
+      ++ after)) (inside (method_tokens i.value) before methods after part) dots))
+      ms (of_list kind.Semicolon method_tokens ms)
+
+  of_spec : (t : TypeSpecTree) → DotsIn (type_spec_tokens t) → All D (written_types t.body)
+  unfolding type_spec_tokens
+  of_spec t dots = of_body t.body (narrowed (body_tokens t.body) (sign kind.Name t.name ∷ body_tokens t.body)
+      (back (sign kind.Name t.name ∷ []) (body_tokens t.body)) dots)
 
   abbrev before_params : FuncTree → List Token
   before_params f = tokens_if receiver_tokens f.receiver ++ (sign kind.Name f.name ∷ (sign kind.LeftParen f.lparen ∷ []))

@@ -8,7 +8,7 @@ use Rattle.types_expr.specs.World.{World, Locals, Member, member_symbol}
 use Rattle.types_expr.specs.Judge.{Judged, JudgedList, JudgedKey, JudgedElements, TypeJudged, Seen, also, followed, value_at, select, select_member, index_rule}
 use Rattle.types_expr.specs.Judge.{index_of, as_value, call_rule, call_of, operation, prefix_of, address_of, judge, judge_links, judge_operands}
 use Rattle.types_expr.specs.Judge.{judge_arguments, judge_literal, judge_elements, judge_type, element_key, seen_after, none_seen, literal_of}
-use Rattle.types_expr.specs.Judge.{literal_meaning, with_element, value_before, with_values, means_or_wrong, member_meaning}
+use Rattle.types_expr.specs.Judge.{literal_meaning, with_element, value_before, with_values, means_or_wrong, member_meaning, value_kind, entering_if}
 use Rattle.law_changed_types.specs.MemberUses.{ExpressionsAskForTheirUses}
 use Rattle.law_changed_types.proofs.Agreement.{Members, with_members, with_member, AreMembersAt, AreIn, of_part, in_first, of_first, of_second, at_first}
 use Rattle.law_changed_types.proofs.Agreement.{only_members_differ, members_agree}
@@ -188,16 +188,18 @@ mutual
       let after = seen_after v t seen k in
       let i = value_at e (judge v locals e) in
       let others = judge_elements v locals t after rest in
-      let of_key = of_first key.uses (i.uses ++ others.uses) h in
-      let behind = of_second key.uses (i.uses ++ others.uses) h in
+      let entry = entering_if v (place_of e) (value_kind i.meaning) key.wanted in
+      let of_key = of_first key.uses (i.uses ++ (entry ++ others.uses)) h in
+      let behind = of_second key.uses (i.uses ++ (entry ++ others.uses)) h in
       let w = with_members v m in
       ap (λ (z : JudgedKey). with_element w z (place_of e) (value_at e (judge w locals e)) (judge_elements w locals t (seen_after w t seen k) rest))
       (same_key v m t seen k of_key)
       ∙ (ap (λ (z : Judged). with_element w key (place_of e) z (judge_elements w locals t (seen_after w t seen k) rest))
-      (same_value e (judge v locals e) (judge w locals e) (λ q. same_judged v m locals e q) (of_first i.uses others.uses behind))
+      (same_value e (judge v locals e) (judge w locals e) (λ q. same_judged v m locals e q)
+      (of_first i.uses (entry ++ others.uses) behind))
       ∙ (ap (λ (z : Seen). with_element w key (place_of e) i (judge_elements w locals t z rest)) (same_seen v m t seen k of_key)
       ∙ (ap (λ (z : JudgedElements). with_element w key (place_of e) i z)
-      (same_elements v m locals rest t after (of_second i.uses others.uses behind))
+      (same_elements v m locals rest t after (of_second entry others.uses (of_second i.uses (entry ++ others.uses) behind)))
       ∙ same_element v m key (place_of e) i others)))
 
 pub expressions_ask : ExpressionsAskForTheirUses

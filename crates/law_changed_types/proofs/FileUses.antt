@@ -8,16 +8,16 @@ use Rattle.go_ast.specs.Tree.{else_block, FuncTree, ReceiverTree, ParamTree, Dec
 use Rattle.types_expr.specs.World.{World, no_locals}
 use Rattle.types_expr.specs.Judge.{JudgedList, judge_type, imported_type}
 use Rattle.types_stmt.specs.Checked.{FoundSoFar, with_found, fault_if, check_items}
-use Rattle.types_stmt.specs.Sides.{Target, rhs, with_locals, named}
+use Rattle.types_stmt.specs.Sides.{Target, rhs, with_locals, named, receiving, given_enterings}
 use Rattle.types_stmt.specs.Simple.{check_optional_simple, check_optional_condition, check_condition, check_local, written_locals}
 use Rattle.types_stmt.specs.Statements.{returned, returning, check_return, check_init, check_for_header, check_statement, check_block, check_statements}
 use Rattle.types_stmt.specs.Statements.{check_if, check_else}
 use Rattle.types_stmt.specs.Headers.{ResultsJudged, judge_receiver, check_receiver, check_optional_receiver, check_param, judge_types, judge_results}
 use Rattle.types_stmt.specs.Headers.{is_bad_init, check_signature, check_function, is_empty_list}
-use Rattle.types_stmt.specs.Declarations.{global_faults, body_faults, check_global, check_type, check_decl, check_decls, check_file}
+use Rattle.types_stmt.specs.Declarations.{global_faults, global_enterings, body_faults, check_global, check_type, check_decl, check_decls, check_file}
 use Rattle.law_changed_types.specs.MemberUses.{AgreesOnInit, FilesAskForTheirUses}
-use Rattle.law_changed_types.proofs.Agreement.{Members, with_members, only_members_differ, members_agree}
-use Rattle.law_changed_types.proofs.StatementRules.{same_returned, same_results, same_receiver, same_param, same_global, same_type_spec}
+use Rattle.law_changed_types.proofs.Agreement.{Members, with_members, of_first, only_members_differ, members_agree}
+use Rattle.law_changed_types.proofs.StatementRules.{same_returning, same_results, same_receiver, same_param, same_global, same_type_spec}
 use Rattle.law_changed_types.proofs.Settling.{IsSettled, unchecked, and_then, part, items, group}
 use Rattle.law_changed_types.proofs.SimpleUses.{same_rhs, condition, simple, optional_simple, optional_condition, local}
 
@@ -29,9 +29,11 @@ unfolding check_return
 return_found v m s place results es =
     let w = with_members v m in
     let r = rhs v s.locals es in
-    part s s.locals (r.faults ++ returned v place r.values results) r.uses (check_return w s place results es) (λ h.
-    ap (λ (z : JudgedList). returning w s place results z) (same_rhs v m s.locals es h)
-    ∙ ap (λ (z : List ℕ). with_found s (r.faults ++ z) r.uses) (same_returned v m place r.values results))
+    let x = receiving v es r.values in
+    let entries = given_enterings x r.values results in
+    part s s.locals (r.faults ++ returned x place r.values results) (r.uses ++ entries) (check_return w s place results es) (λ h.
+    ap (λ (z : JudgedList). returning (receiving w es z.values) s place results z) (same_rhs v m s.locals es (of_first r.uses entries h))
+    ∙ same_returning x m s place results r)
 
 init_found : (v : World) (m : Members) (s : FoundSoFar) (i : Option InitTree) → IsSettled v m s (check_init v s i) (check_init (with_members v m) s i)
 init_found v m s None = unchecked s
@@ -155,7 +157,7 @@ function_found v m old new s f e =
 -- declarations and files
 
 global_found : (v : World) (m : Members) (s : FoundSoFar) (g : GlobalTree) → IsSettled v m s (check_global v s g) (check_global (with_members v m) s g)
-global_found v m s g = part s s.locals (global_faults v g) [] (check_global (with_members v m) s g) (λ h. same_global v m s g)
+global_found v m s g = part s s.locals (global_faults v g) (global_enterings v g) (check_global (with_members v m) s g) (λ h. same_global v m s g)
 
 type_found : (v : World) (m : Members) (s : FoundSoFar) (t : TypeSpecTree) → IsSettled v m s (check_type v s t) (check_type (with_members v m) s t)
 type_found v m s t = part s s.locals (body_faults v t.body) [] (check_type (with_members v m) s t) (λ h. same_type_spec v m s t)

@@ -8,10 +8,10 @@ use Rattle.go_ast.specs.Tree.{else_block, FuncTree, ReceiverTree, ParamTree, Res
 use Rattle.go_ast.specs.Tree.{FileTree, GlobalTree, TypeSpecTree, BasicTree, Integer, String, FieldTree, BodyTree, Other}
 use Rattle.go_ast.specs.Tree as tree
 use Rattle.types_expr.specs.Types.{PlainType}
-use Rattle.types_expr.specs.World.{no_locals}
-use Rattle.types_expr.specs.Judge.{ListValue, JudgedList, TypeJudged, all_whole, good_type, no_type_at, judge_type, named_type}
+use Rattle.types_expr.specs.World.{no_locals, World}
+use Rattle.types_expr.specs.Judge.{ListValue, JudgedList, TypeJudged, all_whole, good_type, no_type_at, judge_type, named_type, Noted}
 use Rattle.types_stmt.specs.Checked.{FoundSoFar, fault_if}
-use Rattle.types_stmt.specs.Sides.{Target, Wants, rhs, with_locals, named, all_refused}
+use Rattle.types_stmt.specs.Sides.{Target, Wants, rhs, with_locals, named, all_refused, receiving, all_entered, given_enterings}
 use Rattle.types_stmt.specs.Simple.{check_local, written_locals}
 use Rattle.types_stmt.specs.Statements.{returned, check_return, check_init, check_for_header, check_statement, check_block, check_statements}
 use Rattle.types_stmt.specs.Statements.{check_if, check_else}
@@ -20,17 +20,18 @@ use Rattle.types_stmt.specs.Headers.{check_param, ResultsJudged, with_result, ju
 use Rattle.types_stmt.specs.Headers.{check_function}
 use Rattle.types_stmt.specs.Declarations.{literal_value, first_name, literal_faults, value_faults, global_faults, field_faults, body_faults, check_global}
 use Rattle.types_stmt.specs.Declarations.{check_type, check_decl, check_decls, check_file}
-use Rattle.law_rename.specs.Renumbered.{items_by, ident_by, basic_by, type_by, exprs_by, values_by, local_by, init_by, for_by, statement_by}
+use Rattle.types_stmt.specs.Declarations.{global_enterings, literal_enterings, value_enterings}
+use Rattle.law_rename.specs.Renumbered.{items_by, ident_by, basic_by, type_by, exprs_by, values_by, local_by, init_by, for_by, statement_by, item_by, expr_by}
 use Rattle.law_rename.specs.Renumbered.{block_by, statements_by, if_by, else_by, global_by, field_by, body_by, type_spec_by, receiver_by, param_by, result_by}
 use Rattle.law_rename.specs.Renumbered.{func_by, decl_by, renumbered}
-use Rattle.law_changed_types.specs.Renumbering.{IsRenumberedCheck}
+use Rattle.law_changed_types.specs.Renumbering.{IsRenumberedCheck, renumbered_noted, renumbered_uses}
 use Rattle.law_changed_types.specs.Renumbers.{StatementsRenumber, FilesRenumber}
-use Rattle.law_changed_types.proofs.Renumber.{Renumber, new, the_renumber, new_is, ap2, ap3, if_maps, two}
+use Rattle.law_changed_types.proofs.Renumber.{Renumber, new, the_renumber, new_is, ap2, ap3, if_maps, two, giving_numbers}
 use Rattle.law_changed_types.proofs.RenumberedTokensRules.{list_value, list_values, all_whole_stays}
 use Rattle.law_changed_types.proofs.Literals.{type_found, written_found, named_type_found}
 use Rattle.law_changed_types.proofs.Places.{names_begin}
-use Rattle.law_changed_types.proofs.Sides.{rhs_found, all_refused_found, fault_if_found, named_found, with_locals_are}
-use Rattle.law_changed_types.proofs.RenumberedTokensParts.{Same, EachSame, judging, part, faulty, items, group}
+use Rattle.law_changed_types.proofs.Sides.{rhs_found, all_refused_found, fault_if_found, named_found, with_locals_are, all_entered_found, given_enterings_found}
+use Rattle.law_changed_types.proofs.RenumberedTokensParts.{Same, EachSame, judging, part, faulty, items, group, same_receiving}
 use Rattle.law_changed_types.proofs.Simple.{constant, condition, simple, optional_simple, optional_condition, local, written_locals_are}
 
 -- statements
@@ -49,10 +50,19 @@ unfolding check_return
 return_found m s z r place results es =
     let v = rhs m.old s.locals es in
     let same = rhs_found (judging m s z r) es in
-    part m s z r s.locals z.locals r.locals (v.faults ++ returned m.old place v.values results) _
-    (ap (λ (x : JudgedList). x.faults ++ returned (new m) (m.to place) x.values results) same
-    ∙ (ap (λ (fs : List ℕ). map m.to v.faults ++ fs) (returned_found m place v.values results)
-    ∙ two m.to v.faults (returned m.old place v.values results))) v.uses _ (ap (λ (x : JudgedList). x.uses) same)
+    let x = giving_numbers (length v.values == length es) m in
+    let sides = exprs_by m.to es in
+    part m s z r s.locals z.locals r.locals (v.faults ++ returned x.old place v.values results) _
+    (ap (λ (x : JudgedList). x.faults ++ returned (receiving (new m) sides x.values) (m.to place) x.values results) same
+    ∙ (ap (λ (w : World). map m.to v.faults ++ returned w (m.to place) (list_values m v.values) results)
+    (same_receiving m es sides v.values (length-map es (item_by m.to (expr_by m.to))))
+    ∙ (ap (λ (fs : List ℕ). map m.to v.faults ++ fs) (returned_found x place v.values results)
+    ∙ two m.to v.faults (returned x.old place v.values results)))) (v.uses ++ given_enterings x.old v.values results) _
+    (ap (λ (x : JudgedList). x.uses ++ given_enterings (receiving (new m) sides x.values) x.values results) same
+    ∙ (ap (λ (w : World). renumbered_uses m.to v.uses ++ given_enterings w (list_values m v.values) results)
+    (same_receiving m es sides v.values (length-map es (item_by m.to (expr_by m.to))))
+    ∙ (ap (λ (ns : List Noted). renumbered_uses m.to v.uses ++ ns) (given_enterings_found x v.values results)
+    ∙ two (renumbered_noted m.to) v.uses (given_enterings x.old v.values results))))
 
 init_found : (m : Renumber) (s z : FoundSoFar) → Same m s z → (i : Option InitTree) →
     Same m (check_init m.old s i) (check_init (new m) z (option_map (init_by m.to) i))
@@ -246,6 +256,33 @@ unfolding value_faults
 value_faults_found m names t None = refl
 value_faults_found m names t (Some v) = literal_faults_found m names t v.1
 
+-- entries of literals
+
+literal_enterings_found : (m : Renumber) (names : List (Item ℕ)) (t : Option PlainType) (literals : List (Item BasicTree)) →
+    literal_enterings (new m) (items_by m.to m.to names) t (items_by m.to (basic_by m.to) literals) ≡
+    renumbered_uses m.to (literal_enterings m.old names t literals)
+unfolding literal_enterings
+literal_enterings_found m names t literals =
+    let vs = map (λ (i : Item BasicTree). literal_value i.value) literals in
+    let ts = map (λ (i : Item ℕ). Wants t) names in
+    ap2 (λ (b : Bool) (ns : List Noted). if b then ns else [])
+    (ap2 (λ x y. x == y) (length-map literals _) (length-map names _))
+    (ap2 (all_entered (new m)) (literals_found m literals) (constant m m.to (Wants t) names) ∙ all_entered_found m vs ts)
+    ∙ if_maps (map (renumbered_noted m.to)) (length literals == length names) (all_entered m.old vs ts) []
+
+value_enterings_found : (m : Renumber) (names : List (Item ℕ)) (t : Option PlainType) (v : Option (ℕ × List (Item BasicTree))) →
+    value_enterings (new m) (items_by m.to m.to names) t (option_map (values_by m.to (basic_by m.to)) v) ≡
+    renumbered_uses m.to (value_enterings m.old names t v)
+unfolding value_enterings
+value_enterings_found m names t None = refl
+value_enterings_found m names t (Some v) = literal_enterings_found m names t v.1
+
+global_enterings_found : (m : Renumber) (g : GlobalTree) → global_enterings (new m) (global_by m.to g) ≡ renumbered_uses m.to (global_enterings m.old g)
+global_enterings_found m g =
+    ap (λ (x : TypeJudged). value_enterings (new m) (items_by m.to m.to g.names) x.type_of (option_map (values_by m.to (basic_by m.to)) g.values))
+    (written_found m g.type_use)
+    ∙ value_enterings_found m g.names (judge_type m.old g.type_use).type_of g.values
+
 global_faults_found : (m : Renumber) (g : GlobalTree) → global_faults (new m) (global_by m.to g) ≡ map m.to (global_faults m.old g)
 unfolding global_faults
 global_faults_found m g =
@@ -274,7 +311,8 @@ decl_found : (m : Renumber) (before after : ℕ → Bool) → ((token : ℕ) →
     Same m (check_decl m.old before s d) (check_decl (new m) after z (decl_by m.to d))
 unfolding check_decl
 decl_found m before after e s z r (VarDecl p g c) =
-    group m (global_by m.to) (check_global m.old) (check_global (new m)) (λ y w q x. faulty m y w q (global_faults m.old x) _ (global_faults_found m x)) s z r g
+    group m (global_by m.to) (check_global m.old) (check_global (new m)) (λ y w q x. part m y w q y.locals w.locals q.locals (global_faults m.old x) _
+    (global_faults_found m x) (global_enterings m.old x) _ (global_enterings_found m x)) s z r g
 decl_found m before after e s z r (TypeDecl p g c) =
     group m (type_spec_by m.to) (check_type m.old) (check_type (new m))
     (λ y w q x. faulty m y w q (body_faults m.old x.body) _ (body_faults_found m x.body)) s z r g

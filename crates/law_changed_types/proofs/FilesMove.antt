@@ -8,11 +8,11 @@ use Rattle.go_ast.specs.Tree.{Continue, Return, BlockTree, block, StatementTrees
 use Rattle.go_ast.specs.Tree.{else_block, FuncTree, ReceiverTree, ParamTree, ResultTree, no_result, one_result, DeclTree, VarDecl, TypeDecl, FuncDecl}
 use Rattle.go_ast.specs.Tree.{FileTree, GlobalTree, TypeSpecTree, BasicTree, Integer, String, FieldTree, BodyTree, Other}
 use Rattle.go_ast.specs.Tree as tree
-use Rattle.types_expr.specs.Types.{PlainType, BasicType, Defined, Pointer, Slice, points}
-use Rattle.types_expr.specs.World.{no_locals}
-use Rattle.types_expr.specs.Judge.{ListValue, JudgedList, TypeJudged, good_type, no_type_at, judge_type, named_type}
+use Rattle.types_expr.specs.Types.{PlainType, BasicType, Defined, Pointer, Slice, takes_no_methods}
+use Rattle.types_expr.specs.World.{no_locals, World}
+use Rattle.types_expr.specs.Judge.{ListValue, JudgedList, TypeJudged, good_type, no_type_at, judge_type, named_type, Noted}
 use Rattle.types_stmt.specs.Checked.{FoundSoFar, with_declared, with_found, fault_if, check_items}
-use Rattle.types_stmt.specs.Sides.{Target, Wants, rhs, with_locals, named, all_refused}
+use Rattle.types_stmt.specs.Sides.{Target, Wants, rhs, with_locals, named, all_refused, receiving, all_entered, given_enterings}
 use Rattle.types_stmt.specs.Simple.{check_optional_simple, check_optional_condition, check_condition, check_local, written_locals}
 use Rattle.types_stmt.specs.Statements.{returned, returning, check_return, check_init, check_for_header, check_statement, check_block, check_statements}
 use Rattle.types_stmt.specs.Statements.{check_if, check_else}
@@ -21,15 +21,17 @@ use Rattle.types_stmt.specs.Headers.{check_param, ResultsJudged, with_result, ju
 use Rattle.types_stmt.specs.Headers.{check_function}
 use Rattle.types_stmt.specs.Declarations.{literal_value, first_name, literal_faults, value_faults, global_faults, field_faults, body_faults, check_global}
 use Rattle.types_stmt.specs.Declarations.{check_type, check_decl, check_decls, check_file}
+use Rattle.types_stmt.specs.Declarations.{global_enterings, literal_enterings, value_enterings}
 use Rattle.law_changed_types.specs.MemberUses.{AgreesOnInit}
-use Rattle.law_changed_types.specs.Moved.{moved_type, moved_locals, moved_target, moved_checked}
+use Rattle.law_changed_types.specs.Moved.{moved_type, moved_locals, moved_target, moved_checked, moved_noted}
 use Rattle.law_changed_types.specs.Moves.{StatementsMove, FilesMove}
-use Rattle.law_changed_types.proofs.Moving.{Move, the_move, ap2, ap3, if_moves}
-use Rattle.law_changed_types.proofs.TypesMove.{same_points}
-use Rattle.law_changed_types.proofs.RulesMove.{moved_value, moved_values, moved_list, all_whole_stays}
+use Rattle.law_changed_types.proofs.Moving.{Move, the_move, ap2, ap3, if_moves, of_first}
+use Rattle.law_changed_types.proofs.TypesMove.{same_takes, giving_move}
+use Rattle.law_changed_types.proofs.RulesMove.{moved_value, moved_values, moved_list, all_whole_stays, two_uses}
 use Rattle.law_changed_types.proofs.LiteralsMove.{moved_written, named_type_moves, under_pointer, type_moves}
 use Rattle.law_changed_types.proofs.SidesMove.{moved_targets, rhs_moves, counts_stay, all_refused_stay, with_locals_moves}
-use Rattle.law_changed_types.proofs.PartsMove.{IsMoved, unchecked, same_as, and_then, part, faulty, declared_after, items, group}
+use Rattle.law_changed_types.proofs.SidesMove.{all_entered_move, given_enterings_move, none_moves}
+use Rattle.law_changed_types.proofs.PartsMove.{IsMoved, unchecked, same_as, and_then, part, faulty, declared_after, items, group, same_receiving}
 use Rattle.law_changed_types.proofs.SimpleMove.{condition, simple, optional_simple, optional_condition, local, written_locals_move, constant_moves}
 use Rattle.law_changed_types.proofs.FileUses.{init_matters}
 
@@ -47,10 +49,14 @@ unfolding check_return
 return_found m s place results es =
     let r = rhs m.old s.locals es in
     let old = moved_checked m.path s in
-    part s s.locals (r.faults ++ returned m.old place r.values results) r.uses (check_return m.new old place (moved_targets m results) es) (λ h.
-    ap (λ (z : JudgedList). returning m.new old place (moved_targets m results) z) (rhs_moves m s.locals es h)
-    ∙ (ap (λ (z : List ℕ). with_found old (r.faults ++ z) (moved_list m r).uses) (returned_stays m place r.values results)
-    ∙ declared_after m s s.locals (moved_locals m.path s.locals) (r.faults ++ returned m.old place r.values results) r.uses refl))
+    let x = giving_move (length r.values == length es) m in
+    let entries = given_enterings x.old r.values results in
+    part s s.locals (r.faults ++ returned x.old place r.values results) (r.uses ++ entries) (check_return m.new old place (moved_targets m results) es) (λ h.
+    ap (λ (z : JudgedList). returning (receiving m.new es z.values) old place (moved_targets m results) z) (rhs_moves m s.locals es (of_first r.uses entries h))
+    ∙ (ap (λ (z : World). returning z old place (moved_targets m results) (moved_list m r)) (same_receiving m es r.values)
+    ∙ (ap2 (λ (z : List ℕ) (us : List Noted). with_found old (r.faults ++ z) us) (returned_stays x place r.values results)
+    (ap (λ (us : List Noted). map (moved_noted m.path) r.uses ++ us) (given_enterings_move x r.values results) ∙ two_uses m r.uses entries)
+    ∙ declared_after m s s.locals (moved_locals m.path s.locals) (r.faults ++ returned x.old place r.values results) (r.uses ++ entries) refl)))
 
 init_found : (m : Move) (s : FoundSoFar) (i : Option InitTree) → IsMoved m s (check_init m.old s i) (check_init m.new (moved_checked m.path s) i)
 init_found m s None = unchecked s
@@ -127,7 +133,7 @@ statements_move g inj v w results s x h =
 may_receive_stays : (m : Move) (t : PlainType) → may_receive m.new (moved_type m.path t) ≡ may_receive m.old t
 unfolding may_receive
 may_receive_stays m (BasicType b) = refl
-may_receive_stays m (Defined s) = ap (λ z. if z then false else true) (ap points (m.definition s) ∙ same_points m (m.old.definition s))
+may_receive_stays m (Defined s) = ap (λ z. if z then false else true) (ap takes_no_methods (m.definition s) ∙ same_takes m (m.old.definition s))
 may_receive_stays m (Pointer t) = refl
 may_receive_stays m (Slice t) = refl
 
@@ -261,6 +267,29 @@ unfolding value_faults
 value_faults_stay m names t None = refl
 value_faults_stay m names t (Some v) = literal_faults_stay m names t v.1
 
+-- entries of literals
+
+literal_enterings_move : (m : Move) (names : List (Item ℕ)) (t : Option PlainType) (literals : List (Item BasicTree)) →
+    literal_enterings m.new names (option_map (moved_type m.path) t) literals ≡ map (moved_noted m.path) (literal_enterings m.old names t literals)
+unfolding literal_enterings
+literal_enterings_move m names t literals =
+    let values = map (λ (i : Item BasicTree). literal_value i.value) literals in
+    let targets = map (λ (i : Item ℕ). Wants t) names in
+    ap (λ (ns : List Noted). if length literals == length names then ns else [])
+    (ap2 (all_entered m.new) (literals_stay m literals) (constant_moves (moved_target m.path) (Wants t) names) ∙ all_entered_move m values targets)
+    ∙ none_moves m (length literals == length names) (all_entered m.old values targets)
+
+value_enterings_move : (m : Move) (names : List (Item ℕ)) (t : Option PlainType) (v : Option (ℕ × List (Item BasicTree))) →
+    value_enterings m.new names (option_map (moved_type m.path) t) v ≡ map (moved_noted m.path) (value_enterings m.old names t v)
+unfolding value_enterings
+value_enterings_move m names t None = refl
+value_enterings_move m names t (Some v) = literal_enterings_move m names t v.1
+
+global_enterings_move : (m : Move) (g : GlobalTree) → global_enterings m.new g ≡ map (moved_noted m.path) (global_enterings m.old g)
+global_enterings_move m g =
+    ap (λ (z : TypeJudged). value_enterings m.new g.names z.type_of g.values) (type_moves m g.type_use)
+    ∙ value_enterings_move m g.names (judge_type m.old g.type_use).type_of g.values
+
 global_faults_stay : (m : Move) (g : GlobalTree) → global_faults m.new g ≡ global_faults m.old g
 unfolding global_faults
 global_faults_stay m g =
@@ -280,11 +309,17 @@ body_faults_stay m (Other t) = ap (λ (z : TypeJudged). z.faults) (type_moves m 
 body_faults_stay m (tree.Struct p o fs c) = field_faults_stay m fs
 body_faults_stay m (tree.Interface p o ms c) = refl
 
+global_found : (m : Move) (s : FoundSoFar) (g : GlobalTree) → IsMoved m s (check_global m.old s g) (check_global m.new (moved_checked m.path s) g)
+global_found m s g = part s s.locals (global_faults m.old g) (global_enterings m.old g) _ (λ h.
+    ap2 (λ (fs : List ℕ) (us : List Noted). with_declared (moved_checked m.path s) (moved_locals m.path s.locals) fs us) (global_faults_stay m g)
+    (global_enterings_move m g)
+    ∙ declared_after m s s.locals (moved_locals m.path s.locals) (global_faults m.old g) (global_enterings m.old g) refl)
+
 decl_found : (m : Move) (old new : ℕ → Bool) (s : FoundSoFar) (d : DeclTree) → AgreesOnInit old new d →
     IsMoved m s (check_decl m.old old s d) (check_decl m.new new (moved_checked m.path s) d)
 unfolding check_decl
 decl_found m old new s (VarDecl p g c) e =
-    group (check_global m.old) (check_global m.new) (λ z x. faulty z (global_faults m.old x) (global_faults m.new x) (global_faults_stay m x)) s g
+    group (check_global m.old) (check_global m.new) (λ z x. global_found m z x) s g
 decl_found m old new s (TypeDecl p g c) e =
     group (check_type m.old) (check_type m.new) (λ z x. faulty z (body_faults m.old x.body) (body_faults m.new x.body) (body_faults_stay m x.body)) s g
 decl_found m old new s (FuncDecl p f c) e = function_found m (old f.name) (new f.name) s f e

@@ -8,7 +8,7 @@ use Rattle.types_expr.specs.World.{Locals}
 use Rattle.types_expr.specs.Judge.{Judged, JudgedList, JudgedKey, JudgedElements, TypeJudged, Seen, means, followed, value_at, as_value, select, index_rule}
 use Rattle.types_expr.specs.Judge.{index_of, call_rule, call_of, operation, prefix_of, address_of, judge, judge_links, judge_operands, judge_arguments}
 use Rattle.types_expr.specs.Judge.{judge_literal, judge_elements, judge_type, element_key, seen_after, none_seen, literal_of, literal_meaning, with_element}
-use Rattle.types_expr.specs.Judge.{value_before}
+use Rattle.types_expr.specs.Judge.{value_before, value_kind, entering_if}
 use Rattle.law_changed_types.proofs.ExpressionUses.{links_keep, operands_keep}
 use Rattle.law_changed_types.specs.Moved.{moved_type, moved_meaning, moved_locals, moved_found}
 use Rattle.law_changed_types.specs.Moves.{ExpressionsMove}
@@ -159,16 +159,18 @@ mutual
       let after = seen_after m.old t seen k in
       let i = value_at e (judge m.old locals e) in
       let others = judge_elements m.old locals t after rest in
-      let of_key = of_first key.uses (i.uses ++ others.uses) h in
-      let behind = of_second key.uses (i.uses ++ others.uses) h in
+      let entry = entering_if m.old (place_of e) (value_kind i.meaning) key.wanted in
+      let of_key = of_first key.uses (i.uses ++ (entry ++ others.uses)) h in
+      let behind = of_second key.uses (i.uses ++ (entry ++ others.uses)) h in
       let new = moved_locals m.path locals in
       let u = option_map (moved_type m.path) t in
       ap2 (λ (z : JudgedKey) (y : Judged). with_element m.new z (place_of e) y (judge_elements m.new new u (seen_after m.new u seen k) rest))
       (key_moves m t seen k of_key)
-      (value_moves e (judge m.old locals e) (judge m.new new e) (λ q. found_moves m locals e q) (of_first i.uses others.uses behind))
+      (value_moves e (judge m.old locals e) (judge m.new new e) (λ q. found_moves m locals e q)
+      (of_first i.uses (entry ++ others.uses) behind))
       ∙ (ap (λ (z : JudgedElements). with_element m.new (moved_judged_key m key) (place_of e) (moved_found m.path i) z)
       (ap (λ (z : Seen). judge_elements m.new new u z rest) (seen_after_stays m t seen k of_key)
-      ∙ elements_move m locals rest t after (of_second i.uses others.uses behind))
+      ∙ elements_move m locals rest t after (of_second entry others.uses (of_second i.uses (entry ++ others.uses) behind)))
       ∙ with_element_moves m key (place_of e) i others)
 
 pub expressions_move : ExpressionsMove

@@ -5,7 +5,7 @@ use Rattle.types_expr.specs.declared.types.Basic.{Basic}
 use Rattle.types_expr.specs.declared.symbol.Symbol.{Symbol}
 use Rattle.types_expr.specs.Types.{PlainType, BasicType, Defined, Pointer, Slice, Meaning, Value, TypeName, Function, BuiltinName, Package, Results, Broken}
 use Rattle.types_expr.specs.Types.{Underlying, Plain, PointerTo, SliceOf}
-use Rattle.types_expr.specs.Types.{Struct as StructOf}
+use Rattle.types_expr.specs.Types.{Struct as StructOf, Interface as InterfaceOf}
 use Rattle.law_changed_types.specs.Moved.{PathMap, moved_symbol, moved_type, moved_underlying, moved_meaning}
 
 pub some_back : {A B : Type 0} (f : A → B) (x : Option A) (y : B) → option_map f x ≡ Some y → (a : A) × ((x ≡ Some a) × (y ≡ f a))
@@ -84,4 +84,5 @@ unfolding struct_in
 struct_back g (Plain b) s e = no_match (ap struct_in e)
 struct_back g (PointerTo t) s e = no_match (ap struct_in e)
 struct_back g (SliceOf t) s e = no_match (ap struct_in e)
+struct_back g (InterfaceOf r) s e = no_match (ap struct_in e)
 struct_back g (StructOf r) s e = (r, (refl, same_Some s (moved_symbol g r) (ap struct_in e)))

@@ -3,6 +3,7 @@ pub mod Listed
 pub mod Parts
 pub mod Dotted
 pub mod Alike
+pub mod ChangedNotes
 pub mod Types
 pub mod Meanings
 pub mod Worlds
@@ -29,6 +30,7 @@ pub mod Underlying
 pub mod MovedTypesMeanings
 pub mod Defined
 pub mod Laws
+pub mod ImplementingMoves
 pub mod MovedTypesWorlds
 pub mod Renumber
 pub mod RenumberedTokensRules

@@ -2,17 +2,17 @@
 use Rattle.std.proofs.Common.{ℕ, ◌≡◌, Bool, ◌&&◌, ◌||◌, true, false, List, [], ◌∷◌, ◌++◌, map, Option, Some, None, refl, ap, ◌∙◌}
 use Rattle.go_ast.specs.Tree.{TypeTree}
 use Rattle.go_ast.specs.Tree as tree
-use Rattle.types_expr.specs.Types.{PlainType, Pointer, Slice, Underlying, Plain, PointerTo, SliceOf, Struct, ValueKind, Typed, Untyped, Nil, Meaning, Value}
+use Rattle.types_expr.specs.Types.{PlainType, Pointer, Slice, Underlying, Plain, PointerTo, SliceOf, Struct, Interface, ValueKind, Typed, Untyped, Nil, Meaning, Value}
 use Rattle.types_expr.specs.Types.{TypeName, Function, BuiltinName, Package, Results, Broken}
 use Rattle.types_expr.specs.World.{Bound, Local, Means, BrokenVariable, BrokenFunction, BrokenType, Member, underlying}
-use Rattle.types_expr.specs.Judge.{MemberUse, Judged, also, value_kind, is_whole, TypeJudged, named_meaning, named_type, imported_meaning}
+use Rattle.types_expr.specs.Judge.{Noted, OfMember, Judged, also, value_kind, is_whole, TypeJudged, named_meaning, named_type, imported_meaning, entering_if}
 use Rattle.types_expr.specs.Judge.{imported_type, under, judge_type, address_of, KeyMeaning, FieldKey, BrokenKey, WrongKey, Seen, key_in, symbol_of_key}
 use Rattle.types_expr.specs.Judge.{key_faults, is_whole_key, seen_with, wanted_after_key, JudgedElements, misfit_if, is_empty, JudgedKey, element_key}
 use Rattle.types_expr.specs.Judge.{seen_after, with_element, literal_result, literal_meaning, literal_of}
 use Rattle.law_rename.specs.Renumbered.{type_by, key_by}
-use Rattle.law_changed_types.specs.Renumbering.{renumbered_bound, renumbered_use, renumbered_uses, renumbered_found}
-use Rattle.law_changed_types.proofs.Renumber.{Renumber, new, ap2, two, three, four}
-use Rattle.law_changed_types.proofs.RenumberedTokensRules.{also_found, misfit_found}
+use Rattle.law_changed_types.specs.Renumbering.{renumbered_bound, renumbered_noted, renumbered_uses, renumbered_found}
+use Rattle.law_changed_types.proofs.Renumber.{Renumber, new, ap2, two, four}
+use Rattle.law_changed_types.proofs.RenumberedTokensRules.{also_found, misfit_found, entering_found}
 
 -- what is found of a written type, of a key and of elements
 abbrev pub type_found : Renumber → TypeJudged → TypeJudged
@@ -93,7 +93,7 @@ keyed t place seen u x = record {
   unkeyed = false;
   wanted = wanted_after_key (key_in u seen x) u;
   faults = key_faults (key_in u seen x) place;
-  uses = record { place = place; before = t; member = symbol_of_key u x } ∷ [];
+  uses = OfMember (record { place = place; before = t; member = symbol_of_key u x }) ∷ [];
 }
 
 keyed_found : (m : Renumber) (t : PlainType) (place : ℕ) (seen : Seen) (u : Underlying) (x : Option Member) →
@@ -105,7 +105,7 @@ keyed_found m t place seen u x =
       unkeyed = false;
       wanted = wanted_after_key (key_in u seen x) u;
       faults = fs;
-      uses = record { place = m.to place; before = t; member = symbol_of_key u x } ∷ [];
+      uses = OfMember (record { place = m.to place; before = t; member = symbol_of_key u x }) ∷ [];
     }) (key_faults_found m (key_in u seen x) place)
 
 pub element_key_found : (m : Renumber) (t : Option PlainType) (seen : Seen) (k : Option (ℕ × ℕ)) →
@@ -129,6 +129,11 @@ misfit_if_found : (m : Renumber) (place : ℕ) (k : Option ValueKind) (t : Optio
 misfit_if_found m place k None = refl
 misfit_if_found m place k (Some t) = misfit_found m place k t
 
+entering_if_found : (m : Renumber) (place : ℕ) (k : Option ValueKind) (t : Option PlainType) →
+    entering_if (new m) (m.to place) k t ≡ renumbered_uses m.to (entering_if m.old place k t)
+entering_if_found m place k None = refl
+entering_if_found m place k (Some t) = entering_found m place k t
+
 empty_stays : (m : Renumber) (fs : List ℕ) → is_empty (map m.to fs) ≡ is_empty fs
 empty_stays m [] = refl
 empty_stays m (f ∷ fs) = refl
@@ -138,18 +143,20 @@ pub with_element_found : (m : Renumber) (k : JudgedKey) (place : ℕ) (j : Judge
     elements_found m (with_element m.old k place j rest)
 with_element_found m k place j rest =
     let bad = misfit_if m.old place (value_kind j.meaning) k.wanted in
-    let built : Bool → List ℕ → List MemberUse → JudgedElements = λ b fs us. record {
+    let built : Bool → List ℕ → List Noted → JudgedElements = λ b fs us. record {
       whole = k.whole && (is_whole (value_kind j.meaning) && (b && rest.whole));
       unkeyed = k.unkeyed || rest.unkeyed;
       faults = fs;
       uses = us;
     } in
-    ap (λ (fs : List ℕ). built (is_empty fs) (map m.to k.faults ++ (map m.to j.faults ++ (fs ++ map m.to rest.faults)))
-    (renumbered_uses m.to k.uses ++ (renumbered_uses m.to j.uses ++ renumbered_uses m.to rest.uses)))
-    (misfit_if_found m place (value_kind j.meaning) k.wanted)
-    ∙ (ap (λ (b : Bool). built b (map m.to k.faults ++ (map m.to j.faults ++ (map m.to bad ++ map m.to rest.faults)))
-    (renumbered_uses m.to k.uses ++ (renumbered_uses m.to j.uses ++ renumbered_uses m.to rest.uses))) (empty_stays m bad)
-    ∙ ap2 (built (is_empty bad)) (four m.to k.faults j.faults bad rest.faults) (three (renumbered_use m.to) k.uses j.uses rest.uses))
+    let entry = entering_if m.old place (value_kind j.meaning) k.wanted in
+    let noted : List Noted → List Noted = λ ns.
+    renumbered_uses m.to k.uses ++ (renumbered_uses m.to j.uses ++ (ns ++ renumbered_uses m.to rest.uses)) in
+    ap2 (λ (fs : List ℕ) (ns : List Noted). built (is_empty fs) (map m.to k.faults ++ (map m.to j.faults ++ (fs ++ map m.to rest.faults))) (noted ns))
+    (misfit_if_found m place (value_kind j.meaning) k.wanted) (entering_if_found m place (value_kind j.meaning) k.wanted)
+    ∙ (ap (λ (b : Bool). built b (map m.to k.faults ++ (map m.to j.faults ++ (map m.to bad ++ map m.to rest.faults))) (noted (renumbered_uses m.to entry)))
+    (empty_stays m bad)
+    ∙ ap2 (built (is_empty bad)) (four m.to k.faults j.faults bad rest.faults) (four (renumbered_noted m.to) k.uses j.uses entry rest.uses))
 
 literal_result_found : (m : Renumber) (start : ℕ) (t : PlainType) (u : Underlying) (whole unkeyed : Bool) →
     literal_result (m.to start) t u whole unkeyed ≡ renumbered_found m.to (literal_result start t u whole unkeyed)
@@ -159,6 +166,8 @@ literal_result_found m start t (PointerTo e) true unkeyed = refl
 literal_result_found m start t (PointerTo e) false unkeyed = refl
 literal_result_found m start t (SliceOf e) true unkeyed = refl
 literal_result_found m start t (SliceOf e) false unkeyed = refl
+literal_result_found m start t (Interface s) true unkeyed = refl
+literal_result_found m start t (Interface s) false unkeyed = refl
 literal_result_found m start t (Struct s) true true = refl
 literal_result_found m start t (Struct s) true false = refl
 literal_result_found m start t (Struct s) false unkeyed = refl

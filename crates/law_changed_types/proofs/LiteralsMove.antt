@@ -3,18 +3,19 @@ use Rattle.std.proofs.Common.{ℕ, ◌≡◌, Bool, ◌&&◌, ◌||◌, true, fa
 use Rattle.go_ast.specs.Tree.{TypeTree}
 use Rattle.go_ast.specs.Tree as tree
 use Rattle.types_expr.specs.declared.symbol.Symbol.{Symbol}
-use Rattle.types_expr.specs.Types.{PlainType, Pointer, Slice, Underlying, Plain, PointerTo, SliceOf, Struct, ValueKind, Typed, Untyped, Nil, Meaning, Value}
-use Rattle.types_expr.specs.Types.{TypeName, Function, BuiltinName, Package, Results, Broken, element_of}
+use Rattle.types_expr.specs.Types.{PlainType, Pointer, Slice, Underlying, Plain, PointerTo, SliceOf, Struct, Interface, ValueKind, Typed, Untyped, Nil, Meaning, Value}
+use Rattle.types_expr.specs.Types.{TypeName, Function, BuiltinName, Package, Results, Broken, element_of, AFieldOf, AMethodOf}
 use Rattle.types_expr.specs.World.{Bound, Local, Means, BrokenVariable, BrokenFunction, BrokenType, Member, AField, AMethod, ABrokenMethod, underlying}
-use Rattle.types_expr.specs.Judge.{MemberUse, Judged, also, value_kind, is_whole, TypeJudged, named_meaning, named_type, imported_meaning}
+use Rattle.types_expr.specs.Judge.{Noted, OfMember, Judged, also, value_kind, is_whole, TypeJudged, named_meaning, named_type, imported_meaning, entering_if}
 use Rattle.types_expr.specs.Judge.{imported_type, under, judge_type, address_of, KeyMeaning, FieldKey, BrokenKey, WrongKey, Seen, key_of_member, key_in, symbol_of_key}
 use Rattle.types_expr.specs.Judge.{key_faults, is_whole_key, seen_with, wanted_after_key, JudgedElements, misfit_if, is_empty, JudgedKey, element_key}
 use Rattle.types_expr.specs.Judge.{seen_after, with_element, literal_result, literal_meaning, literal_of}
-use Rattle.law_changed_types.specs.Moved.{moved_symbol, moved_type, moved_underlying, moved_kind, moved_meaning, moved_bound, moved_member, moved_use}
+use Rattle.law_changed_types.specs.Moved.{moved_symbol, moved_type, moved_underlying, moved_kind, moved_meaning, moved_bound, moved_member, moved_noted}
 use Rattle.law_changed_types.specs.Moved.{moved_found}
 use Rattle.law_changed_types.proofs.Moving.{Move, Moves, at_first, ap2, ap3, if_moves}
 use Rattle.law_changed_types.proofs.TypesMove.{underlying_moves, element_moves}
 use Rattle.law_changed_types.proofs.RulesMove.{also_moves, three_uses, value_kind_moves, member_symbol_moves, whole_stays, same_misfit}
+use Rattle.law_changed_types.proofs.RulesMove.{entering_moves, two_uses}
 
 -- what is found of a written type, of a key and of elements
 abbrev pub moved_written : Move → TypeJudged → TypeJudged
@@ -26,11 +27,11 @@ moved_judged_key m k = record {
   unkeyed = k.unkeyed;
   wanted = option_map (moved_type m.path) k.wanted;
   faults = k.faults;
-  uses = map (moved_use m.path) k.uses;
+  uses = map (moved_noted m.path) k.uses;
 }
 
 abbrev pub moved_elements : Move → JudgedElements → JudgedElements
-moved_elements m es = record { whole = es.whole; unkeyed = es.unkeyed; faults = es.faults; uses = map (moved_use m.path) es.uses }
+moved_elements m es = record { whole = es.whole; unkeyed = es.unkeyed; faults = es.faults; uses = map (moved_noted m.path) es.uses }
 
 abbrev moved_key : Move → KeyMeaning → KeyMeaning
 moved_key m (FieldKey rank t) = FieldKey rank (moved_type m.path t)
@@ -101,7 +102,8 @@ type_moves m (tree.Slice o c t) = ap (under Slice) (type_moves m t) ∙ under_sl
 key_of_member_moves : (m : Move) (seen : Seen) (x : Option Member) →
     key_of_member seen (option_map (moved_member m.path) x) ≡ moved_key m (key_of_member seen x)
 key_of_member_moves m seen None = refl
-key_of_member_moves m seen (Some (AField s t)) = if_moves (moved_key m) (seen s.rank) (seen s.rank) WrongKey (FieldKey s.rank t) refl
+key_of_member_moves m seen (Some (AField s (AFieldOf t))) = if_moves (moved_key m) (seen s.rank) (seen s.rank) WrongKey (FieldKey s.rank t) refl
+key_of_member_moves m seen (Some (AField s (AMethodOf signature))) = refl
 key_of_member_moves m seen (Some (AMethod s on_pointer signature)) = refl
 key_of_member_moves m seen (Some (ABrokenMethod s)) = refl
 
@@ -110,6 +112,7 @@ key_in_moves : (m : Move) (u : Underlying) (seen : Seen) (x : Option Member) →
 key_in_moves m (Plain b) seen x = refl
 key_in_moves m (PointerTo t) seen x = refl
 key_in_moves m (SliceOf t) seen x = refl
+key_in_moves m (Interface s) seen x = refl
 key_in_moves m (Struct s) seen x = key_of_member_moves m seen x
 
 symbol_of_key_moves : (m : Move) (u : Underlying) (x : Option Member) →
@@ -117,6 +120,7 @@ symbol_of_key_moves : (m : Move) (u : Underlying) (x : Option Member) →
 symbol_of_key_moves m (Plain b) x = refl
 symbol_of_key_moves m (PointerTo t) x = refl
 symbol_of_key_moves m (SliceOf t) x = refl
+symbol_of_key_moves m (Interface s) x = refl
 symbol_of_key_moves m (Struct s) x = member_symbol_moves m x
 
 key_faults_stay : (m : Move) (k : KeyMeaning) (place : ℕ) → key_faults (moved_key m k) place ≡ key_faults k place
@@ -147,7 +151,7 @@ keyed_as t place u k s = record {
   unkeyed = false;
   wanted = wanted_after_key k u;
   faults = key_faults k place;
-  uses = record { place = place; before = t; member = s } ∷ [];
+  uses = OfMember (record { place = place; before = t; member = s }) ∷ [];
 }
 
 keyed_as_moves : (m : Move) (t : PlainType) (place : ℕ) (u : Underlying) (k : KeyMeaning) (s : Option Symbol) →
@@ -160,7 +164,7 @@ keyed_as_moves m t place u k s =
       unkeyed = false;
       wanted = x;
       faults = fs;
-      uses = record { place = place; before = moved_type m.path t; member = option_map (moved_symbol m.path) s } ∷ [];
+      uses = OfMember (record { place = place; before = moved_type m.path t; member = option_map (moved_symbol m.path) s }) ∷ [];
     }) (whole_key_stays m k) (wanted_moves m k u) (key_faults_stay m k place)
 
 -- the key at token `place` that denotes the member x, in a literal of type t whose underlying type is u
@@ -202,10 +206,17 @@ misfit_if_stays : (m : Move) (place : ℕ) (k : Option ValueKind) (t : Option Pl
 misfit_if_stays m place k None = refl
 misfit_if_stays m place k (Some t) = same_misfit m place k t
 
+entering_if_moves : (m : Move) (place : ℕ) (k : Option ValueKind) (t : Option PlainType) →
+    entering_if m.new place (option_map (moved_kind m.path) k) (option_map (moved_type m.path) t) ≡ map (moved_noted m.path) (entering_if m.old place k t)
+entering_if_moves m place k None = refl
+entering_if_moves m place k (Some t) = entering_moves m place k t
+
 pub with_element_moves : (m : Move) (k : JudgedKey) (place : ℕ) (j : Judged) (rest : JudgedElements) →
     with_element m.new (moved_judged_key m k) place (moved_found m.path j) (moved_elements m rest) ≡ moved_elements m (with_element m.old k place j rest)
 with_element_moves m k place j rest =
-    let built : Bool → List ℕ → List MemberUse → JudgedElements = λ b fs us. record {
+    let g = moved_noted m.path in
+    let entry = entering_if m.old place (value_kind j.meaning) k.wanted in
+    let built : Bool → List ℕ → List Noted → JudgedElements = λ b fs us. record {
       whole = k.whole && (b && (is_empty fs && rest.whole));
       unkeyed = k.unkeyed || rest.unkeyed;
       faults = k.faults ++ (j.faults ++ (fs ++ rest.faults));
@@ -213,7 +224,11 @@ with_element_moves m k place j rest =
     } in
     ap3 built (ap is_whole (value_kind_moves m j.meaning) ∙ whole_stays m (value_kind j.meaning))
     (ap (λ z. misfit_if m.new place z (option_map (moved_type m.path) k.wanted)) (value_kind_moves m j.meaning)
-    ∙ misfit_if_stays m place (value_kind j.meaning) k.wanted) (three_uses m k.uses j.uses rest.uses)
+    ∙ misfit_if_stays m place (value_kind j.meaning) k.wanted)
+    (ap (λ (us : List Noted). map g k.uses ++ (map g j.uses ++ (us ++ map g rest.uses)))
+    (ap (λ z. entering_if m.new place z (option_map (moved_type m.path) k.wanted)) (value_kind_moves m j.meaning)
+    ∙ entering_if_moves m place (value_kind j.meaning) k.wanted)
+    ∙ (ap (λ (us : List Noted). map g k.uses ++ (map g j.uses ++ us)) (two_uses m entry rest.uses) ∙ three_uses m k.uses j.uses (entry ++ rest.uses)))
 
 literal_result_moves : (m : Move) (start : ℕ) (t : PlainType) (u : Underlying) (whole unkeyed : Bool) →
     literal_result start (moved_type m.path t) (moved_underlying m.path u) whole unkeyed ≡ moved_found m.path (literal_result start t u whole unkeyed)
@@ -223,6 +238,8 @@ literal_result_moves m start t (PointerTo e) true unkeyed = refl
 literal_result_moves m start t (PointerTo e) false unkeyed = refl
 literal_result_moves m start t (SliceOf e) true unkeyed = refl
 literal_result_moves m start t (SliceOf e) false unkeyed = refl
+literal_result_moves m start t (Interface s) true unkeyed = refl
+literal_result_moves m start t (Interface s) false unkeyed = refl
 literal_result_moves m start t (Struct s) true true = refl
 literal_result_moves m start t (Struct s) true false = refl
 literal_result_moves m start t (Struct s) false unkeyed = refl

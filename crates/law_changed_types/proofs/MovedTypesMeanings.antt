@@ -13,7 +13,7 @@ use Rattle.types_declared.specs.Package.{Package, PlacedVariable, PlacedFunction
 use Rattle.types_declared.specs.Package.{symbol_in}
 use Rattle.types_declared.specs.MeaningOf.{PredeclaredMeans, a_type, a_truth, an_untruth, a_nil, a_function, parameter_types, result_types, HasSignature}
 use Rattle.types_declared.specs.MeaningOf.{IsVariable, IsFunction, IsMeaningOf, predeclared, import_name, local, variable, broken_variable, function}
-use Rattle.types_declared.specs.MeaningOf.{broken_function, definition, broken_definition}
+use Rattle.types_declared.specs.MeaningOf.{broken_function, definition, broken_definition, IsSignatureOf}
 use Rattle.law_changed_types.specs.SameBindings.{IsDotted}
 use Rattle.law_changed_types.proofs.Alike.{ranked_by, got_by}
 use Rattle.law_changed_types.specs.Moved.{PathMap, IsInjective, moved_type, moved_signature, moved_meaning, moved_bound}
@@ -21,6 +21,7 @@ use Rattle.law_changed_types.proofs.Moving.{ap2}
 use Rattle.law_changed_types.specs.MovedPackage.{IsMovedPackage}
 use Rattle.law_changed_types.proofs.Written.{same_place_variables, same_place_functions, dotted, symbols, declares_type, declares_type_back, is_predeclared}
 use Rattle.law_changed_types.proofs.Written.{is_predeclared_back, broken, broken_back, type_of, type_of_back, types_of, types_of_back}
+use Rattle.go_ast.specs.Tree.{Item, ParamTree, ResultTree}
 
 -- a predeclared name's meaning mentions no symbol
 predeclared_stays : (g : PathMap) (name : List ℕ) (m : Meaning) → PredeclaredMeans name m → moved_meaning g m ≡ m
@@ -103,24 +104,35 @@ module _ (g : PathMap) (inj : IsInjective g) (p q : Package) (a : IsMovedPackage
       let R : PlacedFunction → Type 0 = λ x. All (IsDotted p x.file) (result_types x.function.result) in
       all_got R (package_functions p) rank f (recursion_from_All R (package_functions p) (dotted g inj p q a).results) at
 
-  pub signature_of : (rank : ℕ) (f : PlacedFunction) (s : Signature) → slice_get (package_functions p) rank ≡ Some f → HasSignature p f s →
-      HasSignature q f (moved_signature g s)
-  signature_of rank f s at h = record {
-    parameters = types_of g inj p q a f.file (parameter_types f.function.params) s.parameters (parameters_dotted rank f at) h.parameters;
-    results = types_of g inj p q a f.file (result_types f.function.result) s.results (results_dotted rank f at) h.results;
+  pub written_signature : (file : ℕ) (params : List (Item ParamTree)) (result : ResultTree) (s : Signature) → All (IsDotted p file) (parameter_types params) →
+      All (IsDotted p file) (result_types result) → IsSignatureOf p file params result s → IsSignatureOf q file params result (moved_signature g s)
+  written_signature file params result s own others h = record {
+    parameters = types_of g inj p q a file (parameter_types params) s.parameters own h.parameters;
+    results = types_of g inj p q a file (result_types result) s.results others h.results;
   }
 
-  pub signature_back : (rank : ℕ) (f : PlacedFunction) (s : Signature) → slice_get (package_functions p) rank ≡ Some f → HasSignature q f s →
-      (x : Signature) × ((s ≡ moved_signature g x) × HasSignature p f x)
-  signature_back rank f s at h =
-      let ps = types_of_back g inj p q a f.file (parameter_types f.function.params) s.parameters (parameters_dotted rank f at) h.parameters in
-      let rs = types_of_back g inj p q a f.file (result_types f.function.result) s.results (results_dotted rank f at) h.results in (
+  pub written_signature_back : (file : ℕ) (params : List (Item ParamTree)) (result : ResultTree) (s : Signature) →
+      All (IsDotted p file) (parameter_types params) → All (IsDotted p file) (result_types result) → IsSignatureOf q file params result s →
+      (x : Signature) × ((s ≡ moved_signature g x) × IsSignatureOf p file params result x)
+  written_signature_back file params result s own others h =
+      let ps = types_of_back g inj p q a file (parameter_types params) s.parameters own h.parameters in
+      let rs = types_of_back g inj p q a file (result_types result) s.results others h.results in (
         record { parameters = ps.0; results = rs.0 },
         (
           ap2 (λ (x y : List PlainType). record { parameters = x; results = y }) ps.1.0 rs.1.0,
           record { parameters = ps.1.1; results = rs.1.1 },
         ),
       )
+
+  pub signature_of : (rank : ℕ) (f : PlacedFunction) (s : Signature) → slice_get (package_functions p) rank ≡ Some f → HasSignature p f s →
+      HasSignature q f (moved_signature g s)
+  signature_of rank f s at h =
+      written_signature f.file f.function.params f.function.result s (parameters_dotted rank f at) (results_dotted rank f at) h
+
+  pub signature_back : (rank : ℕ) (f : PlacedFunction) (s : Signature) → slice_get (package_functions p) rank ≡ Some f → HasSignature q f s →
+      (x : Signature) × ((s ≡ moved_signature g x) × HasSignature p f x)
+  signature_back rank f s at h =
+      written_signature_back f.file f.function.params f.function.result s (parameters_dotted rank f at) (results_dotted rank f at) h
 
   pub meaning : (d : ℕ) (b : Bound) → IsMeaningOf p d b → IsMeaningOf q d (moved_bound g b)
   meaning d _ (predeclared {name = name} {m = m} is means) =

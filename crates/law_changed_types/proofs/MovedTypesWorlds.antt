@@ -7,7 +7,7 @@ use Rattle.go_ast.specs.SourceFile.{spelling_of}
 use Rattle.go_scope.specs.WellFormed.{WellFormed}
 use Rattle.types_expr.specs.declared.symbol.Symbol.{Symbol}
 use Rattle.types_expr.specs.Types.{PlainType, BasicType, Defined, Pointer, Slice, Underlying, Plain, PointerTo, SliceOf, Signature, Broken, same_path}
-use Rattle.types_expr.specs.Types.{Struct as StructOf}
+use Rattle.types_expr.specs.Types.{Struct as StructOf, Interface as InterfaceOf}
 use Rattle.types_expr.specs.Types.{underlying_by}
 use Rattle.types_expr.specs.World.{Bound, Definition, Field, Method, struct_of, struct_or_target, field_owner, owner, is_seen, seen_field}
 use Rattle.types_expr.specs.World.{seen_method, field_of, method_of, a_method, first_member, member_by}
@@ -17,7 +17,7 @@ use Rattle.types_declared.specs.Package.{Package, PlacedType, Export, package_ty
 use Rattle.types_declared.specs.Definitions.{AreDefinitions}
 use Rattle.types_info.specs.Worlds.{DenotesExport, IsBoundAt, by_scope, by_package, IsName, is_bound, is_unbound}
 use Rattle.types_info.proofs.OneMeaning.{one_name}
-use Rattle.types_info.proofs.OneWorld.{one_definition}
+use Rattle.types_info.proofs.OneWorld.{one_definition, same_tests}
 use Rattle.law_changed_types.specs.SameBindings.{IsSelectedAt}
 use Rattle.law_changed_types.proofs.Alike.{selected, got_by}
 use Rattle.law_changed_types.proofs.Worlds.{layout_formed, tokens_rise}
@@ -29,6 +29,7 @@ use Rattle.law_changed_types.proofs.Written.{same_place_types, symbols, binds, b
 use Rattle.law_changed_types.proofs.Underlying.{other_path}
 use Rattle.law_changed_types.proofs.MovedTypesMeanings.{meaning, meaning_back}
 use Rattle.law_changed_types.proofs.Defined.{definition_moves}
+use Rattle.law_changed_types.proofs.ImplementingMoves.{implementing_moves, implementing_back}
 
 module _ (g : PathMap) (inj : IsInjective g) (p q : Package) (a : IsMovedPackage g p q) where
   -- names
@@ -130,6 +131,7 @@ struct_moves : (g : PathMap) (u : Underlying) → struct_of (moved_underlying g 
 struct_moves g (Plain b) = refl
 struct_moves g (PointerTo t) = refl
 struct_moves g (SliceOf t) = refl
+struct_moves g (InterfaceOf s) = refl
 struct_moves g (StructOf s) = refl
 
 target_moves : (m : Move) (u : Underlying) →
@@ -137,6 +139,7 @@ target_moves : (m : Move) (u : Underlying) →
 target_moves m (Plain b) = refl
 target_moves m (PointerTo t) = ap struct_of (underlying_moves m t) ∙ struct_moves m.path (underlying_by m.old.definition t)
 target_moves m (SliceOf t) = refl
+target_moves m (InterfaceOf s) = refl
 target_moves m (StructOf s) = refl
 
 field_owner_moves : (m : Move) (t : PlainType) →
@@ -219,10 +222,11 @@ worlds_move g inj p q a file f h v w before after uses spelled =
     let m : Move = record {
       path = g;
       injective = inj;
-      old = record { bound = v.bound; member = v.member; definition = λ s. (c s).underlying };
-      new = record { bound = w.bound; member = w.member; definition = λ s. (d s).underlying };
+      old = record { bound = v.bound; member = v.member; definition = λ s. (c s).underlying; implements = λ t s. false };
+      new = record { bound = w.bound; member = w.member; definition = λ s. (d s).underlying; implements = λ t s. false };
       bound = bound;
       definition = λ s. ap (λ (x : Definition). x.underlying) (same s);
+      implements = λ t s. refl;
     } in
     record {
       bound = bound;
@@ -230,6 +234,10 @@ worlds_move g inj p q a file f h v w before after uses spelled =
           after.definition (moved_symbol g s)
           ∙ ap (λ (x : Definition). x.underlying) (same s)
           ∙ ap (moved_underlying g) (sym (before.definition s));
+      implements = λ t s.
+          same_tests (w.implements (moved_type g t) (moved_symbol g s)) (v.implements t s)
+          (λ e. (before.implements t s).1 (implementing_back m c d same t s ((after.implements (moved_type g t) (moved_symbol g s)).0 e)))
+          (λ e. (after.implements (moved_type g t) (moved_symbol g s)).1 (implementing_moves m c d same t s ((before.implements t s).0 e)));
       members = λ u inside.
           let name = spelling_of f u.place in
           after.member u.place (moved_type g u.before)

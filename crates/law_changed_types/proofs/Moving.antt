@@ -3,8 +3,9 @@ use Rattle.std.proofs.Common.{ℕ, ◌≡◌, Bool, true, false, if◌then◌els
 use Rattle.std.specs.List.{Contains}
 use Rattle.base_lemmas.proofs.Elements.{first_in}
 use Rattle.types_expr.specs.declared.symbol.Symbol.{Symbol}
+use Rattle.types_expr.specs.Types.{PlainType}
 use Rattle.types_expr.specs.World.{World}
-use Rattle.types_expr.specs.Judge.{MemberUse}
+use Rattle.types_expr.specs.Judge.{MemberUse, Noted, OfMember}
 use Rattle.law_changed_types.proofs.Agreement.{AreIn, in_first, in_second}
 use Rattle.law_changed_types.specs.Moved.{PathMap, IsInjective, moved_symbol, moved_type, moved_underlying, moved_bound, moved_member}
 use Rattle.law_changed_types.specs.Moves.{IsMovedWorld}
@@ -17,27 +18,28 @@ pub record Move : Type 0 where
   pub new : World
   pub bound : (token : ℕ) → new.bound token ≡ moved_bound path (old.bound token)
   pub definition : (s : Symbol) → new.definition (moved_symbol path s) ≡ moved_underlying path (old.definition s)
+  pub implements : (t : PlainType) (s : Symbol) → new.implements (moved_type path t) (moved_symbol path s) ≡ old.implements t s
 
 -- the new world has the moved members at some uses
-pub record Moves (m : Move) (uses : List MemberUse) : Type 0 where
-  pub each : (u : MemberUse) → Contains uses u →
+pub record Moves (m : Move) (uses : List Noted) : Type 0 where
+  pub each : (u : MemberUse) → Contains uses (OfMember u) →
       m.new.member u.place (moved_type m.path u.before) ≡ option_map (moved_member m.path) (m.old.member u.place u.before)
 
-pub of_part : {m : Move} {b : List MemberUse} (a : List MemberUse) → AreIn a b → Moves m b → Moves m a
-of_part a inside h = record { each = λ u c. h.each u (inside u c) }
+pub of_part : {m : Move} {b : List Noted} (a : List Noted) → AreIn a b → Moves m b → Moves m a
+of_part a inside h = record { each = λ u c. h.each u (inside (OfMember u) c) }
 
-pub of_first : {m : Move} (a b : List MemberUse) → Moves m (a ++ b) → Moves m a
+pub of_first : {m : Move} (a b : List Noted) → Moves m (a ++ b) → Moves m a
 of_first a b h = of_part a (in_first a b) h
 
-pub of_second : {m : Move} (a b : List MemberUse) → Moves m (a ++ b) → Moves m b
+pub of_second : {m : Move} (a b : List Noted) → Moves m (a ++ b) → Moves m b
 of_second a b h = of_part b (in_second a b) h
 
-pub at_first : {m : Move} (u : MemberUse) (rest : List MemberUse) → Moves m (u ∷ rest) →
+pub at_first : {m : Move} (u : MemberUse) (rest : List Noted) → Moves m (OfMember u ∷ rest) →
     m.new.member u.place (moved_type m.path u.before) ≡ option_map (moved_member m.path) (m.old.member u.place u.before)
-at_first u rest h = h.each u (first_in u rest)
+at_first u rest h = h.each u (first_in (OfMember u) rest)
 
-abbrev pub the_move : {uses : List MemberUse} (g : PathMap) → IsInjective g → (v w : World) → IsMovedWorld g uses v w → Move
-the_move g inj v w h = record { path = g; injective = inj; old = v; new = w; bound = h.bound; definition = h.definition }
+abbrev pub the_move : {uses : List Noted} (g : PathMap) → IsInjective g → (v w : World) → IsMovedWorld g uses v w → Move
+the_move g inj v w h = record { path = g; injective = inj; old = v; new = w; bound = h.bound; definition = h.definition; implements = h.implements }
 
 -- equal arguments
 

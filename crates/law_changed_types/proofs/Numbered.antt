@@ -1,12 +1,12 @@
 -- The two packages of new numbers correspond, both ways.
-use Rattle.std.proofs.Common.{ℕ, suc, ◌≡◌, ◌<◌, inl, inr, List, [], ◌∷◌, map, Option, Some, None, is_some, option_map, refl, sym, ap, ◌∙◌}
+use Rattle.std.proofs.Common.{ℕ, suc, ◌≡◌, ◌<◌, inl, inr, List, [], ◌∷◌, ◌++◌, map, Option, Some, None, is_some, option_map, refl, sym, ap, ◌∙◌}
 use Rattle.std.proofs.Common.{subst, arith}
 use Rattle.std.specs.Prelude.{All, slice_get, length}
 use Rattle.std.proofs.lemmas.Bool.{cases_order}
 use Rattle.std.proofs.lemmas.Option.{none-some, same_Some, slice_get-map}
-use Rattle.std.proofs.lemmas.List.Elements.{All-nil, All-cons, All-head, All-tail, All-append, All-map, recursion_from_All}
+use Rattle.std.proofs.lemmas.List.Elements.{All-nil, All-head, All-tail, All-append, All-map, recursion_from_All}
 use Rattle.law_tokens.proofs.Elements.{all_got}
-use Rattle.go_ast.specs.Tree.{Item, FieldTree, TypeTree, Local, Imported, Pointer, Slice, BodyTree, Other, ReceiverTree}
+use Rattle.go_ast.specs.Tree.{Item, FieldTree, TypeTree, Local, Imported, Pointer, Slice, BodyTree, Other, ReceiverTree, MethodTree, ParamTree, ResultTree}
 use Rattle.go_ast.specs.Tree as tree
 use Rattle.go_scope.specs.declared.model.Position.{Position}
 use Rattle.go_scope.specs.declared.model.Block.{Block}
@@ -31,21 +31,22 @@ use Rattle.go_scope.proofs.PackageRegions.{package_well_formed, package_follows_
 use Rattle.go_scope.proofs.PackagePlaces.{package_follows_places}
 use Rattle.law_tokens.proofs.HeldBytes.{numbered_files}
 use Rattle.types_declared.specs.Package.{Package, PlacedVariable, PlacedType, PlacedFunction, package_variables, package_types, package_functions, spelled}
-use Rattle.types_declared.specs.Written.{BindsToken, DeclaresImport, written_types}
+use Rattle.types_declared.specs.Written.{BindsToken, DeclaresImport, written_types, signature_types, asked_types}
 use Rattle.types_declared.specs.MeaningOf.{parameter_types, result_types}
-use Rattle.types_declared.specs.Definitions.{PlacedField, body_fields, fields_from, package_fields}
-use Rattle.law_rename.specs.Renumbered.{type_by, body_by, receiver_by, field_by, item_by}
+use Rattle.types_declared.specs.Definitions.{PlacedField, body_fields, fields_from, package_fields, WrittenForm, OfType, OfSignature, OfForm}
+use Rattle.law_rename.specs.Renumbered.{type_by, body_by, receiver_by, field_by, item_by, items_by, param_by, result_by, method_by}
 use Rattle.law_changed_types.specs.SameBindings.{IsSelectedAt, IsDotted, IsParsedPackage, AreTypesDotted}
 use Rattle.law_changed_types.proofs.Dotted.{types_dotted}
-use Rattle.law_changed_types.proofs.Parts.{all_given, all_alike}
+use Rattle.law_changed_types.proofs.Parts.{all_given, all_alike, of_mapped, of_asked, all_of_left, all_of_right, of_parameters}
 use Rattle.law_changed_types.specs.RenumberedPackage.{NewNumbers, IsRenumberedPackage}
 use Rattle.law_changed_types.proofs.RenumberedTypesAlike.{Half, SameTree, SameTrees, SameBody, SameReceiver, SameVariable, SameType, SameFunction, SameField}
-use Rattle.law_changed_types.proofs.RenumberedTypesAlike.{Follows, Turned, TurnedIdentifiers}
-use Rattle.law_changed_types.proofs.RenumberedTypesWritten.{turned_tree}
-use Rattle.law_changed_types.proofs.RenumberedTypesMeanings.{turned_trees}
+use Rattle.law_changed_types.proofs.RenumberedTypesAlike.{Follows, Turned, TurnedIdentifiers, SameForm}
+use Rattle.law_changed_types.proofs.RenumberedTypesWritten.{turned_tree, turned_form, turned_trees}
 use Rattle.law_changed_types.proofs.Names.{LocalsFollow}
 use Rattle.law_changed_types.proofs.RenumberedTypesListed.{map_by, new_variable, new_type, new_function, new_field, variables_by, types_by, functions_by, fields_by}
-use Rattle.law_changed_types.proofs.RenumberedTypesListed.{parameters_by, results_by}
+use Rattle.law_changed_types.proofs.RenumberedTypesListed.{parameters_by, results_by, form_by, flat_by}
+use Rattle.std.proofs.lemmas.List.{map-append}
+use Rattle.law_changed_types.proofs.Moving.{ap2}
 
 -- options
 
@@ -149,29 +150,31 @@ local_file p parsed file token d f x y b block = by_bound b.identifier b.found.h
 
 -- fields: their types follow dots, where they are qualified
 
-of_mapped : {X Y : Type 0} (P : Y → Type 0) (f : X → Y) (xs : List X) → All P (map f xs) → All (λ x. P (f x)) xs
-of_mapped P f [] h = All-nil (λ x. P (f x))
-of_mapped P f (x ∷ xs) h = All-cons (λ x. P (f x)) x xs (All-head P (f x) (map f xs) h) (of_mapped P f xs (All-tail P (f x) (map f xs) h))
-
 field_types_dotted : (p : Package) (rank file : ℕ) (b : BodyTree) → All (IsDotted p file) (written_types b) →
-    All (λ (f : PlacedField). IsDotted p f.file f.type_use) (body_fields rank file b)
-field_types_dotted p rank file (Other t) h = All-nil (λ (f : PlacedField). IsDotted p f.file f.type_use)
-field_types_dotted p rank file (tree.Interface k o ms c) h = All-nil (λ (f : PlacedField). IsDotted p f.file f.type_use)
+    All (λ (f : PlacedField). OfForm (IsDotted p f.file) f.form) (body_fields rank file b)
+field_types_dotted p rank file (Other t) h = All-nil (λ (f : PlacedField). OfForm (IsDotted p f.file) f.form)
+field_types_dotted p rank file (tree.Interface k o ms c) h =
+    All-map (λ (f : PlacedField). OfForm (IsDotted p f.file) f.form) (λ (i : Item MethodTree). record {
+      definition = rank;
+      file = file;
+      name = i.value.name;
+      form = OfSignature i.value.params i.value.result;
+    }) ms (of_asked (IsDotted p file) ms h)
 field_types_dotted p rank file (tree.Struct k o fs c) h =
-    let P : PlacedField → Type 0 = λ f. IsDotted p f.file f.type_use in
+    let P : PlacedField → Type 0 = λ f. OfForm (IsDotted p f.file) f.form in
     let Q : Item FieldTree → Type 0 = λ i. IsDotted p file i.value.type_use in
     let placed : Item FieldTree → Item ℕ → PlacedField = λ i m.
-    record { definition = rank; file = file; name = m.value; type_use = i.value.type_use } in
+    record { definition = rank; file = file; name = m.value; form = OfType i.value.type_use } in
     all_given P Q (λ i. map (placed i) i.value.names)
     (λ i d. All-map P (placed i) i.value.names (all_alike (Q i) d i.value.names)) fs
     (of_mapped (IsDotted p file) (λ (i : Item FieldTree). i.value.type_use) fs h)
 
 all_fields_dotted : (p : Package) (rank : ℕ) (ds : List PlacedType) → All (λ d. All (IsDotted p d.file) (written_types d.spec.body)) ds →
-    All (λ (f : PlacedField). IsDotted p f.file f.type_use) (fields_from rank ds)
-all_fields_dotted p rank [] h = All-nil (λ (f : PlacedField). IsDotted p f.file f.type_use)
+    All (λ (f : PlacedField). OfForm (IsDotted p f.file) f.form) (fields_from rank ds)
+all_fields_dotted p rank [] h = All-nil (λ (f : PlacedField). OfForm (IsDotted p f.file) f.form)
 all_fields_dotted p rank (d ∷ ds) h =
     let P : PlacedType → Type 0 = λ d. All (IsDotted p d.file) (written_types d.spec.body) in
-    All-append (λ (f : PlacedField). IsDotted p f.file f.type_use) (body_fields rank d.file d.spec.body) (fields_from (suc rank) ds)
+    All-append (λ (f : PlacedField). OfForm (IsDotted p f.file) f.form) (body_fields rank d.file d.spec.body) (fields_from (suc rank) ds)
     (field_types_dotted p rank d.file d.spec.body (All-head P d ds h)) (all_fields_dotted p (suc rank) ds (All-tail P d ds h))
 
 -- a token follows to its new number, and an identifier
@@ -279,9 +282,44 @@ module _ (n : NewNumbers) (p q : Package) (a : IsRenumberedPackage n p q) where
   trees_follow file (t ∷ ts) h =
       (tree_follows file t (All-head (IsDotted p file) t ts h), trees_follow file ts (All-tail (IsDotted p file) t ts h))
 
+  -- parameters and results, the types of parameters once for each name
+  params_follow : (file : ℕ) (ps : List (Item ParamTree)) → All (IsDotted p file) (parameter_types ps) →
+      SameTrees (FollowsToken n) p q file (parameter_types ps) (parameter_types (items_by (n.token file) (param_by (n.token file)) ps))
+  params_follow file ps h =
+      subst (SameTrees (FollowsToken n) p q file (parameter_types ps)) (sym (parameters_by (n.token file) ps)) (trees_follow file (parameter_types ps) h)
+
+  results_follow : (file : ℕ) (r : ResultTree) → All (IsDotted p file) (result_types r) →
+      SameTrees (FollowsToken n) p q file (result_types r) (result_types (result_by (n.token file) r))
+  results_follow file r h =
+      subst (SameTrees (FollowsToken n) p q file (result_types r)) (sym (results_by (n.token file) r)) (trees_follow file (result_types r) h)
+
+  form_follows : (file : ℕ) (f : WrittenForm) → OfForm (IsDotted p file) f → SameForm (FollowsToken n) p q file f (form_by (n.token file) f)
+  form_follows file (OfType t) h = tree_follows file t h
+  form_follows file (OfSignature ps r) h =
+      let D : TypeTree → Type 0 = IsDotted p file in
+      let types : List TypeTree = map (λ (i : Item ParamTree). i.value.type_use) ps in (
+        params_follow file ps (of_parameters D ps (all_of_left D types (result_types r) h)),
+        results_follow file r (all_of_right D types (result_types r) h),
+      )
+
+  -- the types of the methods that an interface asks for
+  signature_by : (g : ℕ → ℕ) (ps : List (Item ParamTree)) (r : ResultTree) →
+      signature_types (items_by g (param_by g) ps) (result_by g r) ≡ map (type_by g) (signature_types ps r)
+  signature_by g ps r =
+      let types : List TypeTree = map (λ (i : Item ParamTree). i.value.type_use) ps in
+      ap2 (λ (x y : List TypeTree). x ++ y)
+      (map_by (λ (i : Item ParamTree). i.value.type_use) (λ i. i.value.type_use) (item_by g (param_by g)) (type_by g) (λ i. refl) ps) (results_by g r)
+      ∙ sym (map-append (type_by g) types (result_types r))
+
+  asked_by : (g : ℕ → ℕ) (ms : List (Item MethodTree)) → asked_types (items_by g (method_by g) ms) ≡ map (type_by g) (asked_types ms)
+  asked_by g ms =
+      flat_by (λ (i : Item MethodTree). signature_types i.value.params i.value.result) (λ i. signature_types i.value.params i.value.result)
+      (item_by g (method_by g)) (type_by g) (λ i. signature_by g i.value.params i.value.result) ms
+
   body_follows : (file : ℕ) (b : BodyTree) → All (IsDotted p file) (written_types b) → SameBody (FollowsToken n) p q file b (body_by (n.token file) b)
   body_follows file (Other t) h = tree_follows file t (All-head (IsDotted p file) t [] h)
-  body_follows file (tree.Interface k o ms c) h = tt
+  body_follows file (tree.Interface k o ms c) h =
+      subst (SameTrees (FollowsToken n) p q file (asked_types ms)) (sym (asked_by (n.token file) ms)) (trees_follow file (asked_types ms) h)
   body_follows file (tree.Struct k o fs c) h =
       let types : List TypeTree = map (λ (i : Item FieldTree). i.value.type_use) fs in
       subst (SameTrees (FollowsToken n) p q file types)
@@ -294,7 +332,7 @@ module _ (n : NewNumbers) (p q : Package) (a : IsRenumberedPackage n p q) where
       turned_trees (FollowsToken n) p q file (map (λ f. f.value.type_use) fs) (map (λ f. f.value.type_use) gs) h
   turned_body file (Other t) (tree.Struct i j gs e) h = absurd h
   turned_body file (tree.Struct k o fs c) (Other x) h = absurd h
-  turned_body file (tree.Interface k o ms c) (tree.Interface i j ns e) h = tt
+  turned_body file (tree.Interface k o ms c) (tree.Interface i j ns e) h = turned_trees (FollowsToken n) p q file (asked_types ms) (asked_types ns) h
   turned_body file (Other t) (tree.Interface i j ns e) h = absurd h
   turned_body file (tree.Struct k o fs c) (tree.Interface i j ns e) h = absurd h
   turned_body file (tree.Interface k o ms c) (Other x) h = absurd h
@@ -329,9 +367,9 @@ module _ (n : NewNumbers) (p q : Package) (a : IsRenumberedPackage n p q) where
       let R : PlacedFunction → Type 0 = λ x. All (IsDotted p x.file) (result_types x.function.result) in
       all_got R (package_functions p) rank f (recursion_from_All R (package_functions p) dotted.results) at
 
-  field_dotted : (rank : ℕ) (f : PlacedField) → slice_get (package_fields p) rank ≡ Some f → IsDotted p f.file f.type_use
+  field_dotted : (rank : ℕ) (f : PlacedField) → slice_get (package_fields p) rank ≡ Some f → OfForm (IsDotted p f.file) f.form
   field_dotted rank f at =
-      let P : PlacedField → Type 0 = λ f. IsDotted p f.file f.type_use in
+      let P : PlacedField → Type 0 = λ f. OfForm (IsDotted p f.file) f.form in
       all_got P (package_fields p) rank f (recursion_from_All P (package_fields p) (all_fields_dotted p 0 (package_types p) dotted.definitions)) at
 
   -- an element of a list, and its new one
@@ -450,7 +488,7 @@ module _ (n : NewNumbers) (p q : Package) (a : IsRenumberedPackage n p q) where
     new_field n.token f,
     (
       goes (new_field n.token) (package_fields p) (package_fields q) same_fields rank f at,
-      record { definition = refl; file = refl; name = a.fields rank f at; type_use = tree_follows f.file f.type_use (field_dotted rank f at) },
+      record { definition = refl; file = refl; name = a.fields rank f at; form = form_follows f.file f.form (field_dotted rank f at) },
     ),
   )
 
@@ -465,8 +503,8 @@ module _ (n : NewNumbers) (p q : Package) (a : IsRenumberedPackage n p q) where
             definition = refl;
             file = refl;
             name = sym (a.fields rank f d.1.0);
-            type_use = turned_tree (FollowsToken n) p q f.file f.type_use (type_by (n.token f.file) f.type_use)
-                (tree_follows f.file f.type_use (field_dotted rank f d.1.0));
+            form = turned_form (FollowsToken n) p q f.file f.form (form_by (n.token f.file) f.form)
+                (form_follows f.file f.form (field_dotted rank f d.1.0));
           }),
         ),
       )

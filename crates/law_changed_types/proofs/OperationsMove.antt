@@ -7,10 +7,10 @@ use Rattle.types_expr.specs.declared.types.Basic.TheVariants as basic
 use Rattle.types_expr.specs.declared.classes.ValueClass.{ValueClass}
 use Rattle.types_expr.specs.declared.classes.Family.{Family}
 use Rattle.types_expr.specs.declared.classes.Family.TheVariants as family
-use Rattle.types_expr.specs.Types.{PlainType, Underlying, Plain, PointerTo, SliceOf, Struct, ValueKind, Typed, Untyped, Nil, Value, same_basic, same_type}
-use Rattle.types_expr.specs.Types.{same_underlying, has_nil, element_of, either_unnamed}
+use Rattle.types_expr.specs.Types.{PlainType, Underlying, Plain, PointerTo, SliceOf, Struct, Interface, ValueKind, Typed, Untyped, Nil, Value, same_basic, same_type}
+use Rattle.types_expr.specs.Types.{same_underlying, has_nil, element_of, either_unnamed, BasicType}
 use Rattle.types_expr.specs.World.{underlying}
-use Rattle.types_expr.specs.Operations.{fits, converts, joined, is_nil, class_of, class_of_underlying, compares, is_int, is_bool, is_ordered, family_of}
+use Rattle.types_expr.specs.Operations.{enters, fits, converts, joined, is_nil, class_of, class_of_underlying, compares, is_int, is_bool, is_ordered, family_of}
 use Rattle.types_expr.specs.Operations.{result_of, operate_on, operate, element_of_kind, pointee, pointee_of_kind, prefixed}
 use Rattle.law_changed_types.specs.Moved.{moved_type, moved_underlying, moved_kind, moved_meaning}
 use Rattle.law_changed_types.proofs.Moving.{Move, ap2, if_moves}
@@ -20,11 +20,26 @@ same_under : (m : Move) (a b : PlainType) → same_underlying (underlying m.new 
     same_underlying (underlying m.old a) (underlying m.old b)
 same_under m a b = ap2 same_underlying (underlying_moves m a) (underlying_moves m b) ∙ same_underlyings m (underlying m.old a) (underlying m.old b)
 
+same_enters : (m : Move) (v : PlainType) (u : Underlying) → enters m.new (moved_type m.path v) (moved_underlying m.path u) ≡ enters m.old v u
+same_enters m v (Plain b) = refl
+same_enters m v (PointerTo t) = refl
+same_enters m v (SliceOf t) = refl
+same_enters m v (Struct s) = refl
+same_enters m v (Interface s) = m.implements v s
+
+pub entering_stays : (m : Move) (v t : PlainType) →
+    enters m.new (moved_type m.path v) (underlying m.new (moved_type m.path t)) ≡ enters m.old v (underlying m.old t)
+entering_stays m v t = ap (enters m.new (moved_type m.path v)) (underlying_moves m t) ∙ same_enters m v (underlying m.old t)
+
 pub same_fits : (m : Move) (k : ValueKind) (t : PlainType) → fits m.new (moved_kind m.path k) (moved_type m.path t) ≡ fits m.old k t
 unfolding fits
 same_fits m (Typed v) t =
-    ap2 (λ x y. x || y) (same_types m v t) (ap2 (λ x y. x && y) (ap2 either_unnamed (same_named m v) (same_named m t)) (same_under m v t))
-same_fits m (Untyped b) t = ap (same_underlying (Plain b)) (underlying_moves m t) ∙ same_underlyings m (Plain b) (underlying m.old t)
+    ap2 (λ x y. x || y)
+    (ap2 (λ x y. x || y) (same_types m v t) (ap2 (λ x y. x && y) (ap2 either_unnamed (same_named m v) (same_named m t)) (same_under m v t)))
+    (entering_stays m v t)
+same_fits m (Untyped b) t =
+    ap2 (λ x y. x || y) (ap (same_underlying (Plain b)) (underlying_moves m t) ∙ same_underlyings m (Plain b) (underlying m.old t))
+    (entering_stays m (BasicType b) t)
 same_fits m Nil t = ap has_nil (underlying_moves m t) ∙ same_nil m (underlying m.old t)
 
 pub same_converts : (m : Move) (k : ValueKind) (t : PlainType) → converts m.new (moved_kind m.path k) (moved_type m.path t) ≡ converts m.old k t
@@ -89,6 +104,7 @@ pointee_moves m (Plain b) = refl
 pointee_moves m (PointerTo t) = refl
 pointee_moves m (SliceOf t) = refl
 pointee_moves m (Struct s) = refl
+pointee_moves m (Interface s) = refl
 
 pointee_of_kind_moves : (m : Move) (k : ValueKind) →
     pointee_of_kind m.new (moved_kind m.path k) ≡ option_map (moved_meaning m.path) (pointee_of_kind m.old k)

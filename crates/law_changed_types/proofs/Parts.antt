@@ -1,6 +1,6 @@
 -- The tokens of a part of a tree among the tokens of the whole.
 use Rattle.std.proofs.Common.{ℕ, suc, ◌≡◌, inl, inr, List, [], ◌∷◌, ◌++◌, subst, sym}
-use Rattle.std.specs.Prelude.{All, Bool, true, false, cond, if◌then◌else◌, Contains}
+use Rattle.std.specs.Prelude.{All, map, Bool, true, false, cond, if◌then◌else◌, Contains}
 use Rattle.std.specs.List.{flat_map}
 use Rattle.std.proofs.lemmas.List.Elements.{All-nil, All-cons, All-head, All-tail, All-append, All-weaker, All-map}
 use Rattle.base_lemmas.proofs.Elements.{first_in, later_in}
@@ -8,7 +8,9 @@ use Rattle.go_ast.specs.declared.syntax.Kind.{Kind}
 use Rattle.go_ast.specs.declared.syntax.Kind.TheVariants as kind
 use Rattle.go_ast.specs.declared.syntax.Token.{Token}
 use Rattle.go_ast.specs.Flatten.{sign_if, all_tokens, item_tokens, list_tokens, group_tokens, sign}
-use Rattle.go_ast.specs.Tree.{Item, Group, single, several}
+use Rattle.go_ast.specs.Tree.{Item, Group, single, several, TypeTree, ParamTree, MethodTree}
+use Rattle.types_declared.specs.Written.{signature_types, asked_types}
+use Rattle.types_declared.specs.MeaningOf.{parameter_types}
 use Rattle.types_declared.specs.Files.{group_items}
 use Rattle.go_scope.specs.IdentifierTokens.{is_header_name, is_ident_token}
 use Rattle.law_tokens.specs.Tokens.{begins_declaration, names_among, identifiers_among}
@@ -90,6 +92,37 @@ all_given P Q f each (x ∷ xs) h = All-append P (f x) (flat_map f xs) (each x (
 
 pub all_alike : {X : Type 0} (P : Type 0) → P → (xs : List X) → All (λ x. P) xs
 all_alike P h xs = λ k d lt. h
+
+-- what holds of each of two lists, one after the other
+
+pub all_of_left : {X : Type 0} (P : X → Type 0) (xs ys : List X) → All P (xs ++ ys) → All P xs
+all_of_left P [] ys h = All-nil P
+all_of_left P (x ∷ xs) ys h = All-cons P x xs (All-head P x (xs ++ ys) h) (all_of_left P xs ys (All-tail P x (xs ++ ys) h))
+
+pub all_of_right : {X : Type 0} (P : X → Type 0) (xs ys : List X) → All P (xs ++ ys) → All P ys
+all_of_right P [] ys h = h
+all_of_right P (x ∷ xs) ys h = all_of_right P xs ys (All-tail P x (xs ++ ys) h)
+
+pub of_mapped : {X Y : Type 0} (P : Y → Type 0) (f : X → Y) (xs : List X) → All P (map f xs) → All (λ x. P (f x)) xs
+of_mapped P f [] h = All-nil (λ x. P (f x))
+of_mapped P f (x ∷ xs) h = All-cons (λ x. P (f x)) x xs (All-head P (f x) (map f xs) h) (of_mapped P f xs (All-tail P (f x) (map f xs) h))
+
+-- the types of parameters, once for each name
+pub of_parameters : (P : TypeTree → Type 0) (ps : List (Item ParamTree)) → All P (map (λ i. i.value.type_use) ps) → All P (parameter_types ps)
+of_parameters P ps h =
+    let Q : Item ParamTree → Type 0 = λ i. P i.value.type_use in
+    all_given P Q (λ i. map (λ n. i.value.type_use) i.value.names)
+    (λ i d. All-map P (λ n. i.value.type_use) i.value.names (all_alike (Q i) d i.value.names)) ps
+    (of_mapped P (λ (i : Item ParamTree). i.value.type_use) ps h)
+
+-- the types of each method that an interface asks for
+pub of_asked : (P : TypeTree → Type 0) (ms : List (Item MethodTree)) → All P (asked_types ms) →
+    All (λ i. All P (signature_types i.value.params i.value.result)) ms
+of_asked P [] h = All-nil (λ (i : Item MethodTree). All P (signature_types i.value.params i.value.result))
+of_asked P (m ∷ ms) h =
+    let own = signature_types m.value.params m.value.result in
+    All-cons (λ (i : Item MethodTree). All P (signature_types i.value.params i.value.result)) m ms (all_of_left P own (asked_types ms) h)
+    (of_asked P ms (all_of_right P own (asked_types ms) h))
 
 -- a name among the tokens is one of the identifiers among them
 

@@ -4,7 +4,7 @@ use Rattle.std.proofs.Math.Path.{fun_ext}
 use Rattle.std.proofs.lemmas.List.{map-append}
 use Rattle.std.proofs.lemmas.Bool.{eqb-true, eq-eqb}
 use Rattle.types_expr.specs.Types.{PlainType}
-use Rattle.types_expr.specs.World.{World, Bound, Member}
+use Rattle.types_expr.specs.World.{World, Bound, Member, giving}
 use Rattle.law_changed_types.specs.Renumbering.{IsRenumbering, IsRenumberedWorld, renumbered_bound}
 
 -- New numbers, the old world, and what the new world binds and has as members.
@@ -19,13 +19,21 @@ pub record Renumber : Type 0 where
 
 -- the new world
 abbrev pub new : Renumber → World
-new m = record { bound = m.bound; member = m.member; definition = m.old.definition }
+new m = record { bound = m.bound; member = m.member; definition = m.old.definition; implements = m.old.implements }
 
 abbrev pub the_renumber : (t : ℕ → ℕ) → IsRenumbering t → (v w : World) → IsRenumberedWorld t v w → Renumber
 the_renumber t n v w h = record { to = t; numbers = n; old = v; bound = w.bound; member = w.member; binds = h.bound; has = h.member }
 
 pub new_is : (t : ℕ → ℕ) (n : IsRenumbering t) (v w : World) (h : IsRenumberedWorld t v w) → new (the_renumber t n v w h) ≡ w
-new_is t n v w h = ap (λ z. record { bound = w.bound; member = w.member; definition = z }) (sym (fun_ext h.definition))
+new_is t n v w h =
+    ap (λ z. record { bound = w.bound; member = w.member; definition = z; implements = v.implements }) (sym (fun_ext h.definition))
+    ∙ ap (λ z. record { bound = w.bound; member = w.member; definition = w.definition; implements = z })
+    (sym (fun_ext (λ u. fun_ext (λ s. h.implements u s))))
+
+-- new numbers in the worlds as the targets of values see them
+abbrev pub giving_numbers : (own : Bool) → Renumber → Renumber
+giving_numbers own m =
+    record { to = m.to; numbers = m.numbers; old = giving own m.old; bound = m.bound; member = m.member; binds = m.binds; has = m.has }
 
 -- equal arguments
 

@@ -8,16 +8,16 @@ use Rattle.types_expr.specs.declared.types.Basic.TheVariants as basic
 use Rattle.types_expr.specs.declared.types.Builtin.{Builtin}
 use Rattle.types_expr.specs.declared.types.Builtin.TheVariants as builtin
 use Rattle.types_expr.specs.Types.{PlainType, BasicType, ValueKind, Typed, Untyped, Nil, Signature, Meaning, Value, TypeName, Function, BuiltinName}
-use Rattle.types_expr.specs.Types.{Package, Results, Broken}
+use Rattle.types_expr.specs.Types.{Package, Results, Broken, is_interface}
 use Rattle.types_expr.specs.World.{Locals, Bound, Local, Means, BrokenVariable, BrokenFunction, BrokenType, Member, member_symbol}
-use Rattle.types_expr.specs.World.{World, variable, meaning_of_bound, name_meaning}
-use Rattle.types_expr.specs.Operations.{fits, joined, class_of, converts, operate, is_int, element_of_kind, prefixed}
-use Rattle.types_expr.specs.Judge.{MemberUse, Judged, means, wrong, means_or_wrong, value_or_wrong, also, followed, as_value, value_kind, member_meaning}
+use Rattle.types_expr.specs.World.{World, underlying, variable, meaning_of_bound, name_meaning}
+use Rattle.types_expr.specs.Operations.{enters, fits, joined, class_of, converts, operate, is_int, element_of_kind, prefixed}
+use Rattle.types_expr.specs.Judge.{Noted, Judged, means, wrong, means_or_wrong, value_or_wrong, also, followed, as_value, value_kind, member_meaning}
 use Rattle.types_expr.specs.Judge.{with_use, select_member, select, ListValue, JudgedList, is_whole, all_whole, misfit, misfits, all_misfits, result_meaning}
 use Rattle.types_expr.specs.Judge.{unless_faults, wrong_if_whole, call_function, convert_one, convert, append_to, append_first, append, len_fits}
 use Rattle.types_expr.specs.Judge.{is_printed_value, all_printed, call_when, call_builtin, call_of, with_values, bad_index, element_meaning, indexed, index_of}
-use Rattle.types_expr.specs.Judge.{operation_on, operation, prefix_of, value_before}
-use Rattle.law_changed_types.specs.Renumbering.{AreRenumberedLocals, renumbered_bound, renumbered_use, renumbered_uses, renumbered_found}
+use Rattle.types_expr.specs.Judge.{operation_on, operation, prefix_of, value_before, OfEntering, noting, enters_at, entering, enterings, all_enterings}
+use Rattle.law_changed_types.specs.Renumbering.{AreRenumberedLocals, renumbered_bound, renumbered_noted, renumbered_uses, renumbered_found}
 use Rattle.law_changed_types.proofs.Renumber.{Renumber, new, ap2, ap3, if_maps, two}
 
 -- a value of a list, and the findings of a list
@@ -33,8 +33,8 @@ list_found m l = record { values = list_values m l.values; faults = map m.to l.f
 -- findings one after the other
 
 pub also_found : (m : Renumber) (j k : Judged) → also (renumbered_found m.to j) (renumbered_found m.to k) ≡ renumbered_found m.to (also j k)
-also_found m j k = ap2 (λ (fs : List ℕ) (us : List MemberUse). record { meaning = k.meaning; faults = fs; uses = us })
-    (two m.to j.faults k.faults) (two (renumbered_use m.to) j.uses k.uses)
+also_found m j k = ap2 (λ (fs : List ℕ) (us : List Noted). record { meaning = k.meaning; faults = fs; uses = us })
+    (two m.to j.faults k.faults) (two (renumbered_noted m.to) j.uses k.uses)
 
 pub followed_found : (m : Renumber) (j : Judged) (rule later : Meaning → Judged) → later j.meaning ≡ renumbered_found m.to (rule j.meaning) →
     followed (renumbered_found m.to j) later ≡ renumbered_found m.to (followed j rule)
@@ -130,14 +130,61 @@ all_misfits_found m (v ∷ vs) t =
     ap2 (λ (x y : List ℕ). x ++ y) (misfit_found m v.place v.kind t) (all_misfits_found m vs t)
     ∙ two m.to (misfit m.old v.place v.kind t) (all_misfits m.old vs t)
 
+-- entries of values into interfaces
+
+pub noting_found : (m : Renumber) (ns : List Noted) (j : Judged) →
+    noting (renumbered_uses m.to ns) (renumbered_found m.to j) ≡ renumbered_found m.to (noting ns j)
+noting_found m ns j =
+    ap (λ (us : List Noted). record { meaning = j.meaning; faults = map m.to j.faults; uses = us }) (two (renumbered_noted m.to) ns j.uses)
+
+-- the entry of a value of this type, by whether the type is an interface and whether it enters another one
+entry_if : (is_one enters : Bool) → ℕ → PlainType → List Noted
+entry_if is_one enters place v = if is_one then [] else (if enters then OfEntering (record { place = place; own = v }) ∷ [] else [])
+
+entry_if_found : (m : Renumber) (is_one enters : Bool) (place : ℕ) (v : PlainType) →
+    entry_if is_one enters (m.to place) v ≡ renumbered_uses m.to (entry_if is_one enters place v)
+unfolding entry_if
+entry_if_found m true enters place v = refl
+entry_if_found m false true place v = refl
+entry_if_found m false false place v = refl
+
+enters_at_found : (m : Renumber) (place : ℕ) (v t : PlainType) → enters_at (new m) (m.to place) v t ≡ renumbered_uses m.to (enters_at m.old place v t)
+unfolding entry_if
+enters_at_found m place v t = entry_if_found m (is_interface (underlying m.old v)) (enters m.old v (underlying m.old t)) place v
+
+pub entering_found : (m : Renumber) (place : ℕ) (k : Option ValueKind) (t : PlainType) →
+    entering (new m) (m.to place) k t ≡ renumbered_uses m.to (entering m.old place k t)
+unfolding entering
+entering_found m place None t = refl
+entering_found m place (Some (Typed v)) t = enters_at_found m place v t
+entering_found m place (Some (Untyped b)) t = enters_at_found m place (BasicType b) t
+entering_found m place (Some Nil) t = refl
+
+enterings_found : (m : Renumber) (vs : List ListValue) (ts : List PlainType) →
+    enterings (new m) (list_values m vs) ts ≡ renumbered_uses m.to (enterings m.old vs ts)
+unfolding enterings
+enterings_found m [] ts = refl
+enterings_found m (v ∷ vs) [] = refl
+enterings_found m (v ∷ vs) (t ∷ ts) =
+    ap2 (λ (x y : List Noted). x ++ y) (entering_found m v.place v.kind t) (enterings_found m vs ts)
+    ∙ two (renumbered_noted m.to) (entering m.old v.place v.kind t) (enterings m.old vs ts)
+
+all_enterings_found : (m : Renumber) (vs : List ListValue) (t : PlainType) →
+    all_enterings (new m) (list_values m vs) t ≡ renumbered_uses m.to (all_enterings m.old vs t)
+unfolding all_enterings
+all_enterings_found m [] t = refl
+all_enterings_found m (v ∷ vs) t =
+    ap2 (λ (x y : List Noted). x ++ y) (entering_found m v.place v.kind t) (all_enterings_found m vs t)
+    ∙ two (renumbered_noted m.to) (entering m.old v.place v.kind t) (all_enterings m.old vs t)
+
 pub value_before_found : (m : Renumber) (place : ℕ) (j : Judged) (rest : JudgedList) →
     value_before (m.to place) (renumbered_found m.to j) (list_found m rest) ≡ list_found m (value_before place j rest)
 value_before_found m place j rest =
-    ap2 (λ (fs : List ℕ) (us : List MemberUse). record {
+    ap2 (λ (fs : List ℕ) (us : List Noted). record {
       values = record { place = m.to place; kind = value_kind j.meaning } ∷ list_values m rest.values;
       faults = fs;
       uses = us;
-    }) (two m.to j.faults rest.faults) (two (renumbered_use m.to) j.uses rest.uses)
+    }) (two m.to j.faults rest.faults) (two (renumbered_noted m.to) j.uses rest.uses)
 
 -- calls
 
@@ -155,26 +202,32 @@ wrong_if_whole_found m vs place = ap (λ z. wrong_if_whole z (m.to place)) (all_
   same true = refl
   same false = refl
 
--- a call with the right count of arguments or not, with these faults of its arguments and this result
-called : Bool → List ℕ → Bool → Meaning → Judged → Judged
-called counts fs whole x other = if counts then unless_faults fs whole x else other
+-- a call with the right count of arguments or not, with these entries and faults of its arguments and this result
+called : Bool → List Noted → List ℕ → Bool → Meaning → Judged → Judged
+called counts ns fs whole x other = if counts then noting ns (unless_faults fs whole x) else other
 
-called_found : (m : Renumber) (counts : Bool) (fs : List ℕ) (whole : Bool) (x : Meaning) (j : Judged) →
-    called counts (map m.to fs) whole x (renumbered_found m.to j) ≡ renumbered_found m.to (called counts fs whole x j)
+called_found : (m : Renumber) (counts : Bool) (ns : List Noted) (fs : List ℕ) (whole : Bool) (x : Meaning) (j : Judged) →
+    called counts (renumbered_uses m.to ns) (map m.to fs) whole x (renumbered_found m.to j) ≡ renumbered_found m.to (called counts ns fs whole x j)
 unfolding called
-called_found m true fs whole x j = unless_faults_found m fs whole x
-called_found m false fs whole x j = refl
+called_found m true ns fs whole x j =
+    ap (noting (renumbered_uses m.to ns)) (unless_faults_found m fs whole x) ∙ noting_found m ns (unless_faults fs whole x)
+called_found m false ns fs whole x j = refl
 
 call_function_found : (m : Renumber) (start : ℕ) (s : Signature) (vs : List ListValue) →
     call_function (new m) (m.to start) s (list_values m vs) ≡ renumbered_found m.to (call_function m.old start s vs)
 unfolding call_function called
 call_function_found m start s vs =
-    ap3 (λ c f b. called c f b (result_meaning s.results) (wrong_if_whole (all_whole (list_values m vs)) (m.to start)))
+    let result = result_meaning s.results in
+    let other = wrong_if_whole (all_whole (list_values m vs)) (m.to start) in
+    let entries = renumbered_uses m.to (enterings m.old vs s.parameters) in
+    ap (λ ns. called (length (list_values m vs) == length s.parameters) ns (misfits (new m) (list_values m vs) s.parameters) (all_whole (list_values m vs))
+    result other) (enterings_found m vs s.parameters)
+    ∙ (ap3 (λ c f b. called c entries f b result other)
     (ap (λ x. x == length s.parameters) (length-map vs (list_value m))) (misfits_found m vs s.parameters) (all_whole_stays m vs)
-    ∙ (ap (called (length vs == length s.parameters) (map m.to (misfits m.old vs s.parameters)) (all_whole vs) (result_meaning s.results))
+    ∙ (ap (called (length vs == length s.parameters) entries (map m.to (misfits m.old vs s.parameters)) (all_whole vs) result)
     (wrong_if_whole_found m vs start)
-    ∙ called_found m (length vs == length s.parameters) (misfits m.old vs s.parameters) (all_whole vs) (result_meaning s.results)
-    (wrong_if_whole (all_whole vs) start))
+    ∙ called_found m (length vs == length s.parameters) (enterings m.old vs s.parameters) (misfits m.old vs s.parameters) (all_whole vs) result
+    (wrong_if_whole (all_whole vs) start)))
 
 convert_one_found : (m : Renumber) (start : ℕ) (t : PlainType) (k : Option ValueKind) →
     convert_one (new m) (m.to start) t k ≡ renumbered_found m.to (convert_one m.old start t k)
@@ -186,15 +239,18 @@ convert_found : (m : Renumber) (start : ℕ) (t : PlainType) (vs : List ListValu
     convert (new m) (m.to start) t (list_values m vs) ≡ renumbered_found m.to (convert m.old start t vs)
 unfolding convert
 convert_found m start t [] = wrong_if_whole_found m [] start
-convert_found m start t (v ∷ []) = convert_one_found m start t v.kind
+convert_found m start t (v ∷ []) =
+    ap2 (λ (ns : List Noted) (j : Judged). noting ns j) (entering_found m v.place v.kind t) (convert_one_found m start t v.kind)
+    ∙ noting_found m (entering m.old v.place v.kind t) (convert_one m.old start t v.kind)
 convert_found m start t (v ∷ u ∷ vs) = wrong_if_whole_found m (v ∷ u ∷ vs) start
 
 append_to_found : (m : Renumber) (start : ℕ) (k : ValueKind) (t : Option PlainType) (vs : List ListValue) →
     append_to (new m) (m.to start) k t (list_values m vs) ≡ renumbered_found m.to (append_to m.old start k t vs)
 append_to_found m start k None vs = wrong_if_whole_found m vs start
 append_to_found m start k (Some t) vs =
-    ap2 (λ x y. unless_faults x y (Value k false)) (all_misfits_found m vs t) (all_whole_stays m vs)
-    ∙ unless_faults_found m (all_misfits m.old vs t) (all_whole vs) (Value k false)
+    ap3 (λ ns x y. noting ns (unless_faults x y (Value k false))) (all_enterings_found m vs t) (all_misfits_found m vs t) (all_whole_stays m vs)
+    ∙ (ap (noting (renumbered_uses m.to (all_enterings m.old vs t))) (unless_faults_found m (all_misfits m.old vs t) (all_whole vs) (Value k false))
+    ∙ noting_found m (all_enterings m.old vs t) (unless_faults (all_misfits m.old vs t) (all_whole vs) (Value k false)))
 
 append_first_found : (m : Renumber) (start : ℕ) (k : Option ValueKind) (vs : List ListValue) →
     append_first (new m) (m.to start) k (list_values m vs) ≡ renumbered_found m.to (append_first m.old start k vs)
@@ -261,8 +317,8 @@ pub call_found : (m : Renumber) (start place : ℕ) (args : JudgedList) (x : Mea
 call_found m start place args x =
     let k = call_of m.old start place args.values x in
     ap (λ (z : Judged). with_values (list_found m args) (λ vs. z)) (call_of_found m start place args.values x)
-    ∙ ap2 (λ (fs : List ℕ) (us : List MemberUse). record { meaning = k.meaning; faults = fs; uses = us }) (two m.to args.faults k.faults)
-    (two (renumbered_use m.to) args.uses k.uses)
+    ∙ ap2 (λ (fs : List ℕ) (us : List Noted). record { meaning = k.meaning; faults = fs; uses = us }) (two m.to args.faults k.faults)
+    (two (renumbered_noted m.to) args.uses k.uses)
 
 -- indexes and operators
 

@@ -11,9 +11,9 @@ use Rattle.go_scope.specs.Bindings.{IsBoundTo, IsPackageLevel, block_of, is_impl
 use Rattle.go_scope.specs.Table.{IsFoundAt, LiesAt}
 use Rattle.types_declared.specs.Package.{Package, PlacedVariable, PlacedType, PlacedFunction, IsRanked, package_variables, package_types, package_functions}
 use Rattle.types_declared.specs.Package.{variable_place, type_place, function_place, symbol_in, spelled}
-use Rattle.types_declared.specs.Written.{BindsToken, IsPredeclared, DeclaresImport, IsExportAt}
+use Rattle.types_declared.specs.Written.{BindsToken, IsPredeclared, DeclaresImport, IsExportAt, asked_types}
 use Rattle.types_declared.specs.MeaningOf.{parameter_types, result_types}
-use Rattle.types_declared.specs.Definitions.{PlacedField, package_fields}
+use Rattle.types_declared.specs.Definitions.{PlacedField, WrittenForm, OfType, OfSignature, package_fields}
 use Rattle.law_changed_types.specs.SameBindings.{IsSelectedAt}
 
 -- which token of a file becomes which, and which identifier
@@ -47,8 +47,15 @@ module _ (T : ℕ → ℕ → ℕ → Type 0) (p q : Package) where
   abbrev pub SameBody : ℕ → BodyTree → BodyTree → Type 0
   SameBody file (Other t) (Other x) = SameTree file t x
   SameBody file (tree.Struct k o fs c) (tree.Struct i j gs e) = SameTrees file (map (λ f. f.value.type_use) fs) (map (λ f. f.value.type_use) gs)
-  SameBody file (tree.Interface k o ms c) (tree.Interface i j ns e) = Unit {0}
+  SameBody file (tree.Interface k o ms c) (tree.Interface i j ns e) = SameTrees file (asked_types ms) (asked_types ns)
   SameBody file b c = ⊥
+
+  -- what written members have
+  abbrev pub SameForm : ℕ → WrittenForm → WrittenForm → Type 0
+  SameForm file (OfType t) (OfType x) = SameTree file t x
+  SameForm file (OfSignature ps r) (OfSignature qs s) = SameTrees file (parameter_types ps) (parameter_types qs) × SameTrees file (result_types r)
+      (result_types s)
+  SameForm file f g = ⊥
 
   abbrev pub SameReceiver : ℕ → Option ReceiverTree → Option ReceiverTree → Type 0
   SameReceiver file None None = Unit {0}
@@ -78,7 +85,7 @@ module _ (T : ℕ → ℕ → ℕ → Type 0) (p q : Package) where
     pub definition : g.definition ≡ f.definition
     pub file : g.file ≡ f.file
     pub name : spelled q g.file g.name ≡ spelled p f.file f.name
-    pub type_use : SameTree f.file f.type_use g.type_use
+    pub form : SameForm f.file f.form g.form
 
 -- each element of the first list corresponds to that of the same index of the second one
 abbrev pub Follows : {X : Type 0} → (X → X → Type 0) → List X → List X → Type 0

@@ -13,7 +13,7 @@ use Rattle.types_declared.specs.Definitions.{HasFieldNamed, of_own, of_imported,
 use Rattle.law_changed_types.proofs.RenumberedTypesAlike.{Half, SameReceiver, SameFunction, SameField, Turned, TurnedIdentifiers, symbols, binds}
 use Rattle.law_changed_types.proofs.RenumberedTypesWritten.{declares_type}
 use Rattle.law_changed_types.proofs.RenumberedTypesUnderlying.{own_underlying, underlying_of}
-use Rattle.law_changed_types.proofs.RenumberedTypesMeanings.{type_at, signature_of, signature_back}
+use Rattle.law_changed_types.proofs.RenumberedTypesMeanings.{form_at, signature_of, signature_back}
 
 -- a receiver and its counterpart
 pub record Received (T : ℕ → ℕ → ℕ → Type 0) (file : ℕ) (r : ReceiverTree) (o : Option ReceiverTree) : Type 0 where
@@ -107,7 +107,7 @@ module _ (T : ℕ → ℕ → ℕ → Type 0) (I : ℕ → ℕ → Type 0) (p q 
         g.0,
         (
           field_counts definition name x.symbol.rank f g.0 g.1.0 g.1.1 is.1.0,
-          type_at T I p q h k f.file g.0.file f.type_use g.0.type_use x.type_of g.1.1.file g.1.1.type_use is.1.1,
+          form_at T I p q h k f.file g.0.file f.form g.0.form x.form g.1.1.file g.1.1.form is.1.1,
           is.1.2 ∙ sym (symbols T I p q h x.symbol.rank),
           is.1.3,
         ),
@@ -115,7 +115,7 @@ module _ (T : ℕ → ℕ → ℕ → Type 0) (I : ℕ → ℕ → Type 0) (p q 
   found_field definition name None none = λ rank g t c is.
       let f = k.fields rank g c.is_field.has_rank in
       none rank f.0 t (counts_back rank f.0 g f.1.0 f.1.1 c)
-      (type_at (Turned T) (TurnedIdentifiers I) q p k h g.file f.0.file g.type_use f.0.type_use t f.1.1.file f.1.1.type_use is) where
+      (form_at (Turned T) (TurnedIdentifiers I) q p k h g.file f.0.file g.form f.0.form t f.1.1.file f.1.1.form is) where
         counts_back : (rank : ℕ) (f g : PlacedField) → slice_get (package_fields p) rank ≡ Some f → SameField (Turned T) q p g f →
             IsCountingField q definition name rank g → IsCountingField p definition name rank f
         counts_back rank f g at same c = record {

@@ -12,7 +12,7 @@ use Rattle.go_ast.specs.SourceFile.{SourceFile, spelling_of}
 use Rattle.go_scope.specs.declared.model.Position.{Position}
 use Rattle.types_expr.specs.declared.symbol.Symbol.{Symbol}
 use Rattle.types_expr.specs.World.{World, Bound, Local, Definition, member_by}
-use Rattle.types_expr.specs.Judge.{MemberUse}
+use Rattle.types_expr.specs.Judge.{MemberUse, OfMember}
 use Rattle.types_stmt.specs.Checked.{FoundSoFar}
 use Rattle.types_stmt.specs.Declarations.{check_decls, check_file}
 use Rattle.types_declared.specs.Files.{RankedSource, ranked_files}
@@ -36,6 +36,7 @@ use Rattle.law_changed_types.proofs.RenumberedTypesDefined.{definition_stays}
 use Rattle.law_changed_types.proofs.Names.{name, same_definitions}
 use Rattle.law_changed_types.proofs.Numbered.{FollowsToken, FollowsIdentifier, tree_follows, there, back, locals_follow, locals_back}
 use Rattle.law_changed_types.proofs.RenumberedTypesAlike.{Turned, TurnedIdentifiers}
+use Rattle.types_info.proofs.OneWorld.{same_implementing}
 
 -- types and meanings
 
@@ -173,7 +174,7 @@ module _ (n : NewNumbers) (p q : Package) (a : IsRenumberedPackage n p q) (file 
 
     -- the old world with the members of the new one
     patched : World
-    patched = record { bound = v.bound; member = λ token t. w.member (n.token file token) t; definition = v.definition }
+    patched = record { bound = v.bound; member = λ token t. w.member (n.token file token) t; definition = v.definition; implements = v.implements }
 
     world_is : IsRenumberedWorld (n.token file) patched w
     unfolding patched
@@ -186,6 +187,7 @@ module _ (n : NewNumbers) (p q : Package) (a : IsRenumberedPackage n p q) (file 
           after.definition s
           ∙ ap (λ (d : Definition). d.underlying) (all_same s)
           ∙ sym (before.definition s);
+      implements = λ t s. same_implementing q p file file g f w v after before (fun_ext all_same) t s;
       member = λ token t. refl;
     }
 
@@ -199,7 +201,7 @@ module _ (n : NewNumbers) (p q : Package) (a : IsRenumberedPackage n p q) (file 
         ∙ ap (λ spelled_as. member_by before.definitions p.path spelled_as u.before) spelled_is
         ∙ sym (before.member u.place u.before)
 
-    found : ((u : MemberUse) → Contains (check_file v (is_init f) f.tree).uses u → spelling_of g (n.token file u.place) ≡ spelling_of f u.place) →
+    found : ((u : MemberUse) → Contains (check_file v (is_init f) f.tree).uses (OfMember u) → spelling_of g (n.token file u.place) ≡ spelling_of f u.place) →
         IsRenumberedCheck (n.token file) (check_file v (is_init f) f.tree) (check_file w (is_init g) g.tree)
     unfolding patched check_file
     found spelled_are =
@@ -209,6 +211,7 @@ module _ (n : NewNumbers) (p q : Package) (a : IsRenumberedPackage n p q) (file 
         files_ask v patched (is_init f) init f.tree inits (record {
           bound = λ token. refl;
           definition = λ s. refl;
+          implements = λ t s. refl;
           members = λ u has. members_are u (spelled_are u has);
         }) in
         let start : FoundSoFar = record { locals = λ token. None; faults = []; uses = [] } in

@@ -3,16 +3,16 @@ use Rattle.std.proofs.Common.{ℕ, suc, ◌≡◌, ◌+◌, List, [], ◌∷◌,
 use Rattle.std.specs.List.{flat_map, enumerate_from}
 use Rattle.std.proofs.lemmas.List.{map-append}
 use Rattle.go_ast.specs.SourceFile.{SourceFile}
-use Rattle.go_ast.specs.Tree.{Item, Group, single, several, GlobalTree, FieldTree, BodyTree}
+use Rattle.go_ast.specs.Tree.{Item, Group, single, several, GlobalTree, FieldTree, MethodTree, BodyTree}
 use Rattle.go_ast.specs.Tree.{Other, Struct, Interface, TypeTree, ParamTree, ResultTree, IdentTree}
 use Rattle.go_ast.specs.Tree.{no_result, one_result, results, TypeSpecTree, DeclTree, VarDecl, TypeDecl, FuncDecl}
 use Rattle.types_declared.specs.Files.{RankedSource, group_items}
 use Rattle.types_declared.specs.Package.{PlacedVariable, PlacedType, PlacedFunction, variables_of, placed_type, decl_variables, decl_types, decl_functions}
 use Rattle.types_declared.specs.Package.{declared_variables, declared_types, declared_functions}
 use Rattle.types_declared.specs.MeaningOf.{parameter_types, result_types}
-use Rattle.types_declared.specs.Definitions.{PlacedField, body_fields, fields_from}
+use Rattle.types_declared.specs.Definitions.{PlacedField, WrittenForm, OfType, OfSignature, body_fields, fields_from}
 use Rattle.law_rename.specs.Renumbered.{item_by, items_by, group_by, ident_by, type_by, global_by}
-use Rattle.law_rename.specs.Renumbered.{field_by, body_by, type_spec_by, param_by, result_by, func_by}
+use Rattle.law_rename.specs.Renumbered.{field_by, method_by, body_by, type_spec_by, param_by, result_by, func_by}
 use Rattle.law_rename.specs.Renumbered.{decl_by}
 use Rattle.law_changed_types.specs.RenumberedPackage.{AreRenumberedFiles}
 
@@ -46,8 +46,12 @@ new_type t d = record { file = d.file; spec = type_spec_by (t d.file) d.spec }
 abbrev pub new_function : (ℕ → ℕ → ℕ) → PlacedFunction → PlacedFunction
 new_function t f = record { file = f.file; function = func_by (t f.file) f.function }
 
+abbrev pub form_by : (ℕ → ℕ) → WrittenForm → WrittenForm
+form_by g (OfType t) = OfType (type_by g t)
+form_by g (OfSignature ps r) = OfSignature (items_by g (param_by g) ps) (result_by g r)
+
 abbrev pub new_field : (ℕ → ℕ → ℕ) → PlacedField → PlacedField
-new_field t f = record { definition = f.definition; file = f.file; name = t f.file f.name; type_use = type_by (t f.file) f.type_use }
+new_field t f = record { definition = f.definition; file = f.file; name = t f.file f.name; form = form_by (t f.file) f.form }
 
 module _ (t : ℕ → ℕ → ℕ) where
   specified : (n : ℕ) (v : GlobalTree) → variables_of n (global_by (t n) v) ≡ map (new_variable t) (variables_of n v)
@@ -105,13 +109,16 @@ module _ (t : ℕ → ℕ → ℕ) where
 
   body_fields_by : (rank n : ℕ) (b : BodyTree) → body_fields rank n (body_by (t n) b) ≡ map (new_field t) (body_fields rank n b)
   body_fields_by rank n (Other x) = refl
-  body_fields_by rank n (Interface p o ms c) = refl
+  body_fields_by rank n (Interface p o ms c) =
+      let asked : Item MethodTree → PlacedField = λ i.
+      record { definition = rank; file = n; name = i.value.name; form = OfSignature i.value.params i.value.result } in
+      map_by asked asked (item_by (t n) (method_by (t n))) (new_field t) (λ i. refl) ms
   body_fields_by rank n (Struct p o fs c) =
       let placed : Item FieldTree → List PlacedField = λ i.
-      map (λ (x : Item ℕ). record { definition = rank; file = n; name = x.value; type_use = i.value.type_use }) i.value.names in
+      map (λ (x : Item ℕ). record { definition = rank; file = n; name = x.value; form = OfType i.value.type_use }) i.value.names in
       flat_by placed placed (item_by (t n) (field_by (t n))) (new_field t) (λ i.
-      map_by (λ (x : Item ℕ). record { definition = rank; file = n; name = x.value; type_use = i.value.type_use })
-      (λ x. record { definition = rank; file = n; name = x.value; type_use = type_by (t n) i.value.type_use }) (item_by (t n) (t n)) (new_field t)
+      map_by (λ (x : Item ℕ). record { definition = rank; file = n; name = x.value; form = OfType i.value.type_use })
+      (λ x. record { definition = rank; file = n; name = x.value; form = OfType (type_by (t n) i.value.type_use) }) (item_by (t n) (t n)) (new_field t)
       (λ x. refl) i.value.names) fs
 
   pub fields_by : (rank : ℕ) (ds : List PlacedType) → fields_from rank (map (new_type t) ds) ≡ map (new_field t) (fields_from rank ds)

@@ -4,7 +4,7 @@ use Rattle.go_ast.specs.Tree.{TypeTree}
 use Rattle.go_scope.specs.Bindings.{block_of}
 use Rattle.go_scope.specs.declared.model.Block.TheVariants.{Inner}
 use Rattle.types_expr.specs.declared.symbol.Symbol.{Symbol}
-use Rattle.types_expr.specs.Types.{PlainType, Defined, Signature, Meaning, Value, Typed, TypeName, Function}
+use Rattle.types_expr.specs.Types.{PlainType, Defined, Signature, Meaning, Value, Typed, TypeName, Function, WrittenAs, AFieldOf, AMethodOf}
 use Rattle.types_expr.specs.World.{Bound, Local, BrokenVariable, BrokenFunction, BrokenType}
 use Rattle.types_expr.specs.World.{Means as Stands}
 use Rattle.types_expr.specs.Types.{Package as PackageName}
@@ -15,8 +15,9 @@ use Rattle.types_declared.specs.MeaningOf.{parameter_types, result_types, HasSig
 use Rattle.types_declared.specs.MeaningOf.{IsVariable, IsFunction, IsMeaningOf, predeclared, import_name, local, variable, broken_variable, function}
 use Rattle.types_declared.specs.MeaningOf.{broken_function, definition, broken_definition}
 use Rattle.law_changed_types.proofs.RenumberedTypesAlike.{Half, SameTree, SameTrees, SameVariable, SameFunction, Turned, TurnedIdentifiers, symbols}
-use Rattle.law_changed_types.proofs.RenumberedTypesAlike.{is_predeclared, ranked}
-use Rattle.law_changed_types.proofs.RenumberedTypesWritten.{declares_type, type_of, types_of, broken, broken_back, turned_tree}
+use Rattle.law_changed_types.proofs.RenumberedTypesAlike.{is_predeclared, ranked, SameForm}
+use Rattle.law_changed_types.proofs.RenumberedTypesWritten.{declares_type, type_of, types_of, broken, broken_back, turned_tree, turned_trees}
+use Rattle.types_declared.specs.Definitions.{WrittenForm, OfType, OfSignature, HasForm}
 
 -- a meaning in p and one in q: the same, but for a local, whose token follows
 pub data SameBound (T : ℕ → ℕ → ℕ → Type 0) (file : ℕ) : Bound → Bound → Type 0 where
@@ -25,14 +26,6 @@ pub data SameBound (T : ℕ → ℕ → ℕ → Type 0) (file : ℕ) : Bound →
   same_variable : SameBound T file BrokenVariable BrokenVariable
   same_function : SameBound T file BrokenFunction BrokenFunction
   same_type : SameBound T file BrokenType BrokenType
-
--- lists of type expressions turned round
-pub turned_trees : (T : ℕ → ℕ → ℕ → Type 0) (p q : Package) (file : ℕ) (ts xs : List TypeTree) → SameTrees T p q file ts xs →
-    SameTrees (Turned T) q p file xs ts
-turned_trees T p q file [] [] s = tt
-turned_trees T p q file [] (x ∷ xs) s = absurd s
-turned_trees T p q file (t ∷ ts) [] s = absurd s
-turned_trees T p q file (t ∷ ts) (x ∷ xs) s = (turned_tree T p q file t x s.0, turned_trees T p q file ts xs s.1)
 
 module _ (T : ℕ → ℕ → ℕ → Type 0) (I : ℕ → ℕ → Type 0) (p q : Package) (h : Half T I p q) (k : Half (Turned T) (TurnedIdentifiers I) q p) where
   -- the variable that e declares in q, where d declares v in p
@@ -82,6 +75,18 @@ module _ (T : ℕ → ℕ → ℕ → Type 0) (I : ℕ → ℕ → Type 0) (p q 
   pub types_at : (file there : ℕ) (trees xs : List TypeTree) (ts : List PlainType) → there ≡ file → SameTrees T p q file trees xs →
       AreTypesOf p file trees ts → AreTypesOf q there xs ts
   types_at file there trees xs ts e s is = subst (λ i. AreTypesOf q i xs ts) (sym e) (types_of T I p q h k file trees xs ts s is)
+
+  pub form_at : (file there : ℕ) (form x : WrittenForm) (t : WrittenAs) → there ≡ file → SameForm T p q file form x → HasForm p file form t →
+      HasForm q there x t
+  form_at file there (OfType tree) (OfType x) (AFieldOf t) e s is = type_at file there tree x t e s is
+  form_at file there (OfType tree) x (AMethodOf t) e s is = absurd is
+  form_at file there (OfType tree) (OfSignature ps r) (AFieldOf t) e s is = absurd s
+  form_at file there (OfSignature ps r) (OfSignature qs o) (AMethodOf t) e s is = record {
+    parameters = types_at file there (parameter_types ps) (parameter_types qs) t.parameters e s.0 is.parameters;
+    results = types_at file there (result_types r) (result_types o) t.results e s.1 is.results;
+  }
+  form_at file there (OfSignature ps r) x (AFieldOf t) e s is = absurd is
+  form_at file there (OfSignature ps r) (OfType x) (AMethodOf t) e s is = absurd s
 
   pub signature_of : (f g : PlacedFunction) (s : Signature) → SameFunction T p q f g → HasSignature p f s → HasSignature q g s
   signature_of f g s same is = record {

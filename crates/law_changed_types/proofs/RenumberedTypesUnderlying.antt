@@ -1,13 +1,13 @@
 -- Underlying types of packages whose tokens correspond.
 use Rattle.std.proofs.Common.{ℕ, ◌≡◌, List, refl, sym, ap, ◌∙◌, subst}
-use Rattle.go_ast.specs.Tree.{Item, FieldTree, TypeTree, BodyTree, Other, Struct, Interface}
+use Rattle.go_ast.specs.Tree.{Item, FieldTree, MethodTree, TypeTree, BodyTree, Other, Struct, Interface}
 use Rattle.types_expr.specs.declared.symbol.Symbol.{Symbol}
 use Rattle.types_expr.specs.Types.{PlainType, Defined, Underlying}
-use Rattle.types_expr.specs.Types.{Struct as StructOf}
+use Rattle.types_expr.specs.Types.{Struct as StructOf, Interface as InterfaceOf}
 use Rattle.types_declared.specs.Package.{Package, ExportData, symbol_in}
 use Rattle.types_declared.specs.Written.{DenotesType}
 use Rattle.types_declared.specs.Definitions.{HasUnderlying}
-use Rattle.types_declared.specs.Definitions.{basic, pointer, slice, struct, named, imported, IsUnderlyingOf, has, has_none}
+use Rattle.types_declared.specs.Definitions.{basic, pointer, slice, struct, interface, named, imported, IsUnderlyingOf, has, has_none}
 use Rattle.law_changed_types.proofs.RenumberedTypesAlike.{Half, SameTree, SameBody, Turned, TurnedIdentifiers, symbols}
 use Rattle.law_changed_types.proofs.RenumberedTypesWritten.{denotes}
 
@@ -18,6 +18,20 @@ pub record IsStruct (b : BodyTree) : Type 0 where
   pub fields : List (Item FieldTree)
   pub closing : ℕ
   pub is : b ≡ Struct keyword opening fields closing
+
+-- the right side of a type definition is an interface
+pub record IsInterface (b : BodyTree) : Type 0 where
+  pub keyword : ℕ
+  pub opening : ℕ
+  pub methods : List (Item MethodTree)
+  pub closing : ℕ
+  pub is : b ≡ Interface keyword opening methods closing
+
+interface_is : (T : ℕ → ℕ → ℕ → Type 0) (p q : Package) (file k o c : ℕ) (ms : List (Item MethodTree)) (x : BodyTree) →
+    SameBody T p q file (Interface k o ms c) x → IsInterface x
+interface_is T p q file k o c ms (Interface i j ns e) h = record { keyword = i; opening = j; methods = ns; closing = e; is = refl }
+interface_is T p q file k o c ms (Struct i j gs e) h = absurd h
+interface_is T p q file k o c ms (Other t) h = absurd h
 
 struct_is : (T : ℕ → ℕ → ℕ → Type 0) (p q : Package) (file k o c : ℕ) (fs : List (Item FieldTree)) (x : BodyTree) →
     SameBody T p q file (Struct k o fs c) x → IsStruct x
@@ -41,6 +55,11 @@ module _ (T : ℕ → ℕ → ℕ → Type 0) (I : ℕ → ℕ → Type 0) (p q 
       let s = struct_is T p q d.file keyword o c fs e.0.spec.body (subst (λ b. SameBody T p q d.file b e.0.spec.body) body e.1.1.body) in
       subst (λ (y : Symbol). HasUnderlying q (Defined y) (StructOf y)) (symbols T I p q h r)
       (struct {rank = r} {d = e.0} {k = s.keyword} {o = s.opening} {c = s.closing} {fs = s.fields} e.1.0 s.is)
+  has_underlying _ _ (interface {rank = r} {d = d} {k = keyword} {o = o} {c = c} {ms = ms} at body) =
+      let e = h.types r d at in
+      let s = interface_is T p q d.file keyword o c ms e.0.spec.body (subst (λ b. SameBody T p q d.file b e.0.spec.body) body e.1.1.body) in
+      subst (λ (y : Symbol). HasUnderlying q (Defined y) (InterfaceOf y)) (symbols T I p q h r)
+      (interface {rank = r} {d = e.0} {k = s.keyword} {o = s.opening} {c = s.closing} {ms = s.methods} e.1.0 s.is)
   has_underlying _ _ (named {rank = r} {d = d} {tree = tree} {t = t} {u = u} at body is under) =
       let e = h.types r d at in
       let x = other_is T p q d.file tree e.0.spec.body (subst (λ b. SameBody T p q d.file b e.0.spec.body) body e.1.1.body) in

@@ -8,10 +8,11 @@ use Rattle.types_expr.specs.declared.symbol.Symbol.{Symbol}
 use Rattle.types_expr.specs.Types.{PlainType, Defined}
 use Rattle.types_declared.specs.Package.{Package, package_types, type_place, spelled}
 use Rattle.types_declared.specs.Written.{DeclaresType, NamesExport, DenotesType, predeclared, defined, imported, pointer, slice, basic_name, written_types}
-use Rattle.types_declared.specs.Written.{Mentions, by_name, by_pointer, by_slice, IsWrittenIn, IsBroken, by_itself, through, IsTypeOf}
-use Rattle.types_declared.specs.MeaningOf.{AreTypesOf}
+use Rattle.types_declared.specs.Written.{Mentions, by_name, by_pointer, by_slice, IsWrittenIn, IsBroken, by_itself, through, IsTypeOf, contained_types}
+use Rattle.types_declared.specs.MeaningOf.{AreTypesOf, parameter_types, result_types}
 use Rattle.law_changed_types.proofs.RenumberedTypesAlike.{Half, SameTree, SameTrees, SameBody, SameType, Turned, TurnedIdentifiers, symbols, binds}
-use Rattle.law_changed_types.proofs.RenumberedTypesAlike.{is_predeclared, export, ranked}
+use Rattle.law_changed_types.proofs.RenumberedTypesAlike.{is_predeclared, export, ranked, SameForm}
+use Rattle.types_declared.specs.Definitions.{WrittenForm, OfType, OfSignature}
 
 -- type expressions turned round
 pub turned_tree : (T : ℕ → ℕ → ℕ → Type 0) (p q : Package) (file : ℕ) (t x : TypeTree) → SameTree T p q file t x → SameTree (Turned T) q p file x t
@@ -31,6 +32,23 @@ turned_tree T p q file (Pointer s t) (Slice r k x) h = absurd h
 turned_tree T p q file (Slice o c t) (Local m) h = absurd h
 turned_tree T p q file (Slice o c t) (Imported v e m) h = absurd h
 turned_tree T p q file (Slice o c t) (Pointer r x) h = absurd h
+
+-- lists of type expressions turned round
+pub turned_trees : (T : ℕ → ℕ → ℕ → Type 0) (p q : Package) (file : ℕ) (ts xs : List TypeTree) → SameTrees T p q file ts xs →
+    SameTrees (Turned T) q p file xs ts
+turned_trees T p q file [] [] s = tt
+turned_trees T p q file [] (x ∷ xs) s = absurd s
+turned_trees T p q file (t ∷ ts) [] s = absurd s
+turned_trees T p q file (t ∷ ts) (x ∷ xs) s = (turned_tree T p q file t x s.0, turned_trees T p q file ts xs s.1)
+
+pub turned_form : (T : ℕ → ℕ → ℕ → Type 0) (p q : Package) (file : ℕ) (f g : WrittenForm) → SameForm T p q file f g → SameForm (Turned T) q p file g f
+turned_form T p q file (OfType t) (OfType x) h = turned_tree T p q file t x h
+turned_form T p q file (OfSignature ps r) (OfSignature qs s) h = (
+  turned_trees T p q file (parameter_types ps) (parameter_types qs) h.0,
+  turned_trees T p q file (result_types r) (result_types s) h.1,
+)
+turned_form T p q file (OfType t) (OfSignature qs s) h = absurd h
+turned_form T p q file (OfSignature ps r) (OfType x) h = absurd h
 
 -- a type expression in the first list has its counterpart in the second one
 pub counterpart : (T : ℕ → ℕ → ℕ → Type 0) (p q : Package) (file : ℕ) (ts xs : List TypeTree) (t : TypeTree) → SameTrees T p q file ts xs → Contains ts t →
@@ -53,11 +71,23 @@ same_written T p q file (Other t) (Other x) h = (h, tt)
 same_written T p q file (tree.Struct k o fs c) (tree.Struct i j gs e) h = h
 same_written T p q file (Other t) (tree.Struct i j gs e) h = absurd h
 same_written T p q file (tree.Struct k o fs c) (Other x) h = absurd h
-same_written T p q file (tree.Interface k o ms c) (tree.Interface i j ns e) h = tt
+same_written T p q file (tree.Interface k o ms c) (tree.Interface i j ns e) h = h
 same_written T p q file (Other t) (tree.Interface i j ns e) h = absurd h
 same_written T p q file (tree.Struct k o fs c) (tree.Interface i j ns e) h = absurd h
 same_written T p q file (tree.Interface k o ms c) (Other x) h = absurd h
 same_written T p q file (tree.Interface k o ms c) (tree.Struct i j gs e) h = absurd h
+
+pub same_contained : (T : ℕ → ℕ → ℕ → Type 0) (p q : Package) (file : ℕ) (b c : BodyTree) → SameBody T p q file b c →
+    SameTrees T p q file (contained_types b) (contained_types c)
+same_contained T p q file (Other t) (Other x) h = (h, tt)
+same_contained T p q file (tree.Struct k o fs c) (tree.Struct i j gs e) h = h
+same_contained T p q file (Other t) (tree.Struct i j gs e) h = absurd h
+same_contained T p q file (tree.Struct k o fs c) (Other x) h = absurd h
+same_contained T p q file (tree.Interface k o ms c) (tree.Interface i j ns e) h = tt
+same_contained T p q file (Other t) (tree.Interface i j ns e) h = absurd h
+same_contained T p q file (tree.Struct k o fs c) (tree.Interface i j ns e) h = absurd h
+same_contained T p q file (tree.Interface k o ms c) (Other x) h = absurd h
+same_contained T p q file (tree.Interface k o ms c) (tree.Struct i j gs e) h = absurd h
 
 module _ (T : ℕ → ℕ → ℕ → Type 0) (I : ℕ → ℕ → Type 0) (p q : Package) (h : Half T I p q) (k : Half (Turned T) (TurnedIdentifiers I) q p) where
   pub declares_type : (d e rank : ℕ) → I d e → DeclaresType p d rank → DeclaresType q e rank

@@ -11,23 +11,24 @@ use Rattle.types_expr.specs.declared.types.Builtin.TheVariants as builtin
 use Rattle.types_expr.specs.declared.symbol.Symbol.{Symbol}
 use Rattle.types_expr.specs.Places.{place_of}
 use Rattle.types_expr.specs.Types.{PlainType, BasicType, ValueKind, Typed, Untyped, Nil, Signature, Meaning, Value, TypeName, Function, BuiltinName}
-use Rattle.types_expr.specs.Types.{Package, Results, Broken}
-use Rattle.types_expr.specs.Types.{is_pointer, points}
+use Rattle.types_expr.specs.Types.{Package, Results, Broken, AFieldOf, AMethodOf}
+use Rattle.types_expr.specs.Types.{is_interface, is_pointer, points}
 use Rattle.types_expr.specs.World.{Locals, Bound, Local, Means, BrokenVariable, BrokenFunction, BrokenType, Member, AField, AMethod, ABrokenMethod}
 use Rattle.types_expr.specs.World.{member_symbol}
 use Rattle.types_expr.specs.World.{World, underlying, variable, meaning_of_bound, name_meaning}
-use Rattle.types_expr.specs.Operations.{converts, operate, is_int, has_length, is_printed, element_of_kind, prefixed}
-use Rattle.types_expr.specs.Judge.{MemberUse, Judged, means, wrong, means_or_wrong, value_or_wrong, also, followed, as_value, value_kind, member_meaning}
+use Rattle.types_expr.specs.Operations.{enters, converts, operate, is_int, has_length, is_printed, element_of_kind, prefixed}
+use Rattle.types_expr.specs.Judge.{Noted, Judged, means, wrong, means_or_wrong, value_or_wrong, also, followed, as_value, value_kind, member_meaning}
 use Rattle.types_expr.specs.Judge.{with_use, select_member, select, ListValue, JudgedList, is_whole, all_whole, misfit, misfits, all_misfits, result_meaning}
 use Rattle.types_expr.specs.Judge.{unless_faults, wrong_if_whole, call_function, convert_one, convert, append_to, append_first, append, len_value, len_fits}
 use Rattle.types_expr.specs.Judge.{is_printed_value, all_printed, call_when, call_builtin, call_of, with_values, bad_index, element_meaning, indexed, index_of}
+use Rattle.types_expr.specs.Judge.{OfEntering, noting, enters_at, entering, enterings, all_enterings}
 use Rattle.types_expr.specs.Judge.{operation_on, operation, prefix_of, value_at, value_before, index_rule, call_rule}
 use Rattle.law_changed_types.specs.Moved.{moved_symbol, moved_type, moved_kind, moved_signature, moved_meaning, moved_bound, moved_member}
-use Rattle.law_changed_types.specs.Moved.{moved_locals, moved_use}
+use Rattle.law_changed_types.specs.Moved.{moved_locals, moved_noted}
 use Rattle.law_changed_types.specs.Moved.{moved_found}
 use Rattle.law_changed_types.proofs.Moving.{Move, Moves, at_first, ap2, ap3, if_moves}
-use Rattle.law_changed_types.proofs.TypesMove.{underlying_moves, same_pointer, same_points}
-use Rattle.law_changed_types.proofs.OperationsMove.{same_fits, same_converts, class_stays, operate_moves, element_of_kind_moves, prefixed_moves}
+use Rattle.law_changed_types.proofs.TypesMove.{interface_stays, underlying_moves, same_pointer, same_points}
+use Rattle.law_changed_types.proofs.OperationsMove.{entering_stays, same_fits, same_converts, class_stays, operate_moves, element_of_kind_moves, prefixed_moves}
 
 -- a value of a list, and the findings of a list
 abbrev pub moved_value : Move → ListValue → ListValue
@@ -37,19 +38,19 @@ abbrev pub moved_values : Move → List ListValue → List ListValue
 moved_values m vs = map (moved_value m) vs
 
 abbrev pub moved_list : Move → JudgedList → JudgedList
-moved_list m l = record { values = moved_values m l.values; faults = l.faults; uses = map (moved_use m.path) l.uses }
+moved_list m l = record { values = moved_values m l.values; faults = l.faults; uses = map (moved_noted m.path) l.uses }
 
 -- findings one after the other
 
-pub two_uses : (m : Move) (a b : List MemberUse) → map (moved_use m.path) a ++ map (moved_use m.path) b ≡ map (moved_use m.path) (a ++ b)
-two_uses m a b = sym (map-append (moved_use m.path) a b)
+pub two_uses : (m : Move) (a b : List Noted) → map (moved_noted m.path) a ++ map (moved_noted m.path) b ≡ map (moved_noted m.path) (a ++ b)
+two_uses m a b = sym (map-append (moved_noted m.path) a b)
 
-pub three_uses : (m : Move) (a b c : List MemberUse) →
-    map (moved_use m.path) a ++ (map (moved_use m.path) b ++ map (moved_use m.path) c) ≡ map (moved_use m.path) (a ++ (b ++ c))
-three_uses m a b c = ap (λ z. map (moved_use m.path) a ++ z) (two_uses m b c) ∙ two_uses m a (b ++ c)
+pub three_uses : (m : Move) (a b c : List Noted) →
+    map (moved_noted m.path) a ++ (map (moved_noted m.path) b ++ map (moved_noted m.path) c) ≡ map (moved_noted m.path) (a ++ (b ++ c))
+three_uses m a b c = ap (λ z. map (moved_noted m.path) a ++ z) (two_uses m b c) ∙ two_uses m a (b ++ c)
 
 pub also_moves : (m : Move) (j k : Judged) → also (moved_found m.path j) (moved_found m.path k) ≡ moved_found m.path (also j k)
-also_moves m j k = ap (λ (z : List MemberUse). record { meaning = moved_meaning m.path k.meaning; faults = j.faults ++ k.faults; uses = z })
+also_moves m j k = ap (λ (z : List Noted). record { meaning = moved_meaning m.path k.meaning; faults = j.faults ++ k.faults; uses = z })
     (two_uses m j.uses k.uses)
 
 pub followed_moves : (m : Move) (j : Judged) (old new : Meaning → Judged) → new (moved_meaning m.path j.meaning) ≡ moved_found m.path (old j.meaning) →
@@ -112,7 +113,8 @@ name_moves m locals place = ap (meaning_of_bound (moved_locals m.path locals)) (
 member_meaning_moves : (m : Move) (t : PlainType) (a : Bool) (x : Option Member) →
     member_meaning m.new (moved_type m.path t) a (option_map (moved_member m.path) x) ≡ option_map (moved_meaning m.path) (member_meaning m.old t a x)
 member_meaning_moves m t a None = refl
-member_meaning_moves m t a (Some (AField s ft)) = ap (λ z. Some (Value (Typed (moved_type m.path ft)) (z || a)))
+member_meaning_moves m t a (Some (AField s (AMethodOf signature))) = refl
+member_meaning_moves m t a (Some (AField s (AFieldOf ft))) = ap (λ z. Some (Value (Typed (moved_type m.path ft)) (z || a)))
     (ap points (underlying_moves m t) ∙ same_points m (underlying m.old t))
 member_meaning_moves m t a (Some (AMethod s true signature)) =
     if_moves (option_map (moved_meaning m.path)) (is_pointer t || a) _ (Some (Function signature)) None (ap (λ z. z || a) (same_pointer m t))
@@ -122,7 +124,7 @@ member_meaning_moves m t a (Some (ABrokenMethod s)) = refl
 pub member_symbol_moves : (m : Move) (x : Option Member) →
     option_map member_symbol (option_map (moved_member m.path) x) ≡ option_map (moved_symbol m.path) (option_map member_symbol x)
 member_symbol_moves m None = refl
-member_symbol_moves m (Some (AField s t)) = refl
+member_symbol_moves m (Some (AField s form)) = refl
 member_symbol_moves m (Some (AMethod s on_pointer signature)) = refl
 member_symbol_moves m (Some (ABrokenMethod s)) = refl
 
@@ -189,10 +191,57 @@ unfolding all_misfits
 all_same_misfits m [] t = refl
 all_same_misfits m (v ∷ vs) t = ap2 (λ x y. x ++ y) (same_misfit m v.place v.kind t) (all_same_misfits m vs t)
 
+-- entries of values into interfaces
+
+pub noting_moves : (m : Move) (ns : List Noted) (j : Judged) → noting (map (moved_noted m.path) ns) (moved_found m.path j) ≡ moved_found m.path (noting ns j)
+noting_moves m ns j = ap (λ (us : List Noted). record { meaning = moved_meaning m.path j.meaning; faults = j.faults; uses = us }) (two_uses m ns j.uses)
+
+-- the entry of a value of this type, by whether the type is an interface and whether it enters another one
+entry_if : (is_one enters : Bool) → ℕ → PlainType → List Noted
+entry_if is_one enters place v = if is_one then [] else (if enters then OfEntering (record { place = place; own = v }) ∷ [] else [])
+
+entry_if_moves : (m : Move) (is_one enters : Bool) (place : ℕ) (v : PlainType) →
+    entry_if is_one enters place (moved_type m.path v) ≡ map (moved_noted m.path) (entry_if is_one enters place v)
+unfolding entry_if
+entry_if_moves m true enters place v = refl
+entry_if_moves m false true place v = refl
+entry_if_moves m false false place v = refl
+
+enters_at_moves : (m : Move) (place : ℕ) (v t : PlainType) →
+    enters_at m.new place (moved_type m.path v) (moved_type m.path t) ≡ map (moved_noted m.path) (enters_at m.old place v t)
+unfolding entry_if
+enters_at_moves m place v t =
+    ap2 (λ x y. entry_if x y place (moved_type m.path v)) (interface_stays m v) (entering_stays m v t)
+    ∙ entry_if_moves m (is_interface (underlying m.old v)) (enters m.old v (underlying m.old t)) place v
+
+pub entering_moves : (m : Move) (place : ℕ) (k : Option ValueKind) (t : PlainType) →
+    entering m.new place (option_map (moved_kind m.path) k) (moved_type m.path t) ≡ map (moved_noted m.path) (entering m.old place k t)
+unfolding entering
+entering_moves m place None t = refl
+entering_moves m place (Some (Typed v)) t = enters_at_moves m place v t
+entering_moves m place (Some (Untyped b)) t = enters_at_moves m place (BasicType b) t
+entering_moves m place (Some Nil) t = refl
+
+enterings_move : (m : Move) (vs : List ListValue) (ts : List PlainType) →
+    enterings m.new (moved_values m vs) (map (moved_type m.path) ts) ≡ map (moved_noted m.path) (enterings m.old vs ts)
+unfolding enterings
+enterings_move m [] ts = refl
+enterings_move m (v ∷ vs) [] = refl
+enterings_move m (v ∷ vs) (t ∷ ts) =
+    ap2 (λ x y. x ++ y) (entering_moves m v.place v.kind t) (enterings_move m vs ts) ∙ two_uses m (entering m.old v.place v.kind t) (enterings m.old vs ts)
+
+all_enterings_move : (m : Move) (vs : List ListValue) (t : PlainType) →
+    all_enterings m.new (moved_values m vs) (moved_type m.path t) ≡ map (moved_noted m.path) (all_enterings m.old vs t)
+unfolding all_enterings
+all_enterings_move m [] t = refl
+all_enterings_move m (v ∷ vs) t =
+    ap2 (λ x y. x ++ y) (entering_moves m v.place v.kind t) (all_enterings_move m vs t)
+    ∙ two_uses m (entering m.old v.place v.kind t) (all_enterings m.old vs t)
+
 pub value_before_moves : (m : Move) (place : ℕ) (j : Judged) (rest : JudgedList) →
     value_before place (moved_found m.path j) (moved_list m rest) ≡ moved_list m (value_before place j rest)
 value_before_moves m place j rest =
-    ap2 (λ (k : Option ValueKind) (us : List MemberUse). record {
+    ap2 (λ (k : Option ValueKind) (us : List Noted). record {
       values = record { place = place; kind = k } ∷ moved_values m rest.values;
       faults = j.faults ++ rest.faults;
       uses = us;
@@ -219,27 +268,34 @@ wrong_if_whole_moves m vs place = ap (λ z. wrong_if_whole z place) (all_whole_s
   same true = refl
   same false = refl
 
--- a call with the right count of arguments or not, with these faults of its arguments and this result
-called : Bool → List ℕ → Bool → Meaning → Judged → Judged
-called counts fs whole x other = if counts then unless_faults fs whole x else other
+-- a call with the right count of arguments or not, with these entries and faults of its arguments and this result
+called : Bool → List Noted → List ℕ → Bool → Meaning → Judged → Judged
+called counts ns fs whole x other = if counts then noting ns (unless_faults fs whole x) else other
 
-called_moves : (m : Move) (counts : Bool) (fs : List ℕ) (whole : Bool) (x : Meaning) (j : Judged) →
-    called counts fs whole (moved_meaning m.path x) (moved_found m.path j) ≡ moved_found m.path (called counts fs whole x j)
+called_moves : (m : Move) (counts : Bool) (ns : List Noted) (fs : List ℕ) (whole : Bool) (x : Meaning) (j : Judged) →
+    called counts (map (moved_noted m.path) ns) fs whole (moved_meaning m.path x) (moved_found m.path j) ≡ moved_found m.path (called counts ns fs whole x j)
 unfolding called
-called_moves m true fs whole x j = unless_faults_moves m fs whole x
-called_moves m false fs whole x j = refl
+called_moves m true ns fs whole x j =
+    ap (noting (map (moved_noted m.path) ns)) (unless_faults_moves m fs whole x) ∙ noting_moves m ns (unless_faults fs whole x)
+called_moves m false ns fs whole x j = refl
 
 call_function_moves : (m : Move) (start : ℕ) (s : Signature) (vs : List ListValue) →
     call_function m.new start (moved_signature m.path s) (moved_values m vs) ≡ moved_found m.path (call_function m.old start s vs)
 unfolding call_function called
 call_function_moves m start s vs =
-    ap3 (λ c f b. called c f b (result_meaning (map (moved_type m.path) s.results)) (wrong_if_whole (all_whole (moved_values m vs)) start))
+    let ts = map (moved_type m.path) s.parameters in
+    let entries = map (moved_noted m.path) (enterings m.old vs s.parameters) in
+    let result = result_meaning (map (moved_type m.path) s.results) in
+    let other = wrong_if_whole (all_whole (moved_values m vs)) start in
+    ap (λ ns. called (length (moved_values m vs) == length ts) ns (misfits m.new (moved_values m vs) ts) (all_whole (moved_values m vs)) result other)
+    (enterings_move m vs s.parameters)
+    ∙ (ap3 (λ c f b. called c entries f b result other)
     (ap2 (λ x y. x == y) (length-map vs (moved_value m)) (length-map s.parameters (moved_type m.path))) (same_misfits m vs s.parameters)
     (all_whole_stays m vs)
-    ∙ (ap2 (called (length vs == length s.parameters) (misfits m.old vs s.parameters) (all_whole vs)) (result_meaning_moves m s.results)
+    ∙ (ap2 (called (length vs == length s.parameters) entries (misfits m.old vs s.parameters) (all_whole vs)) (result_meaning_moves m s.results)
     (wrong_if_whole_moves m vs start)
-    ∙ called_moves m (length vs == length s.parameters) (misfits m.old vs s.parameters) (all_whole vs) (result_meaning s.results)
-    (wrong_if_whole (all_whole vs) start))
+    ∙ called_moves m (length vs == length s.parameters) (enterings m.old vs s.parameters) (misfits m.old vs s.parameters) (all_whole vs)
+    (result_meaning s.results) (wrong_if_whole (all_whole vs) start)))
 
 convert_one_moves : (m : Move) (start : ℕ) (t : PlainType) (k : Option ValueKind) →
     convert_one m.new start (moved_type m.path t) (option_map (moved_kind m.path) k) ≡ moved_found m.path (convert_one m.old start t k)
@@ -250,15 +306,19 @@ convert_moves : (m : Move) (start : ℕ) (t : PlainType) (vs : List ListValue) �
     convert m.new start (moved_type m.path t) (moved_values m vs) ≡ moved_found m.path (convert m.old start t vs)
 unfolding convert
 convert_moves m start t [] = wrong_if_whole_moves m [] start
-convert_moves m start t (v ∷ []) = convert_one_moves m start t v.kind
+convert_moves m start t (v ∷ []) =
+    ap2 (λ (ns : List Noted) (j : Judged). noting ns j) (entering_moves m v.place v.kind t) (convert_one_moves m start t v.kind)
+    ∙ noting_moves m (entering m.old v.place v.kind t) (convert_one m.old start t v.kind)
 convert_moves m start t (v ∷ u ∷ vs) = wrong_if_whole_moves m (v ∷ u ∷ vs) start
 
 append_to_moves : (m : Move) (start : ℕ) (k : ValueKind) (t : Option PlainType) (vs : List ListValue) →
     append_to m.new start (moved_kind m.path k) (option_map (moved_type m.path) t) (moved_values m vs) ≡ moved_found m.path (append_to m.old start k t vs)
 append_to_moves m start k None vs = wrong_if_whole_moves m vs start
 append_to_moves m start k (Some t) vs =
-    ap2 (λ x y. unless_faults x y (Value (moved_kind m.path k) false)) (all_same_misfits m vs t) (all_whole_stays m vs)
-    ∙ unless_faults_moves m (all_misfits m.old vs t) (all_whole vs) (Value k false)
+    ap3 (λ ns x y. noting ns (unless_faults x y (Value (moved_kind m.path k) false))) (all_enterings_move m vs t)
+    (all_same_misfits m vs t) (all_whole_stays m vs)
+    ∙ (ap (noting (map (moved_noted m.path) (all_enterings m.old vs t))) (unless_faults_moves m (all_misfits m.old vs t) (all_whole vs) (Value k false))
+    ∙ noting_moves m (all_enterings m.old vs t) (unless_faults (all_misfits m.old vs t) (all_whole vs) (Value k false)))
 
 append_first_moves : (m : Move) (start : ℕ) (k : Option ValueKind) (vs : List ListValue) →
     append_first m.new start (option_map (moved_kind m.path) k) (moved_values m vs) ≡ moved_found m.path (append_first m.old start k vs)
@@ -333,7 +393,7 @@ pub call_rule_moves : (m : Move) (start place : ℕ) (args : JudgedList) (x : Me
 call_rule_moves m start place args x =
     let k = call_of m.old start place args.values x in
     ap (λ (z : Judged). with_values (moved_list m args) (λ vs. z)) (call_of_moves m start place args.values x)
-    ∙ ap (λ (us : List MemberUse). record { meaning = moved_meaning m.path k.meaning; faults = args.faults ++ k.faults; uses = us })
+    ∙ ap (λ (us : List Noted). record { meaning = moved_meaning m.path k.meaning; faults = args.faults ++ k.faults; uses = us })
     (two_uses m args.uses k.uses)
 
 -- indexes and operators

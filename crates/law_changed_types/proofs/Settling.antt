@@ -2,9 +2,9 @@
 use Rattle.std.proofs.Common.{ℕ, ◌≡◌, List, [], ◌∷◌, ◌++◌, refl, ap, ◌∙◌}
 use Rattle.go_ast.specs.Tree.{Item, Group, single, several}
 use Rattle.types_expr.specs.World.{World, Locals}
-use Rattle.types_expr.specs.Judge.{Judged, JudgedList, MemberUse}
+use Rattle.types_expr.specs.Judge.{Judged, JudgedList, Noted}
 use Rattle.types_stmt.specs.Checked.{FoundSoFar, with_declared, with_judged, check_items, check_group}
-use Rattle.types_stmt.specs.Sides.{Lefts}
+use Rattle.types_stmt.specs.Sides.{Lefts, receiving, given_enterings}
 use Rattle.types_stmt.specs.Simple.{with_given}
 use Rattle.law_changed_types.proofs.Agreement.{Members, with_members, AreMembersAt, AreIn, of_part, in_first, of_first, of_second}
 use Rattle.law_changed_types.proofs.StatementRules.{same_given}
@@ -27,7 +27,7 @@ and_then old new f g first next = let after = next old in record {
 }
 
 -- a part with the given locals, faults and uses
-pub part : {v : World} {m : Members} (s : FoundSoFar) (locals : Locals) (faults : List ℕ) (uses : List MemberUse) (new : FoundSoFar) →
+pub part : {v : World} {m : Members} (s : FoundSoFar) (locals : Locals) (faults : List ℕ) (uses : List Noted) (new : FoundSoFar) →
     (AreMembersAt v m uses → new ≡ with_declared s locals faults uses) → IsSettled v m s (with_declared s locals faults uses) new
 part s locals faults uses new f = record { kept = in_first s.uses uses; same = λ h. f (of_second s.uses uses h) }
 
@@ -38,15 +38,17 @@ judged s j k f g e faults = part s s.locals (j.faults ++ f j) j.uses (with_judge
     ∙ ap (λ (z : List ℕ). with_judged s j z) (faults h))
 
 -- left sides and the values of right sides
-pub given : (v : World) (m : Members) (s : FoundSoFar) (place : ℕ) (locals : JudgedList → Locals) (l k : Lefts) (r q : JudgedList) →
-    (AreMembersAt v m l.uses → k ≡ l) → (AreMembersAt v m r.uses → q ≡ r) →
-    IsSettled v m s (with_given v s place (locals r) l r) (with_given (with_members v m) s place (locals q) k q)
-given v m s place locals l k r q lefts rights = record {
-  kept = in_first s.uses (l.uses ++ r.uses);
-  same = λ h. let here = of_second s.uses (l.uses ++ r.uses) h in
-      ap (λ (z : Lefts). with_given (with_members v m) s place (locals q) z q) (lefts (of_first l.uses r.uses here))
-      ∙ (ap (λ (z : JudgedList). with_given (with_members v m) s place (locals z) l z) (rights (of_second l.uses r.uses here))
-      ∙ same_given v m s place (locals r) l r);
+pub given : {X : Type 0} (v : World) (m : Members) (s : FoundSoFar) (place : ℕ) (sides : List X) (locals : JudgedList → Locals) (l k : Lefts)
+    (r q : JudgedList) → (AreMembersAt v m l.uses → k ≡ l) → (AreMembersAt v m r.uses → q ≡ r) →
+    IsSettled v m s (with_given (receiving v sides r.values) s place (locals r) l r)
+    (with_given (receiving (with_members v m) sides q.values) s place (locals q) k q)
+given v m s place sides locals l k r q lefts rights = let entries = given_enterings (receiving v sides r.values) r.values l.targets in record {
+  kept = in_first s.uses (l.uses ++ (r.uses ++ entries));
+  same = λ h. let here = of_second s.uses (l.uses ++ (r.uses ++ entries)) h in
+      let of_rights = of_first r.uses entries (of_second l.uses (r.uses ++ entries) here) in
+      ap (λ (z : Lefts). with_given (receiving (with_members v m) sides q.values) s place (locals q) z q) (lefts (of_first l.uses (r.uses ++ entries) here))
+      ∙ (ap (λ (z : JudgedList). with_given (receiving (with_members v m) sides z.values) s place (locals z) l z) (rights of_rights)
+      ∙ same_given (receiving v sides r.values) m s place (locals r) l r);
 }
 
 pub items : {X : Type 0} {v : World} {m : Members} (f g : FoundSoFar → X → FoundSoFar) → ((s : FoundSoFar) (x : X) → IsSettled v m s (f s x) (g s x)) →

@@ -6,18 +6,19 @@ use Rattle.go_ast.specs.Tree.{Item, IdentTree, Named, Underscore, ExprTree, Name
 use Rattle.types_expr.specs.Places.{place_of}
 use Rattle.types_expr.specs.Types.{PlainType, ValueKind, Typed, Untyped, Nil, Meaning, Value, TypeName, Function, BuiltinName, Package, Results, Broken}
 use Rattle.types_expr.specs.World.{Locals, Bound, Local, Means, BrokenVariable, BrokenFunction, BrokenType}
-use Rattle.types_expr.specs.Judge.{MemberUse, Judged, JudgedList, ListValue, means, followed, as_value, value_kind, value_before}
+use Rattle.types_expr.specs.Judge.{Noted, Judged, JudgedList, ListValue, means, followed, as_value, value_kind, value_before}
 use Rattle.types_expr.specs.Judge.{judge, judge_value, all_whole}
 use Rattle.types_stmt.specs.Checked.{fault_if}
 use Rattle.types_stmt.specs.Sides.{result_at, results_at, values_of, list_followed, judge_each, rhs, Target, Takes, Wants, all_unbroken}
 use Rattle.types_stmt.specs.Sides.{nil_refused, refused_at, all_refused, given_faults, Lefts, left_side, join_lefts, assignable, judge_operand, own_type}
 use Rattle.types_stmt.specs.Sides.{assigned_one, assigned, is_own, declares, no_name, reassigned, defined_one, defined, inferred_type}
 use Rattle.types_stmt.specs.Sides.{inferred_types, inferred, head_or_none, tail_of, declared_if, with_locals, with_inferred, defined_name, defined_names}
-use Rattle.types_stmt.specs.Sides.{named, all_named}
+use Rattle.types_stmt.specs.Sides.{named, all_named, entered_at, all_entered, given_enterings}
 use Rattle.law_rename.specs.Renumbered.{items_by, ident_by, expr_by, exprs_by}
-use Rattle.law_changed_types.specs.Renumbering.{AreRenumberedLocals, renumbered_bound, renumbered_use, renumbered_uses, renumbered_found}
+use Rattle.law_changed_types.specs.Renumbering.{AreRenumberedLocals, renumbered_bound, renumbered_noted, renumbered_uses, renumbered_found}
 use Rattle.law_changed_types.proofs.Renumber.{Renumber, new, ap2, ap3, if_maps, two, same_token}
 use Rattle.law_changed_types.proofs.RenumberedTokensRules.{list_value, list_values, list_found, followed_found, value_before_found, all_whole_stays, misfit_found}
+use Rattle.law_changed_types.proofs.RenumberedTokensRules.{entering_found}
 use Rattle.law_changed_types.proofs.Places.{reports}
 use Rattle.law_changed_types.proofs.Found.{Judging, at_value, found}
 
@@ -48,8 +49,8 @@ list_followed_found : (m : Renumber) (j : Judged) (rule later : Meaning → Judg
     list_followed (renumbered_found m.to j) later ≡ list_found m (list_followed j rule)
 list_followed_found m j rule later e =
     ap (λ (z : JudgedList). list_followed (renumbered_found m.to j) (λ x. z)) e
-    ∙ ap2 (λ (fs : List ℕ) (us : List MemberUse). record { values = list_values m (rule j.meaning).values; faults = fs; uses = us })
-    (two m.to j.faults (rule j.meaning).faults) (two (renumbered_use m.to) j.uses (rule j.meaning).uses)
+    ∙ ap2 (λ (fs : List ℕ) (us : List Noted). record { values = list_values m (rule j.meaning).values; faults = fs; uses = us })
+    (two m.to j.faults (rule j.meaning).faults) (two (renumbered_noted m.to) j.uses (rule j.meaning).uses)
 
 each_found : (c : Judging) (is : List (Item ExprTree)) →
     judge_each (new c.by) c.later (exprs_by c.by.to is) ≡ list_found c.by (judge_each c.by.old c.locals is)
@@ -94,8 +95,8 @@ wanting_found : (m : Renumber) (j k : Judged) → k ≡ renumbered_found m.to j 
 wanting_found m j k e = ap (λ (z : Judged). left_side (Wants (own_type z.meaning)) z) e
 
 join_found : (m : Renumber) (a b : Lefts) → join_lefts (lefts_found m a) (lefts_found m b) ≡ lefts_found m (join_lefts a b)
-join_found m a b = ap2 (λ (fs : List ℕ) (us : List MemberUse). record { targets = a.targets ++ b.targets; faults = fs; uses = us })
-    (two m.to a.faults b.faults) (two (renumbered_use m.to) a.uses b.uses)
+join_found m a b = ap2 (λ (fs : List ℕ) (us : List Noted). record { targets = a.targets ++ b.targets; faults = fs; uses = us })
+    (two m.to a.faults b.faults) (two (renumbered_noted m.to) a.uses b.uses)
 
 assigned_one_found : (c : Judging) (e : ExprTree) →
     assigned_one (new c.by) c.later (expr_by c.by.to e) ≡ lefts_found c.by (assigned_one c.by.old c.locals e)
@@ -179,6 +180,31 @@ all_refused_found m (v ∷ vs) [] = refl
 all_refused_found m (v ∷ vs) (t ∷ ts) =
     ap2 (λ (x y : List ℕ). x ++ y) (refused_found m v.place v.kind t) (all_refused_found m vs ts)
     ∙ two m.to (refused_at m.old v.place v.kind t) (all_refused m.old vs ts)
+
+-- entries into targets
+
+entered_found : (m : Renumber) (place : ℕ) (k : Option ValueKind) (t : Target) →
+    entered_at (new m) (m.to place) k t ≡ renumbered_uses m.to (entered_at m.old place k t)
+unfolding entered_at
+entered_found m place k (Wants None) = refl
+entered_found m place k (Wants (Some t)) = entering_found m place k t
+entered_found m place k Takes = refl
+
+pub all_entered_found : (m : Renumber) (vs : List ListValue) (ts : List Target) →
+    all_entered (new m) (list_values m vs) ts ≡ renumbered_uses m.to (all_entered m.old vs ts)
+unfolding all_entered
+all_entered_found m [] ts = refl
+all_entered_found m (v ∷ vs) [] = refl
+all_entered_found m (v ∷ vs) (t ∷ ts) =
+    ap2 (λ (x y : List Noted). x ++ y) (entered_found m v.place v.kind t) (all_entered_found m vs ts)
+    ∙ two (renumbered_noted m.to) (entered_at m.old v.place v.kind t) (all_entered m.old vs ts)
+
+pub given_enterings_found : (m : Renumber) (vs : List ListValue) (ts : List Target) →
+    given_enterings (new m) (list_values m vs) ts ≡ renumbered_uses m.to (given_enterings m.old vs ts)
+unfolding given_enterings
+given_enterings_found m vs ts =
+    ap2 (λ (b : Bool) (ns : List Noted). if b then ns else []) (ap (λ z. z == length ts) (length-map vs (list_value m))) (all_entered_found m vs ts)
+    ∙ if_maps (map (renumbered_noted m.to)) (length vs == length ts) (all_entered m.old vs ts) []
 
 pub fault_if_found : (m : Renumber) (test : Bool) (place : ℕ) → fault_if test (m.to place) ≡ map m.to (fault_if test place)
 fault_if_found m test place = if_maps (map m.to) test (place ∷ []) []

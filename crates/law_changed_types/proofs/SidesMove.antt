@@ -7,24 +7,25 @@ use Rattle.go_ast.specs.Tree.{Item, ExprTree, Name, Blank}
 use Rattle.types_expr.specs.Places.{place_of}
 use Rattle.types_expr.specs.Types.{PlainType, ValueKind, Typed, Untyped, Nil, Meaning, Value, TypeName, Function, BuiltinName, Package, Results, Broken}
 use Rattle.types_expr.specs.World.{Locals, Bound, Local, Means, BrokenVariable, BrokenFunction, BrokenType, name_meaning}
-use Rattle.types_expr.specs.Judge.{MemberUse, Judged, JudgedList, ListValue, means, followed, as_value, value_kind, value_at, value_before}
+use Rattle.types_expr.specs.Judge.{Noted, Judged, JudgedList, ListValue, means, followed, as_value, value_kind, value_at, value_before}
 use Rattle.types_expr.specs.Judge.{judge, judge_value}
 use Rattle.types_stmt.specs.Checked.{fault_if}
 use Rattle.types_stmt.specs.Sides.{result_at, results_at, values_of, list_followed, judge_each, rhs, Target, Takes, Wants, is_unbroken, all_unbroken}
 use Rattle.types_stmt.specs.Sides.{nil_refused, refused_at, all_refused, given_faults, Lefts, left_side, join_lefts, assignable, judge_operand, own_type}
 use Rattle.types_stmt.specs.Sides.{assigned_one, assigned, is_own, declares, no_name, reassigned, defined_one, defined, default_type, inferred_type}
 use Rattle.types_stmt.specs.Sides.{inferred_types, inferred, head_or_none, tail_of, declared_if, with_locals, with_inferred, defined_name, defined_names}
-use Rattle.law_changed_types.specs.Moved.{moved_type, moved_kind, moved_meaning, moved_bound, moved_locals, moved_use, moved_found, moved_target}
+use Rattle.types_stmt.specs.Sides.{entered_at, all_entered, given_enterings}
+use Rattle.law_changed_types.specs.Moved.{moved_type, moved_kind, moved_meaning, moved_bound, moved_locals, moved_noted, moved_found, moved_target}
 use Rattle.law_changed_types.proofs.Moving.{Move, Moves, of_first, of_second, ap2, ap3, if_moves}
 use Rattle.law_changed_types.proofs.RulesMove.{moved_value, moved_values, moved_list, two_uses, followed_moves, value_at_moves, value_before_moves, name_moves}
-use Rattle.law_changed_types.proofs.RulesMove.{all_whole_stays, same_misfit}
+use Rattle.law_changed_types.proofs.RulesMove.{all_whole_stays, same_misfit, entering_moves}
 use Rattle.law_changed_types.proofs.FoundMove.{value_moves, found_moves}
 
 abbrev pub moved_targets : Move → List Target → List Target
 moved_targets m ts = map (moved_target m.path) ts
 
 abbrev pub moved_lefts : Move → Lefts → Lefts
-moved_lefts m l = record { targets = moved_targets m l.targets; faults = l.faults; uses = map (moved_use m.path) l.uses }
+moved_lefts m l = record { targets = moved_targets m l.targets; faults = l.faults; uses = map (moved_noted m.path) l.uses }
 
 abbrev pub moved_types : Move → List (Option PlainType) → List (Option PlainType)
 moved_types m ts = map (option_map (moved_type m.path)) ts
@@ -54,7 +55,7 @@ list_followed_moves : (m : Move) (j : Judged) (old new : Meaning → JudgedList)
     list_followed (moved_found m.path j) new ≡ moved_list m (list_followed j old)
 list_followed_moves m j old new e =
     ap (λ (z : JudgedList). list_followed (moved_found m.path j) (λ x. z)) e
-    ∙ ap (λ (us : List MemberUse). record {
+    ∙ ap (λ (us : List Noted). record {
       values = moved_values m (old j.meaning).values;
       faults = j.faults ++ (old j.meaning).faults;
       uses = us;
@@ -123,7 +124,7 @@ wanting_moves m j k e =
     ∙ ap (λ (z : Option PlainType). left_side (Wants z) (moved_found m.path j)) (own_type_moves m j.meaning)
 
 join_moves : (m : Move) (a b : Lefts) → join_lefts (moved_lefts m a) (moved_lefts m b) ≡ moved_lefts m (join_lefts a b)
-join_moves m a b = ap2 (λ (ts : List Target) (us : List MemberUse). record { targets = ts; faults = a.faults ++ b.faults; uses = us })
+join_moves m a b = ap2 (λ (ts : List Target) (us : List Noted). record { targets = ts; faults = a.faults ++ b.faults; uses = us })
     (sym (map-append (moved_target m.path) a.targets b.targets)) (two_uses m a.uses b.uses)
 
 assigned_one_moves : (m : Move) (locals : Locals) (e : ExprTree) → Moves m (assigned_one m.old locals e).uses →
@@ -217,6 +218,28 @@ all_refused_stay m [] ts = refl
 all_refused_stay m (v ∷ vs) [] = refl
 all_refused_stay m (v ∷ vs) (t ∷ ts) = ap2 (λ x y. x ++ y) (refused_stays m v.place v.kind t) (all_refused_stay m vs ts)
 
+-- entries into targets
+
+entered_moves : (m : Move) (place : ℕ) (k : Option ValueKind) (t : Target) →
+    entered_at m.new place (option_map (moved_kind m.path) k) (moved_target m.path t) ≡ map (moved_noted m.path) (entered_at m.old place k t)
+unfolding entered_at
+entered_moves m place k (Wants None) = refl
+entered_moves m place k (Wants (Some t)) = entering_moves m place k t
+entered_moves m place k Takes = refl
+
+pub all_entered_move : (m : Move) (vs : List ListValue) (ts : List Target) →
+    all_entered m.new (moved_values m vs) (moved_targets m ts) ≡ map (moved_noted m.path) (all_entered m.old vs ts)
+unfolding all_entered
+all_entered_move m [] ts = refl
+all_entered_move m (v ∷ vs) [] = refl
+all_entered_move m (v ∷ vs) (t ∷ ts) =
+    ap2 (λ x y. x ++ y) (entered_moves m v.place v.kind t) (all_entered_move m vs ts) ∙ two_uses m (entered_at m.old v.place v.kind t) (all_entered m.old vs ts)
+
+-- none where the count is wrong
+pub none_moves : (m : Move) (c : Bool) (ns : List Noted) → (if c then map (moved_noted m.path) ns else []) ≡ map (moved_noted m.path) (if c then ns else [])
+none_moves m true ns = refl
+none_moves m false ns = refl
+
 unbroken_stays : (m : Move) (t : Target) → is_unbroken (moved_target m.path t) ≡ is_unbroken t
 unbroken_stays m Takes = refl
 unbroken_stays m (Wants None) = refl
@@ -236,6 +259,13 @@ unfolding given_faults
 given_faults_stay m place vs ts =
     ap3 (λ (c : Bool) (fs : List ℕ) (b : Bool). if c then fs else fault_if b place) (counts_stay m vs ts) (all_refused_stay m vs ts)
     (ap2 (λ x y. x && y) (all_whole_stays m vs) (all_unbroken_stay m ts))
+
+pub given_enterings_move : (m : Move) (vs : List ListValue) (ts : List Target) →
+    given_enterings m.new (moved_values m vs) (moved_targets m ts) ≡ map (moved_noted m.path) (given_enterings m.old vs ts)
+unfolding given_enterings
+given_enterings_move m vs ts =
+    ap2 (λ (c : Bool) (ns : List Noted). if c then ns else []) (counts_stay m vs ts) (all_entered_move m vs ts)
+    ∙ none_moves m (length vs == length ts) (all_entered m.old vs ts)
 
 -- locals
 

@@ -2,7 +2,7 @@
 use Rattle.std.proofs.Common.{ℕ, ◌≡◌, Bool, true, false, ◌||◌, if◌then◌else◌, List, [], ◌∷◌}
 use Rattle.std.proofs.Common.{◌++◌, map, Option, Some, None, option_map, refl, sym, ap, ◌∙◌, subst}
 use Rattle.go_ast.specs.declared.syntax.BinaryOp.{BinaryOp}
-use Rattle.go_ast.specs.Tree.{Item, IdentTree, TypeTree, ExprTree, Chain, LinkTrees, no_link, selector, index, call}
+use Rattle.go_ast.specs.Tree.{Item, IdentTree, TypeTree, ExprTree, Paren, Chain, LinkTrees, no_link, selector, index, call}
 use Rattle.go_ast.specs.Tree.{SimpleTree, Alone, Step, Update, Assign, Define, LocalTree}
 use Rattle.types_expr.specs.Places.{first_token, place_of}
 use Rattle.types_expr.specs.Types.{PlainType, ValueKind, Meaning, Value, TypeName, Function, BuiltinName, Package, Results, Broken}
@@ -13,11 +13,12 @@ use Rattle.types_stmt.specs.Checked.{FoundSoFar}
 use Rattle.types_stmt.specs.Sides.{Target, Wants, Takes, judge_operand, rhs, assigned, defined, defined_names, all_named, with_locals, with_inferred}
 use Rattle.types_stmt.specs.Sides.{first_of_exprs, first_of_idents}
 use Rattle.types_stmt.specs.Simple.{condition_faults, check_condition, step_faults, check_step, binary_of, fault_if_none, update_faults, check_update, is_end}
-use Rattle.types_stmt.specs.Simple.{ends_in_call, without_last, may_be_statement, is_statement, statement_faults, check_expr_statement, check_assign}
+use Rattle.types_stmt.specs.Simple.{ends_in_call, without_last, without_parentheses, may_be_statement, is_statement, statement_faults}
+use Rattle.types_stmt.specs.Simple.{check_expr_statement, check_assign}
 use Rattle.types_stmt.specs.Simple.{check_define, check_simple, check_optional_simple, check_optional_condition, written_targets, name_targets, written_locals}
 use Rattle.types_stmt.specs.Simple.{check_typed_local, check_untyped_local, check_local_of, check_local}
-use Rattle.law_rename.specs.Renumbered.{items_by, ident_by, type_by, expr_by, exprs_by, links_by, arguments_by, simple_by, values_by, local_by}
-use Rattle.law_changed_types.specs.Renumbering.{AreRenumberedLocals, renumbered_use, renumbered_uses}
+use Rattle.law_rename.specs.Renumbered.{items_by, ident_by, type_by, expr_by, exprs_by, links_by, arguments_by, simple_by, values_by, local_by, item_by}
+use Rattle.law_changed_types.specs.Renumbering.{AreRenumberedLocals, renumbered_noted, renumbered_uses, renumbered_found}
 use Rattle.law_changed_types.proofs.Renumber.{Renumber, new, ap2, ap3, if_maps, two, three}
 use Rattle.law_changed_types.proofs.Literals.{type_found, written_found}
 use Rattle.law_changed_types.proofs.Places.{begins, reports, exprs_begin, idents_begin}
@@ -26,6 +27,7 @@ use Rattle.law_changed_types.proofs.Sides.{judged_value_found, rhs_found, operan
 use Rattle.law_changed_types.proofs.Sides.{new_names, all_named_found, with_locals_are, with_inferred_are}
 use Rattle.law_changed_types.proofs.RenumberedTokensRules.{list_values}
 use Rattle.law_changed_types.proofs.RenumberedTokensParts.{Same, judging, part, judged, given}
+use Rattle.std.proofs.lemmas.List.{length-map}
 
 -- faults at new tokens
 
@@ -133,16 +135,25 @@ update m s z r o x y =
     (begins m x) first second
     ∙ (ap (λ (fs : List ℕ). map m.to i.faults ++ (map m.to j.faults ++ fs)) (update_fault m (first_token x) o (value_kind i.meaning) (value_kind j.meaning))
     ∙ three m.to i.faults j.faults bad)) (i.uses ++ j.uses) _
-    (ap2 (λ (a b : Judged). a.uses ++ b.uses) first second ∙ two (renumbered_use m.to) i.uses j.uses)
+    (ap2 (λ (a b : Judged). a.uses ++ b.uses) first second ∙ two (renumbered_noted m.to) i.uses j.uses)
+
+parentheses_stay : (m : Renumber) (e : ExprTree) → without_parentheses (expr_by m.to e) ≡ expr_by m.to (without_parentheses e)
+unfolding without_parentheses expr_by
+parentheses_stay m (Paren o e c) = parentheses_stay m e
+parentheses_stay m e = refl
+
+found_inside : (c : Judging) (e : ExprTree) →
+    judge (new c.by) c.later (without_parentheses (expr_by c.by.to e)) ≡ renumbered_found c.by.to (judge c.by.old c.locals (without_parentheses e))
+found_inside c e = ap (judge (new c.by) c.later) (parentheses_stay c.by e) ∙ found c (without_parentheses e)
 
 alone : (m : Renumber) (s z : FoundSoFar) → Same m s z → (e : ExprTree) →
     Same m (check_expr_statement m.old s e) (check_expr_statement (new m) z (expr_by m.to e))
 unfolding check_expr_statement
 alone m s z r e =
     let c = judging m s z r in
-    let j = judge m.old s.locals e in
-    judged m s z r j _ (found c e) (statement_faults (place_of e) (is_statement m.old s.locals e) j.meaning) _
-    (ap3 (λ (place : ℕ) (b : Bool) (x : Judged). statement_faults place b x.meaning) (reports m e) (statement_stays c e) (found c e)
+    let j = judge m.old s.locals (without_parentheses e) in
+    judged m s z r j _ (found_inside c e) (statement_faults (place_of e) (is_statement m.old s.locals e) j.meaning) _
+    (ap3 (λ (place : ℕ) (b : Bool) (x : Judged). statement_faults place b x.meaning) (reports m e) (statement_stays c e) (found_inside c e)
     ∙ statement_fault m (place_of e) (is_statement m.old s.locals e) j.meaning)
 
 assign : (m : Renumber) (s z : FoundSoFar) → Same m s z → (xs ys : List (Item ExprTree)) →
@@ -150,7 +161,8 @@ assign : (m : Renumber) (s z : FoundSoFar) → Same m s z → (xs ys : List (Ite
 unfolding check_assign
 assign m s z r xs ys =
     let c = judging m s z r in
-    given m s z r (first_of_exprs xs) _ (exprs_begin m xs) s.locals z.locals r.locals (assigned m.old s.locals xs) _ (assigned_found c xs)
+    given m s z r (first_of_exprs xs) _ (exprs_begin m xs) ys _ (length-map ys (item_by m.to (expr_by m.to))) s.locals z.locals r.locals
+    (assigned m.old s.locals xs) _ (assigned_found c xs)
     (rhs m.old s.locals ys) _ (rhs_found c ys)
 
 -- locals that take types from values
@@ -167,7 +179,8 @@ unfolding check_define
 define m s z r xs ys =
     let c = judging m s z r in
     let v = rhs m.old s.locals ys in
-    given m s z r (first_of_exprs xs) _ (exprs_begin m xs) (with_inferred s.locals (defined_names m.old xs) v.values) _
+    given m s z r (first_of_exprs xs) _ (exprs_begin m xs) ys _ (length-map ys (item_by m.to (expr_by m.to))) (with_inferred s.locals
+    (defined_names m.old xs) v.values) _
     (inferred_are m s.locals z.locals r.locals (defined_names m.old xs) _ (defined_names_found m xs) v _ (rhs_found c ys))
     (defined m.old s.locals xs) _ (defined_found c xs) v _ (rhs_found c ys)
 
@@ -210,7 +223,8 @@ unfolding check_typed_local
 typed_local m s z r names t None =
     part m s z r (written_locals s.locals names t.type_of) _ (written_locals_are m s.locals z.locals r.locals names t.type_of) t.faults _ refl [] _ refl
 typed_local m s z r names t (Some x) =
-    given m s z r (first_of_idents names) _ (idents_begin m names) (written_locals s.locals names t.type_of) _
+    given m s z r (first_of_idents names) _ (idents_begin m names) x.1 _ (length-map x.1 (item_by m.to (expr_by m.to)))
+    (written_locals s.locals names t.type_of) _
     (written_locals_are m s.locals z.locals r.locals names t.type_of) (written_targets names t) _
     (ap (λ (ts : List Target). record { targets = ts; faults = map m.to t.faults; uses = [] }) (constant m (ident_by m.to) (Wants t.type_of) names))
     (rhs m.old s.locals x.1) _ (rhs_found (judging m s z r) x.1)
@@ -226,7 +240,8 @@ untyped_local m s z r names None =
 untyped_local m s z r names (Some x) =
     let v = rhs m.old s.locals x.1 in
     let same = rhs_found (judging m s z r) x.1 in
-    given m s z r (first_of_idents names) _ (idents_begin m names) (with_inferred s.locals (all_named names) v.values) _
+    given m s z r (first_of_idents names) _ (idents_begin m names) x.1 _ (length-map x.1 (item_by m.to (expr_by m.to))) (with_inferred s.locals
+    (all_named names) v.values) _
     (inferred_are m s.locals z.locals r.locals (all_named names) _ (all_named_found m names) v _ same) (name_targets names Takes) _
     (ap (λ (ts : List Target). record { targets = ts; faults = []; uses = [] }) (constant m (ident_by m.to) Takes names)) v _ same
 

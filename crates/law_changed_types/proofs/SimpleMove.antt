@@ -8,12 +8,13 @@ use Rattle.types_expr.specs.Types.{PlainType, ValueKind, Meaning, Value, TypeNam
 use Rattle.types_expr.specs.World.{World, Locals}
 use Rattle.types_expr.specs.Operations.{is_int, is_bool, operate}
 use Rattle.types_expr.specs.Judge.{Judged, JudgedList, TypeJudged, followed, select, index_rule, call_rule, value_at, value_kind, judge, judge_links}
-use Rattle.types_expr.specs.Judge.{judge_arguments, judge_value, judge_type, MemberUse}
+use Rattle.types_expr.specs.Judge.{judge_arguments, judge_value, judge_type, Noted}
 use Rattle.types_stmt.specs.Checked.{FoundSoFar, with_found}
 use Rattle.types_stmt.specs.Sides.{Target, Wants, Takes, judge_operand, rhs, assigned, defined, defined_names, all_named, with_locals, with_inferred}
 use Rattle.types_stmt.specs.Sides.{first_of_exprs, first_of_idents}
 use Rattle.types_stmt.specs.Simple.{condition_faults, check_condition, step_faults, check_step, binary_of, fault_if_none, update_faults, check_update, is_end}
-use Rattle.types_stmt.specs.Simple.{ends_in_call, without_last, may_be_statement, is_statement, statement_faults, check_expr_statement, check_assign}
+use Rattle.types_stmt.specs.Simple.{ends_in_call, without_last, without_parentheses, may_be_statement, is_statement, statement_faults}
+use Rattle.types_stmt.specs.Simple.{check_expr_statement, check_assign}
 use Rattle.types_stmt.specs.Simple.{check_define, check_simple, check_optional_simple, check_optional_condition, written_targets, name_targets, written_locals}
 use Rattle.types_stmt.specs.Simple.{check_typed_local, check_untyped_local, check_local_of, check_local}
 use Rattle.law_changed_types.proofs.ExpressionUses.{links_keep}
@@ -111,9 +112,9 @@ shorter_moves m locals (call o xs c rest) start place j h =
     (of_part k.uses (links_keep m.old locals rest start start k) h))
     ∙ shorter_moves m locals rest start start k h)
 
-statement_stays : (m : Move) (locals : Locals) (e : ExprTree) → Moves m (judge m.old locals e).uses →
+statement_stays : (m : Move) (locals : Locals) (e : ExprTree) → Moves m (judge m.old locals (without_parentheses e)).uses →
     is_statement m.new (moved_locals m.path locals) e ≡ is_statement m.old locals e
-unfolding is_statement judge
+unfolding is_statement without_parentheses judge
 statement_stays m locals (Chain e links) h =
     let j = judge m.old locals e in
     let shorter = judge_links m.old locals (first_token e) (place_of e) j (without_last links) in
@@ -151,7 +152,7 @@ updated_moves : (m : Move) (s : FoundSoFar) (o : BinaryOp) (start : ℕ) (i j : 
     updated m.new (moved_checked m.path s) o start (moved_found m.path i) (moved_found m.path j) ≡ moved_checked m.path (updated m.old s o start i j)
 unfolding updated
 updated_moves m s o start i j =
-    ap2 (λ (fs : List ℕ) (us : List MemberUse). record {
+    ap2 (λ (fs : List ℕ) (us : List Noted). record {
       locals = moved_locals m.path s.locals;
       faults = s.faults ++ (i.faults ++ (j.faults ++ fs));
       uses = us;
@@ -173,10 +174,11 @@ update m s o x y =
 alone : (m : Move) (s : FoundSoFar) (e : ExprTree) → IsMoved m s (check_expr_statement m.old s e) (check_expr_statement m.new (moved_checked m.path s) e)
 unfolding check_expr_statement
 alone m s e =
-    let j = judge m.old s.locals e in
+    let inner = without_parentheses e in
+    let j = judge m.old s.locals inner in
     let new = moved_locals m.path s.locals in
-    judged s j (judge m.new new e) (λ (z : Judged). statement_faults (place_of e) (is_statement m.old s.locals e) z.meaning)
-    (λ (z : Judged). statement_faults (place_of e) (is_statement m.new new e) z.meaning) (λ q. found_moves m s.locals e q)
+    judged s j (judge m.new new inner) (λ (z : Judged). statement_faults (place_of e) (is_statement m.old s.locals e) z.meaning)
+    (λ (z : Judged). statement_faults (place_of e) (is_statement m.new new e) z.meaning) (λ q. found_moves m s.locals inner q)
     (λ q. ap (λ (b : Bool). statement_faults (place_of e) b (moved_meaning m.path j.meaning)) (statement_stays m s.locals e q)
     ∙ statement_faults_stay m (place_of e) (is_statement m.old s.locals e) j.meaning)
 
@@ -185,7 +187,7 @@ assign : (m : Move) (s : FoundSoFar) (xs ys : List (Item ExprTree)) →
 unfolding check_assign
 assign m s xs ys =
     let new = moved_locals m.path s.locals in
-    given m s (first_of_exprs xs) (λ r. s.locals) (λ r. new) (assigned m.old s.locals xs) (assigned m.new new xs) (rhs m.old s.locals ys)
+    given m s (first_of_exprs xs) ys (λ r. s.locals) (λ r. new) (assigned m.old s.locals xs) (assigned m.new new xs) (rhs m.old s.locals ys)
     (rhs m.new new ys) (λ q. assigned_moves m s.locals xs q) (λ q. rhs_moves m s.locals ys q) refl
 
 define : (m : Move) (s : FoundSoFar) (xs ys : List (Item ExprTree)) →
@@ -194,7 +196,7 @@ unfolding check_define
 define m s xs ys =
     let new = moved_locals m.path s.locals in
     let r = rhs m.old s.locals ys in
-    given m s (first_of_exprs xs) (λ (r : JudgedList). with_inferred s.locals (defined_names m.old xs) r.values)
+    given m s (first_of_exprs xs) ys (λ (r : JudgedList). with_inferred s.locals (defined_names m.old xs) r.values)
     (λ (r : JudgedList). with_inferred new (defined_names m.new xs) r.values) (defined m.old s.locals xs) (defined m.new new xs) r (rhs m.new new ys)
     (λ q. defined_moves m s.locals xs q) (λ q. rhs_moves m s.locals ys q)
     (ap (λ (ns : List (Option ℕ)). with_inferred new ns (moved_values m r.values)) (defined_names_stay m xs)
@@ -247,7 +249,7 @@ typed_local m s names t None =
     part s (written_locals s.locals names t.type_of) t.faults [] _
     (λ h. declared_after m s (written_locals s.locals names t.type_of) _ t.faults [] (written_locals_move m s.locals names t.type_of))
 typed_local m s names t (Some x) =
-    given m s (first_of_idents names) (λ r. written_locals s.locals names t.type_of)
+    given m s (first_of_idents names) x.1 (λ r. written_locals s.locals names t.type_of)
     (λ r. written_locals (moved_locals m.path s.locals) names (option_map (moved_type m.path) t.type_of)) (written_targets names t)
     (written_targets names (moved_written m t)) (rhs m.old s.locals x.1) (rhs m.new (moved_locals m.path s.locals) x.1)
     (λ q. written_targets_move m names t) (λ q. rhs_moves m s.locals x.1 q) (written_locals_move m s.locals names t.type_of)
@@ -259,7 +261,7 @@ untyped_local m s names None =
     part s (with_locals s.locals (all_named names) []) [] [] _
     (λ h. declared_after m s (with_locals s.locals (all_named names) []) _ [] [] (with_locals_moves m s.locals (all_named names) []))
 untyped_local m s names (Some x) =
-    given m s (first_of_idents names) (λ (r : JudgedList). with_inferred s.locals (all_named names) r.values)
+    given m s (first_of_idents names) x.1 (λ (r : JudgedList). with_inferred s.locals (all_named names) r.values)
     (λ (r : JudgedList). with_inferred (moved_locals m.path s.locals) (all_named names) r.values) (name_targets names Takes)
     (name_targets names Takes) (rhs m.old s.locals x.1) (rhs m.new (moved_locals m.path s.locals) x.1) (λ q. name_targets_move m names)
     (λ q. rhs_moves m s.locals x.1 q) (with_inferred_moves m s.locals (all_named names) (rhs m.old s.locals x.1).values)

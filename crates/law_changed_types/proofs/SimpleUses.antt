@@ -12,7 +12,8 @@ use Rattle.types_stmt.specs.Sides.{Wants, Takes, Lefts, left_side, join_lefts, o
 use Rattle.types_stmt.specs.Sides.{assigned_one, assigned, no_name, defined_one, defined, defined_name, defined_names, all_named, with_locals, with_inferred}
 use Rattle.types_stmt.specs.Sides.{first_of_exprs, first_of_idents}
 use Rattle.types_stmt.specs.Simple.{condition_faults, check_condition, step_faults, check_step, binary_of, update_faults, check_update, is_end}
-use Rattle.types_stmt.specs.Simple.{ends_in_call, without_last, may_be_statement, is_statement, statement_faults, check_expr_statement, check_assign}
+use Rattle.types_stmt.specs.Simple.{ends_in_call, without_last, without_parentheses, may_be_statement, is_statement, statement_faults}
+use Rattle.types_stmt.specs.Simple.{check_expr_statement, check_assign}
 use Rattle.types_stmt.specs.Simple.{check_define, check_simple, check_optional_simple, check_optional_condition, written_targets, name_targets, written_locals}
 use Rattle.types_stmt.specs.Simple.{check_typed_local, check_untyped_local, check_local_of, check_local}
 use Rattle.law_changed_types.proofs.Agreement.{Members, with_members, AreMembersAt, AreIn, of_part, of_first, of_second}
@@ -119,9 +120,9 @@ unfolding judge
 same_shorter v m locals e links h = same_judged v m locals (Chain e (without_last links))
     (of_part (judge v locals (Chain e (without_last links))).uses (shorter_in v locals links (first_token e) (place_of e) (judge v locals e)) h)
 
-same_statement : (v : World) (m : Members) (locals : Locals) (e : ExprTree) → AreMembersAt v m (judge v locals e).uses →
+same_statement : (v : World) (m : Members) (locals : Locals) (e : ExprTree) → AreMembersAt v m (judge v locals (without_parentheses e)).uses →
     is_statement (with_members v m) locals e ≡ is_statement v locals e
-unfolding is_statement
+unfolding is_statement without_parentheses
 same_statement v m locals (Chain e links) h =
     ap (λ (z : Judged). if ends_in_call links then may_be_statement z.meaning else false) (same_shorter v m locals e links h)
 same_statement v m locals e h = refl
@@ -166,16 +167,17 @@ alone : (v : World) (m : Members) (s : FoundSoFar) (e : ExprTree) → IsSettled 
 unfolding check_expr_statement
 alone v m s e =
     let w = with_members v m in
-    judged s (judge v s.locals e) (judge w s.locals e) (λ (z : Judged). statement_faults (place_of e) (is_statement v s.locals e) z.meaning)
-    (λ (z : Judged). statement_faults (place_of e) (is_statement w s.locals e) z.meaning) (λ q. same_judged v m s.locals e q)
-    (λ q. ap (λ (z : Bool). statement_faults (place_of e) z (judge v s.locals e).meaning) (same_statement v m s.locals e q))
+    let inner = without_parentheses e in
+    judged s (judge v s.locals inner) (judge w s.locals inner) (λ (z : Judged). statement_faults (place_of e) (is_statement v s.locals e) z.meaning)
+    (λ (z : Judged). statement_faults (place_of e) (is_statement w s.locals e) z.meaning) (λ q. same_judged v m s.locals inner q)
+    (λ q. ap (λ (z : Bool). statement_faults (place_of e) z (judge v s.locals inner).meaning) (same_statement v m s.locals e q))
 
 assign : (v : World) (m : Members) (s : FoundSoFar) (xs ys : List (Item ExprTree)) →
     IsSettled v m s (check_assign v s xs ys) (check_assign (with_members v m) s xs ys)
 unfolding check_assign
 assign v m s xs ys =
     let w = with_members v m in
-    given v m s (first_of_exprs xs) (λ r. s.locals) (assigned v s.locals xs) (assigned w s.locals xs) (rhs v s.locals ys) (rhs w s.locals ys)
+    given v m s (first_of_exprs xs) ys (λ r. s.locals) (assigned v s.locals xs) (assigned w s.locals xs) (rhs v s.locals ys) (rhs w s.locals ys)
     (λ q. same_assigned v m s.locals xs q) (λ q. same_rhs v m s.locals ys q)
 
 define : (v : World) (m : Members) (s : FoundSoFar) (xs ys : List (Item ExprTree)) →
@@ -183,7 +185,7 @@ define : (v : World) (m : Members) (s : FoundSoFar) (xs ys : List (Item ExprTree
 unfolding check_define defined_name
 define v m s xs ys =
     let w = with_members v m in
-    given v m s (first_of_exprs xs) (λ (r : JudgedList). with_inferred s.locals (defined_names v xs) r.values) (defined v s.locals xs)
+    given v m s (first_of_exprs xs) ys (λ (r : JudgedList). with_inferred s.locals (defined_names v xs) r.values) (defined v s.locals xs)
     (defined w s.locals xs) (rhs v s.locals ys) (rhs w s.locals ys) (λ q. same_defined v m s.locals xs q) (λ q. same_rhs v m s.locals ys q)
 
 pub simple : (v : World) (m : Members) (s : FoundSoFar) (a : SimpleTree) → IsSettled v m s (check_simple v s a) (check_simple (with_members v m) s a)
@@ -212,7 +214,7 @@ unfolding check_typed_local
 typed_local v m s names t None =
     part s (written_locals s.locals names t.type_of) t.faults [] (check_typed_local (with_members v m) s names t None) (λ h. refl)
 typed_local v m s names t (Some x) =
-    given v m s (first_of_idents names) (λ r. written_locals s.locals names t.type_of) (written_targets names t) (written_targets names t)
+    given v m s (first_of_idents names) x.1 (λ r. written_locals s.locals names t.type_of) (written_targets names t) (written_targets names t)
     (rhs v s.locals x.1) (rhs (with_members v m) s.locals x.1) (λ q. refl) (λ q. same_rhs v m s.locals x.1 q)
 
 untyped_local : (v : World) (m : Members) (s : FoundSoFar) (names : List (Item IdentTree)) (values : Option (ℕ × List (Item ExprTree))) →
@@ -221,7 +223,7 @@ unfolding check_untyped_local
 untyped_local v m s names None =
     part s (with_locals s.locals (all_named names) []) [] [] (check_untyped_local (with_members v m) s names None) (λ h. refl)
 untyped_local v m s names (Some x) =
-    given v m s (first_of_idents names) (λ (r : JudgedList). with_inferred s.locals (all_named names) r.values) (name_targets names Takes)
+    given v m s (first_of_idents names) x.1 (λ (r : JudgedList). with_inferred s.locals (all_named names) r.values) (name_targets names Takes)
     (name_targets names Takes) (rhs v s.locals x.1) (rhs (with_members v m) s.locals x.1) (λ q. refl) (λ q. same_rhs v m s.locals x.1 q)
 
 local_of : (v : World) (m : Members) (s : FoundSoFar) (names : List (Item IdentTree)) (t : Option TypeTree) (values : Option (ℕ × List (Item ExprTree))) →

@@ -5,14 +5,16 @@ use Rattle.go_ast.specs.Tree.{Item, ResultTree, ReceiverTree, GlobalTree, TypeSp
 use Rattle.types_expr.specs.Types.{ValueKind}
 use Rattle.types_expr.specs.World.{World, Locals}
 use Rattle.types_expr.specs.Operations.{fits, class_of, operate, joined}
-use Rattle.types_expr.specs.Judge.{ListValue, JudgedList, misfit, judge_type, imported_type}
+use Rattle.types_expr.specs.Judge.{JudgedList, misfit, entering, judge_type, imported_type}
 use Rattle.types_stmt.specs.Checked.{FoundSoFar}
-use Rattle.types_stmt.specs.Sides.{Target, Lefts, refused_at, all_refused, given_faults, defined_name, defined_names}
+use Rattle.types_stmt.specs.Sides.{Target, Lefts, refused_at, all_refused, given_faults, entered_at, all_entered, given_enterings}
+use Rattle.types_stmt.specs.Sides.{defined_name, defined_names}
 use Rattle.types_stmt.specs.Simple.{condition_faults, step_faults, update_faults, with_given}
-use Rattle.types_stmt.specs.Statements.{returned}
+use Rattle.types_stmt.specs.Statements.{returned, returning}
 use Rattle.types_stmt.specs.Headers.{may_receive, receiver_or_fault, receiver_base, judge_receiver, check_receiver, check_optional_receiver, check_param}
 use Rattle.types_stmt.specs.Headers.{judge_types, judge_results}
-use Rattle.types_stmt.specs.Declarations.{literal_faults, value_faults, global_faults, field_faults, body_faults, check_global, check_type}
+use Rattle.types_stmt.specs.Declarations.{literal_faults, value_faults, global_faults, literal_enterings, value_enterings, field_faults}
+use Rattle.types_stmt.specs.Declarations.{body_faults, check_global, check_type}
 use Rattle.law_changed_types.proofs.Agreement.{Members, with_members}
 
 pub same_condition : (v : World) (m : Members) (place : ℕ) (k : Option ValueKind) →
@@ -31,17 +33,17 @@ same_update v m start o a b = refl
 
 pub same_given : (v : World) (m : Members) (s : FoundSoFar) (place : ℕ) (locals : Locals) (l : Lefts) (r : JudgedList) →
     with_given (with_members v m) s place locals l r ≡ with_given v s place locals l r
-unfolding given_faults all_refused refused_at misfit fits
+unfolding given_faults all_refused refused_at misfit fits given_enterings all_entered entered_at entering
 same_given v m s place locals l r = refl
 
 pub same_names : (v : World) (m : Members) (is : List (Item ExprTree)) → defined_names (with_members v m) is ≡ defined_names v is
 unfolding defined_name
 same_names v m is = refl
 
-pub same_returned : (v : World) (m : Members) (place : ℕ) (vs : List ListValue) (ts : List Target) →
-    returned (with_members v m) place vs ts ≡ returned v place vs ts
-unfolding returned all_refused refused_at misfit fits
-same_returned v m place vs ts = refl
+pub same_returning : (v : World) (m : Members) (s : FoundSoFar) (place : ℕ) (results : List Target) (r : JudgedList) →
+    returning (with_members v m) s place results r ≡ returning v s place results r
+unfolding returned all_refused refused_at misfit fits given_enterings all_entered entered_at entering
+same_returning v m s place results r = refl
 
 pub same_results : (v : World) (m : Members) (r : ResultTree) → judge_results (with_members v m) r ≡ judge_results v r
 unfolding judge_results judge_types judge_type imported_type
@@ -57,7 +59,8 @@ unfolding check_param judge_type imported_type
 same_param v m s p = refl
 
 pub same_global : (v : World) (m : Members) (s : FoundSoFar) (g : GlobalTree) → check_global (with_members v m) s g ≡ check_global v s g
-unfolding global_faults value_faults literal_faults all_refused refused_at misfit fits judge_type imported_type
+unfolding global_faults value_faults literal_faults all_refused refused_at misfit fits value_enterings literal_enterings all_entered entered_at entering
+    judge_type imported_type
 same_global v m s g = refl
 
 pub same_type_spec : (v : World) (m : Members) (s : FoundSoFar) (t : TypeSpecTree) → check_type (with_members v m) s t ≡ check_type v s t

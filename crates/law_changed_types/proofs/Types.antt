@@ -6,13 +6,13 @@ use Rattle.go_ast.specs.Tree.{TypeTree, Local, Imported, BodyTree, Other}
 use Rattle.law_tokens.proofs.Elements.{all_got}
 use Rattle.types_expr.specs.declared.symbol.Symbol.{Symbol}
 use Rattle.types_expr.specs.Types.{PlainType, Defined, Underlying}
-use Rattle.types_expr.specs.Types.{Struct as StructOf}
+use Rattle.types_expr.specs.Types.{Struct as StructOf, Interface as InterfaceOf}
 use Rattle.types_declared.specs.Package.{Package, PlacedType, package_types, type_place}
 use Rattle.types_declared.specs.Written.{DeclaresType, NamesExport, DenotesType, predeclared, defined, imported, pointer, slice, basic_name, written_types}
 use Rattle.types_declared.specs.Written.{Mentions, by_name, by_pointer, by_slice, IsWrittenIn, IsBroken, by_itself, through, IsTypeOf}
 use Rattle.types_declared.specs.MeaningOf.{AreTypesOf}
 use Rattle.types_declared.specs.Definitions.{HasUnderlying}
-use Rattle.types_declared.specs.Definitions.{basic, struct, named}
+use Rattle.types_declared.specs.Definitions.{basic, struct, interface, named}
 use Rattle.types_declared.specs.Definitions.{pointer as pointer_to, slice as slice_of, imported as of_imported}
 use Rattle.law_changed_types.specs.SameBindings.{IsDotted}
 use Rattle.law_changed_types.proofs.Alike.{Alike, turned, tokens, symbols, is_predeclared, exports, ranked_by, got_by}
@@ -105,6 +105,9 @@ has_underlying p q a _ _ (slice_of {t = t}) = slice_of {t = t}
 has_underlying p q a _ _ (struct {rank = r} {d = d} {k = k} {o = o} {c = c} {fs = fs} at body) =
     subst (λ (s : Symbol). HasUnderlying q (Defined s) (StructOf s)) (symbols p q a r)
     (struct {rank = r} {d = d} {k = k} {o = o} {c = c} {fs = fs} (got_by (package_types p) (package_types q) r d a.types at) body)
+has_underlying p q a _ _ (interface {rank = r} {d = d} {k = k} {o = o} {c = c} {ms = ms} at body) =
+    subst (λ (s : Symbol). HasUnderlying q (Defined s) (InterfaceOf s)) (symbols p q a r)
+    (interface {rank = r} {d = d} {k = k} {o = o} {c = c} {ms = ms} (got_by (package_types p) (package_types q) r d a.types at) body)
 has_underlying p q a _ _ (named {rank = r} {d = d} {tree = tree} {t = t} {u = u} at body is h) =
     subst (λ (s : Symbol). HasUnderlying q (Defined s) u) (symbols p q a r)
     (named {rank = r} {d = d} {tree = tree} {t = t} {u = u} (got_by (package_types p) (package_types q) r d a.types at) body

@@ -1,10 +1,11 @@
 -- The decisions on types are the same of moved types, and underlying types are moved.
-use Rattle.std.proofs.Common.{ℕ, ◌≡◌, Bool, true, false, ◌&&◌, ◌==◌, List, option_map, refl, sym, ap}
+use Rattle.std.proofs.Common.{ℕ, ◌≡◌, Bool, true, false, ◌&&◌, ◌==◌, List, option_map, refl, sym, ap, ◌∙◌}
 use Rattle.std.specs.Cmp.Lexicographic.{bytes_decides}
 use Rattle.types_expr.specs.declared.symbol.Symbol.{Symbol}
-use Rattle.types_expr.specs.Types.{PlainType, BasicType, Defined, Pointer, Slice, Underlying, Plain, PointerTo, SliceOf, Struct, same_path, same_symbol}
-use Rattle.types_expr.specs.Types.{same_type, same_underlying, is_named, has_nil, is_pointer, points, element_of}
-use Rattle.types_expr.specs.World.{underlying}
+use Rattle.types_expr.specs.Types.{PlainType, BasicType, Defined, Pointer, Slice, Underlying, Plain, PointerTo, SliceOf, Struct, Interface}
+use Rattle.types_expr.specs.Types.{same_path, same_symbol, same_type, same_underlying, is_named, has_nil, is_pointer, points, takes_no_methods, element_of}
+use Rattle.types_expr.specs.Types.{is_interface}
+use Rattle.types_expr.specs.World.{may_enter, giving, underlying}
 use Rattle.types_expr.specs.Operations.{class_of_underlying}
 use Rattle.law_changed_types.specs.Moved.{moved_symbol, moved_type, moved_underlying}
 use Rattle.law_changed_types.proofs.Moving.{Move}
@@ -61,12 +62,45 @@ same_underlyings m (Struct a) (Plain b) = refl
 same_underlyings m (Struct a) (PointerTo b) = refl
 same_underlyings m (Struct a) (SliceOf b) = refl
 same_underlyings m (Struct a) (Struct b) = same_symbols m a b
+same_underlyings m (Struct a) (Interface b) = refl
+same_underlyings m (Interface a) (Plain b) = refl
+same_underlyings m (Interface a) (PointerTo b) = refl
+same_underlyings m (Interface a) (SliceOf b) = refl
+same_underlyings m (Interface a) (Struct b) = refl
+same_underlyings m (Interface a) (Interface b) = same_symbols m a b
+same_underlyings m (Plain a) (Interface b) = refl
+same_underlyings m (PointerTo a) (Interface b) = refl
+same_underlyings m (SliceOf a) (Interface b) = refl
 
 pub underlying_moves : (m : Move) (t : PlainType) → underlying m.new (moved_type m.path t) ≡ moved_underlying m.path (underlying m.old t)
 underlying_moves m (BasicType b) = refl
 underlying_moves m (Defined s) = m.definition s
 underlying_moves m (Pointer t) = refl
 underlying_moves m (Slice t) = refl
+
+pub same_interface : (m : Move) (u : Underlying) → is_interface (moved_underlying m.path u) ≡ is_interface u
+same_interface m (Plain b) = refl
+same_interface m (PointerTo t) = refl
+same_interface m (SliceOf t) = refl
+same_interface m (Struct s) = refl
+same_interface m (Interface s) = refl
+
+pub interface_stays : (m : Move) (t : PlainType) → is_interface (underlying m.new (moved_type m.path t)) ≡ is_interface (underlying m.old t)
+interface_stays m t = ap is_interface (underlying_moves m t) ∙ same_interface m (underlying m.old t)
+
+-- the move of the worlds as the targets of values see them
+abbrev pub giving_move : (own : Bool) → Move → Move
+giving_move own m = record {
+  path = m.path;
+  injective = m.injective;
+  old = giving own m.old;
+  new = giving own m.new;
+  bound = m.bound;
+  definition = m.definition;
+  implements = λ t s.
+      ap (λ x. may_enter own x && m.new.implements (moved_type m.path t) (moved_symbol m.path s)) (interface_stays m t)
+      ∙ ap (λ x. may_enter own (is_interface (underlying m.old t)) && x) (m.implements t s);
+}
 
 pub same_named : (m : Move) (t : PlainType) → is_named (moved_type m.path t) ≡ is_named t
 unfolding is_named
@@ -81,27 +115,38 @@ same_pointer m (Defined s) = refl
 same_pointer m (Pointer t) = refl
 same_pointer m (Slice t) = refl
 
+pub same_takes : (m : Move) (u : Underlying) → takes_no_methods (moved_underlying m.path u) ≡ takes_no_methods u
+same_takes m (Plain b) = refl
+same_takes m (PointerTo t) = refl
+same_takes m (SliceOf t) = refl
+same_takes m (Struct s) = refl
+same_takes m (Interface s) = refl
+
 pub same_nil : (m : Move) (u : Underlying) → has_nil (moved_underlying m.path u) ≡ has_nil u
 unfolding has_nil
 same_nil m (Plain b) = refl
 same_nil m (PointerTo t) = refl
 same_nil m (SliceOf t) = refl
 same_nil m (Struct s) = refl
+same_nil m (Interface s) = refl
 
 pub same_points : (m : Move) (u : Underlying) → points (moved_underlying m.path u) ≡ points u
 same_points m (Plain b) = refl
 same_points m (PointerTo t) = refl
 same_points m (SliceOf t) = refl
 same_points m (Struct s) = refl
+same_points m (Interface s) = refl
 
 pub same_class : (m : Move) (u : Underlying) → class_of_underlying (moved_underlying m.path u) ≡ class_of_underlying u
 same_class m (Plain b) = refl
 same_class m (PointerTo t) = refl
 same_class m (SliceOf t) = refl
 same_class m (Struct s) = refl
+same_class m (Interface s) = refl
 
 pub element_moves : (m : Move) (u : Underlying) → element_of (moved_underlying m.path u) ≡ option_map (moved_type m.path) (element_of u)
 element_moves m (Plain b) = refl
 element_moves m (PointerTo t) = refl
 element_moves m (SliceOf t) = refl
 element_moves m (Struct s) = refl
+element_moves m (Interface s) = refl

@@ -3,10 +3,10 @@ use Rattle.std.proofs.Common.{ℕ, ◌≡◌, List, Some, refl, sym, ap, ◌∙�
 use Rattle.std.specs.Prelude.{slice_get}
 use Rattle.types_expr.specs.declared.symbol.Symbol.{Symbol}
 use Rattle.types_expr.specs.Types.{PlainType, Defined, Underlying, Plain, PointerTo, SliceOf}
-use Rattle.types_expr.specs.Types.{Struct as StructOf}
+use Rattle.types_expr.specs.Types.{Struct as StructOf, Interface as InterfaceOf}
 use Rattle.types_expr.specs.World.{Definition}
 use Rattle.types_declared.specs.Package.{Package, package_types, symbol_in}
-use Rattle.types_declared.specs.Definitions.{HasUnderlying, basic, pointer, slice, struct, named, imported}
+use Rattle.types_declared.specs.Definitions.{HasUnderlying, basic, pointer, slice, struct, interface, named, imported}
 use Rattle.law_changed_types.proofs.Alike.{got_by}
 use Rattle.law_changed_types.specs.Moved.{PathMap, IsInjective, moved_symbol, moved_type, moved_underlying}
 use Rattle.law_changed_types.proofs.Moving.{ap2}
@@ -35,6 +35,9 @@ module _ (g : PathMap) (inj : IsInjective g) (p q : Package) (a : IsMovedPackage
   has_underlying _ _ (struct {rank = r} {d = d} {k = k} {o = o} {c = c} {fs = fs} at body) =
       subst (λ (s : Symbol). HasUnderlying q (Defined s) (StructOf s)) (symbols g inj p q a r)
       (struct {rank = r} {d = d} {k = k} {o = o} {c = c} {fs = fs} (got_by (package_types p) (package_types q) r d (same_place_types g inj p q a) at) body)
+  has_underlying _ _ (interface {rank = r} {d = d} {k = k} {o = o} {c = c} {ms = ms} at body) =
+      subst (λ (s : Symbol). HasUnderlying q (Defined s) (InterfaceOf s)) (symbols g inj p q a r)
+      (interface {rank = r} {d = d} {k = k} {o = o} {c = c} {ms = ms} (got_by (package_types p) (package_types q) r d (same_place_types g inj p q a) at) body)
   has_underlying _ _ (named {rank = r} {d = d} {tree = tree} {t = t} {u = u} at body is h) =
       subst (λ (s : Symbol). HasUnderlying q (Defined s) (moved_underlying g u)) (symbols g inj p q a r)
       (named {rank = r} {d = d} {tree = tree} {t = moved_type g t} {u = moved_underlying g u}
@@ -60,6 +63,16 @@ module _ (g : PathMap) (inj : IsInjective g) (p q : Package) (a : IsMovedPackage
         (
           ap StructOf (symbols g inj p q a r),
           struct {rank = r} {d = d} {k = k} {o = o} {c = c} {fs = fs}
+              (got_by (package_types q) (package_types p) r d (sym (same_place_types g inj p q a)) at) body,
+        ),
+      )
+  underlying_back _ _ (interface {rank = r} {d = d} {k = k} {o = o} {c = c} {ms = ms} at body) x e =
+      let s = defined_back g x (symbol_in q r) e in
+      subst (λ z. Before g p z (InterfaceOf (symbol_in q r))) (sym (s.1.0 ∙ ap Defined (own_symbol s.0 r s.1.1))) (
+        InterfaceOf (symbol_in p r),
+        (
+          ap InterfaceOf (symbols g inj p q a r),
+          interface {rank = r} {d = d} {k = k} {o = o} {c = c} {ms = ms}
               (got_by (package_types q) (package_types p) r d (sym (same_place_types g inj p q a)) at) body,
         ),
       )

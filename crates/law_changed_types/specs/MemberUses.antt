@@ -4,17 +4,20 @@ use Rattle.std.specs.Prelude.{ℕ, ◌≡◌, Bool, List, Contains, None}
 use Rattle.go_ast.specs.Tree.{ExprTree, DeclTree, VarDecl, TypeDecl, FuncDecl, FileTree}
 use Rattle.types_expr.specs.declared.symbol.Symbol.{Symbol}
 use Rattle.types_expr.specs.World.{World, Locals}
-use Rattle.types_expr.specs.Judge.{MemberUse, judge}
+use Rattle.types_expr.specs.Judge.{MemberUse, Noted, OfMember, judge}
 use Rattle.types_stmt.specs.Declarations.{check_file}
+use Rattle.types_expr.specs.Types.{PlainType}
 
 -- v and w have the same members at the tokens and types of these uses.
-abbrev pub AgreeAt : List MemberUse → World → World → Type 0
-AgreeAt uses v w = (u : MemberUse) → Contains uses u → w.member u.place u.before ≡ v.member u.place u.before
+abbrev pub AgreeAt : List Noted → World → World → Type 0
+AgreeAt uses v w = (u : MemberUse) → Contains uses (OfMember u) → w.member u.place u.before ≡ v.member u.place u.before
 
--- v and w bind each name to the same, have the same definitions, and have the same members at these uses.
-pub record IsAlike (uses : List MemberUse) (v w : World) : Type 0 where
+-- v and w bind each name to the same and have the same definitions. In both the same types implement the same interfaces. They have the same
+-- members at these uses.
+pub record IsAlike (uses : List Noted) (v w : World) : Type 0 where
   pub bound : (token : ℕ) → w.bound token ≡ v.bound token
   pub definition : (s : Symbol) → w.definition s ≡ v.definition s
+  pub implements : (t : PlainType) (s : Symbol) → w.implements t s ≡ v.implements t s
   pub members : AgreeAt uses v w
 
 -- What is found of an expression is the same in a world that is alike at the uses that are found in it.

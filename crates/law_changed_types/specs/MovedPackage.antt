@@ -5,7 +5,7 @@ use Rattle.go_scope.specs.Bindings.{is_implied}
 use Rattle.go_ast.specs.SourceFile.{SourceFile, spelling_of}
 use Rattle.law_rename.specs.Renaming.{HasSameBindings}
 use Rattle.types_info.specs.Worlds.{IsName, IsWorldOf}
-use Rattle.types_expr.specs.Judge.{MemberUse}
+use Rattle.types_expr.specs.Judge.{MemberUse, Noted, OfMember}
 use Rattle.law_changed_types.specs.Moves.{IsMovedWorld}
 use Rattle.types_expr.specs.Types.{PlainType}
 use Rattle.types_expr.specs.World.{World, Field, Method, Definition}
@@ -15,6 +15,7 @@ use Rattle.types_declared.specs.MeaningOf.{IsMeaningOf}
 use Rattle.types_declared.specs.Definitions.{HasUnderlying, PlacedField, package_fields, IsDefinition}
 use Rattle.law_changed_types.specs.SameBindings.{IsParsedPackage, IsSelectedAt, IsDotted, trees_of}
 use Rattle.law_changed_types.specs.Moved.{PathMap, IsInjective, moved_symbol, moved_type, moved_underlying, moved_signature, moved_meaning, moved_bound}
+use Rattle.law_changed_types.specs.Moved.{moved_form}
 
 -- What holds of something in the old package holds of it in the new one once it is moved, and of nothing else.
 pub record HoldsAfterMove {A : Type 0} (moved : A → A) (before after : A → Type 0) : Type 0 where
@@ -27,7 +28,7 @@ abbrev pub moved_export : PathMap → Export → Export
 moved_export g e = record { meaning = moved_meaning g e.meaning }
 
 abbrev pub moved_field : PathMap → Field → Field
-moved_field g f = record { symbol = moved_symbol g f.symbol; exported = f.exported; type_of = moved_type g f.type_of }
+moved_field g f = record { symbol = moved_symbol g f.symbol; exported = f.exported; form = moved_form g f.form }
 
 abbrev pub moved_method : PathMap → Method → Method
 moved_method g m = record {
@@ -98,5 +99,5 @@ NamesMove = (g : PathMap) → IsInjective g → (p q : Package) → IsMovedPacka
 -- it found before, moved.
 abbrev pub WorldsMove : Type 0
 WorldsMove = (g : PathMap) → IsInjective g → (p q : Package) → IsMovedPackage g p q → (file : ℕ) (f h : SourceFile) (v w : World) →
-    IsWorldOf p file f v → IsWorldOf q file h w → (uses : List MemberUse) →
-    ((u : MemberUse) → Contains uses u → spelling_of h u.place ≡ spelling_of f u.place) → IsMovedWorld g uses v w
+    IsWorldOf p file f v → IsWorldOf q file h w → (uses : List Noted) →
+    ((u : MemberUse) → Contains uses (OfMember u) → spelling_of h u.place ≡ spelling_of f u.place) → IsMovedWorld g uses v w

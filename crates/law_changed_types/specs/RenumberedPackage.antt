@@ -8,7 +8,7 @@ use Rattle.go_scope.specs.Table.{LiesAt}
 use Rattle.law_rename.specs.Renumbered.{decl_by, type_by}
 use Rattle.law_changed_types.specs.SameBindings.{IsParsedPackage, IsSelectedAt, IsDotted}
 use Rattle.law_changed_types.specs.Renumbering.{IsRenumbering, IsRenumberedCheck, renumbered_bound}
-use Rattle.types_expr.specs.Judge.{MemberUse}
+use Rattle.types_expr.specs.Judge.{MemberUse, OfMember}
 use Rattle.types_expr.specs.Types.{PlainType, Underlying}
 use Rattle.types_expr.specs.World.{World, Bound, Definition}
 use Rattle.types_stmt.specs.Declarations.{check_file}
@@ -105,5 +105,5 @@ NamesRenumber = (n : NewNumbers) (p q : Package) → IsRenumberedPackage n p q �
 abbrev pub FoundRenumbers : Type 0
 FoundRenumbers = (n : NewNumbers) (p q : Package) → IsRenumberedPackage n p q → (file : ℕ) (f g : SourceFile) →
     slice_get p.files file ≡ Some f → slice_get q.files file ≡ Some g → (v w : World) → IsWorldOf p file f v → IsWorldOf q file g w →
-    ((u : MemberUse) → Contains (check_file v (is_init f) f.tree).uses u → spelling_of g (n.token file u.place) ≡ spelling_of f u.place) →
+    ((u : MemberUse) → Contains (check_file v (is_init f) f.tree).uses (OfMember u) → spelling_of g (n.token file u.place) ≡ spelling_of f u.place) →
     IsRenumberedCheck (n.token file) (check_file v (is_init f) f.tree) (check_file w (is_init g) g.tree)

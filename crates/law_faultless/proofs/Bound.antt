@@ -13,7 +13,7 @@ use Rattle.go_scope.specs.Bindings as scopes
 use Rattle.go_scope.specs.Bindings.{MayDeclare, may_declare, is_use, is_left_name, own}
 use Rattle.go_scope.specs.FileSites.{universe}
 use Rattle.go_scope.specs.WellFormed.{WellFormed}
-use Rattle.types_expr.specs.Judge.{MemberUse}
+use Rattle.types_expr.specs.Judge.{MemberUse, members_of}
 use Rattle.types_expr.specs.World.{World}
 use Rattle.types_stmt.specs.Declarations.{check_file}
 use Rattle.law_typing.specs.Declarations.{FileIsTyped}
@@ -53,7 +53,7 @@ module _ (w : Workspace) (sound : ListsFaults w []) (known : Verdicts) (right : 
   -- files
 
   abbrev uses_in : SourceFile → World → List MemberUse
-  uses_in s v = (check_file v (is_init s) s.tree).uses
+  uses_in s v = members_of (check_file v (is_init s) s.tree).uses
 
   pub file_typed : (file : ℕ) (s : SourceFile) → slice_get p.files file ≡ Some s → (v : World) → IsWorldOf p file s v → FileIsTyped v (is_init s) s.tree
   file_typed file s at v judged =

@@ -7,6 +7,7 @@ use Rattle.go_ast.specs.Tree as tree
 use Rattle.go_ast.specs.WellFormed.{is_operand, strength, IsExpr, AreOperands, AreLinks, AreArguments, IsLiteral, AreElements}
 use Rattle.types_expr.specs.declared.symbol.Symbol.{Symbol}
 use Rattle.types_expr.specs.Types.{PlainType, SliceOf, Struct, ValueKind, Meaning, Value, TypeName, Function, BuiltinName, Package, Results, Broken, is_struct}
+use Rattle.types_expr.specs.Types.{AFieldOf}
 use Rattle.types_expr.specs.World.{World, Locals, AField, underlying}
 use Rattle.types_expr.specs.Judge.{judge_type}
 use Rattle.law_typing.specs.Names.{IsType}
@@ -69,7 +70,7 @@ text_value arity bytes k = plain_value arity (line_if_known line.Text bytes) (kn
 
 -- a key sets its field
 key_turns : (arity : FunctionName → Arity) (s : Source) (slots : List ℕ) (key : ℕ × ℕ) (t u : PlainType) (f : Symbol) →
-    s.world.member key.0 t ≡ Some (AField f u) → IsAnswered arity s slots (OfMember key.0 t) →
+    s.world.member key.0 t ≡ Some (AField f (AFieldOf u)) → IsAnswered arity s slots (OfMember key.0 t) →
     Turns arity 2 1 (line_if_known line.With (key_position s (Some key)))
 key_turns arity s slots key t u f e k =
     let known : IsKnown (s.position f) = subst (λ z. MemberIsKnown arity s z) e k.1 in

@@ -7,7 +7,7 @@ use Rattle.go_scope.specs.declared.model.Role.TheVariants.{NotLexical}
 use Rattle.go_scope.specs.declared.model.Purpose.TheVariants as purpose
 use Rattle.go_scope.specs.Site.{Site, TokenSpellings}
 use Rattle.go_scope.specs.ExpressionSites.{type_sites, expr_sites, operand_sites, link_sites, argument_sites, literal_sites, element_sites}
-use Rattle.types_expr.specs.Types.{PlainType, Pointer, ValueKind, Meaning, Broken}
+use Rattle.types_expr.specs.Types.{PlainType, Pointer, ValueKind, Meaning, Broken, AFieldOf, AMethodOf}
 use Rattle.types_expr.specs.World.{World, Locals, Means, Member, AField, AMethod}
 use Rattle.law_typing.specs.Names.{NameMeans, a_local, a_bound, IsType}
 use Rattle.law_typing.specs.Names as names
@@ -47,8 +47,9 @@ type_links w U s (names.slice i) = type_links w U s i
 
 selected : (w : World) (ls : Locals) (U : ℕ → Type 0) {d n : ℕ} {rest : LinkTrees} {m r : Meaning} → Tells w U (LinksAsk w ls m (tree.selector d n rest)) →
     SelectsMember w ls m n r → IsLinked w U n (NotLexical purpose.Selected)
-selected w ls U f (links.field {t} {u} {name = n} {s = x} e p) = inr (f n t (AField x u) for_member e)
-selected w ls U f (links.field_through_pointer {t} {u} {name = n} {s = x} e p) = inr (f n t (AField x u) for_member e)
+selected w ls U f (links.field {t} {u} {name = n} {s = x} e p) = inr (f n t (AField x (AFieldOf u)) for_member e)
+selected w ls U f (links.field_through_pointer {t} {u} {name = n} {s = x} e p) = inr (f n t (AField x (AFieldOf u)) for_member e)
+selected w ls U f (links.asked {t} {name = n} {s = x} {signature = g} e) = inr (f n t (AField x (AMethodOf g)) for_member e)
 selected w ls U f (links.method {t} {name = n} {s = x} {signature = g} e) = inr (f n t (AMethod x false g) for_member e)
 selected w ls U f (links.method_on_pointer {t} {name = n} {s = x} {signature = g} e) = inr (f n (Pointer t) (AMethod x true g) for_member e)
 selected w ls U f (links.method_on_variable {t} {name = n} {s = x} {signature = g} e) = inr (f n t (AMethod x true g) for_member e)
@@ -110,7 +111,7 @@ mutual
       Tells w U (ElementsAsk w ls t es) → AreFields w ls t named es → AreLinked w U (element_sites s es)
   fields_links w ls U s f means.no_field = tt
   fields_links w ls U s f (means.field {t} {u} {key} {e} {rest} {s = x} member new h fits more) = (
-    f key.0 t (AField x u) for_key member,
+    f key.0 t (AField x (AFieldOf u)) for_key member,
     linked_append w U (expr_sites s e) (element_sites s rest) (expr_links w ls U s (λ n t m a. f n t m (in_element a)) h)
         (fields_links w ls U s (λ n t m a. f n t m (in_later_element a)) more),
   )

@@ -11,7 +11,7 @@ use Rattle.go_scope.specs.Site.{Site, TokenSpellings}
 use Rattle.go_scope.specs.FileSites.{imports_sites, decl_sites, file_sites}
 use Rattle.types_expr.specs.Types.{PlainType}
 use Rattle.types_expr.specs.World.{World, Locals, no_locals}
-use Rattle.types_expr.specs.Judge.{MemberUse}
+use Rattle.types_expr.specs.Judge.{MemberUse, members_of}
 use Rattle.types_stmt.specs.Declarations.{check_file}
 use Rattle.law_typing.specs.Declarations.{FunctionIsTyped, DeclsAreTyped, no_decl, also_decl, FileIsTyped, a_file}
 use Rattle.build_object.specs.Sources.{type_before}
@@ -76,9 +76,9 @@ file_links w f is_init U s g (a_file h) = (
 )
 
 used_member : (w : World) (is_init : ℕ → Bool) (f : SourceFile) → IsSourceFile f →
-    AskedIn w is_init (IsUsedMember w (check_file w is_init f.tree).uses) no_locals f.tree.decls
+    AskedIn w is_init (IsUsedMember w (members_of (check_file w is_init f.tree).uses)) no_locals f.tree.decls
 used_member w is_init f is g at there n t m a e =
-    let x = found_in n t (check_file w is_init f.tree).uses (member_found w is_init f g at n t is there a) in
+    let x = found_in n t (members_of (check_file w is_init f.tree).uses) (member_found w is_init f g at n t is there a) in
     record { found = x.element; is_use = x.contained; at = x.place; member = m; is_member = ap (λ z. w.member n z) x.before ∙ e }
 
 all_of : (w : World) (U : ℕ → Type 0) (xs : List Site) → AreLinked w U xs → AllByRecursion (λ x. IsLinked w U x.place.index x.role) xs
@@ -86,7 +86,7 @@ all_of w U [] h = tt
 all_of w U (x ∷ xs) h = (h.0, all_of w U xs h.1)
 
 pub all_linked : (w : World) (is_init : ℕ → Bool) (f : SourceFile) → IsSourceFile f → FileIsTyped w is_init f.tree → (s : TokenSpellings) →
-    AllByRecursion (λ x. IsLinked w (IsUsedMember w (check_file w is_init f.tree).uses) x.place.index x.role) (file_sites s f.tree)
+    AllByRecursion (λ x. IsLinked w (IsUsedMember w (members_of (check_file w is_init f.tree).uses)) x.place.index x.role) (file_sites s f.tree)
 all_linked w is_init f is typed s =
-    let U = IsUsedMember w (check_file w is_init f.tree).uses in
+    let U = IsUsedMember w (members_of (check_file w is_init f.tree).uses) in
     all_of w U (file_sites s f.tree) (file_links w f is_init U s (used_member w is_init f is) typed)

@@ -8,7 +8,7 @@ use Rattle.go_ast.specs.Tree as tree
 use Rattle.go_ast.specs.SourceFile.{SourceFile, IsSourceFile}
 use Rattle.types_expr.specs.Types.{PlainType}
 use Rattle.types_expr.specs.World.{World, Locals, no_locals}
-use Rattle.types_expr.specs.Judge.{MemberUse}
+use Rattle.types_expr.specs.Judge.{MemberUse, members_of}
 use Rattle.types_stmt.specs.Checked.{FoundSoFar}
 use Rattle.types_stmt.specs.Sides.{Wants}
 use Rattle.types_stmt.specs.Statements.{check_statement}
@@ -170,7 +170,8 @@ type_found n t (u ∷ us) f h =
 
 pub member_found : (w : World) (is_init : ℕ → Bool) (file : SourceFile) (f : FuncTree) (at : Locals) (n : ℕ) (t : PlainType) → IsSourceFile file →
     IsFunctionIn w is_init no_locals file.tree.decls f at →
-    FunctionAsks w at f (OfMember n t) → type_before (check_file w is_init file.tree).uses n ≡ Some t
+    FunctionAsks w at f (OfMember n t) → type_before (members_of (check_file w is_init file.tree).uses) n ≡ Some t
 unfolding AreApart
 member_found w is_init file f at n t source is a =
-    type_found n t (check_file w is_init file.tree).uses (λ x y. one_at_token w is_init file source x y) (file_met w is_init file.tree f at (OfMember n t) is a)
+    type_found n t (members_of (check_file w is_init file.tree).uses) (λ x y. one_at_token w is_init file source x y)
+    (file_met w is_init file.tree f at (OfMember n t) is a)

@@ -5,12 +5,12 @@ use Rattle.go_ast.specs.Tree.{BlockTree, StatementTrees, IfTree, ElseTree, DeclT
 use Rattle.go_ast.specs.Tree as tree
 use Rattle.types_expr.specs.World.{World}
 use Rattle.types_stmt.specs.Checked.{FoundSoFar, check_items, check_group}
-use Rattle.types_stmt.specs.Sides.{Target, rhs}
+use Rattle.types_stmt.specs.Sides.{Target}
 use Rattle.types_stmt.specs.Simple.{check_condition, check_step, check_update, check_expr_statement, check_assign, check_define, check_simple, check_optional_simple}
 use Rattle.types_stmt.specs.Simple.{check_optional_condition, check_typed_local, check_untyped_local, check_local_of, check_local}
 use Rattle.types_stmt.specs.Statements.{check_return, check_init, check_for_header, check_statement, check_block, check_statements, check_if, check_else}
 use Rattle.types_stmt.specs.Headers.{judge_results, check_optional_receiver, check_receiver, check_param, check_signature, check_function}
-use Rattle.types_stmt.specs.Declarations.{check_global, check_type, check_decl, check_decls}
+use Rattle.types_stmt.specs.Declarations.{global_enterings, check_global, check_type, check_decl, check_decls}
 use Rattle.law_faultless.specs.Questions.{TokenQuestion}
 use Rattle.law_faultless.proofs.Used.{Met, met_left}
 
@@ -87,7 +87,7 @@ mutual
   statement_keeps q w results (tree.For p x b) s h = block_keeps q w results b (check_for_header w s x) (header_keeps q w s x h)
   statement_keeps q w results (tree.Break p) s h = h
   statement_keeps q w results (tree.Continue p) s h = h
-  statement_keeps q w results (tree.Return p es) s h = met_left q s.uses (rhs w s.locals es).uses h
+  statement_keeps q w results (tree.Return p es) s h = met_left q s.uses _ h
 
   pub block_keeps : (q : TokenQuestion) (w : World) (results : List Target) (b : BlockTree) (s : FoundSoFar) → Met q s.uses → Met q (check_block w results s b).uses
   block_keeps q w results (tree.block o ss c) s h = statements_keep q w results ss s h
@@ -125,7 +125,7 @@ function_keeps q w b s f h =
     (items_keep q (check_param w) (param_keeps q w) f.params (check_optional_receiver w s f.receiver) (receiver_keeps q w s f.receiver h)))
 
 global_keeps : (q : TokenQuestion) (w : World) → Keeps q (check_global w)
-global_keeps q w s g h = met_left q s.uses [] h
+global_keeps q w s g h = met_left q s.uses (global_enterings w g) h
 
 type_keeps : (q : TokenQuestion) (w : World) → Keeps q (check_type w)
 type_keeps q w s t h = met_left q s.uses [] h

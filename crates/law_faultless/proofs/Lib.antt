@@ -33,6 +33,7 @@ pub mod TypesDecided
 pub mod Meanings
 pub mod Spellings
 pub mod Numbers
+pub mod WrittenNames
 pub mod PackageWorlds
 pub mod Declared
 pub mod Meant
@@ -65,6 +66,7 @@ pub mod Reaching
 pub mod SlotsSettled
 pub mod AskedNames
 pub mod OwnLocals
+pub mod FieldForms
 pub mod MembersSettled
 pub mod FunctionsSettled
 pub mod SettledQuestions

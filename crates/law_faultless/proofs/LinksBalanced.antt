@@ -4,11 +4,12 @@ use Rattle.types_expr.specs.declared.types.Builtin.{Builtin}
 use Rattle.types_expr.specs.declared.types.Builtin.TheVariants as builtin
 use Rattle.types_expr.specs.declared.symbol.Symbol.{Symbol}
 use Rattle.types_expr.specs.Types.{PlainType, Pointer, ValueKind, Typed, Signature, Meaning, Value, TypeName, Function, BuiltinName, Package, Results, Broken}
-use Rattle.types_expr.specs.Types.{is_pointer, points}
+use Rattle.types_expr.specs.Types.{is_pointer, points, AFieldOf}
 use Rattle.types_expr.specs.World.{World, Locals, Means, Member, AField, AMethod, underlying}
 use Rattle.law_typing.specs.Fits.{FitInTurn, no_values, then_fits}
 use Rattle.law_typing.specs.Names.{NameMeans, a_local, a_bound}
-use Rattle.law_typing.specs.Links.{SelectsMember, field, field_through_pointer, method, method_on_pointer, method_on_variable, of_package, Indexes, element, ResultsMean}
+use Rattle.law_typing.specs.Links.{SelectsMember, field, field_through_pointer, asked, method, method_on_pointer, method_on_variable, of_package, Indexes}
+use Rattle.law_typing.specs.Links.{element, ResultsMean}
 use Rattle.law_typing.specs.Links.{nothing, one, several, CallGives, function, conversion, len, append, panic, print, println}
 use Rattle.build_object.specs.Lines.{FunctionName, CodeLine, line_if_known}
 use Rattle.build_object.specs.Lines as line
@@ -67,8 +68,9 @@ unfolding selected_by typed_selector
 selected_member s slots n o t m e b i =
     ap (λ z. selected_by s slots n o z) e ∙ (ap (λ z. typed_selector s n o z) b ∙ ap (λ z. member_operand s o t z) i)
 
-member_field : (arity : FunctionName → Arity) (s : Source) (o : CodeOperand) (t u : PlainType) (f : Symbol) → MemberIsKnown arity s (Some (AField f u)) →
-    IsOneValue arity o → IsOneValue arity (member_operand s o t (Some (AField f u)))
+member_field : (arity : FunctionName → Arity) (s : Source) (o : CodeOperand) (t u : PlainType) (f : Symbol) →
+    MemberIsKnown arity s (Some (AField f (AFieldOf u))) →
+    IsOneValue arity o → IsOneValue arity (member_operand s o t (Some (AField f (AFieldOf u))))
 unfolding member_operand
 member_field arity s o t u f k v = field_value arity o (points (underlying s.world t)) (s.position f) k v
 
@@ -80,10 +82,10 @@ member_method arity s o t m on_pointer f k v = method_callee arity (receiver_lin
     (receiver_turns arity o (is_pointer t) on_pointer v) k
 
 field_selected : (arity : FunctionName → Arity) (s : Source) (slots : List ℕ) (n : ℕ) (o : CodeOperand) (t u : PlainType) (f : Symbol) →
-    s.world.member n t ≡ Some (AField f u) → IsOneValue arity o →
+    s.world.member n t ≡ Some (AField f (AFieldOf u)) → IsOneValue arity o →
     IsAnswered arity s slots (OfMember n t) → IsOneValue arity (selected s slots n o)
 field_selected arity s slots n o t u f e v k =
-    subst (λ z. IsOneValue arity z) (sym (selected_member s slots n o t (Some (AField f u)) v.mode k.0 e))
+    subst (λ z. IsOneValue arity z) (sym (selected_member s slots n o t (Some (AField f (AFieldOf u))) v.mode k.0 e))
     (member_field arity s o t u f (subst (λ z. MemberIsKnown arity s z) e k.1) v)
 
 method_selected : (arity : FunctionName → Arity) (s : Source) (slots : List ℕ) (n : ℕ) (o : CodeOperand) (t : PlainType) (m : Symbol) (on_pointer : Bool)
@@ -138,6 +140,7 @@ pub selected_stands : (arity : FunctionName → Arity) (s : Source) (slots : Lis
     Stands arity (selected s slots n o) r
 selected_stands arity s slots locals n o (field {t} {u} {a} {s = f} e other) v k p = field_selected arity s slots n o t u f e v (k t a refl)
 selected_stands arity s slots locals n o (field_through_pointer {t} {u} {a = a} {s = f} e i) v k p = field_selected arity s slots n o t u f e v (k t a refl)
+selected_stands arity s slots locals n o (asked {t} {a} e) v k p = absurd (subst (MemberIsKnown arity s) e (k t a refl).1)
 selected_stands arity s slots locals n o (method {t} {a} {s = m} {signature = f} e) v k p = method_selected arity s slots n o t m false f e v (k t a refl)
 selected_stands arity s slots locals n o (method_on_pointer {t} {a} {s = m} {signature = f} e) v k p =
     method_selected arity s slots n o (Pointer t) m true f e v (k (Pointer t) a refl)

@@ -23,7 +23,7 @@ use Rattle.law_tokens.proofs.Places.{plainly_stands}
 use Rattle.law_tokens.proofs.Roles.{role_keeps}
 use Rattle.types_expr.specs.Types.{Broken}
 use Rattle.types_expr.specs.World.{Bound, Means}
-use Rattle.types_expr.specs.Judge.{MemberUse}
+use Rattle.types_expr.specs.Judge.{MemberUse, members_of}
 use Rattle.types_stmt.specs.Declarations.{check_file}
 use Rattle.law_typing.specs.Declarations.{FileIsTyped}
 use Rattle.types_declared.specs.Package.{Package}
@@ -78,7 +78,7 @@ module _ (w : Workspace) (known : Verdicts) (path : List ℕ) (p : Package) (h :
   module _ (u : ℕ) (stands : IsInFiles p u) (uses : List MemberUse) (a : AreUsesIn p (p.layout.place u).file uses)
       (typed : FileIsTyped a.world (is_init a.source) a.source.tree) where
     Used : ℕ → Type 0
-    Used = IsUsedMember a.world (check_file a.world (is_init a.source) a.source.tree).uses
+    Used = IsUsedMember a.world (members_of (check_file a.world (is_init a.source) a.source.tree).uses)
 
     linked_at : (q : Purpose) → is_unnamed_import (NotLexical q) ≡ false → (NotLexical purpose.Blank ≡ NotLexical q → ⊥) → p.layout.role u ≡ NotLexical q →
         IsLinked a.world Used (p.layout.place u).index (NotLexical q)

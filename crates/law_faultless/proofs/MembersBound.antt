@@ -3,16 +3,14 @@ use Rattle.std.proofs.Common.{ℕ, suc, ◌≡◌, ◌+◌, inl, inr, List, [], 
 use Rattle.std.specs.Prelude.{Some, slice_get}
 use Rattle.base_files.specs.Workspace.{Workspace}
 use Rattle.go_ast.specs.SourceFile.{SourceFile}
-use Rattle.go_ast.specs.Tree.{Item, Group, FieldTree, BodyTree, Other, Struct, Interface, TypeSpecTree, DeclTree, VarDecl, TypeDecl, FuncDecl}
+use Rattle.go_ast.specs.Tree.{Item, FieldTree, BodyTree, Other, Struct, Interface, DeclTree, VarDecl, TypeDecl, FuncDecl}
 use Rattle.go_scope.specs.declared.model.Purpose.TheVariants as purpose
 use Rattle.go_scope.specs.declared.model.Role.TheVariants.{NotLexical}
 use Rattle.types_declared.specs.Files.{RankedSource, ranked_files, group_items}
-use Rattle.types_declared.specs.Definitions.{PlacedField, body_fields, fields_from, package_fields}
+use Rattle.types_declared.specs.Definitions.{PlacedField, body_fields, fields_from, package_fields, OfType}
 use Rattle.types_declared.specs.Package.{Package, PlacedType, PlacedFunction, placed_type, decl_types, decl_functions, types_in, functions_in, package_types}
 use Rattle.types_declared.specs.Package.{package_functions, spelled}
-use Rattle.types_expr.specs.World.{World}
-use Rattle.types_stmt.specs.Declarations.{body_faults, check_file}
-use Rattle.types_info.specs.Worlds.{is_init}
+use Rattle.types_stmt.specs.Declarations.{body_faults}
 use Rattle.types_info.proofs.DeclKinds.{Holds, held_left, held_right, held_flat, held_map}
 use Rattle.workspace_check.specs.FaultLists.{ListsFaults}
 use Rattle.workspace_check.specs.Verdicts.{Verdicts, AreVerdicts}
@@ -24,19 +22,13 @@ use Rattle.law_faultless.proofs.GlobalsDecided.{held_ranked, held_number}
 use Rattle.law_faultless.proofs.LinksBound.{at_number}
 use Rattle.law_faultless.proofs.WholeBound.{method_of}
 use Rattle.law_faultless.proofs.Bound.{source_at}
-use Rattle.law_faultless.proofs.Lists.{all_held}
-use Rattle.law_faultless.proofs.NoFaults.{no_fault_in}
-use Rattle.law_faultless.proofs.Sound.{bodies_sound}
+use Rattle.law_faultless.proofs.FieldForms.{WritesNoFault, type_fine}
 use Rattle.law_faultless.proofs.MembersDeclared.{IsFieldIn, IsMemberIn, members_in}
 use Rattle.law_faultless.proofs.PackageWorlds.{have_worlds}
 
 -- one of the declarations declares a member there
 abbrev IsMember : List DeclTree → ℕ → Type 0
 IsMember ds i = (d : DeclTree) × (Holds ds d × IsMemberIn d i)
-
--- a definition of a file without faults writes none
-abbrev WritesNoFault : BodyTree → Type 0
-WritesNoFault b = (v : World) × (body_faults v b ≡ [])
 
 -- a field of a definition is one of the package's
 
@@ -51,7 +43,7 @@ body_named definition file i (Struct k o fs c) fine h =
     let x = h.0 in
     let n = h.1.1.0 in
     let one : Item FieldTree → Item ℕ → PlacedField =
-    λ y m. record { definition = definition; file = file; name = m.value; type_use = y.value.type_use } in (
+    λ y m. record { definition = definition; file = file; name = m.value; form = OfType y.value.type_use } in (
       one x n,
       (
         held_flat (λ y. map (one y) y.value.names) fs x (one x n) h.1.0 (held_map (one x) x.value.names n h.1.1.1.0),
@@ -89,14 +81,6 @@ module _ (w : Workspace) (sound : ListsFaults w []) (known : Verdicts) (right : 
   abbrev index : ℕ
   index = (p.layout.place u).index
 
-  writes_no_fault : (s : SourceFile) → slice_get p.files file ≡ Some s → (k c : ℕ) (g : Group TypeSpecTree) → Holds s.tree.decls (TypeDecl k g c) →
-      (x : TypeSpecTree) → Holds (group_items g) x → WritesNoFault x.body
-  writes_no_fault s at k c g i x h =
-      let v = have_worlds w sound known right p is file s at in
-      let uses = (check_file v.0 (is_init s) s.tree).uses in
-      let none = no_fault_in w sound known right p is file uses (record { source = s; in_file = at; world = v.0; judged_by = v.1; found = refl }) in
-      (v.0, all_held (λ (t : TypeSpecTree). body_faults v.0 t.body ≡ []) (group_items g) x (bodies_sound v.0 (is_init s) s.tree none k c g i) h)
-
   by_decl : (s : SourceFile) → slice_get p.files file ≡ Some s → (d : DeclTree) → Holds s.tree.decls d → IsMemberIn d index → ⊥
   by_decl s at (VarDecl k g c) i h = h
   by_decl s at (TypeDecl k g c) i h =
@@ -105,14 +89,15 @@ module _ (w : Workspace) (sound : ListsFaults w []) (known : Verdicts) (right : 
       let there : Holds (package_types p) d =
       held_flat types_in (ranked_files p.files) r d (ranked_here p file s at)
       (held_flat (decl_types file) s.tree.decls (TypeDecl k g c) d i (held_map (placed_type file) (group_items g) h.0 h.1.0)) in
-      let f = fields_named 0 index (package_types p) d there (writes_no_fault s at k c g i h.0 h.1.0) h.1.1 in
+      let f = fields_named 0 index (package_types p) d there (type_fine w sound known right p is d there) h.1.1 in
       let n = held_number (package_fields p) f.0 f.1.0 in
       field_bound w sound known right p is n.0 f.0 n.1 u (stands.1, sym f.1.1.0, sym f.1.1.1) unbound
   by_decl s at (FuncDecl k x c) i h =
       let r : RankedSource = (file, s) in
       let f : PlacedFunction = record { file = file; function = x } in
       let there : Holds (package_functions p) f =
-      held_flat functions_in (ranked_files p.files) r f (ranked_here p file s at) (held_flat (decl_functions file) s.tree.decls (FuncDecl k x c) f i (inl refl)) in
+      held_flat functions_in (ranked_files p.files) r f (ranked_here p file s at) (held_flat (decl_functions file) s.tree.decls (FuncDecl k x c) f i (inl
+      refl)) in
       let n = held_number (package_functions p) f there in
       let m = method_of w sound known right p is (have_worlds w sound known right p is) n.0 f n.1 h.0 h.1.0 in
       method_bound w sound known right p is m.0 n.0 (spelled p file x.name) f m.1 u (stands.1, refl, sym h.1.1) unbound

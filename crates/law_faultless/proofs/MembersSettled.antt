@@ -9,17 +9,19 @@ use Rattle.std.proofs.lemmas.Option.{none-some, slice_get_within}
 use Rattle.base_files.specs.Workspace.{Workspace}
 use Rattle.base_files.specs.Packages.{package_paths, package_files}
 use Rattle.go_ast.specs.SourceFile.{SourceFile, spelling_of}
-use Rattle.go_ast.specs.Tree.{Item, TypeTree, FieldTree, BodyTree, Other, Struct, Interface, ReceiverTree}
+use Rattle.go_ast.specs.Tree.{Item, TypeTree, FieldTree, BodyTree, Other, Struct, Interface, ReceiverTree, MethodTree}
 use Rattle.workspace_graph.specs.Packages.{IsInClosure, itself}
 use Rattle.workspace_graph.specs.Parsed.{AreParsed}
 use Rattle.types_expr.specs.declared.symbol.Symbol.{Symbol}
-use Rattle.types_expr.specs.Types.{PlainType, Signature}
+use Rattle.types_expr.specs.Types.{PlainType, Signature, WrittenAs, AFieldOf, AMethodOf}
 use Rattle.types_expr.specs.World.{Definition, Field, Method, is_seen, seen_field, seen_method, field_owner}
 use Rattle.types_expr.specs.World.{owner}
 use Rattle.types_expr.specs.World.{field_of, method_of, a_method, first_member, member_by}
 use Rattle.types_expr.specs.WorldView.{no_definition}
 use Rattle.types_declared.specs.MeaningOf.{AreTypesOf, HasSignature, parameter_types, result_types}
-use Rattle.types_declared.specs.Definitions.{PlacedField, body_fields, fields_from, package_fields, IsFoundField, IsFoundMethod, IsFoundSignature, IsDefinition, AreDefinitions}
+use Rattle.types_declared.specs.Definitions.{PlacedField, body_fields, fields_from, package_fields, WrittenForm, HasForm}
+use Rattle.types_declared.specs.Definitions.{IsFoundField, IsFoundMethod, IsFoundSignature, IsDefinition, AreDefinitions}
+use Rattle.types_declared.specs.Definitions.{OfType, OfSignature}
 use Rattle.types_declared.specs.Package.{Package, ExportData, PlacedType, PlacedFunction, package_types, package_functions, symbol_in}
 use Rattle.types_declared.proofs.ByteKeys.{cases_bytes}
 use Rattle.types_check.specs.Exports.{IsExportData}
@@ -36,7 +38,7 @@ use Rattle.build_object.specs.Names.{functions_behind, function_names, function_
 use Rattle.build_object.specs.Source.{Source}
 use Rattle.build_object.specs.Sources.{IsSourceOf}
 use Rattle.build_object.proofs.NameParts.{positions_length}
-use Rattle.law_faultless.specs.QuestionAnswers.{IsKnown, IsNamedWith, method_arity, MemberIsKnown}
+use Rattle.law_faultless.specs.QuestionAnswers.{IsKnown, IsNamedWith, method_arity, MemberIsKnown, WrittenIsKnown}
 use Rattle.law_faultless.specs.Stack.{Arity}
 use Rattle.refs_binding.specs.Uses.{IsCheckedPackage}
 use Rattle.refs_lookup.proofs.OnePlace.{same_files}
@@ -45,17 +47,18 @@ use Rattle.law_faultless.proofs.Fine.{seen_export_data}
 use Rattle.build_unit.specs.Units.{AreFilesSeen, within, beyond, AreFilesBelow}
 use Rattle.law_faultless.proofs.PackageWorlds.{have_all_worlds}
 use Rattle.law_faultless.specs.Arities.{with_receiver, written_arity, AreArities}
+use Rattle.law_faultless.proofs.FieldForms.{field_form}
 
 -- as many places as fields
 
 names_long : (rank file : ℕ) (fs : List (Item FieldTree)) → length (names_of_fields fs) ≡
     length (flat_map (λ (i : Item FieldTree). map (λ (n : Item ℕ).
-    let f : PlacedField = record { definition = rank; file = file; name = n.value; type_use = i.value.type_use } in f) i.value.names) fs)
+    let f : PlacedField = record { definition = rank; file = file; name = n.value; form = OfType i.value.type_use } in f) i.value.names) fs)
 names_long rank file [] = refl
 names_long rank file (i ∷ is) =
-    let one : Item ℕ → PlacedField = λ n. record { definition = rank; file = file; name = n.value; type_use = i.value.type_use } in
+    let one : Item ℕ → PlacedField = λ n. record { definition = rank; file = file; name = n.value; form = OfType i.value.type_use } in
     let rest = flat_map (λ (j : Item FieldTree). map (λ (n : Item ℕ).
-    let f : PlacedField = record { definition = rank; file = file; name = n.value; type_use = j.value.type_use } in f) j.value.names) is in
+    let f : PlacedField = record { definition = rank; file = file; name = n.value; form = OfType j.value.type_use } in f) j.value.names) is in
     let later : length (names_of_fields is) ≡ length rest = names_long rank file is in
     let first : length (map one i.value.names) ≡ length i.value.names = length-map i.value.names one in
     let a : length (i.value.names ++ names_of_fields is) ≡ length i.value.names + length (names_of_fields is) =
@@ -66,7 +69,10 @@ names_long rank file (i ∷ is) =
 body_long : (rank file : ℕ) (b : BodyTree) → length (body_positions b) ≡ length (body_fields rank file b)
 body_long rank file (Other t) = refl
 body_long rank file (Struct k o fs c) = positions_length 0 (names_of_fields fs) ∙ names_long rank file fs
-body_long rank file (Interface k o ms c) = refl
+body_long rank file (Interface k o ms c) =
+    let asked : Item MethodTree → PlacedField = λ i.
+    record { definition = rank; file = file; name = i.value.name; form = OfSignature i.value.params i.value.result } in
+    positions_length 0 ms ∙ sym (length-map ms asked)
 
 fields_long : (rank : ℕ) (ds : List PlacedType) → length (flat_map type_positions ds) ≡ length (fields_from rank ds)
 fields_long rank [] = refl
@@ -130,7 +136,7 @@ method_seen own (Some n) m e = seen_one (is_seen own n.symbol n.exported) n m e
 
 module _ (files_of : List ℕ → List SourceFile) (arity : FunctionName → Arity) where
   abbrev HasFields : Definition → Type 0
-  HasFields d = (name : List ℕ) (f : Field) → d.field name ≡ Some f → IsKnown (position_of_field files_of f.symbol)
+  HasFields d = (name : List ℕ) (f : Field) → d.field name ≡ Some f → WrittenIsKnown f.form (position_of_field files_of f.symbol)
 
   abbrev HasMethods : Definition → Type 0
   HasMethods d = (name : List ℕ) (m : Method) → d.method name ≡ Some m → (s : Signature) → m.signature ≡ Some s →
@@ -143,9 +149,17 @@ module _ (files_of : List ℕ → List SourceFile) (arity : FunctionName → Ari
   nothing_called d f m = ((λ name x e. absurd (none-some x (sym (f name) ∙ e))), λ name x e. absurd (none-some x (sym (m name) ∙ e)))
 
   module _ (w : Workspace) (known : Verdicts) (arities : AreArities w known arity) (c : Package) (is : IsCheckedPackage w known c)
-      (same : files_of c.path ≡ c.files) where
-    field_called : (definition : ℕ) (name : List ℕ) (f : Field) → IsFoundField c definition name (Some f) → IsKnown (position_of_field files_of f.symbol)
-    field_called definition name f x =
+      (same : files_of c.path ≡ c.files)
+      (fields : (rank : ℕ) (f : PlacedField) → slice_get (package_fields c) rank ≡ Some f → (t : TypeTree) × (f.form ≡ OfType t)) where
+    -- what is written with a type is a field
+    of_type : (file : ℕ) (form : WrittenForm) (tree : TypeTree) (t : WrittenAs) (position : Option ℕ) → form ≡ OfType tree → HasForm c file form t →
+        IsKnown position → WrittenIsKnown t position
+    of_type file (OfType x) tree (AFieldOf t) position e h known = known
+    of_type file (OfType x) tree (AMethodOf s) position e h known = absurd h
+    of_type file (OfSignature ps r) tree t position e h known = cc
+
+    field_placed : (definition : ℕ) (name : List ℕ) (f : Field) → IsFoundField c definition name (Some f) → IsKnown (position_of_field files_of f.symbol)
+    field_placed definition name f x =
         let rank = f.symbol.rank in
         let lt : rank < length (package_fields c) = slice_get_within (package_fields c) rank x.0 x.1.0.is_field.has_rank in
         let long : length (field_positions c.files) ≡ length (package_fields c) = fields_long 0 (package_types c) in
@@ -154,6 +168,12 @@ module _ (files_of : List ℕ → List SourceFile) (arity : FunctionName → Ari
           n.0,
           ap (λ (fs : List SourceFile). slice_get (field_positions fs) rank) same ∙ n.1,
         )
+
+    field_called : (definition : ℕ) (name : List ℕ) (f : Field) → IsFoundField c definition name (Some f) →
+        WrittenIsKnown f.form (position_of_field files_of f.symbol)
+    field_called definition name f x =
+        let o = fields f.symbol.rank x.0 x.1.0.is_field.has_rank in
+        of_type x.0.file x.0.form o.0 f.form (position_of_field files_of f.symbol) o.1 x.1.1 (field_placed definition name f x)
 
     method_called : (definition : ℕ) (name : List ℕ) (m : Method) (s : Signature) → IsFoundMethod c definition name (Some m) → m.signature ≡ Some s →
         IsNamedWith arity (function_name files_of m.symbol) (method_arity s)
@@ -193,10 +213,10 @@ module _ (files_of : List ℕ → List SourceFile) (arity : FunctionName → Ari
   module _ (s : Source) (position : (symbol : Symbol) → s.position symbol ≡ position_of_field files_of symbol)
       (function : (symbol : Symbol) → s.function symbol ≡ function_name files_of symbol) (defs : Symbol → Definition)
       (called : (symbol : Symbol) → AreCalled (defs symbol)) (own name : List ℕ) where
-    found_field : (o : Option Symbol) (f : Field) → field_of defs own name o ≡ Some f → IsKnown (s.position f.symbol)
+    found_field : (o : Option Symbol) (f : Field) → field_of defs own name o ≡ Some f → WrittenIsKnown f.form (s.position f.symbol)
     found_field None f e = absurd (none-some f e)
     found_field (Some y) f e =
-        subst (λ z. IsKnown z) (sym (position f.symbol)) ((called y).0 name f (field_seen own ((defs y).field name) f e))
+        subst (WrittenIsKnown f.form) (sym (position f.symbol)) ((called y).0 name f (field_seen own ((defs y).field name) f e))
 
     found_method : (o : Option Symbol) (m : Method) → method_of defs own name o ≡ Some m → (g : Signature) → m.signature ≡ Some g →
         IsNamedWith arity (s.function m.symbol) (method_arity g)
@@ -209,7 +229,7 @@ module _ (files_of : List ℕ → List SourceFile) (arity : FunctionName → Ari
     signed_known m h None e = tt
     signed_known m h (Some g) e = h g e
 
-    first_known : (f : Option Field) (m : Option Method) → ((x : Field) → f ≡ Some x → IsKnown (s.position x.symbol)) →
+    first_known : (f : Option Field) (m : Option Method) → ((x : Field) → f ≡ Some x → WrittenIsKnown x.form (s.position x.symbol)) →
         ((x : Method) → m ≡ Some x → (g : Signature) → x.signature ≡ Some g → IsNamedWith arity (s.function x.symbol) (method_arity g)) →
         MemberIsKnown arity s (first_member f m)
     first_known (Some f) m h k = h f refl
@@ -245,7 +265,8 @@ module _ (w : Workspace) (sound : ListsFaults w []) (known : Verdicts) (right : 
         let c = x.checked in
         let path : c.path ≡ q = ap (λ (y : Package). y.path) x.is_package.is_package.is_package in
         let same : files_of c.path ≡ c.files = ap files_of path ∙ read_files w sound.known p.path q (files_of q) (below q) on.imported c x.is_package in
-        export_data_called files_of arity w known arities c (other_package q has) same (sound.known q).export_data x.is_export_data rank
+        export_data_called files_of arity w known arities c (other_package q has) same (field_form w sound known right c (other_package q has))
+        (sound.known q).export_data x.is_export_data rank
         (slice_get (package_types c) rank) refl
     seen_called q _ _ (unseen away) rank =
         nothing_called files_of arity (no_definition (record { «package» = q; rank = rank })) (λ name. refl) (λ name. refl)
@@ -256,7 +277,7 @@ module _ (w : Workspace) (sound : ListsFaults w []) (known : Verdicts) (right : 
           let same : files_of p.path ≡ p.files =
           read_files w known p.path p.path (files_of p.path) (below p.path) (itself is.of_workspace) p is.is_checked in
           subst (λ q. AreCalled files_of arity (defs (record { «package» = q; rank = y.rank }))) e
-          (own_called files_of arity w known arities p is same defs are y.rank (slice_get (package_types p) y.rank) refl)
+          (own_called files_of arity w known arities p is same (field_form w sound known right p is) defs are y.rank (slice_get (package_types p) y.rank) refl)
       | inr other ↦
           let i = seen_export_data w sound known right (have_all_worlds w sound known right) p is y.package in
           subst (AreCalled files_of arity) (sym (are.imported y.package y.rank (λ e. other (sym e))))

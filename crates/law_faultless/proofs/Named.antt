@@ -54,6 +54,7 @@ no_package e = let z : ⊥ = cc in absurd z
 selection_ends : (w : World) (ls : Locals) {m s : Meaning} {n : ℕ} → SelectsMember w ls m n s → EndsInPackage w s (suc n)
 selection_ends w ls (links.field e p) q = no_package q
 selection_ends w ls (links.field_through_pointer e p) q = no_package q
+selection_ends w ls (links.asked e) q = let z : ⊥ = cc in absurd z
 selection_ends w ls (links.method e) q = let z : ⊥ = cc in absurd z
 selection_ends w ls (links.method_on_pointer e) q = let z : ⊥ = cc in absurd z
 selection_ends w ls (links.method_on_variable e) q = let z : ⊥ = cc in absurd z
@@ -238,6 +239,7 @@ name_typed w ls u {n} (a_bound e whole) = λ k q un. u.typed n k (e ∙ ap Means
 selected_typed : (w : World) (ls : Locals) (u : IsUnbroken w) {m s : Meaning} {n : ℕ} → SelectsMember w ls m n s → IsTyped s
 selected_typed w ls u (links.field e p) = typed_kind
 selected_typed w ls u (links.field_through_pointer e p) = typed_kind
+selected_typed w ls u (links.asked e) = no_value (λ k q. cc)
 selected_typed w ls u (links.method e) = no_value (λ k q. cc)
 selected_typed w ls u (links.method_on_pointer e) = no_value (λ k q. cc)
 selected_typed w ls u (links.method_on_variable e) = no_value (λ k q. cc)

@@ -7,13 +7,14 @@ use Rattle.base_files.specs.Workspace.{Workspace}
 use Rattle.go_ast.specs.SourceFile.{spelling_of}
 use Rattle.types_expr.specs.declared.symbol.Symbol.{Symbol}
 use Rattle.types_expr.specs.Types.{same_path}
-use Rattle.types_expr.specs.World.{Definition, member_by}
+use Rattle.types_expr.specs.World.{Definition, member_by, implements_by}
 use Rattle.types_declared.specs.Definitions.{IsDefinition, AreDefinitions}
 use Rattle.types_declared.specs.Package.{Package, ExportData, package_types, symbol_in}
 use Rattle.types_declared.specs.Written.{IsBroken, by_itself, through}
 use Rattle.types_check.specs.Exports.{IsExportData}
+use Rattle.types_info.proofs.Implementing.{CoverMembers, decided_by}
 use Rattle.workspace_check.specs.FaultLists.{ListsFaults}
-use Rattle.workspace_check.specs.Verdicts.{Verdicts, AreVerdicts}
+use Rattle.workspace_check.specs.Verdicts.{Verdicts, AreVerdicts, IsSeenAs}
 use Rattle.workspace_check.proofs.OneList.{checked_package}
 use Rattle.workspace_check.proofs.OnePackage.{layout_formed, one_checked}
 use Rattle.refs_binding.proofs.Alike.{package_for}
@@ -25,6 +26,7 @@ use Rattle.law_faultless.proofs.Meanings.{name}
 use Rattle.law_faultless.specs.Worlds.{HaveWorlds, HaveAllWorlds}
 use Rattle.law_faultless.proofs.LinksBound.{source_is}
 use Rattle.law_faultless.proofs.WholeBound.{none_broken}
+use Rattle.law_faultless.proofs.WrittenNames.{names_of_members, names_cover, names_seen}
 
 -- definitions of two kinds of packages as one function
 
@@ -72,14 +74,34 @@ module _ (w : Workspace) (sound : ListsFaults w []) (known : Verdicts) (right : 
   pub strings_known : AreStringsKnown p
   strings_known file s at token string = string_known s (source_is w known p.path p is.is_checked file s at) token string
 
+  definitions_of : Symbol → Definition
+  definitions_of = all_definitions p (sound.known p.path).export_data
+
+  -- the names under which each definition writes members
+  own_names : (s : Symbol) → (names : List (List ℕ)) × CoverMembers (definitions_of s) names
+  unfolding definitions_of all_definitions
+  own_names s = at (same_path p.path s.package)
+    where
+      at : (b : Bool) → (names : List (List ℕ)) × CoverMembers (chosen (sound.known p.path).export_data p.export_data_of s b) names
+      at true = (names_of_members p, names_cover p (sound.known p.path).export_data own_export_data s.rank)
+      at false =
+          let h = own_package.is_checked in
+          let table : h.export_data_of s.package ≡ p.export_data_of s.package = ap (λ (c : Package). c.export_data_of s.package)
+          (sym h.is_package.is_package) in
+          let seen = subst (IsSeenAs w sound.known p.path s.package (h.name_of s.package)) table (h.are_seen s.package) in
+          let names = names_seen w sound p.path s.package (h.name_of s.package) (p.export_data_of s.package) seen in
+          (names.0, names.1 s.rank)
+
   worlds_if : ((rank : ℕ) → Decided (IsBroken p rank)) → HaveWorlds p
+  unfolding definitions_of
   worlds_if broken file s at =
-      let definitions = all_definitions p (sound.known p.path).export_data in
+      let definitions = definitions_of in
       let names = name p (layout_formed w known p.path p is.is_checked) strings_known broken file in (
         record {
           bound = λ token. (names token).0;
           member = λ token t. member_by definitions p.path (spelling_of s token) t;
           definition = λ symbol. (definitions symbol).underlying;
+          implements = λ t s. implements_by definitions (own_names s).0 t s;
         },
         record {
           names = λ token. (names token).1;
@@ -87,6 +109,7 @@ module _ (w : Workspace) (sound : ListsFaults w []) (known : Verdicts) (right : 
           are_definitions = are_definitions p (sound.known p.path).export_data own_export_data;
           member = λ token t. refl;
           definition = λ symbol. refl;
+          implements = λ t s. decided_by definitions (own_names s).0 t s (own_names s).1;
         },
       )
 

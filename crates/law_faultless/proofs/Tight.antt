@@ -7,17 +7,17 @@ use Rattle.go_ast.specs.declared.syntax.Kind.TheVariants as kind
 use Rattle.go_ast.specs.declared.syntax.Token.{Token}
 use Rattle.go_ast.specs.Flatten.{sign, sign_if, tokens_if, all_tokens, item_tokens, list_tokens, group_tokens, name_tokens, basic_tokens, value_tokens}
 use Rattle.go_ast.specs.Flatten.{ident_tokens, type_tokens, global_tokens, field_tokens, body_tokens, type_spec_tokens, receiver_tokens, param_tokens}
-use Rattle.go_ast.specs.Flatten.{result_tokens, block_tokens, func_tokens, imports_tokens, decl_tokens, flatten}
+use Rattle.go_ast.specs.Flatten.{result_tokens, block_tokens, func_tokens, imports_tokens, decl_tokens, flatten, method_tokens}
 use Rattle.go_ast.specs.SourceFile.{SourceFile, IsSourceFile}
 use Rattle.go_ast.specs.Tree.{Item, Group, single, several, TypeTree, ParamTree, ResultTree, FuncTree, GlobalTree, FieldTree, BodyTree, TypeSpecTree}
-use Rattle.go_ast.specs.Tree.{DeclTree, FileTree}
+use Rattle.go_ast.specs.Tree.{DeclTree, FileTree, MethodTree}
 use Rattle.go_ast.specs.Tree as tree
 use Rattle.go_scanner.specs.CutText.{tokens_in}
 use Rattle.types_declared.specs.Files.{group_items}
 use Rattle.law_tokens.proofs.Links.{AreConsecutive}
 use Rattle.law_tokens.proofs.Roles.{consecutive}
 use Rattle.types_declared.specs.MeaningOf.{result_types}
-use Rattle.types_declared.specs.Written.{written_types}
+use Rattle.types_declared.specs.Written.{written_types, signature_types, asked_types}
 use Rattle.types_info.proofs.DeclKinds.{Holds}
 use Rattle.law_faultless.proofs.Sound.{types_of}
 
@@ -94,24 +94,6 @@ fields_tight [] h = tt
 fields_tight (f ∷ fs) h =
     (type_tight f.value.type_use (numbered_right (list_tokens kind.Comma name_tokens f.value.names) (type_tokens f.value.type_use) h.0), fields_tight fs h.1)
 
-body_tight : (b : BodyTree) → Numbered (body_tokens b) → AllByRecursion IsTight (written_types b)
-unfolding body_tokens
-body_tight (tree.Other x) h = (type_tight x h, tt)
-body_tight (tree.Struct s o fs c) h =
-    let inside = list_tokens kind.Semicolon field_tokens fs in
-    let rest = inside ++ (sign kind.RightBrace c ∷ []) in
-    let behind = numbered_tail (sign kind.LeftBrace o) rest (numbered_tail (sign kind.Struct s) (sign kind.LeftBrace o ∷ rest) h) in
-    fields_tight fs (list_numbered field_tokens kind.Semicolon fs (numbered_left inside (sign kind.RightBrace c ∷ []) behind))
-body_tight (tree.Interface p o ms c) h = tt
-
-definitions_tight : (ts : List TypeSpecTree) → AllByRecursion (λ t. Numbered (type_spec_tokens t)) ts →
-    AllByRecursion IsTight (flat_map (λ t. written_types t.body) ts)
-unfolding type_spec_tokens
-definitions_tight [] h = tt
-definitions_tight (t ∷ ts) h =
-    all_append IsTight (written_types t.body) (flat_map (λ x. written_types x.body) ts)
-    (body_tight t.body (numbered_tail (sign kind.Name t.name) (body_tokens t.body) h.0)) (definitions_tight ts h.1)
-
 params_tight : (ps : List (Item ParamTree)) → AllByRecursion (λ p. Numbered (param_tokens p)) (map (λ i. i.value) ps) →
     AllByRecursion IsTight (map (λ i. i.value.type_use) ps)
 unfolding param_tokens
@@ -128,6 +110,45 @@ results_tight (tree.results o is c) h =
     all_tight (map (λ i. i.value) is)
     (list_numbered type_tokens kind.Comma is
     (numbered_left inside (sign kind.RightParen c ∷ []) (numbered_tail (sign kind.LeftParen o) (inside ++ (sign kind.RightParen c ∷ [])) h)))
+
+method_tight : (m : MethodTree) → Numbered (method_tokens m) → AllByRecursion IsTight (signature_types m.params m.result)
+unfolding method_tokens
+method_tight m h =
+    let params = list_tokens kind.Comma param_tokens m.params in
+    let after = sign kind.RightParen m.rparen ∷ result_tokens m.result in
+    let behind = numbered_tail (sign kind.LeftParen m.lparen) (params ++ after)
+    (numbered_tail (sign kind.Name m.name) (sign kind.LeftParen m.lparen ∷ (params ++ after)) h) in
+    all_append IsTight (map (λ i. i.value.type_use) m.params) (result_types m.result)
+    (params_tight m.params (list_numbered param_tokens kind.Comma m.params (numbered_left params after behind)))
+    (results_tight m.result (numbered_tail (sign kind.RightParen m.rparen) (result_tokens m.result) (numbered_right params after behind)))
+
+asked_tight : (ms : List (Item MethodTree)) → AllByRecursion (λ m. Numbered (method_tokens m)) (map (λ i. i.value) ms) →
+    AllByRecursion IsTight (asked_types ms)
+asked_tight [] h = tt
+asked_tight (m ∷ ms) h =
+    all_append IsTight (signature_types m.value.params m.value.result) (asked_types ms) (method_tight m.value h.0) (asked_tight ms h.1)
+
+body_tight : (b : BodyTree) → Numbered (body_tokens b) → AllByRecursion IsTight (written_types b)
+unfolding body_tokens
+body_tight (tree.Other x) h = (type_tight x h, tt)
+body_tight (tree.Struct s o fs c) h =
+    let inside = list_tokens kind.Semicolon field_tokens fs in
+    let rest = inside ++ (sign kind.RightBrace c ∷ []) in
+    let behind = numbered_tail (sign kind.LeftBrace o) rest (numbered_tail (sign kind.Struct s) (sign kind.LeftBrace o ∷ rest) h) in
+    fields_tight fs (list_numbered field_tokens kind.Semicolon fs (numbered_left inside (sign kind.RightBrace c ∷ []) behind))
+body_tight (tree.Interface w o ms c) h =
+    let inside = list_tokens kind.Semicolon method_tokens ms in
+    let rest = inside ++ (sign kind.RightBrace c ∷ []) in
+    let behind = numbered_tail (sign kind.LeftBrace o) rest (numbered_tail (sign kind.Interface w) (sign kind.LeftBrace o ∷ rest) h) in
+    asked_tight ms (list_numbered method_tokens kind.Semicolon ms (numbered_left inside (sign kind.RightBrace c ∷ []) behind))
+
+definitions_tight : (ts : List TypeSpecTree) → AllByRecursion (λ t. Numbered (type_spec_tokens t)) ts →
+    AllByRecursion IsTight (flat_map (λ t. written_types t.body) ts)
+unfolding type_spec_tokens
+definitions_tight [] h = tt
+definitions_tight (t ∷ ts) h =
+    all_append IsTight (written_types t.body) (flat_map (λ x. written_types x.body) ts)
+    (body_tight t.body (numbered_tail (sign kind.Name t.name) (body_tokens t.body) h.0)) (definitions_tight ts h.1)
 
 function_tight : (f : FuncTree) → Numbered (func_tokens f) → AllByRecursion IsTight (map (λ i. i.value.type_use) f.params ++ result_types f.result)
 unfolding func_tokens

@@ -5,7 +5,9 @@ use Rattle.go_ast.specs.Tree as tree
 use Rattle.types_expr.specs.Places.{first_token, first_of_type, place_of}
 use Rattle.types_expr.specs.Types.{PlainType, Typed, Meaning, Value}
 use Rattle.types_expr.specs.World.{World, Locals}
-use Rattle.types_expr.specs.Judge.{MemberUse, Judged, Seen, none_seen, followed, as_value, value_at, select_member, select, index_of, index_rule}
+use Rattle.types_expr.specs.Judge.{MemberUse, Noted, members_of, value_kind, entering_if}
+use Rattle.types_expr.proofs.NoteLists.{members_append}
+use Rattle.types_expr.specs.Judge.{Judged, Seen, none_seen, followed, as_value, value_at, select_member, select, index_of, index_rule}
 use Rattle.types_expr.specs.Judge.{call_of, call_rule, operation, prefix_of, address_of, judge_type, literal_meaning, element_key, seen_after, judge}
 use Rattle.types_expr.specs.Judge.{judge_operands, judge_links, judge_arguments, judge_literal, judge_elements}
 use Rattle.law_typing.specs.IsJudgedAs.{IsJudgedAs}
@@ -33,35 +35,35 @@ used_right n t [] vs h = h
 used_right n t (u ∷ us) vs h = inr (used_right n t us vs h)
 
 -- where a member is asked for, there is its use
-abbrev pub Met : TokenQuestion → List MemberUse → Type 0
+abbrev pub Met : TokenQuestion → List Noted → Type 0
 Met (OfInteger n) us = Unit {0}
 Met (OfText n) us = Unit {0}
 Met (OfName n) us = Unit {0}
 Met (OfExport n) us = Unit {0}
-Met (OfMember n t) us = IsUsed n t us
+Met (OfMember n t) us = IsUsed n t (members_of us)
 Met (OfDeclared n) us = Unit {0}
 Met (OfLeft n) us = Unit {0}
 
-pub met_left : (q : TokenQuestion) (us vs : List MemberUse) → Met q us → Met q (us ++ vs)
+pub met_left : (q : TokenQuestion) (us vs : List Noted) → Met q us → Met q (us ++ vs)
 met_left (OfInteger n) us vs h = tt
 met_left (OfText n) us vs h = tt
 met_left (OfName n) us vs h = tt
 met_left (OfExport n) us vs h = tt
-met_left (OfMember n t) us vs h = used_left n t us vs h
+met_left (OfMember n t) us vs h = subst (IsUsed n t) (sym (members_append us vs)) (used_left n t (members_of us) (members_of vs) h)
 met_left (OfDeclared n) us vs h = tt
 met_left (OfLeft n) us vs h = tt
 
-pub met_right : (q : TokenQuestion) (us vs : List MemberUse) → Met q vs → Met q (us ++ vs)
+pub met_right : (q : TokenQuestion) (us vs : List Noted) → Met q vs → Met q (us ++ vs)
 met_right (OfInteger n) us vs h = tt
 met_right (OfText n) us vs h = tt
 met_right (OfName n) us vs h = tt
 met_right (OfExport n) us vs h = tt
-met_right (OfMember n t) us vs h = used_right n t us vs h
+met_right (OfMember n t) us vs h = subst (IsUsed n t) (sym (members_append us vs)) (used_right n t (members_of us) (members_of vs) h)
 met_right (OfDeclared n) us vs h = tt
 met_right (OfLeft n) us vs h = tt
 
 -- in the middle of three
-met_inner : (q : TokenQuestion) (us vs ws : List MemberUse) → Met q vs → Met q (us ++ (vs ++ ws))
+pub met_inner : (q : TokenQuestion) (us vs ws : List Noted) → Met q vs → Met q (us ++ (vs ++ ws))
 met_inner q us vs ws h = met_right q us (vs ++ ws) (met_left q vs ws h)
 
 -- what is found stays, whatever stands behind it
@@ -88,7 +90,8 @@ operands_keep q w locals (tree.operand o p e rest) start j h =
     operands_keep q w locals rest start (followed j rule) (met_left q j.uses (rule j.meaning).uses h)
 
 -- the selector of a member
-selected_used : (w : World) (locals : Locals) (place n : ℕ) (t : PlainType) (a : Bool) → IsUsed n t (select w locals place n (Value (Typed t) a)).uses
+selected_used : (w : World) (locals : Locals) (place n : ℕ) (t : PlainType) (a : Bool) →
+    IsUsed n t (members_of (select w locals place n (Value (Typed t) a)).uses)
 unfolding select select_member
 selected_used w locals place n t a = inl (refl, refl)
 
@@ -97,8 +100,10 @@ element_met : (w : World) (locals : Locals) (t : PlainType) (key : Option (ℕ �
     Met q (judge_elements w locals (Some t) seen (tree.element key e c rest)).uses
 unfolding judge
 element_met w locals t key e c rest q seen h =
-    met_inner q (element_key w (Some t) seen key).uses (value_at e (judge w locals e)).uses
-    (judge_elements w locals (Some t) (seen_after w (Some t) seen key) rest).uses
+    let k = element_key w (Some t) seen key in
+    let v = value_at e (judge w locals e) in
+    met_inner q k.uses v.uses
+    (entering_if w (place_of e) (value_kind v.meaning) k.wanted ++ (judge_elements w locals (Some t) (seen_after w (Some t) seen key) rest).uses)
     (met_left q (judge w locals e).uses (as_value (place_of e) (judge w locals e).meaning).uses h)
 
 later_met : (w : World) (locals : Locals) (t : PlainType) (key : Option (ℕ × ℕ)) (e : ExprTree) (c : Option ℕ) (rest : ElementTrees) (q : TokenQuestion)
@@ -107,9 +112,11 @@ later_met : (w : World) (locals : Locals) (t : PlainType) (key : Option (ℕ × 
     (judge_elements w locals (Some t) seen (tree.element key e c rest)).uses
 unfolding judge
 later_met w locals t key e c rest q seen h =
-    met_right q (element_key w (Some t) seen key).uses
-    ((value_at e (judge w locals e)).uses ++ (judge_elements w locals (Some t) (seen_after w (Some t) seen key) rest).uses)
-    (met_right q (value_at e (judge w locals e)).uses (judge_elements w locals (Some t) (seen_after w (Some t) seen key) rest).uses h)
+    let k = element_key w (Some t) seen key in
+    let v = value_at e (judge w locals e) in
+    let entry = entering_if w (place_of e) (value_kind v.meaning) k.wanted in
+    let others = judge_elements w locals (Some t) (seen_after w (Some t) seen key) rest in
+    met_right q k.uses (v.uses ++ (entry ++ others.uses)) (met_right q v.uses (entry ++ others.uses) (met_right q entry others.uses h))
 
 mutual
   unfolding judge
@@ -138,8 +145,8 @@ mutual
       Met q (judge_links w locals start place j links).uses
   links_met w locals (for_member {n = n} {rest} {t} {a}) start place j h =
       links_keep (OfMember n t) w locals rest start n (followed j (select w locals place n))
-      (used_right n t j.uses (select w locals place n j.meaning).uses (subst (λ z. IsUsed n t (select w locals place n z).uses) (sym h.meaning)
-      (selected_used w locals place n t a)))
+      (met_right (OfMember n t) j.uses (select w locals place n j.meaning).uses
+      (subst (λ z. IsUsed n t (members_of (select w locals place n z).uses)) (sym h.meaning) (selected_used w locals place n t a)))
   links_met w locals for_export start place j h = tt
   links_met w locals (behind_selector {n = n} s a) start place j h =
       links_met w locals a start n (followed j (select w locals place n)) (followed_agrees (select w locals place n) h (selects_true w locals place s))

@@ -4,7 +4,7 @@ use Rattle.std.specs.List.{AllByRecursion, flat_map}
 use Rattle.std.proofs.lemmas.Option.{none-some, same_Some}
 use Rattle.base_lemmas.proofs.EachElement.{all_append, all_front, all_back}
 use Rattle.go_ast.specs.Tree.{Item, Group, single, several, TypeTree, ReceiverTree, ParamTree, ResultTree, FuncTree, GlobalTree, FieldTree, BodyTree}
-use Rattle.go_ast.specs.Tree.{TypeSpecTree, DeclTree, FileTree}
+use Rattle.go_ast.specs.Tree.{TypeSpecTree, DeclTree, FileTree, MethodTree}
 use Rattle.go_ast.specs.Tree as tree
 use Rattle.types_declared.specs.Files.{group_items}
 use Rattle.go_scope.specs.declared.model.Block.{Block}
@@ -14,8 +14,9 @@ use Rattle.go_scope.specs.ExpressionSites.{sites_if, list_sites, type_sites}
 use Rattle.go_scope.specs.StatementSites.{ident_sites, group_sites, separated_sites, open_of, block_sites}
 use Rattle.go_scope.specs.FileSites.{global_name, member_name, spec_sites, global_sites, field_sites, body_sites, type_spec_sites, receiver_sites}
 use Rattle.go_scope.specs.FileSites.{param_sites, result_sites, func_block, func_role, func_sites, imports_sites, decl_sites, file_sites}
+use Rattle.go_scope.specs.FileSites.{method_sites, method_block}
 use Rattle.types_declared.specs.MeaningOf.{result_types}
-use Rattle.types_declared.specs.Written.{written_types}
+use Rattle.types_declared.specs.Written.{written_types, signature_types, asked_types}
 use Rattle.types_info.proofs.DeclKinds.{Holds}
 use Rattle.law_faultless.proofs.Lists.{all_flat}
 use Rattle.law_faultless.proofs.Sound.{types_of}
@@ -50,19 +51,6 @@ module _ (s : TokenSpellings) (P : Site → Type 0) where
     fields_of fs (all_back P (field_sites s f.value) (list_sites (field_sites s) fs) h),
   )
 
-  body_of : (b : BodyTree) → AllByRecursion P (body_sites s b) → AllByRecursion (OfType s P) (written_types b)
-  unfolding body_sites
-  body_of (tree.Other x) h = (h, tt)
-  body_of (tree.Struct p o fs c) h = fields_of fs h
-  body_of (tree.Interface p o ms c) h = tt
-
-  definitions_of : (ts : List TypeSpecTree) → AllByRecursion (λ t. AllByRecursion P (type_spec_sites s t)) ts →
-      AllByRecursion (OfType s P) (flat_map (λ t. written_types t.body) ts)
-  unfolding type_spec_sites
-  definitions_of [] h = tt
-  definitions_of (t ∷ ts) h =
-      all_append (OfType s P) (written_types t.body) (flat_map (λ x. written_types x.body) ts) (body_of t.body h.0.1) (definitions_of ts h.1)
-
   params_of : (b : Block) (q : ℕ) (ps : List (Item ParamTree)) → AllByRecursion P (list_sites (param_sites s b q) ps) →
       AllByRecursion (OfType s P) (map (λ i. i.value.type_use) ps)
   unfolding param_sites
@@ -78,6 +66,35 @@ module _ (s : TokenSpellings) (P : Site → Type 0) where
   results_of tree.no_result h = tt
   results_of (tree.one_result x) h = (h, tt)
   results_of (tree.results o is c) h = items_of (type_sites s) is h
+
+  method_of : (m : MethodTree) → AllByRecursion P (method_sites s m) → AllByRecursion (OfType s P) (signature_types m.params m.result)
+  unfolding method_sites
+  method_of m h =
+      let params = list_sites (param_sites s (method_block s m) m.rparen) m.params in
+      let rest = all_back P (member_name s m.name) (params ++ result_sites s m.result) h in
+      all_append (OfType s P) (map (λ i. i.value.type_use) m.params) (result_types m.result)
+      (params_of (method_block s m) m.rparen m.params (all_front P params (result_sites s m.result) rest))
+      (results_of m.result (all_back P params (result_sites s m.result) rest))
+
+  asked_of : (ms : List (Item MethodTree)) → AllByRecursion P (list_sites (method_sites s) ms) → AllByRecursion (OfType s P) (asked_types ms)
+  asked_of [] h = tt
+  asked_of (m ∷ ms) h =
+      all_append (OfType s P) (signature_types m.value.params m.value.result) (asked_types ms)
+      (method_of m.value (all_front P (method_sites s m.value) (list_sites (method_sites s) ms) h))
+      (asked_of ms (all_back P (method_sites s m.value) (list_sites (method_sites s) ms) h))
+
+  body_of : (b : BodyTree) → AllByRecursion P (body_sites s b) → AllByRecursion (OfType s P) (written_types b)
+  unfolding body_sites
+  body_of (tree.Other x) h = (h, tt)
+  body_of (tree.Struct p o fs c) h = fields_of fs h
+  body_of (tree.Interface p o ms c) h = asked_of ms h
+
+  definitions_of : (ts : List TypeSpecTree) → AllByRecursion (λ t. AllByRecursion P (type_spec_sites s t)) ts →
+      AllByRecursion (OfType s P) (flat_map (λ t. written_types t.body) ts)
+  unfolding type_spec_sites
+  definitions_of [] h = tt
+  definitions_of (t ∷ ts) h =
+      all_append (OfType s P) (written_types t.body) (flat_map (λ x. written_types x.body) ts) (body_of t.body h.0.1) (definitions_of ts h.1)
 
   function_of : (f : FuncTree) → AllByRecursion P (func_sites s f) → AllByRecursion (OfType s P) (map (λ i. i.value.type_use) f.params ++ result_types f.result)
   unfolding func_sites

@@ -12,6 +12,7 @@ use Rattle.go_scope.specs.Site.{TokenSpellings}
 use Rattle.types_expr.specs.declared.symbol.Symbol.{Symbol}
 use Rattle.types_expr.specs.Types.{PlainType, Defined, Signature}
 use Rattle.types_expr.specs.World.{World}
+use Rattle.types_expr.specs.Judge.{members_of}
 use Rattle.types_stmt.specs.Declarations.{check_file}
 use Rattle.types_declared.specs.MeaningOf.{AreTypesOf, parameter_types, result_types, HasSignature}
 use Rattle.types_declared.specs.Definitions.{IsMethodOf}
@@ -140,7 +141,7 @@ module _ (w : Workspace) (sound : ListsFaults w []) (known : Verdicts) (right : 
       AllByRecursion (HasType p file) (types_of d)
   decl_named file s at d i =
       let v = worlds file s at in
-      let uses = (check_file v.0 (is_init s) s.tree).uses in
+      let uses = members_of (check_file v.0 (is_init s) s.tree).uses in
       let none = no_fault_in w sound known right p is file uses (record { source = s; in_file = at; world = v.0; judged_by = v.1; found = refl }) in
       let source : TokenSpellings = record { rank = file; spell = spelling_of s } in
       let k = all_kept w known p.path p is.is_checked file s at in
@@ -195,7 +196,7 @@ module _ (w : Workspace) (sound : ListsFaults w []) (known : Verdicts) (right : 
   method_of rank f has r e =
       let d = function_at p rank f has in
       let v = worlds f.file d.source d.in_file in
-      let uses = (check_file v.0 (is_init d.source) d.source.tree).uses in
+      let uses = members_of (check_file v.0 (is_init d.source) d.source.tree).uses in
       let none = no_fault_in w sound known right p is f.file uses
       (record { source = d.source; in_file = d.in_file; world = v.0; judged_by = v.1; found = refl }) in
       let held = subst (λ z. Holds d.source.tree.decls z) d.is.1.1 d.in_tree in

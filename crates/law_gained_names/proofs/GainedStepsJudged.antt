@@ -12,7 +12,7 @@ use Rattle.go_scope.specs.Bindings.{Layout, block_of}
 use Rattle.go_scope.specs.FileSites.{universe}
 use Rattle.go_scope.specs.Site.{or_blank}
 use Rattle.types_declared.specs.Package.{Package}
-use Rattle.types_expr.specs.Judge.{MemberUse}
+use Rattle.types_expr.specs.Judge.{MemberUse, members_of}
 use Rattle.types_info.specs.MemberUses.{AreUsesIn}
 use Rattle.types_info.specs.QualifiedIdentifiers.{IsQualifiedByPath}
 use Rattle.types_info.specs.Uniqueness.{HasOneWorld}
@@ -124,7 +124,7 @@ module _ (judge : GainedNamesAreJudged) (w : Workspace) (sound : ListsFaults w [
       let worlds = have_all_worlds w sound known sound.right p h.gained.was in
       let j = judge (i w known s f number put p q h) at p q is.named worlds file new new_at in
       let v = have_all_worlds x none known right q is_now file new new_at in
-      let their = (check_file j.world (is_init j.source) j.source.tree).uses in
+      let their = members_of (check_file j.world (is_init j.source) j.source.tree).uses in
       let same : uses ≡ their =
       one_list p one_world file uses their a
       (record { source = j.source; in_file = j.in_file; world = j.world; judged_by = j.judged_by; found = refl }) in

@@ -20,7 +20,7 @@ use Rattle.law_rename.proofs.TokensBehind.{seam}
 use Rattle.refs_lookup.specs.Places.{IsMemberToken, as_key, as_selected}
 use Rattle.refs_lookup.proofs.LinkPlaces.{stands_at_link}
 use Rattle.types_declared.specs.Package.{Package, spelled_at}
-use Rattle.types_expr.specs.Judge.{MemberUse}
+use Rattle.types_expr.specs.Judge.{MemberUse, members_of}
 use Rattle.types_expr.specs.World.{World}
 use Rattle.types_info.specs.Worlds.{is_init}
 use Rattle.types_stmt.specs.Declarations.{check_file}
@@ -71,7 +71,7 @@ module _ (i : Gain) (at : ℕ) (p q : Package) (a : IsNamedPackage i at p q) whe
 
   -- no use of a member stands at its literal
   no_use : (file : ℕ) (s : SourceFile) → slice_get p.files file ≡ Some s → (v : World) (u : MemberUse) →
-      Contains (check_file v (is_init s) s.tree).uses u → file ≡ i.rank → u.place ≡ i.number → ⊥
+      Contains (members_of (check_file v (is_init s) s.tree).uses) u → file ≡ i.rank → u.place ≡ i.number → ⊥
   no_use file s is v u has here literal =
       let part = part_at files file s (subst (λ fs. slice_get fs file ≡ Some s) same_files is) in
       let source : IsSourceFile s = subst IsSourceFile part.1.1 (source_file_at files a.parsed.sources file part.0 part.1.0) in
@@ -102,7 +102,7 @@ module _ (i : Gain) (at : ℕ) (p q : Package) (a : IsNamedPackage i at p q) whe
   ]
 
   use_spelled : (file : ℕ) (f s : SourceFile) → slice_get p.files file ≡ Some f → slice_get q.files file ≡ Some s → (v : World) (u : MemberUse) →
-      Contains (check_file v (is_init f) f.tree).uses u → spelling_of s (token i at file u.place) ≡ spelling_of f u.place
+      Contains (members_of (check_file v (is_init f) f.tree).uses) u → spelling_of s (token i at file u.place) ≡ spelling_of f u.place
   use_spelled file f s was is v u has =
       ap (spelling_of s) (sym (tokens_agree i at file u.place (no_use file f was v u has)))
       ∙ sym (ap (λ o. spelled_at o (moved_by i file u.place)) is)

@@ -18,7 +18,7 @@ use Rattle.go_scope.specs.Bindings.{IsBoundTo, IsImport, use_bound, own, block_o
 use Rattle.go_scope.specs.FileSites.{func_role}
 use Rattle.go_scope.specs.Site.{TokenSpellings}
 use Rattle.go_scope.specs.Table.{LiesAt}
-use Rattle.types_expr.specs.Judge.{MemberUse}
+use Rattle.types_expr.specs.Judge.{MemberUse, members_of}
 use Rattle.types_expr.specs.World.{World}
 use Rattle.types_stmt.specs.Declarations.{check_file}
 use Rattle.types_declared.specs.Definitions.{PlacedField, package_fields}
@@ -94,12 +94,12 @@ module _ (w : Workspace) (sound : ListsFaults w []) (known : Verdicts) (right : 
 
   module _ (file : ℕ) (f g : SourceFile) (v : World) (in_p : slice_get p.files file ≡ Some f) (in_q : slice_get q.files file ≡ Some g)
       (judged : IsWorldOf p file f v) where
-    use_kept : (u : MemberUse) → Contains (check_file v (is_init f) f.tree).uses u → (a : IsUseAt p file v u) → Keeps file u.place
+    use_kept : (u : MemberUse) → Contains (members_of (check_file v (is_init f) f.tree).uses) u → (a : IsUseAt p file v u) → Keeps file u.place
     use_kept u has a =
         let at : Position = record { file = file; index = u.place } in
         let n = a.number in
         let was : BindsByMember p n (declaration_of a.member) = record {
-          uses = (check_file v (is_init f) f.tree).uses;
+          uses = members_of (check_file v (is_init f) f.tree).uses;
           judged = record {
             source = f;
             in_file = subst (λ k. slice_get p.files k ≡ Some f) (sym a.stands.1) in_p;
@@ -121,7 +121,7 @@ module _ (w : Workspace) (sound : ListsFaults w []) (known : Verdicts) (right : 
           | inr selected ↦ kept_by at n a.begins.0.0 a.stands t.0 t.1 purpose.Selected selected (λ e. cc)
         ]
 
-    pub uses_kept : (u : MemberUse) → Contains (check_file v (is_init f) f.tree).uses u → spelling_of g u.place ≡ spelling_of f u.place
+    pub uses_kept : (u : MemberUse) → Contains (members_of (check_file v (is_init f) f.tree).uses) u → spelling_of g u.place ≡ spelling_of f u.place
     uses_kept u has =
         let a = is_use_at w sound known right p is file f in_p v judged u has in
         ap (λ o. spelled_at o u.place) (sym in_q) ∙ use_kept u has a ∙ ap (λ o. spelled_at o u.place) in_p

@@ -9,7 +9,7 @@ use Rattle.go_ast.specs.SourceFile.{SourceFile, spelling_of}
 use Rattle.go_scope.specs.declared.model.Position.{Position}
 use Rattle.go_scope.specs.Bindings.{Layout}
 use Rattle.go_scope.specs.Table.{LiesAt}
-use Rattle.types_expr.specs.Judge.{MemberUse}
+use Rattle.types_expr.specs.Judge.{MemberUse, members_of, Noted}
 use Rattle.types_expr.specs.World.{World, Member, AField, AMethod, ABrokenMethod}
 use Rattle.types_stmt.specs.Declarations.{check_file}
 use Rattle.types_declared.specs.Package.{Package, spelled_at}
@@ -18,10 +18,8 @@ use Rattle.workspace_check.specs.Verdicts.{Verdicts}
 use Rattle.refs_binding.specs.declared.declaration.Declaration.{Declaration}
 use Rattle.refs_binding.specs.declared.declaration.Declaration.TheVariants.{Predeclared, Declared, Field, Method}
 use Rattle.refs_binding.specs.Binding.{BindsByMember, DeclaresMember, UsesMemberAt, declaration_of}
-use Rattle.refs_binding.specs.DeclaringPlaces.{TokenAt, IsDeclaredAt}
 use Rattle.refs_binding.specs.Identifiers.{BeginsAt, NameBegins}
 use Rattle.refs_binding.specs.Uses.{IsCheckedPackage}
-use Rattle.refs_binding.proofs.NamedPlaces.{stands_once}
 use Rattle.law_faultless.proofs.PackageWorlds.{have_all_worlds}
 use Rattle.law_renamed_workspaces.proofs.Apart.{name_token}
 use Rattle.law_renamed_workspaces.specs.Layouts.{IsToken}
@@ -36,6 +34,8 @@ use Rattle.law_moves.proofs.MembersStay.{use_called}
 use Rattle.law_moves.specs.Moving.{AreScopedMoves, AreCheckedMoves}
 use Rattle.law_moves.proofs.MovedTo.{Becomes, IsMovedTo, becomes, field_there, method_there, moved_declaration, moved_to, q, x}
 use Rattle.law_agreement.proofs.MembersBound.{declared_here}
+use Rattle.types_expr.proofs.NoteLists.{member_noted, noted_member}
+use Rattle.law_changed_types.proofs.ChangedNotes.{members_moved}
 
 member_moves : (g : PathMap) (m : Member) → declaration_of (moved_member g m) ≡ moved_declaration g (declaration_of m)
 member_moves g (AField s t) = refl
@@ -44,10 +44,10 @@ member_moves g (ABrokenMethod s) = refl
 
 -- A use that is found in a file of a package names its member.
 member_used : (p : Package) (file : ℕ) (f : SourceFile) (v : World) → slice_get p.files file ≡ Some f → IsWorldOf p file f v → (u : MemberUse) →
-    Contains (check_file v (is_init f) f.tree).uses u → (n : ℕ) → LiesAt p.layout (record { file = file; index = u.place }) n → (m : Member) →
+    Contains (members_of (check_file v (is_init f) f.tree).uses) u → (n : ℕ) → LiesAt p.layout (record { file = file; index = u.place }) n → (m : Member) →
     v.member u.place u.before ≡ Some m → BindsByMember p n (declaration_of m)
 member_used p file f v at judged u has n stands m is = record {
-  uses = (check_file v (is_init f) f.tree).uses;
+  uses = members_of (check_file v (is_init f) f.tree).uses;
   judged = record {
     source = f;
     in_file = subst (λ k. slice_get p.files k ≡ Some f) (sym stands.1) at;
@@ -112,10 +112,10 @@ module _ (w : Workspace) (known : Verdicts) (r : Revision) (goes : PathMap) (h :
     abbrev z : World
     z = now.0
 
-    abbrev uses : List MemberUse
-    uses = (check_file v (is_init f) f.tree).uses
+    abbrev noted : List Noted
+    noted = (check_file v (is_init f) f.tree).uses
 
-    spelled_there : (u : MemberUse) → Contains uses u → spelling_of k u.place ≡ spelling_of f u.place
+    spelled_there : (u : MemberUse) → Contains (members_of noted) u → spelling_of k u.place ≡ spelling_of f u.place
     spelled_there u has =
         let a : IsUseAt p file v u = is_use_at w h.sound known h.right p is file f at v judged u has in
         let here : Position = record { file = file; index = u.place } in
@@ -132,8 +132,9 @@ module _ (w : Workspace) (known : Verdicts) (r : Revision) (goes : PathMap) (h :
         sym (ap (λ o. spelled_at o u.place) to) ∙ moved.tokens here a.place token ∙ called (spelled_at (slice_get p.files file) u.place)
         ∙ ap (λ o. spelled_at o u.place) at
 
-    world_moves : IsMovedWorld c.g uses v z
-    world_moves = worlds_move c.g c.injective p there moved.moved file f k v z judged now.1 uses spelled_there
+    world_moves : IsMovedWorld c.g noted v z
+    world_moves =
+        worlds_move c.g c.injective p there moved.moved file f k v z judged now.1 noted (λ u has. spelled_there u (member_noted noted u has))
 
     found_moves : check_file z (is_init k) k.tree ≡ moved_checked c.g (check_file v (is_init f) f.tree)
     found_moves =
@@ -152,11 +153,11 @@ module _ (w : Workspace) (known : Verdicts) (r : Revision) (goes : PathMap) (h :
       let judged = b.judged.judged_by in
       let g = k file f at v judged in
       let now_world = z file f at v judged in
-      let own : Contains (check_file v (is_init f) f.tree).uses b.found = subst (λ us. Contains us b.found) b.judged.found b.is_use in
-      let uses : (check_file now_world (is_init g) g.tree).uses ≡ map (moved_use c.g) (check_file v (is_init f) f.tree).uses =
-      ap (λ s. s.uses) (found_moves file f at v judged) in
+      let own : Contains (members_of (check_file v (is_init f) f.tree).uses) b.found = subst (λ us. Contains us b.found) b.judged.found b.is_use in
+      let uses : (members_of (check_file now_world (is_init g) g.tree).uses) ≡ map (moved_use c.g) (members_of (check_file v (is_init f) f.tree).uses) =
+      ap (λ s. members_of s.uses) (found_moves file f at v judged) ∙ members_moved c.g (check_file v (is_init f) f.tree).uses in
       record {
-        uses = (check_file now_world (is_init g) g.tree).uses;
+        uses = members_of (check_file now_world (is_init g) g.tree).uses;
         judged = record {
           source = g;
           in_file = to file f at v judged;
@@ -167,12 +168,12 @@ module _ (w : Workspace) (known : Verdicts) (r : Revision) (goes : PathMap) (h :
         found = moved_use c.g b.found;
         is_use =
             subst (λ us. Contains us (moved_use c.g b.found)) (sym uses)
-            (is_mapped (moved_use c.g) (check_file v (is_init f) f.tree).uses b.found own);
+            (is_mapped (moved_use c.g) (members_of (check_file v (is_init f) f.tree).uses) b.found own);
         at = b.at;
         member = moved_member c.g b.member;
         is_member =
             ap (λ i. now_world.member i (moved_type c.g b.found.before)) (sym b.at)
-            ∙ (world_moves file f at v judged).members b.found own
+            ∙ (world_moves file f at v judged).members b.found (noted_member (check_file v (is_init f) f.tree).uses b.found own)
             ∙ ap (λ i. option_map (moved_member c.g) (v.member i b.found.before)) b.at
             ∙ ap (option_map (moved_member c.g)) b.is_member;
         declares = member_moves c.g b.member ∙ ap (moved_declaration c.g) b.declares;

@@ -15,14 +15,15 @@ use Rattle.go_scope.specs.declared.model.Position.{Position}
 use Rattle.go_scope.specs.Bindings.{Layout}
 use Rattle.std.specs.Global.{Vec}
 use Rattle.types_expr.specs.declared.found.MemberUse.{MemberUse as FoundUse}
-use Rattle.types_expr.specs.Judge.{MemberUse}
+use Rattle.types_expr.specs.declared.found.Entering.{Entering as FoundEntering}
+use Rattle.types_expr.specs.Judge.{MemberUse, Entering, members_of, enterings_of}
 use Rattle.types_stmt.specs.Checked.{FoundSoFar}
 use Rattle.types_declared.specs.ExportTablesView.{export_data_known}
 use Rattle.types_declared.specs.Package.{Package}
 use Rattle.types_declared.specs.Written.{DeclaresImport}
 use Rattle.types_info.specs.declared.lists.Qualified.{Qualified}
 use Rattle.types_info.specs.Lists.{IsListedUnder}
-use Rattle.types_info.specs.MemberUses.{AreMemberUses, AreUsesIn, uses_in}
+use Rattle.types_info.specs.MemberUses.{AreMemberUses, AreUsesIn, uses_in, AreEnterings, AreEnteringsIn, enterings_in}
 use Rattle.types_info.specs.QualifiedIdentifiers.{AreQualified, IsQualifiedAt, NamesPackage}
 use Rattle.workspace_check.specs.declared.fault.FileFault.{FileFault}
 use Rattle.workspace_check.specs.declared.finding.Finding.{Finding}
@@ -31,7 +32,7 @@ use Rattle.workspace_check.specs.declared.known.KnownVerdict.{KnownVerdict}
 use Rattle.workspace_check.specs.FaultLists.{IsFaultOfSome, ListsFaults}
 use Rattle.workspace_check.specs.Faults.{fault_cmp}
 use Rattle.workspace_check.specs.Found.{KnowsVerdicts}
-use Rattle.workspace_check.specs.KnownFindings.{AreQualifiedOf, AreUsesOf, IsFindingOf, IsKnownVerdict, verdict_from}
+use Rattle.workspace_check.specs.KnownFindings.{AreQualifiedOf, AreUsesOf, IsFindingOf, IsKnownVerdict, verdict_from, AreEnteringsOf}
 use Rattle.workspace_check.specs.Laws.{IsSameVerdict}
 use Rattle.workspace_check.specs.Verdicts.{Verdicts, AreVerdicts, AreVerdictsBelow, IsFaultBy, IsPackageIn, IsVerdict}
 use Rattle.workspace_check.proofs.Alike.{package_as}
@@ -42,7 +43,7 @@ use Rattle.law_faultless.proofs.PackageWorlds.{have_worlds}
 use Rattle.law_changed_types.specs.SameBindings.{trees_of}
 use Rattle.law_renamed_workspaces.proofs.Findings.{file_there, same_verdict}
 use Rattle.law_renamed_workspaces.proofs.PackagesAfter.{known_faultless}
-use Rattle.law_changed_types.specs.Moved.{PathMap, IsInjective, moved_use}
+use Rattle.law_changed_types.specs.Moved.{PathMap, IsInjective, moved_use, moved_entering, moved_checked}
 use Rattle.law_changed_types.specs.Moves.{FilesMove}
 use Rattle.law_changed_types.specs.MovedPackage.{IsMovedPackage, WorldsMove}
 use Rattle.law_changed_types.proofs.Inversions.{some_back}
@@ -57,6 +58,10 @@ use Rattle.law_moves.proofs.MovedVerdicts.{are_right}
 use Rattle.law_moves.proofs.PathsAfter.{has_now}
 use Rattle.law_moves.proofs.Swapped.{injective}
 use Rattle.law_moves.proofs.TypeFaults.{found_moves}
+use Rattle.types_expr.specs.World.{World}
+use Rattle.law_changed_types.proofs.ChangedNotes.{members_moved, enterings_moved}
+use Rattle.types_stmt.specs.Declarations.{check_file}
+use Rattle.types_info.specs.Worlds.{IsWorldOf, is_init}
 
 empty_in_order : IsStrictlySortedBy fault_cmp []
 unfolding IsStrictlySortedBy
@@ -216,6 +221,17 @@ module _ (worlds_move : WorldsMove) (files_move : FilesMove) (w : Workspace) (be
     in_place : IsPackageIn x after (g path) q
     in_place = subst (λ r. IsPackageIn x after r q) (moved.path ∙ ap g own_path) there.1.is.is_checked
 
+    -- the check of a file, moved
+    same_there : (file : ℕ) (source : SourceFile) (world : World) (in_file : slice_get c.files file ≡ Some source) → IsWorldOf c file source world →
+        let k = file_there c.files q.files moved.trees file source in_file in
+        let y = have_worlds x sound after right q there.1.is file k.0 k.1 in
+        check_file y.0 (is_init k.0) k.0.tree ≡ moved_checked g (check_file world (is_init source) source.tree)
+    same_there file source world in_file judged =
+        let k = file_there c.files q.files moved.trees file source in_file in
+        let y = have_worlds x sound after right q there.1.is file k.0 k.1 in
+        found_moves worlds_move files_move g (injective w from to swap) w h.sound before h.right from to s c there.1.there own_package there.1.bound
+        x after q there.1.is.is_checked moved (sym there.1.scopes.files) file source k.0 world y.0 in_file k.1 judged y.1
+
     uses_there : (file : ℕ) (old : List MemberUse) → AreUsesIn c file old → AreUsesIn q file (map (moved_use g) old)
     uses_there file old u =
         let k = file_there c.files q.files moved.trees file u.source u.in_file in
@@ -227,9 +243,23 @@ module _ (worlds_move : WorldsMove) (files_move : FilesMove) (w : Workspace) (be
           judged_by = y.1;
           found =
               ap (map (moved_use g)) u.found
-              ∙ sym (ap (λ (z : FoundSoFar). z.uses)
-              (found_moves worlds_move files_move g (injective w from to swap) w h.sound before h.right from to s c there.1.there own_package there.1.bound
-              x after q there.1.is.is_checked moved (sym there.1.scopes.files) file u.source k.0 u.world y.0 u.in_file k.1 u.judged_by y.1));
+              ∙ sym (ap (λ (z : FoundSoFar). members_of z.uses) (same_there file u.source u.world u.in_file u.judged_by)
+              ∙ members_moved g (check_file u.world (is_init u.source) u.source.tree).uses);
+        }
+
+    enterings_there : (file : ℕ) (old : List Entering) → AreEnteringsIn c file old → AreEnteringsIn q file (map (moved_entering g) old)
+    enterings_there file old u =
+        let k = file_there c.files q.files moved.trees file u.source u.in_file in
+        let y = have_worlds x sound after right q there.1.is file k.0 k.1 in
+        record {
+          source = k.0;
+          in_file = k.1;
+          world = y.0;
+          judged_by = y.1;
+          found =
+              ap (map (moved_entering g)) u.found
+              ∙ sym (ap (λ (z : FoundSoFar). enterings_of z.uses) (same_there file u.source u.world u.in_file u.judged_by)
+              ∙ enterings_moved g (check_file u.world (is_init u.source) u.source.tree).uses);
         }
 
     members_there : (was now : List (Vec FoundUse)) → map uses_in now ≡ map (map (moved_use g)) (map uses_in was) → AreMemberUses c (map uses_in was) →
@@ -242,6 +272,19 @@ module _ (worlds_move : WorldsMove) (files_move : FilesMove) (w : Workspace) (be
         each = λ file uses at. (
             let o = got_back (map (moved_use g)) (map uses_in was) file uses (ap (λ l. slice_get l file) (sym same) ∙ at) in
             subst (AreUsesIn q file) (sym o.1.1) (uses_there file o.0 (are.each file o.0 o.1.0)));
+      };
+    }
+
+    all_enterings_there : (was now : List (Vec FoundEntering)) → map enterings_in now ≡ map (map (moved_entering g)) (map enterings_in was) →
+        AreEnterings c (map enterings_in was) → AreEnteringsOf x after (g path) now
+    all_enterings_there was now same are = record {
+      checked = q;
+      is_package = in_place;
+      are_enterings = record {
+        all = ap length same ∙ length-map (map enterings_in was) (map (moved_entering g)) ∙ are.all ∙ same_count c.files q.files moved.trees;
+        each = λ file list at. (
+            let o = got_back (map (moved_entering g)) (map enterings_in was) file list (ap (λ l. slice_get l file) (sym same) ∙ at) in
+            subst (AreEnteringsIn q file) (sym o.1.1) (enterings_there file o.0 (are.each file o.0 o.1.0)));
       };
     }
 
@@ -272,6 +315,8 @@ module _ (worlds_move : WorldsMove) (files_move : FilesMove) (w : Workspace) (be
       };
       members = λ e. (let u = k.finding.members m.faultless in
           members_there path has k.known k.right u.checked u.is_package was.members.items now.members.items m.members u.are_uses);
+      enterings = λ e. (let u = k.finding.enterings m.faultless in
+          all_enterings_there path has k.known k.right u.checked u.is_package was.enterings.items now.enterings.items m.enterings u.are_enterings);
       qualified = λ e. (let u = k.finding.qualified m.faultless in
           qualified_there path has k.known k.right u.checked u.is_package was.qualified.items now.qualified.items m.qualified u.are_qualified);
     };

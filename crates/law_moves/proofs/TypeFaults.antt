@@ -21,6 +21,7 @@ use Rattle.law_changed_types.specs.Moves.{FilesMove}
 use Rattle.law_changed_types.specs.MovedPackage.{IsMovedPackage, WorldsMove}
 use Rattle.law_moves.specs.MovedVerdicts.{IsBoundAfterMove}
 use Rattle.law_moves.proofs.KeptSpellings.{uses_kept}
+use Rattle.types_expr.proofs.NoteLists.{member_noted}
 
 module _ (worlds_move : WorldsMove) (files_move : FilesMove) (g : PathMap) (inj : IsInjective g) (w : Workspace) (sound : ListsFaults w [])
     (known : Verdicts) (right : AreVerdicts w known) (from to : List ℕ) (s : FileChanges) (p there : Package) (is : IsCheckedPackage w known p)
@@ -33,7 +34,8 @@ module _ (worlds_move : WorldsMove) (files_move : FilesMove) (g : PathMap) (inj 
       let inits = keep_inits w x known after p q is.is_checked also a.layout a.size file f h in_p in_q trees in
       let in_there = ap (λ fs. slice_get fs file) files ∙ in_q in
       let moved = worlds_move g inj p q a file f h v y judged now (check_file v (is_init f) f.tree).uses
-      (uses_kept w sound known right from to s p there is bound file f h v in_p in_there judged) in
+      (λ u has. uses_kept w sound known right from to s p there is bound file f h v in_p in_there judged u
+      (member_noted (check_file v (is_init f) f.tree).uses u has)) in
       ap (λ t. check_file y (is_init h) t) trees ∙ files_move g inj v y (is_init f) (is_init h) f.tree inits moved
 
   pub no_type_fault : ((f : Fault) → IsTypeFault p f → ⊥) → (f : Fault) → IsTypeFault q f → ⊥

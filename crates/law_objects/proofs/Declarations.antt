@@ -235,7 +235,7 @@ of_file : (t : ℕ → ℕ) (ds es : List DeclTree) (s u : Source) → IsRenumbe
     declared_in u names es ≡ declared_in s names ds
 of_file t ds es s u is decls names =
     let new = the_new t is.numbers s u in
-    let same = made_is t is.numbers s u is.definition is.function is.position in
+    let same = made_is t is.numbers s u is.definition is.implements is.function is.position in
     ap₂ (λ z d. declared_in z names d) (sym same) decls
     ∙ declarations new names ds
     (subst (λ (z : Source). AllByRecursion (λ (token : Token). IsSameAt t s z token.place) (all_tokens decl_tokens ds)) (sym same) is.tokens)

@@ -10,7 +10,7 @@ use Rattle.build_object.specs.Lines.{Initializer, Method}
 use Rattle.build_object.specs.Names.{spelled_in, name_of_type, type_names, is_named_init, is_initializer, function_named, function_called}
 use Rattle.build_object.specs.Names.{initializers_with, functions_behind, function_names, positions_from, names_of_fields, body_positions}
 use Rattle.build_object.specs.Names.{type_positions, field_positions}
-use Rattle.law_rename.specs.Renumbered.{items_by, item_by, body_by, field_by, receiver_by}
+use Rattle.law_rename.specs.Renumbered.{items_by, item_by, body_by, field_by, method_by, receiver_by}
 use Rattle.law_changed_types.specs.RenumberedPackage.{AreRenumberedFiles}
 use Rattle.law_changed_types.proofs.RenumberedTypesListed.{new_type, new_function, types_by, functions_by}
 
@@ -47,11 +47,11 @@ module _ (t : ℕ → ℕ → ℕ) (fs gs : List SourceFile) (spelled : (file n 
       (ap (λ (b : Bool). functions_behind path gs (if b then k + 1 else k) (map (new_function t) xs)) (same_init f)
       ∙ same_functions (initializers_with fs k f) xs)
 
-  -- fields
+  -- written members
 
-  same_positions : (g : ℕ → ℕ) (n : ℕ) (is : List (Item ℕ)) → positions_from n (items_by g g is) ≡ positions_from n is
-  same_positions g n [] = refl
-  same_positions g n (i ∷ is) = ap (λ rest. n ∷ rest) (same_positions g (suc n) is)
+  same_positions : {X : Type 0} (g : ℕ → ℕ) (f : X → X) (n : ℕ) (is : List (Item X)) → positions_from n (items_by g f is) ≡ positions_from n is
+  same_positions g f n [] = refl
+  same_positions g f n (i ∷ is) = ap (λ rest. n ∷ rest) (same_positions g f (suc n) is)
 
   field_names : (g : ℕ → ℕ) (xs : List (Item FieldTree)) → names_of_fields (items_by g (field_by g) xs) ≡ items_by g g (names_of_fields xs)
   field_names g [] = refl
@@ -60,8 +60,8 @@ module _ (t : ℕ → ℕ → ℕ) (fs gs : List SourceFile) (spelled : (file n 
 
   same_body : (g : ℕ → ℕ) (b : BodyTree) → body_positions (body_by g b) ≡ body_positions b
   same_body g (Other x) = refl
-  same_body g (Interface k o ms c) = refl
-  same_body g (Struct k o xs c) = ap (positions_from 0) (field_names g xs) ∙ same_positions g 0 (names_of_fields xs)
+  same_body g (Interface k o ms c) = same_positions g (method_by g) 0 ms
+  same_body g (Struct k o xs c) = ap (positions_from 0) (field_names g xs) ∙ same_positions g g 0 (names_of_fields xs)
 
   positions_of : (ds : List PlacedType) → flat_map type_positions (map (new_type t) ds) ≡ flat_map type_positions ds
   positions_of [] = refl

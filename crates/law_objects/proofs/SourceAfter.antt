@@ -10,14 +10,14 @@ use Rattle.go_scope.specs.WellFormed.{WellFormed}
 use Rattle.types_declared.specs.Files.{HasLiteral}
 use Rattle.types_declared.specs.Package.{Package, spelled, spelled_at}
 use Rattle.types_expr.specs.declared.symbol.Symbol.{Symbol}
-use Rattle.types_expr.specs.Judge.{MemberUse}
+use Rattle.types_expr.specs.Judge.{MemberUse, members_of}
 use Rattle.types_expr.specs.Types.{PlainType}
 use Rattle.types_expr.specs.World.{Definition, World, member_by}
 use Rattle.types_stmt.specs.Declarations.{check_file}
 use Rattle.types_info.specs.Uniqueness.{TokensRise}
 use Rattle.types_info.specs.Worlds.{IsWorldOf, is_init}
 use Rattle.types_info.proofs.OneMeaning.{one_name}
-use Rattle.types_info.proofs.OneWorld.{has_one_world}
+use Rattle.types_info.proofs.OneWorld.{has_one_world, same_implementing}
 use Rattle.build_object.specs.Lines.{GlobalName}
 use Rattle.build_object.specs.Literals.{literal_number}
 use Rattle.build_object.specs.Names.{function_name, position_of_field}
@@ -44,6 +44,8 @@ use Rattle.law_objects.proofs.Halves.{global_there, truth_there}
 use Rattle.law_objects.proofs.Literals.{literals_there, spelled_still}
 use Rattle.law_objects.proofs.OwnNames.{literal_no_global, literal_no_truth, name_no_global, name_no_truth}
 use Rattle.law_objects.proofs.Seen.{IsOwnLiteral, at_seen, declared_apart, each_kept, each_seen, kept_at, kept_value, seen, seen_at}
+use Rattle.types_expr.proofs.NoteLists.{member_noted}
+use Rattle.law_changed_types.proofs.ChangedNotes.{members_renumbered}
 
 -- the type before a use, where uses are at new numbers
 uses_before : (t : ℕ → ℕ) → ((a b : ℕ) → t a ≡ t b → a ≡ b) → (us : List MemberUse) (n : ℕ) → type_before (map (renumbered_use t) us) (t n) ≡ type_before us n
@@ -88,6 +90,9 @@ module _ (i : Gain) (at : ℕ) (p q : Package) (a : IsGainedAt i at p q) (in_ord
     definition_now : (x : Symbol) → v.definition x ≡ old.world.definition x
     definition_now x = judged.definition x ∙ ap (λ (d : Definition). d.underlying) (definitions_same x) ∙ sym (of.world.definition x)
 
+    implements_now : (y : PlainType) (x : Symbol) → v.implements y x ≡ old.world.implements y x
+    implements_now y x = same_implementing q p file file g f v old.world judged of.world (fun_ext definitions_same) y x
+
     bound_now : (k : ℕ) → v.bound (t k) ≡ renumbered_bound t (old.world.bound k)
     bound_now k =
         one_name q formed rise file (t k) (v.bound (t k)) (renumbered_bound t (old.world.bound k)) (judged.names (t k))
@@ -104,7 +109,7 @@ module _ (i : Gain) (at : ℕ) (p q : Package) (a : IsGainedAt i at p q) (in_ord
     -- the uses of members
 
     abbrev AreSpelled : SourceFile → World → Type 0
-    AreSpelled z x = (u : MemberUse) → Contains (check_file x (is_init z) z.tree).uses u → spelling_of g (t u.place) ≡ spelling_of z u.place
+    AreSpelled z x = (u : MemberUse) → Contains (members_of (check_file x (is_init z) z.tree).uses) u → spelling_of g (t u.place) ≡ spelling_of z u.place
 
     uses_spelled : AreSpelled f old.world
     uses_spelled =
@@ -116,18 +121,20 @@ module _ (i : Gain) (at : ℕ) (p q : Package) (a : IsGainedAt i at p q) (in_ord
         subst (λ x. AreSpelled f x) world (subst (λ z. AreSpelled z j.world) source j.spelled)
 
     found : IsRenumberedCheck t (check_file old.world (is_init f) f.tree) (check_file v (is_init g) g.tree)
-    found = found_renumbers n p q a.renumbered file f g was is old.world v of.world judged uses_spelled
+    found = found_renumbers n p q a.renumbered file f g was is old.world v of.world judged
+        (λ u has. uses_spelled u (member_noted (check_file old.world (is_init f) f.tree).uses u has))
 
     -- the source
 
     pub before_now : ℕ → Option PlainType
-    before_now k = type_before (check_file v (is_init g) g.tree).uses k
+    before_now k = type_before (members_of (check_file v (is_init g) g.tree).uses) k
 
     before_still : (k : ℕ) → before_now (t k) ≡ old.before k
     unfolding before_now
     before_still k =
-        ap (λ us. type_before us (t k)) found.uses
-        ∙ uses_before t (renumbers i at file).injective (check_file old.world (is_init f) f.tree).uses k
+        ap (λ ns. type_before (members_of ns) (t k)) found.uses
+        ∙ ap (λ us. type_before us (t k)) (members_renumbered t (check_file old.world (is_init f) f.tree).uses)
+        ∙ uses_before t (renumbers i at file).injective (members_of (check_file old.world (is_init f) f.tree).uses) k
         ∙ sym (of.before k)
 
     pub new : Source
@@ -221,6 +228,7 @@ module _ (i : Gain) (at : ℕ) (p q : Package) (a : IsGainedAt i at p q) (in_ord
     is_renumbered = record {
       numbers = renumbers i at file;
       definition = definition_now;
+      implements = implements_now;
       function = λ x. refl;
       position = λ x. refl;
       tokens =

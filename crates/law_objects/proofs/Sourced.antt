@@ -25,7 +25,7 @@ use Rattle.go_scope.specs.Bindings.{IsPackageLevel}
 use Rattle.types_expr.specs.Types.{PlainType}
 use Rattle.types_expr.specs.World.{World}
 use Rattle.types_expr.specs.declared.symbol.Symbol.{Symbol}
-use Rattle.types_expr.specs.Judge.{MemberUse}
+use Rattle.types_expr.specs.Judge.{MemberUse, members_of}
 use Rattle.types_stmt.specs.Declarations.{check_file}
 use Rattle.types_declared.specs.Files.{HasLiteral}
 use Rattle.types_declared.specs.Package.{Package}
@@ -62,6 +62,8 @@ use Rattle.law_renamed_workspaces.proofs.OuterFaults.{new_sources}
 use Rattle.law_objects.specs.Replaced.{Replaced}
 use Rattle.law_objects.proofs.NamesMoved.{named_at, MovesNames}
 use Rattle.law_objects.specs.SourcesBy.{IsSourceBy, NumbersStay}
+use Rattle.types_expr.proofs.NoteLists.{noted_member}
+use Rattle.types_stmt.specs.Checked.{FoundSoFar}
 
 -- a number is no name
 
@@ -262,7 +264,7 @@ module _ (w : Workspace) (before after : Verdicts) (d : Declaration) (name : Lis
         world = judged;
         before = λ token. is.before token ∙
             ap (λ c. type_before c token)
-            (sym (ap (λ (c : _). c.uses) (found w before after d name s plain none p q here file f g old.world v at there is.world judged)));
+            (sym (ap (λ (c : FoundSoFar). members_of c.uses) (found w before after d name s plain none p q here file f g old.world v at there is.world judged)));
         global = λ token. global_now token (old.global token) (is.global token);
         truth = λ token. (
           (λ e. true_stays p q a file token ((is.truth token).0 e)),
@@ -276,9 +278,9 @@ module _ (w : Workspace) (before after : Verdicts) (d : Declaration) (name : Lis
 
       agree : (n : ℕ) (t : PlainType) → old.before n ≡ Some t → v.member n t ≡ old.world.member n t
       agree n t e =
-          let u = used_before (check_file old.world (is_init f) f.tree).uses n t (sym (is.before n) ∙ e) in
+          let u = used_before (members_of (check_file old.world (is_init f) f.tree).uses) n t (sym (is.before n) ∙ e) in
           subst (λ k. v.member k t ≡ old.world.member k t) u.1.1.0
-          (subst (λ k. v.member u.0.place k ≡ old.world.member u.0.place k) u.1.1.1 (alike.members u.0 u.1.0))
+          (subst (λ k. v.member u.0.place k ≡ old.world.member u.0.place k) u.1.1.1 (alike.members u.0 (noted_member (check_file old.world (is_init f) f.tree).uses u.0 u.1.0)))
 
       all_numbers : AllOf (NumbersStay old numbers) (all_tokens decl_tokens f.tree.decls)
       all_numbers =

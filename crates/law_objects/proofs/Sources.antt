@@ -34,7 +34,7 @@ pub record NewSource : Type 0 where
 -- the new source
 abbrev pub made : NewSource → Source
 made m = record {
-  world = record { bound = m.bound; member = m.member; definition = m.old.world.definition };
+  world = record { bound = m.bound; member = m.member; definition = m.old.world.definition; implements = m.old.world.implements };
   before = m.before;
   global = m.global;
   truth = m.truth;
@@ -59,9 +59,15 @@ the_new t n s u = record {
 }
 
 pub made_is : (t : ℕ → ℕ) (n : IsRenumbering t) (s u : Source) → ((x : Symbol) → u.world.definition x ≡ s.world.definition x) →
-    ((x : Symbol) → u.function x ≡ s.function x) → ((x : Symbol) → u.position x ≡ s.position x) → made (the_new t n s u) ≡ u
-made_is t n s u definition function position = λ i. record {
-  world = record { bound = u.world.bound; member = u.world.member; definition = sym (fun_ext definition) i };
+    ((y : PlainType) (x : Symbol) → u.world.implements y x ≡ s.world.implements y x) → ((x : Symbol) → u.function x ≡ s.function x) → ((x : Symbol) →
+        u.position x ≡ s.position x) → made (the_new t n s u) ≡ u
+made_is t n s u definition implements function position = λ i. record {
+  world = record {
+    bound = u.world.bound;
+    member = u.world.member;
+    definition = sym (fun_ext definition) i;
+    implements = sym (fun_ext (λ y. fun_ext (implements y))) i;
+  };
   before = u.before;
   global = u.global;
   truth = u.truth;

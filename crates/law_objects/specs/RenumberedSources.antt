@@ -26,6 +26,7 @@ pub record IsSameAt (t : ℕ → ℕ) (s u : Source) (token : ℕ) : Type 0 wher
 pub record IsRenumberedSource (t : ℕ → ℕ) (decls : List DeclTree) (s u : Source) : Type 0 where
   pub numbers : IsRenumbering t
   pub definition : (x : Symbol) → u.world.definition x ≡ s.world.definition x
+  pub implements : (t : PlainType) (x : Symbol) → u.world.implements t x ≡ s.world.implements t x
   pub function : (x : Symbol) → u.function x ≡ s.function x
   pub position : (x : Symbol) → u.position x ≡ s.position x
   pub tokens : AllByRecursion (λ (token : Token). IsSameAt t s u token.place) (all_tokens decl_tokens decls)

@@ -15,7 +15,7 @@ use Rattle.law_objects.specs.Replaced.{Replaced, object_by}
 -- The source `s` with other names, other members and other numbers.
 abbrev pub source_by : Replaced → Source → (member : ℕ → PlainType → Option Member) → (number : ℕ → Option ℕ) → Source
 source_by r s member number = record {
-  world = record { bound = s.world.bound; member = member; definition = s.world.definition };
+  world = record { bound = s.world.bound; member = member; definition = s.world.definition; implements = s.world.implements };
   before = s.before;
   global = λ n. option_map r.global (s.global n);
   truth = s.truth;

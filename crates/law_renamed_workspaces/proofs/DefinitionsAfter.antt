@@ -6,11 +6,11 @@ use Rattle.std.proofs.lemmas.List.Elements.{recursion_from_All}
 use Rattle.std.proofs.lemmas.Option.{none-some, same_Some}
 use Rattle.base_files.specs.Workspace.{Workspace}
 use Rattle.base_edits.specs.Revisions.{Revision}
-use Rattle.go_ast.specs.Tree.{Item, TypeTree, FieldTree, BodyTree, Other, Struct, Interface}
+use Rattle.go_ast.specs.Tree.{Item, TypeTree, FieldTree, BodyTree, Other, Struct, Interface, MethodTree, ParamTree}
 use Rattle.go_scope.specs.WellFormed.{WellFormed}
 use Rattle.law_tokens.proofs.Elements.{all_got}
 use Rattle.types_expr.specs.declared.symbol.Symbol.{Symbol}
-use Rattle.types_expr.specs.Types.{PlainType, Defined, Underlying, Signature}
+use Rattle.types_expr.specs.Types.{Defined, Underlying, Signature, WrittenAs, AFieldOf, AMethodOf}
 use Rattle.types_expr.specs.Types.{Struct as StructOf}
 use Rattle.types_expr.specs.World.{Definition, Field, Method}
 use Rattle.types_expr.specs.WorldView.{no_definition}
@@ -18,13 +18,15 @@ use Rattle.types_declared.proofs.ByteKeys.{cases_bytes}
 use Rattle.types_declared.proofs.OneUnderlying.{one_underlying}
 use Rattle.types_declared.specs.Laid.{is_exported}
 use Rattle.types_declared.specs.Package.{Package, ExportData, PlacedType, PlacedFunction, package_types, package_functions, symbol_in}
-use Rattle.types_declared.specs.Written.{written_types, IsTypeOf}
+use Rattle.types_declared.specs.Written.{written_types, signature_types}
 use Rattle.types_declared.specs.MeaningOf.{parameter_types, result_types, HasSignature}
 use Rattle.types_declared.specs.Definitions.{HasUnderlying, PlacedField, body_fields, fields_from, package_fields, is_on_pointer, IsFoundField}
 use Rattle.types_declared.specs.Definitions.{IsFoundSignature, IsFoundMethod, IsUnderlyingOf, has, has_none, IsDefinition, AreDefinitions}
+use Rattle.types_declared.specs.Definitions.{WrittenForm, OfType, OfSignature, OfForm, HasForm}
 use Rattle.types_check.specs.Exports.{IsExportData}
 use Rattle.types_info.proofs.DeclKinds.{Holds, holds_got, holds_append, holds_flat, holds_map, held_map}
-use Rattle.types_info.proofs.OneMeaning.{one_type, one_signature_found}
+use Rattle.types_info.proofs.OneMeaning.{one_signature_found}
+use Rattle.types_info.proofs.OneWorld.{one_form}
 use Rattle.workspace_check.specs.Verdicts.{Verdicts}
 use Rattle.workspace_check.proofs.OnePackage.{layout_formed}
 use Rattle.refs_binding.specs.Uses.{IsCheckedPackage}
@@ -38,14 +40,15 @@ use Rattle.law_renamed_workspaces.specs.Layouts.{IsRelaid}
 use Rattle.law_renamed_workspaces.specs.MovedExports.{field_called, method_called}
 use Rattle.law_renamed_workspaces.specs.MembersMoved.{IsUnderNewName, IsDefinitionAfter, AreSeenAfter}
 use Rattle.law_renamed_workspaces.proofs.CountingMembers as counting
+use Rattle.law_changed_types.proofs.Parts.{of_asked, of_parameters, all_of_left, all_of_right}
 
 -- a field or method by its parts
 
-field_is : (f : Field) (s : Symbol) (e : Bool) (t : PlainType) → f.symbol ≡ s → f.exported ≡ e → f.type_of ≡ t →
-    f ≡ record { symbol = s; exported = e; type_of = t }
+field_is : (f : Field) (s : Symbol) (e : Bool) (t : WrittenAs) → f.symbol ≡ s → f.exported ≡ e → f.form ≡ t →
+    f ≡ record { symbol = s; exported = e; form = t }
 field_is f s e t a b c =
-    let one : (x : Symbol) (y : Bool) (z : PlainType) → Field = λ x y z. record { symbol = x; exported = y; type_of = z } in
-    ap (λ x. one x f.exported f.type_of) a ∙ ap (λ y. one s y f.type_of) b ∙ ap (λ z. one s e z) c
+    let one : (x : Symbol) (y : Bool) (z : WrittenAs) → Field = λ x y z. record { symbol = x; exported = y; form = z } in
+    ap (λ x. one x f.exported f.form) a ∙ ap (λ y. one s y f.form) b ∙ ap (λ z. one s e z) c
 
 method_is : (m : Method) (s : Symbol) (e : Bool) (o : Bool) (g : Option Signature) → m.symbol ≡ s → m.exported ≡ e → m.on_pointer ≡ o → m.signature ≡ g →
     m ≡ record { symbol = s; exported = e; on_pointer = o; signature = g }
@@ -70,40 +73,62 @@ held : {X : Type 0} (P : X → Type 0) (xs : List X) → AllByRecursion P xs →
 held P [] h x k = absurd k
 held P (y ∷ ys) h x k = elim k [ inl e ↦ subst P e h.0 | inr rest ↦ held P ys h.1 x rest ]
 
-body_typed : (P : ℕ → TypeTree → Type 0) (rank file : ℕ) (b : BodyTree) → AllByRecursion (P file) (written_types b) → (f : PlacedField) →
-    Holds (body_fields rank file b) f → P f.file f.type_use
+body_typed : (P : ℕ → TypeTree → Type 0) (rank file : ℕ) (b : BodyTree) → All (P file) (written_types b) → (f : PlacedField) →
+    Holds (body_fields rank file b) f → OfForm (P f.file) f.form
 body_typed P rank file (Other t) all f h = absurd h
-body_typed P rank file (Interface k o ms c) all f h = absurd h
+body_typed P rank file (Interface k o ms c) all f h =
+    let i = holds_map (λ (m : Item MethodTree). record {
+      definition = rank;
+      file = file;
+      name = m.value.name;
+      form = OfSignature m.value.params m.value.result;
+    }) ms f h in
+    let Q : Item MethodTree → Type 0 = λ m. All (P file) (signature_types m.value.params m.value.result) in
+    subst (λ (z : PlacedField). OfForm (P z.file) z.form) i.1.1 (held Q ms (recursion_from_All Q ms (of_asked (P file) ms all)) i.0 i.1.0)
 body_typed P rank file (Struct k o fs c) all f h =
     let x = holds_flat (λ (i : Item FieldTree). map
-    (λ (n : Item ℕ). record { definition = rank; file = file; name = n.value; type_use = i.value.type_use }) i.value.names) fs f h in
+    (λ (n : Item ℕ). record { definition = rank; file = file; name = n.value; form = OfType i.value.type_use }) i.value.names) fs f h in
     let n = holds_map (λ (n : Item ℕ). record {
       definition = rank;
       file = file;
       name = n.value;
-      type_use = x.0.value.type_use;
+      form = OfType x.0.value.type_use;
     }) x.0.value.names f x.1.1 in
-    subst (λ (z : PlacedField). P z.file z.type_use) n.1.1
-    (held (P file) (map (λ (i : Item FieldTree). i.value.type_use) fs) all x.0.value.type_use
-    (held_map (λ (i : Item FieldTree). i.value.type_use) fs x.0 x.1.0))
+    let types : List TypeTree = map (λ (i : Item FieldTree). i.value.type_use) fs in
+    subst (λ (z : PlacedField). OfForm (P z.file) z.form) n.1.1
+    (held (P file) types (recursion_from_All (P file) types all) x.0.value.type_use (held_map (λ (i : Item FieldTree). i.value.type_use) fs x.0 x.1.0))
 
 fields_typed : (P : ℕ → TypeTree → Type 0) (rank : ℕ) (ds : List PlacedType) → AllByRecursion (λ d. All (P d.file) (written_types d.spec.body)) ds →
-    (f : PlacedField) → Holds (fields_from rank ds) f → P f.file f.type_use
+    (f : PlacedField) → Holds (fields_from rank ds) f → OfForm (P f.file) f.form
 fields_typed P rank [] all f h = absurd h
 fields_typed P rank (d ∷ ds) all f h = elim (holds_append (body_fields rank d.file d.spec.body) (fields_from (suc rank) ds) f h) [
-  | inl here ↦ body_typed P rank d.file d.spec.body (recursion_from_All (P d.file) (written_types d.spec.body) all.0) f here
+  | inl here ↦ body_typed P rank d.file d.spec.body all.0 f here
   | inr later ↦ fields_typed P (suc rank) ds all.1 f later
 ]
 
-field_dotted : (p : Package) → AreTypesDotted p → (rank : ℕ) (f : PlacedField) → slice_get (package_fields p) rank ≡ Some f → IsDotted p f.file f.type_use
+field_dotted : (p : Package) → AreTypesDotted p → (rank : ℕ) (f : PlacedField) → slice_get (package_fields p) rank ≡ Some f →
+    OfForm (IsDotted p f.file) f.form
 field_dotted p dotted rank f at =
     fields_typed (IsDotted p) 0 (package_types p)
     (recursion_from_All (λ (d : PlacedType). All (IsDotted p d.file) (written_types d.spec.body)) (package_types p) dotted.definitions) f
     (holds_got (package_fields p) rank f at)
 
-pub field_type : (p q : Package) → Alike p q → (rank : ℕ) (f : PlacedField) → slice_get (package_fields p) rank ≡ Some f → (t : PlainType) →
-    IsTypeOf p f.file f.type_use t → IsTypeOf q f.file f.type_use t
-field_type p q a rank f at t h = type_of p q a f.file f.type_use t h (field_dotted p a.dotted rank f at)
+form_stays : (p q : Package) → Alike p q → (file : ℕ) (form : WrittenForm) (t : WrittenAs) → OfForm (IsDotted p file) form → HasForm p file form t →
+    HasForm q file form t
+form_stays p q a file (OfType tree) (AFieldOf t) dots h = type_of p q a file tree t h dots
+form_stays p q a file (OfType tree) (AMethodOf s) dots h = absurd h
+form_stays p q a file (OfSignature ps r) (AFieldOf t) dots h = absurd h
+form_stays p q a file (OfSignature ps r) (AMethodOf s) dots h =
+    let D : TypeTree → Type 0 = IsDotted p file in
+    let types : List TypeTree = map (λ (i : Item ParamTree). i.value.type_use) ps in
+    record {
+      parameters = types_of p q a file (parameter_types ps) s.parameters h.parameters (of_parameters D ps (all_of_left D types (result_types r) dots));
+      results = types_of p q a file (result_types r) s.results h.results (all_of_right D types (result_types r) dots);
+    }
+
+pub field_form_stays : (p q : Package) → Alike p q → (rank : ℕ) (f : PlacedField) → slice_get (package_fields p) rank ≡ Some f → (t : WrittenAs) →
+    HasForm p f.file f.form t → HasForm q f.file f.form t
+field_form_stays p q a rank f at t h = form_stays p q a f.file f.form t (field_dotted p a.dotted rank f at) h
 
 pub signature : (p q : Package) → Alike p q → (rank : ℕ) (f : PlacedFunction) → slice_get (package_functions p) rank ≡ Some f → (s : Signature) →
     HasSignature p f s → HasSignature q f s
@@ -155,8 +180,8 @@ module _ (w : Workspace) (known : Verdicts) (r : Revision) (p q : Package) (is :
       let c = (counting.counting_field w known r p q is relaid rank new f.symbol.rank).0 first in
       let at = counting.field_before w known r p q is relaid f.symbol.rank c.0 c.1.is_field.has_rank in
       let same : x.0 ≡ c.0 = same_Some x.0 c.0 (sym x.1.0.is_field.has_rank ∙ at) in
-      let type_of : IsTypeOf p c.0.file c.0.type_use f.type_of = subst (λ (g : PlacedField). IsTypeOf p g.file g.type_use f.type_of) same x.1.1 in
-      absurd (none f.symbol.rank c.0 f.type_of c.1 (field_type p q alike f.symbol.rank c.0 at f.type_of type_of))
+      let form : HasForm p c.0.file c.0.form f.form = subst (λ (g : PlacedField). HasForm p g.file g.form f.form) same x.1.1 in
+      absurd (none f.symbol.rank c.0 f.form c.1 (field_form_stays p q alike f.symbol.rank c.0 at f.form form))
   field_there rank old new f x first (Some y) h =
       let other = (counting.counting_field w known r p q is relaid rank new y.symbol.rank).1 (h.0, h.1.0) in
       let ranks : y.symbol.rank ≡ f.symbol.rank = one_first (IsFieldAfter r p rank new) y.symbol.rank f.symbol.rank other first in
@@ -164,11 +189,11 @@ module _ (w : Workspace) (known : Verdicts) (r : Revision) (p q : Package) (is :
       subst (λ n. slice_get (package_fields p) n ≡ Some h.0) ranks
       (counting.field_before w known r p q is relaid y.symbol.rank h.0 h.1.0.is_field.has_rank) in
       let same : x.0 ≡ h.0 = same_Some x.0 h.0 (sym x.1.0.is_field.has_rank ∙ at) in
-      let type_of : IsTypeOf p h.0.file h.0.type_use f.type_of = subst (λ (g : PlacedField). IsTypeOf p g.file g.type_use f.type_of) same x.1.1 in
-      let types : y.type_of ≡ f.type_of =
-      one_type q formed_after h.0.file h.0.type_use y.type_of f.type_of h.1.1 (field_type p q alike f.symbol.rank h.0 at f.type_of type_of) in
+      let form : HasForm p h.0.file h.0.form f.form = subst (λ (g : PlacedField). HasForm p g.file g.form f.form) same x.1.1 in
+      let forms : y.form ≡ f.form =
+      one_form q formed_after h.0.file h.0.form y.form f.form h.1.1 (field_form_stays p q alike f.symbol.rank h.0 at f.form form) in
       let symbols : y.symbol ≡ f.symbol = h.1.2 ∙ own_symbol y.symbol.rank ∙ ap (symbol_in p) ranks ∙ sym x.1.2 in
-      ap Some (field_is y f.symbol (is_exported new) f.type_of symbols h.1.3 types)
+      ap Some (field_is y f.symbol (is_exported new) f.form symbols h.1.3 forms)
 
   -- methods
 
@@ -216,7 +241,8 @@ module _ (w : Workspace) (known : Verdicts) (r : Revision) (p q : Package) (is :
     };
   }
 
-  pub own_definition : (rank : ℕ) (a b : Definition) → IsDefinition p rank a → IsDefinition q rank b → IsDefinitionAfter (IsCheckedPackage w known) r p.path rank a b
+  pub own_definition : (rank : ℕ) (a b : Definition) → IsDefinition p rank a → IsDefinition q rank b → IsDefinitionAfter (IsCheckedPackage w known) r p.path
+      rank a b
   unfolding Known
   own_definition rank a b h k = record {
     underlying = same_underlying rank a.underlying b.underlying h.underlying k.underlying;
@@ -241,7 +267,8 @@ module _ (w : Workspace) (known : Verdicts) (r : Revision) (p q : Package) (is :
           IsDefinitionAfter (IsCheckedPackage w known) r p.path rank (i.definition rank) (j.definition rank)
       by_rank None e =
           subst (λ d. IsDefinitionAfter (IsCheckedPackage w known) r p.path rank d (j.definition rank)) (sym (h.beyond rank e))
-          (subst (λ d. IsDefinitionAfter (IsCheckedPackage w known) r p.path rank (no_definition (symbol_in p rank)) d) (sym (k.beyond rank (type_behind rank None e)))
+          (subst (λ d. IsDefinitionAfter (IsCheckedPackage w known) r p.path rank (no_definition (symbol_in p rank)) d) (sym (k.beyond rank (type_behind
+          rank None e)))
           (nothing_after (IsCheckedPackage w known) r p.path rank (symbol_in p rank) (symbol_in q rank) (own_symbol rank)))
       by_rank (Some d) e =
           own_definition rank (i.definition rank) (j.definition rank) (h.definitions rank d e) (k.definitions rank d (type_behind rank (Some d) e))
@@ -252,7 +279,8 @@ module _ (w : Workspace) (known : Verdicts) (r : Revision) (p q : Package) (is :
   definition_after ds es a b s = elim (cases_bytes s.package p.path) [
     | inl own ↦ (
         let same : symbol_in p s.rank ≡ s = ap (λ (path : List ℕ). record { «package» = path; rank = s.rank }) (sym own) in
-        subst (λ (x : Symbol). IsDefinitionAfter (IsCheckedPackage w known) r x.package x.rank (ds x) (es x)) same (by_rank (slice_get (package_types p) s.rank) refl))
+        subst (λ (x : Symbol). IsDefinitionAfter (IsCheckedPackage w known) r x.package x.rank (ds x) (es x)) same (by_rank (slice_get (package_types p)
+        s.rank) refl))
     | inr other ↦ (
         let after : es s ≡ (q.export_data_of s.package).definition s.rank = b.imported s.package s.rank (λ e. other (e ∙ relaid.path)) in
         subst (λ d. IsDefinitionAfter (IsCheckedPackage w known) r s.package s.rank d (es s)) (sym (a.imported s.package s.rank other))

@@ -11,17 +11,17 @@ use Rattle.go_ast.specs.SourceFile.{SourceFile}
 use Rattle.go_ast.specs.Tree.{FileTree}
 use Rattle.go_scope.specs.declared.model.Position.{Position}
 use Rattle.go_scope.specs.Bindings.{Layout}
-use Rattle.types_expr.specs.Judge.{MemberUse}
+use Rattle.types_expr.specs.Judge.{MemberUse, Entering, members_of, enterings_of}
 use Rattle.types_stmt.specs.Checked.{FoundSoFar}
 use Rattle.types_declared.specs.Package.{Package, ExportData}
 use Rattle.types_info.specs.declared.lists.Qualified.{Qualified}
-use Rattle.types_info.specs.MemberUses.{AreUsesIn, AreMemberUses, uses_in}
+use Rattle.types_info.specs.MemberUses.{AreUsesIn, AreMemberUses, uses_in, AreEnteringsIn, AreEnterings, enterings_in}
 use Rattle.types_info.specs.QualifiedIdentifiers.{NamesPackage, IsQualifiedByPath, IsQualifiedAt, AreQualified}
 use Rattle.workspace_check.specs.declared.fault.FileFault.{FileFault}
 use Rattle.workspace_check.specs.declared.finding.Finding.{Finding}
 use Rattle.workspace_check.specs.declared.known.KnownVerdict.{KnownVerdict}
 use Rattle.workspace_check.specs.FaultLists.{ListsFaults}
-use Rattle.workspace_check.specs.KnownFindings.{verdict_from, AreUsesOf, AreQualifiedOf, IsFindingOf, IsKnownVerdict}
+use Rattle.workspace_check.specs.KnownFindings.{verdict_from, AreUsesOf, AreQualifiedOf, IsFindingOf, IsKnownVerdict, AreEnteringsOf}
 use Rattle.workspace_check.specs.Verdicts.{Verdict, Verdicts, AreVerdicts, AreVerdictsBelow, IsPackageIn, IsFaultBy, IsVerdict}
 use Rattle.workspace_check.proofs.Alike.{fault_as, package_as}
 use Rattle.workspace_check.proofs.OneList.{no_fault}
@@ -127,7 +127,22 @@ module _ (w : Workspace) (before after : Verdicts) (d : Declaration) (name : Lis
         judged_by = y.1;
         found =
             a.found
-            ∙ sym (ap (λ (c : FoundSoFar). c.uses)
+            ∙ sym (ap (λ (c : FoundSoFar). members_of c.uses)
+            (found w before after d name s h.plain h.kept p q there file a.source g.0 a.world y.0 a.in_file g.1 a.judged_by y.1));
+      }
+
+  enterings_there : (p q : Package) → IsThere p q → (file : ℕ) (enterings : List Entering) → AreEnteringsIn p file enterings → AreEnteringsIn q file enterings
+  enterings_there p q there file enterings a =
+      let g = file_there p.files q.files there.relaid.trees file a.source a.in_file in
+      let y = have_worlds x sound after right q there.is file g.0 g.1 in
+      record {
+        source = g.0;
+        in_file = g.1;
+        world = y.0;
+        judged_by = y.1;
+        found =
+            a.found
+            ∙ sym (ap (λ (c : FoundSoFar). enterings_of c.uses)
             (found w before after d name s h.plain h.kept p q there file a.source g.0 a.world y.0 a.in_file g.1 a.judged_by y.1));
       }
 
@@ -162,6 +177,16 @@ module _ (w : Workspace) (before after : Verdicts) (d : Declaration) (name : Lis
       };
     }
 
+    all_enterings_there : (enterings : List _) → AreEnterings c (map enterings_in enterings) → AreEnteringsOf x after o enterings
+    all_enterings_there enterings are = record {
+      checked = after_it.0;
+      is_package = checked_there;
+      are_enterings = record {
+        all = are.all ∙ same_count c.files after_it.0.files after_it.1.relaid.trees;
+        each = λ file list at. enterings_there c after_it.0 after_it.1 file list (are.each file list at);
+      };
+    }
+
     qualified_there : (all : List Qualified) → AreQualified c all → AreQualifiedOf x after o all
     qualified_there all are = record {
       checked = after_it.0;
@@ -187,6 +212,8 @@ module _ (w : Workspace) (before after : Verdicts) (d : Declaration) (name : Lis
           has_path = k.finding.has_path;
           listed = record { in_order = k.finding.listed.in_order; each = λ g. ((λ listed. absurd (none g listed)), (λ fault. absurd (fine g fault))) };
           members = λ e. (let u = k.finding.members e in members_there o has k.known k.right u.checked u.is_package f.members.items u.are_uses);
+          enterings = λ e.
+              (let u = k.finding.enterings e in all_enterings_there o has k.known k.right u.checked u.is_package f.enterings.items u.are_enterings);
           qualified = λ e. (let u = k.finding.qualified e in qualified_there o has k.known k.right u.checked u.is_package f.qualified.items u.are_qualified);
         };
       }

@@ -10,7 +10,7 @@ use Rattle.types_declared.specs.Package.{Package, PlacedFunction, package_functi
 use Rattle.law_changed_types.proofs.Alike.{Alike, turned, tokens, symbols, got_by}
 use Rattle.law_changed_types.proofs.Types.{declares_type}
 use Rattle.law_renamed_workspaces.specs.MovedExports.{field_called, method_called}
-use Rattle.law_renamed_workspaces.proofs.DefinitionsAfter.{field_type, signature}
+use Rattle.law_renamed_workspaces.proofs.DefinitionsAfter.{field_form_stays, signature}
 
 -- What counts for the definition under the one name counts for it in the other package under the other name.
 
@@ -55,12 +55,12 @@ module _ (p q : Package) (alike : Alike p q) (d : ℕ) where
   pub field_stays : (name : List ℕ) → FieldsGo p q d name name → FieldsGo q p d name name → (o : Option Field) → IsFoundField p d name o →
       IsFoundField q d name o
   field_stays name there back None none = λ rank f t c h.
-      none rank f t (back rank f c) (field_type q p (turned p q alike) rank f c.is_field.has_rank t h)
+      none rank f t (back rank f c) (field_form_stays q p (turned p q alike) rank f c.is_field.has_rank t h)
   field_stays name there back (Some x) h = (
     h.0,
     (
       there x.symbol.rank h.0 h.1.0,
-      field_type p q alike x.symbol.rank h.0 h.1.0.is_field.has_rank x.type_of h.1.1,
+      field_form_stays p q alike x.symbol.rank h.0 h.1.0.is_field.has_rank x.form h.1.1,
       h.1.2 ∙ sym (symbols p q alike x.symbol.rank),
       h.1.3,
     ),
@@ -69,12 +69,12 @@ module _ (p q : Package) (alike : Alike p q) (d : ℕ) where
   pub field_moves : (m n : List ℕ) → FieldsGo p q d m n → FieldsGo q p d n m → (o : Option Field) → IsFoundField p d m o →
       IsFoundField q d n (option_map (field_called n) o)
   field_moves m n there back None none = λ rank f t c h.
-      none rank f t (back rank f c) (field_type q p (turned p q alike) rank f c.is_field.has_rank t h)
+      none rank f t (back rank f c) (field_form_stays q p (turned p q alike) rank f c.is_field.has_rank t h)
   field_moves m n there back (Some x) h = (
     h.0,
     (
       there x.symbol.rank h.0 h.1.0,
-      field_type p q alike x.symbol.rank h.0 h.1.0.is_field.has_rank x.type_of h.1.1,
+      field_form_stays p q alike x.symbol.rank h.0 h.1.0.is_field.has_rank x.form h.1.1,
       h.1.2 ∙ sym (symbols p q alike x.symbol.rank),
       refl,
     ),

@@ -11,7 +11,7 @@ use Rattle.base_edits.specs.Revisions.{Revision}
 use Rattle.go_ast.specs.SourceFile.{spelling_of}
 use Rattle.types_expr.specs.declared.symbol.Symbol.{Symbol}
 use Rattle.types_expr.specs.Types.{PlainType, BasicType, Defined, Pointer, Slice, Underlying, Plain, PointerTo, SliceOf, same_path, underlying_by}
-use Rattle.types_expr.specs.Types.{Struct as StructOf}
+use Rattle.types_expr.specs.Types.{Struct as StructOf, Interface as InterfaceOf}
 use Rattle.types_expr.specs.World.{Definition, Field as StructField, Method as TypeMethod, Member, struct_of, struct_or_target}
 use Rattle.types_expr.specs.World.{field_owner, owner, is_seen, seen_field, field_of, method_of, member_by}
 use Rattle.types_declared.proofs.ByteKeys.{cases_bytes}
@@ -227,12 +227,14 @@ module _ (w : Workspace) (sound : ListsFaults w []) (known : Verdicts) (right : 
       struct_home (Plain b) st h e = absurd (none-some st e)
       struct_home (PointerTo t) st h e = absurd (none-some st e)
       struct_home (SliceOf t) st h e = absurd (none-some st e)
+      struct_home (InterfaceOf s) st h e = absurd (none-some st e)
       struct_home (StructOf s) st h e = subst (λ (z : Symbol). ReachesPath w x.path z.package) (same_Some s st e) h
 
       target_home : (u : Underlying) (st : Symbol) → IsHomeUnder w x.path u → struct_or_target under u ≡ Some st → ReachesPath w x.path st.package
       target_home (Plain b) st h e = absurd (none-some st e)
       target_home (PointerTo t) st h e = struct_home (underlying_by under t) st (under_of t h) e
       target_home (SliceOf t) st h e = absurd (none-some st e)
+      target_home (InterfaceOf s) st h e = subst (λ (z : Symbol). ReachesPath w x.path z.package) (same_Some s st e) h
       target_home (StructOf s) st h e = subst (λ (z : Symbol). ReachesPath w x.path z.package) (same_Some s st e) h
 
       owned_struct : (t : PlainType) (st : Symbol) → IsHome w x.path t → field_owner under t ≡ Some st → ReachesPath w x.path st.package

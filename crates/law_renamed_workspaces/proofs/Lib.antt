@@ -36,6 +36,7 @@ pub mod Called
 pub mod OtherNames
 pub mod SeenDefinitions
 pub mod SeenStructs
+pub mod NoInterfaces
 pub mod UsersReach
 pub mod KeptMembers
 pub mod OtherMembers

@@ -40,11 +40,11 @@ method_seen own m e = ap (λ b. if b then Some m else None) e
 
 -- which kind of member is the first
 data FirstIs (f : Option Field) (n : Option Method) (m : Member) : Type 0 where
-  is_field : (x : Field) → f ≡ Some x → m ≡ AField x.symbol x.type_of → FirstIs f n m
+  is_field : (x : Field) → f ≡ Some x → m ≡ AField x.symbol x.form → FirstIs f n m
   is_method : (x : Method) → f ≡ None → n ≡ Some x → m ≡ a_method x.symbol x.on_pointer x.signature → FirstIs f n m
 
 first_is : (f : Option Field) (n : Option Method) (m : Member) → first_member f n ≡ Some m → FirstIs f n m
-first_is (Some x) n m e = is_field x refl (sym (same_Some (AField x.symbol x.type_of) m e))
+first_is (Some x) n m e = is_field x refl (sym (same_Some (AField x.symbol x.form) m e))
 first_is None None m e = absurd (none-some m e)
 first_is None (Some x) m e = is_method x refl refl (sym (same_Some (a_method x.symbol x.on_pointer x.signature) m e))
 

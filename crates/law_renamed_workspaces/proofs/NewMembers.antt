@@ -19,9 +19,9 @@ use Rattle.types_expr.specs.declared.symbol.Symbol.{Symbol}
 use Rattle.types_declared.specs.declared.fault.Fault.{Fault}
 use Rattle.types_declared.specs.Definitions.{HasUnderlying, PlacedField, package_fields, IsFieldOf}
 use Rattle.types_declared.specs.Definitions.{IsCountingField, IsMethodOf, is_on_pointer, IsCountingMethod}
-use Rattle.types_declared.specs.Definitions.{IsFoundField, IsFoundSignature, IsFoundMethod, IsUnderlyingOf, has, has_none, IsDefinition}
+use Rattle.types_declared.specs.Definitions.{IsFoundField, IsFoundSignature, IsFoundMethod, IsUnderlyingOf, has, has_none, IsDefinition, HasForm}
 use Rattle.types_declared.specs.Package.{Package, PlacedFunction, package_types, package_functions, function_place, type_place, symbol_in, spelled}
-use Rattle.types_declared.specs.Written.{BindsToken, DeclaresType, IsTypeOf}
+use Rattle.types_declared.specs.Written.{BindsToken, DeclaresType}
 use Rattle.types_declared.proofs.ByteKeys.{cases_bytes}
 use Rattle.types_declared.proofs.Naming.{one_binding}
 use Rattle.types_declared.proofs.Ranking.{one_rank}
@@ -40,7 +40,7 @@ use Rattle.law_changed_types.proofs.Types.{has_underlying}
 use Rattle.law_renamed_workspaces.specs.Layouts.{IsRelaid}
 use Rattle.law_renamed_workspaces.specs.MovedExports.{field_called, method_called}
 use Rattle.law_renamed_workspaces.proofs.CountingMembers as counting
-use Rattle.law_renamed_workspaces.proofs.DefinitionsAfter.{field_type, signature}
+use Rattle.law_renamed_workspaces.proofs.DefinitionsAfter.{field_form_stays, signature}
 use Rattle.law_renamed_workspaces.proofs.RenamedMembersNameTokens.{IsNamedIn, field_name, function_name}
 use Rattle.law_renamed_workspaces.proofs.NewNames.{name_stands}
 
@@ -231,18 +231,18 @@ module _ (w : Workspace) (before : Verdicts) (r : Revision) (p : Package) (is : 
       carried_field None none = λ n g t c typed.
           let one : n ≡ k = one_field q d n k name g f c now_counting in
           let at = counting.field_before w before r p q is relaid k g (subst (λ m. slice_get (package_fields q) m ≡ Some g) one c.is_field.has_rank) in
-          let here : IsTypeOf q f.file f.type_use t = subst (λ (z : PlacedField). IsTypeOf q z.file z.type_use t) (same_field g at) typed in
-          none k f t was_counting (field_type q p back k f (counting.field_behind w before r p q is relaid k f h.has_rank) t here)
+          let here : HasForm q f.file f.form t = subst (λ (z : PlacedField). HasForm q z.file z.form t) (same_field g at) typed in
+          none k f t was_counting (field_form_stays q p back k f (counting.field_behind w before r p q is relaid k f h.has_rank) t here)
       carried_field (Some x) found =
           let one : x.symbol.rank ≡ k = one_field p d x.symbol.rank k old found.0 f found.1.0 was_counting in
           let at : slice_get (package_fields p) k ≡ Some found.0 =
           subst (λ m. slice_get (package_fields p) m ≡ Some found.0) one found.1.0.is_field.has_rank in
-          let there : IsTypeOf p f.file f.type_use x.type_of =
-          subst (λ (z : PlacedField). IsTypeOf p z.file z.type_use x.type_of) (same_field found.0 at) found.1.1 in (
+          let there : HasForm p f.file f.form x.form =
+          subst (λ (z : PlacedField). HasForm p z.file z.form x.form) (same_field found.0 at) found.1.1 in (
             f,
             (
               subst (λ m. IsCountingField q d name m f) (sym one) now_counting,
-              field_type p q alike k f h.has_rank x.type_of there,
+              field_form_stays p q alike k f h.has_rank x.form there,
               found.1.2 ∙ own_symbol x.symbol.rank,
               refl,
             ),

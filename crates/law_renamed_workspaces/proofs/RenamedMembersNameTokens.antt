@@ -19,10 +19,11 @@ use Rattle.go_ast.specs.declared.syntax.Kind.TheVariants as kind
 use Rattle.go_ast.specs.declared.syntax.Token.{Token}
 use Rattle.go_ast.specs.Flatten.{sign, sign_if, tokens_if, all_tokens, item_tokens, list_tokens, group_tokens, name_tokens, type_tokens, field_tokens}
 use Rattle.go_ast.specs.Flatten.{body_tokens, type_spec_tokens, receiver_tokens, func_tokens, import_tokens, imports_tokens, decl_tokens, flatten}
+use Rattle.go_ast.specs.Flatten.{method_tokens}
 use Rattle.go_ast.specs.Kinds.{kind_of_keyword, kind_of_operator, kind_of, kinds_from, kinds_of}
 use Rattle.go_ast.specs.SourceFile.{SourceFile, IsSourceFile}
 use Rattle.go_ast.specs.Tree.{Item, Group, single, several, FieldTree, BodyTree, Other, Struct, Interface, FuncTree, DeclTree, VarDecl, TypeDecl}
-use Rattle.go_ast.specs.Tree.{FuncDecl, FileTree, ImportTree, ImportsTree}
+use Rattle.go_ast.specs.Tree.{FuncDecl, FileTree, ImportTree, ImportsTree, MethodTree}
 use Rattle.go_scope.specs.Site.{Site, TokenSpellings}
 use Rattle.go_scope.specs.FileSites.{decl_sites}
 use Rattle.law_tokens.specs.Roles.{IsOfKind, FollowsDot}
@@ -32,7 +33,7 @@ use Rattle.go_scope.proofs.Covers.{Covers, is_link, ends, skips, takes, selects,
 use Rattle.law_tokens.proofs.Links.{AreConsecutive, HasKind}
 use Rattle.law_tokens.proofs.Roles.{consecutive, by_kind}
 use Rattle.types_declared.specs.Files.{RankedSource, ranked_files, group_items}
-use Rattle.types_declared.specs.Definitions.{PlacedField, body_fields, fields_from, package_fields}
+use Rattle.types_declared.specs.Definitions.{PlacedField, body_fields, fields_from, package_fields, OfType, OfSignature}
 use Rattle.types_declared.specs.Package.{Package, PlacedType, PlacedFunction, placed_type, decl_types, decl_functions, types_in, functions_in, package_types}
 use Rattle.types_declared.specs.Package.{package_functions}
 use Rattle.types_info.proofs.DeclKinds.{Holds, holds_got, holds_append, holds_flat, holds_map, holds_ranked}
@@ -81,17 +82,28 @@ field_named f n h =
 
 body_named : (definition file : ℕ) (b : BodyTree) (f : PlacedField) → Holds (body_fields definition file b) f →
     (file ≡ f.file) × IsNameAt f.name (body_tokens b)
-unfolding body_tokens
+unfolding body_tokens method_tokens
 body_named definition file (Other t) f h = absurd h
-body_named definition file (Interface k o ms c) f h = absurd h
+body_named definition file (Interface k o ms c) f h =
+    let i = holds_map (λ (m : Item MethodTree). record {
+      definition = definition;
+      file = file;
+      name = m.value.name;
+      form = OfSignature m.value.params m.value.result;
+    }) ms f h in
+    let own : IsNameAt f.name (method_tokens i.0.value) = inl (ap (λ (z : PlacedField). z.name) i.1.1, refl) in (
+      ap (λ (z : PlacedField). z.file) i.1.1,
+      inr (inr (name_left f.name (list_tokens kind.Semicolon method_tokens ms) (sign kind.RightBrace c ∷ [])
+          (name_item f.name kind.Semicolon method_tokens ms i.0 i.1.0 own))),
+    )
 body_named definition file (Struct k o fs c) f h =
     let x = holds_flat (λ (i : Item FieldTree). map
-    (λ (n : Item ℕ). record { definition = definition; file = file; name = n.value; type_use = i.value.type_use }) i.value.names) fs f h in
+    (λ (n : Item ℕ). record { definition = definition; file = file; name = n.value; form = OfType i.value.type_use }) i.value.names) fs f h in
     let n = holds_map (λ (n : Item ℕ). record {
       definition = definition;
       file = file;
       name = n.value;
-      type_use = x.0.value.type_use;
+      form = OfType x.0.value.type_use;
     }) x.0.value.names f x.1.1 in
     let here : IsNameAt n.0.value (field_tokens x.0.value) = field_named x.0.value n.0 n.1.0 in
     let own : IsNameAt f.name (field_tokens x.0.value) =
@@ -420,7 +432,8 @@ pub named_token : (s : SourceFile) → IsSourceFile s → (i : ℕ) → IsNameAt
 named_token s is i h = is_name_token s.cut i (subst (IsNameAt i) is.is_tree.written h)
 
 -- A token behind a dot, or before a colon, is a name.
-pub linked_token : (s : SourceFile) → IsSourceFile s → (i : ℕ) → FollowsDot s.cut i ⊎ IsOfKind s.cut (suc i) kind.Colon → IsNameToken (slice_get (tokens_in s.cut) i)
+pub linked_token : (s : SourceFile) → IsSourceFile s → (i : ℕ) → FollowsDot s.cut i ⊎ IsOfKind s.cut (suc i) kind.Colon →
+    IsNameToken (slice_get (tokens_in s.cut) i)
 linked_token s is i h =
     let written = is.is_tree.written in
     let w : AreConsecutive 0 (flatten s.tree) = subst (AreConsecutive 0) (sym written) (consecutive 0 s.cut.text (tokens_in s.cut)) in

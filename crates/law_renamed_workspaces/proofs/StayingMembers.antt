@@ -11,6 +11,7 @@ use Rattle.go_scope.specs.Bindings.{Layout}
 use Rattle.go_scope.specs.Table.{LiesAt}
 use Rattle.types_expr.specs.declared.symbol.Symbol.{Symbol}
 use Rattle.types_expr.specs.World.{World}
+use Rattle.types_expr.specs.Judge.{members_of}
 use Rattle.types_stmt.specs.Declarations.{check_file}
 use Rattle.types_declared.specs.Package.{Package, function_place}
 use Rattle.types_info.proofs.OneWorld.{has_one_world}
@@ -95,7 +96,7 @@ used_members_stay w before d name s plain kept p q is relaid alike seen file f g
     let r = revision_of w s in
     let there = (p.layout.place u).file in
     let index = (p.layout.place u).index in
-    let uses = (check_file v (is_init f) f.tree).uses in
+    let uses = members_of (check_file v (is_init f) f.tree).uses in
     let in_there : slice_get p.files there ≡ Some f = subst (λ k. slice_get p.files k ≡ Some f) (sym of_file) in_p in
     let own_world : IsWorldOf p there f v = subst (λ k. IsWorldOf p k f v) (sym of_file) judged in
     let own : AreUsesIn p there uses = record { source = f; in_file = in_there; world = v; judged_by = own_world; found = refl } in
@@ -116,7 +117,7 @@ used_members_stay w before d name s plain kept p q is relaid alike seen file f g
     let file_after : (q.layout.place u).file ≡ file = ap (λ (a : Position). a.file) place ∙ of_file in
     let at_after : b.found.place ≡ (q.layout.place u).index = b.at ∙ ap (λ (a : Position). a.index) (sym place) in
     record {
-      uses = (check_file x (is_init g) g.tree).uses;
+      uses = members_of (check_file x (is_init g) g.tree).uses;
       judged = record {
         source = g;
         in_file = subst (λ k. slice_get q.files k ≡ Some g) (sym file_after) in_q;
@@ -125,7 +126,7 @@ used_members_stay w before d name s plain kept p q is relaid alike seen file f g
         found = refl;
       };
       found = b.found;
-      is_use = subst (λ us. Contains us b.found) (ap (λ c. c.uses) (sym found)) among;
+      is_use = subst (λ us. Contains us b.found) (ap (λ c. members_of c.uses) (sym found)) among;
       at = at_after;
       member = b.member;
       is_member = subst (λ i. x.member i b.found.before ≡ Some b.member) at_after now;

@@ -48,7 +48,7 @@ pub data FirstIs (f : Option StructField) (n : Option TypeMethod) (m : Member) :
   no_field : (x : TypeMethod) → f ≡ None → n ≡ Some x → declaration_of m ≡ Method x.symbol → FirstIs f n m
 
 pub first_is : (f : Option StructField) (n : Option TypeMethod) (m : Member) → first_member f n ≡ Some m → FirstIs f n m
-first_is (Some x) n m e = a_field x refl (sym (ap declaration_of (same_Some (AField x.symbol x.type_of) m e)))
+first_is (Some x) n m e = a_field x refl (sym (ap declaration_of (same_Some (AField x.symbol x.form) m e)))
 first_is None None m e = absurd (none-some m e)
 first_is None (Some x) m e =
     no_field x refl refl

@@ -13,7 +13,7 @@ use Rattle.go_scope.specs.Table.{LiesAt}
 use Rattle.law_tokens.specs.Roles.{IsOfKind, FitsTokens}
 use Rattle.law_tokens.proofs.Lexical.{never_bound}
 use Rattle.law_tokens.proofs.OwnPaths.{part_at}
-use Rattle.types_expr.specs.Judge.{MemberUse}
+use Rattle.types_expr.specs.Judge.{MemberUse, members_of}
 use Rattle.types_expr.specs.Types.{Package as PackageName}
 use Rattle.types_expr.specs.World.{World, Member, Means}
 use Rattle.types_stmt.specs.Declarations.{check_file}
@@ -56,7 +56,7 @@ pub record IsUseAt (p : Package) (file : ℕ) (v : World) (u : MemberUse) : Type
 
 module _ (w : Workspace) (sound : ListsFaults w []) (known : Verdicts) (right : AreVerdicts w known) (p : Package) (is : IsCheckedPackage w known p) (file : ℕ)
     (f : SourceFile) (at_file : slice_get p.files file ≡ Some f) (v : World) (judged : IsWorldOf p file f v) (u : MemberUse)
-    (has : Contains (check_file v (is_init f) f.tree).uses u) where
+    (has : Contains (members_of (check_file v (is_init f) f.tree).uses) u) where
   h : IsPackageIn w known p.path p
   h = is.is_checked
 
@@ -137,7 +137,7 @@ module _ (w : Workspace) (sound : ListsFaults w []) (known : Verdicts) (right : 
 
   -- its member
 
-  uses_there : (n : IsNumber) → AreUsesIn p (p.layout.place n.number).file (check_file v (is_init f) f.tree).uses
+  uses_there : (n : IsNumber) → AreUsesIn p (p.layout.place n.number).file (members_of (check_file v (is_init f) f.tree).uses)
   uses_there n = record {
     source = f;
     in_file = subst (λ k. slice_get p.files k ≡ Some f) (sym n.stands.1) at_file;
@@ -153,7 +153,7 @@ module _ (w : Workspace) (sound : ListsFaults w []) (known : Verdicts) (right : 
   member_there n d b =
       let file_at = (p.layout.place n.number).file in
       let index = (p.layout.place n.number).index in
-      let uses = (check_file v (is_init f) f.tree).uses in
+      let uses = members_of (check_file v (is_init f) f.tree).uses in
       let in_file : slice_get p.files file_at ≡ Some f = subst (λ k. slice_get p.files k ≡ Some f) (sym n.stands.1) at_file in
       let own_world : IsWorldOf p file_at f v = subst (λ k. IsWorldOf p k f v) (sym n.stands.1) judged in
       let lists : b.uses ≡ uses = one_list p one file_at b.uses uses b.judged (uses_there n) in
@@ -172,7 +172,7 @@ module _ (w : Workspace) (sound : ListsFaults w []) (known : Verdicts) (right : 
   is_use_at =
       let n = numbered in
       let typed = file_typed w sound known right p is file f at_file v judged in
-      let b = member_bound w known p.path p is.is_checked n.number n.begins_at.0 (check_file v (is_init f) f.tree).uses (record {
+      let b = member_bound w known p.path p is.is_checked n.number n.begins_at.0 (members_of (check_file v (is_init f) f.tree).uses) (record {
         source = f;
         in_file = subst (λ k. slice_get p.files k ≡ Some f) (sym n.stands.1) at_file;
         world = v;

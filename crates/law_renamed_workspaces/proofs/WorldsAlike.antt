@@ -8,10 +8,11 @@ use Rattle.base_edits.specs.RevisionsOfEdits.{revision_of}
 use Rattle.go_ast.specs.SourceFile.{SourceFile, spelling_of}
 use Rattle.go_scope.specs.declared.model.Position.{Position}
 use Rattle.types_expr.specs.declared.symbol.Symbol.{Symbol}
-use Rattle.types_expr.specs.Judge.{MemberUse}
+use Rattle.types_expr.specs.Judge.{MemberUse, members_of}
 use Rattle.types_expr.specs.Types.{Underlying}
 use Rattle.types_expr.specs.World.{World, member_by}
 use Rattle.types_stmt.specs.Declarations.{check_file}
+use Rattle.types_expr.proofs.NoteLists.{member_noted}
 use Rattle.types_declared.specs.Package.{Package, spelled, spelled_at}
 use Rattle.types_info.specs.Worlds.{IsWorldOf, is_init}
 use Rattle.workspace_check.specs.FaultLists.{ListsFaults}
@@ -30,6 +31,7 @@ use Rattle.law_renamed_workspaces.specs.SameWorlds.{WorldsStay}
 use Rattle.law_renamed_workspaces.proofs.DefinitionsAfter.{definition_after}
 use Rattle.law_renamed_workspaces.proofs.MembersAfterwards.{member_stays}
 use Rattle.law_renamed_workspaces.proofs.UsesOfMembers.{IsUseAt, is_use_at}
+use Rattle.law_renamed_workspaces.proofs.NoInterfaces.{implements_alike}
 
 module _ (w : Workspace) (sound : ListsFaults w []) (known : Verdicts) (right : AreVerdicts w known) (r : Revision)
     (kept : NoneIsLost w known r) (p q : Package) (is : IsCheckedPackage w known p) (relaid : IsRelaid r p q) (alike : Alike p q)
@@ -49,12 +51,12 @@ module _ (w : Workspace) (sound : ListsFaults w []) (known : Verdicts) (right : 
       })
 
   -- what it selects by the old types and the new names
-  selected : (u : MemberUse) → Contains (check_file v (is_init f) f.tree).uses u → (a : IsUseAt p file v u) →
+  selected : (u : MemberUse) → Contains (members_of (check_file v (is_init f) f.tree).uses) u → (a : IsUseAt p file v u) →
       IsMemberAfter (IsCheckedPackage w known) r p.path (r.called a.place (spelled p file u.place)) v.definition u.before (declaration_of a.member)
   selected u has a =
       let n = a.number in
       let was : BindsByMember p n (declaration_of a.member) = record {
-        uses = (check_file v (is_init f) f.tree).uses;
+        uses = members_of (check_file v (is_init f) f.tree).uses;
         judged = record {
           source = f;
           in_file = subst (λ k. slice_get p.files k ≡ Some f) (sym a.stands.1) in_p;
@@ -76,7 +78,7 @@ module _ (w : Workspace) (sound : ListsFaults w []) (known : Verdicts) (right : 
       (declaration_of a.member)) a.stands.2 now)
 
   -- it selects the same afterwards
-  pub same_member : (u : MemberUse) → Contains (check_file v (is_init f) f.tree).uses u → x.member u.place u.before ≡ v.member u.place u.before
+  pub same_member : (u : MemberUse) → Contains (members_of (check_file v (is_init f) f.tree).uses) u → x.member u.place u.before ≡ v.member u.place u.before
   same_member u has =
       let a = is_use_at w sound known right p is file f in_p v judged u has in
       let ds = judged.definitions in
@@ -100,5 +102,7 @@ worlds_stay w before d name s plain kept p q is relaid alike seen file f g v x i
     record {
       bound = both.0;
       definition = both.1;
-      members = same_member w rename.sound before rename.right (revision_of w s) kept p q is relaid bound seen file f g v x in_p in_q judged after;
+      implements = implements_alike w rename.sound before rename.right p is q file f g v x judged after both.1;
+      members = λ u has. same_member w rename.sound before rename.right (revision_of w s) kept p q is relaid bound seen file f g v x in_p in_q judged after u
+          (member_noted (check_file v (is_init f) f.tree).uses u has);
     }

@@ -19,7 +19,7 @@ pub record IsMovedTo {X : Type 0} (old new : List ℕ) (f g : List ℕ → Optio
 
 -- a field or method under another name: the same, but for whether its name is exported
 abbrev pub field_called : List ℕ → Field → Field
-field_called name f = record { symbol = f.symbol; exported = is_exported name; type_of = f.type_of }
+field_called name f = record { symbol = f.symbol; exported = is_exported name; form = f.form }
 
 abbrev pub method_called : List ℕ → Method → Method
 method_called name m = record { symbol = m.symbol; exported = is_exported name; on_pointer = m.on_pointer; signature = m.signature }

@@ -11,6 +11,7 @@ use Rattle.law_changed_types.proofs.Numbered.{FollowsToken, FollowsIdentifier, t
 use Rattle.law_renumbered.specs.Findings.{ExportsRenumber, NoMemberFaultComes, NoTypeFaultComes}
 use Rattle.law_renumbered.proofs.Exported.{export_data}
 use Rattle.law_renumbered.proofs.Members.{member_fault}
+use Rattle.types_expr.proofs.NoteLists.{member_noted}
 
 pub exports_renumber : ExportsRenumber
 exports_renumber n p q a k i h = export_data n p q a k i h
@@ -30,7 +31,8 @@ came_from {X} f (x ∷ xs) y has =
 pub no_type_fault_comes : NoTypeFaultComes
 no_type_fault_comes n p q a judged none f is =
     let j = judged f.file is.source is.in_file in
-    let r = found_renumbers n p q a f.file j.source is.source j.in_file is.in_file j.world is.world j.judged_by is.judged_by j.spelled in
+    let r = found_renumbers n p q a f.file j.source is.source j.in_file is.in_file j.world is.world j.judged_by
+    is.judged_by (λ u has. j.spelled u (member_noted (check_file j.world (is_init j.source) j.source.tree).uses u has)) in
     let was = came_from (n.token f.file) (check_file j.world (is_init j.source) j.source.tree).faults f.token
     (subst (λ fs. Contains fs f.token) r.faults is.found) in
     none (record { file = f.file; token = was.0; kind = kind.«Type» }) (record {

@@ -5,11 +5,11 @@ use Rattle.base_files.specs.declared.fault_kind.FaultKind.TheVariants as kind
 use Rattle.go_ast.specs.Tree.{TypeTree, Local, Imported, Pointer, Slice}
 use Rattle.types_declared.specs.declared.fault.Fault.{Fault}
 use Rattle.types_declared.specs.Package.{Package, PlacedFunction}
-use Rattle.types_declared.specs.Written.{BindsToken, written_types}
+use Rattle.types_declared.specs.Written.{BindsToken, contained_types}
 use Rattle.types_declared.specs.Definitions.{PlacedField, IsFieldOf, IsCountingField, IsMethodOf, IsCountingMethod}
 use Rattle.types_members.specs.MemberFaults.{IsRepeatedField, IsRepeatedMethod, ContainsDirectly, ContainsType, directly, through, IsRecursive, IsMemberFault}
 use Rattle.law_changed_types.proofs.RenumberedTypesAlike.{Half, SameTree, Turned, TurnedIdentifiers, binds}
-use Rattle.law_changed_types.proofs.RenumberedTypesWritten.{counterpart, same_written, declares_type}
+use Rattle.law_changed_types.proofs.RenumberedTypesWritten.{counterpart, same_contained, declares_type}
 use Rattle.law_changed_types.proofs.RenumberedTypesDefined.{is_field, is_method, field_named}
 
 local_is : (T : ℕ → ℕ → ℕ → Type 0) (p q : Package) (file m : ℕ) (x : TypeTree) → SameTree T p q file (Local m) x →
@@ -69,15 +69,15 @@ module _ (T : ℕ → ℕ → ℕ → Type 0) (I : ℕ → ℕ → Type 0) (p q 
   contains_directly outer inner c =
       let d = c.definition in
       let e = h.types outer d c.has_rank in
-      let x = counterpart T p q d.file (written_types d.spec.body) (written_types e.0.spec.body) (Local c.name)
-      (same_written T p q d.file d.spec.body e.0.spec.body e.1.1.body) c.written in
+      let x = counterpart T p q d.file (contained_types d.spec.body) (contained_types e.0.spec.body) (Local c.name)
+      (same_contained T p q d.file d.spec.body e.0.spec.body e.1.1.body) c.written in
       let now = local_is T p q d.file c.name x.0 x.1.1 in
       let bound = binds T I p q h d.file c.name now.0 c.declaration now.1.1 c.binds in
       record {
         definition = e.0;
         has_rank = e.1.0;
         name = now.0;
-        written = subst (λ t. Contains (written_types e.0.spec.body) t) now.1.0 x.1.0;
+        written = subst (λ t. Contains (contained_types e.0.spec.body) t) now.1.0 x.1.0;
         declaration = bound.0;
         binds = subst (λ i. BindsToken q i now.0 bound.0) (sym e.1.1.file) bound.1.1;
         names = declares_type T I p q h k c.declaration bound.0 inner bound.1.0 c.names;

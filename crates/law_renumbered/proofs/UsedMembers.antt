@@ -1,22 +1,24 @@
 -- The uses of members.
-use Rattle.std.proofs.Common.{ℕ, ◌≡◌, List, refl, sym, ap, ◌∙◌, subst}
+use Rattle.std.proofs.Common.{ℕ, ◌≡◌, List, map, refl, sym, ap, ◌∙◌, subst}
 use Rattle.std.specs.Prelude.{Contains}
 use Rattle.std.proofs.Math.Path.{fun_ext}
 use Rattle.base_lemmas.proofs.Elements.{is_mapped}
 use Rattle.go_ast.specs.SourceFile.{SourceFile, spelling_of}
 use Rattle.types_expr.specs.declared.symbol.Symbol.{Symbol}
-use Rattle.types_expr.specs.Judge.{MemberUse}
+use Rattle.types_expr.specs.Judge.{MemberUse, members_of}
 use Rattle.types_expr.specs.World.{World, member_by}
 use Rattle.types_stmt.specs.Declarations.{check_file}
+use Rattle.types_expr.proofs.NoteLists.{member_noted}
 use Rattle.types_declared.specs.Package.{Package}
 use Rattle.types_info.specs.Worlds.{is_init}
 use Rattle.refs_binding.specs.declared.declaration.Declaration.{Declaration}
 use Rattle.refs_binding.specs.Binding.{UsesMemberAt}
 use Rattle.law_changed_types.proofs.Worlds.{layout_formed}
-use Rattle.law_changed_types.specs.Renumbering.{IsRenumberedCheck, renumbered_use, renumbered_uses}
+use Rattle.law_changed_types.specs.Renumbering.{IsRenumberedCheck, renumbered_use}
 use Rattle.law_changed_types.specs.RenumberedPackage.{FoundRenumbers, IsRenumberedPackage, NewNumbers}
 use Rattle.law_changed_types.proofs.RenumberedTypesLaws.{found_renumbers}
 use Rattle.law_changed_types.proofs.Names.{same_definitions}
+use Rattle.law_changed_types.proofs.ChangedNotes.{members_renumbered}
 use Rattle.law_changed_types.proofs.Numbered.{FollowsIdentifier, FollowsToken, back, there}
 use Rattle.std.proofs.lemmas.Option.{same_Some}
 use Rattle.law_renumbered.specs.Bindings.{IsJudgedTwice, UsedMembersRenumber}
@@ -30,7 +32,7 @@ module _ (renumber : FoundRenumbers) (n : NewNumbers) (p q : Package) (a : IsRen
   f = h.judged.source
 
   abbrev now : List MemberUse
-  now = (check_file j.world (is_init j.new) j.new.tree).uses
+  now = (members_of (check_file j.world (is_init j.new) j.new.tree).uses)
 
   same_source : j.old ≡ f
   same_source = same_Some j.old f (sym j.old_at ∙ h.judged.in_file)
@@ -41,10 +43,12 @@ module _ (renumber : FoundRenumbers) (n : NewNumbers) (p q : Package) (a : IsRen
   found_now : IsRenumberedCheck (n.token file) (check_file v (is_init f) f.tree) (check_file j.world (is_init j.new) j.new.tree)
   found_now =
       renumber n p q a file f j.new h.judged.in_file j.new_at v j.world h.judged.judged_by j.is_world
-      (λ u has. spelled u (subst (λ us. Contains us u) (sym h.judged.found) has))
+      (λ u has. spelled u (subst (λ us. Contains us u) (sym h.judged.found) (member_noted (check_file v (is_init f) f.tree).uses u has)))
 
-  uses_now : now ≡ renumbered_uses (n.token file) h.uses
-  uses_now = found_now.uses ∙ ap (renumbered_uses (n.token file)) (sym h.judged.found)
+  uses_now : now ≡ map (renumbered_use (n.token file)) h.uses
+  uses_now =
+      ap members_of found_now.uses ∙ (members_renumbered (n.token file) (check_file v (is_init f) f.tree).uses
+      ∙ ap (map (renumbered_use (n.token file))) (sym h.judged.found))
 
   definitions_now : (s : Symbol) → j.is_world.definitions s ≡ h.judged.judged_by.definitions s
   definitions_now s =

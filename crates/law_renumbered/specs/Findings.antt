@@ -3,7 +3,7 @@
 use Rattle.std.specs.Prelude.{ℕ, ◌≡◌, Some, slice_get, Contains}
 use Rattle.go_ast.specs.SourceFile.{SourceFile, spelling_of}
 use Rattle.go_scope.specs.Bindings.{Counts}
-use Rattle.types_expr.specs.Judge.{MemberUse}
+use Rattle.types_expr.specs.Judge.{MemberUse, members_of}
 use Rattle.types_expr.specs.World.{World}
 use Rattle.types_stmt.specs.Declarations.{check_file}
 use Rattle.types_declared.specs.declared.fault.Fault.{Fault}
@@ -35,7 +35,7 @@ pub record IsJudgedAnew (n : NewNumbers) (p q : Package) (file : ℕ) (g : Sourc
   pub in_file : slice_get p.files file ≡ Some source
   pub world : World
   pub judged_by : IsWorldOf p file source world
-  pub spelled : (u : MemberUse) → Contains (check_file world (is_init source) source.tree).uses u →
+  pub spelled : (u : MemberUse) → Contains (members_of (check_file world (is_init source) source.tree).uses) u →
       spelling_of g (n.token file u.place) ≡ spelling_of source u.place
 
 -- Where p has no fault of types, q has none.

@@ -23,6 +23,12 @@ AreOf [] (k ∷ ks) = ⊥
 AreOf (v ∷ vs) [] = ⊥
 AreOf (v ∷ vs) (k ∷ ks) = (v.kind ≡ Some k) × AreOf vs ks
 
+pub same_many : (vs : List ListValue) (ks : List ValueKind) → AreOf vs ks → length vs ≡ length ks
+same_many [] [] a = refl
+same_many [] (k ∷ ks) a = absurd a
+same_many (v ∷ vs) [] a = absurd a
+same_many (v ∷ vs) (k ∷ ks) a = ap suc (same_many vs ks a.1)
+
 pub whole_all : (vs : List ListValue) (ks : List ValueKind) → AreOf vs ks → all_whole vs ≡ true
 unfolding all_whole
 whole_all [] ks a = refl

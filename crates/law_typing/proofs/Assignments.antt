@@ -3,11 +3,11 @@ use Rattle.std.proofs.Common.{ℕ, ◌≡◌, ◌==◌, Bool, true, false, ◌&&
 use Rattle.std.proofs.Common.{subst, suc, arith, eq-eqb, eqb-true}
 use Rattle.go_ast.specs.Tree.{Item, IdentTree}
 use Rattle.types_expr.specs.Types.{PlainType, BasicType, ValueKind, Typed, Untyped, Nil}
-use Rattle.types_expr.specs.World.{World, Locals, declared}
+use Rattle.types_expr.specs.World.{World, Locals, declared, giving}
 use Rattle.types_expr.specs.Judge.{ListValue, all_whole}
 use Rattle.types_stmt.specs.Checked.{fault_if}
 use Rattle.types_stmt.specs.Sides.{Target, Wants, all_unbroken, nil_refused, refused_at, all_refused, given_faults, default_type, inferred_type, inferred_types}
-use Rattle.types_stmt.specs.Sides.{inferred, with_locals, with_inferred}
+use Rattle.types_stmt.specs.Sides.{inferred, with_locals, with_inferred, receiving}
 use Rattle.types_stmt.specs.Sides.{all_named, named as named_of}
 use Rattle.types_stmt.specs.Sides as sides
 use Rattle.types_stmt.specs.Simple.{written_locals}
@@ -15,7 +15,7 @@ use Rattle.types_stmt.specs.Statements.{returned}
 use Rattle.law_typing.proofs.Tests.{and_both}
 use Rattle.law_typing.proofs.Judgements.{empty_first, empty_second, empty_both}
 use Rattle.law_typing.proofs.BrokenRules.{no_fault}
-use Rattle.law_typing.proofs.Arguments.{AreOf, whole_all, fit_silent, silent_fit}
+use Rattle.law_typing.proofs.Arguments.{AreOf, whole_all, fit_silent, silent_fit, same_many}
 use Rattle.law_typing.specs.Assignments.{DefaultsTo, own, by_default, Taker, Fresh, OfType, TakesValue, fresh, fitting, TakenInTurn, none_given, also_given}
 use Rattle.law_typing.specs.Assignments.{Declare, no_name, no_local, new_local, DeclareAs, no_name_left, not_named, named}
 
@@ -90,6 +90,19 @@ right_count xs ys {n} {m} e h = ap (λ c. if c then xs else ys) (eq-eqb n m e) �
 
 one_fault : {A : Type 0} (c : Bool) (place : ℕ) → c ≡ true → fault_if c place ≡ [] → A
 one_fault c place e h = no_fault (ap (λ z. fault_if z place) (sym e) ∙ h)
+
+-- right sides are received by the kinds of their values as by the values
+pub received_by : {X : Type 0} (w : World) (sides : List X) (vs : List ListValue) (ks : List ValueKind) → AreOf vs ks →
+    receiving w sides vs ≡ receiving w sides ks
+received_by w sides vs ks a = ap (λ n. giving (n == length sides) w) (same_many vs ks a)
+
+pub taken_by : {X : Type 0} (w : World) (sides : List X) (vs : List ListValue) {ks : List ValueKind} {ts : List Taker} → AreOf vs ks →
+    TakenInTurn (receiving w sides ks) ks ts → TakenInTurn (receiving w sides vs) ks ts
+taken_by w sides vs {ks} {ts} a t = subst (λ z. TakenInTurn z ks ts) (sym (received_by w sides vs ks a)) t
+
+pub taken_as : {X : Type 0} (w : World) (sides : List X) (vs : List ListValue) {ks : List ValueKind} {ts : List Taker} → AreOf vs ks →
+    TakenInTurn (receiving w sides vs) ks ts → TakenInTurn (receiving w sides ks) ks ts
+taken_as w sides vs {ks} {ts} a t = subst (λ z. TakenInTurn z ks ts) (received_by w sides vs ks a) t
 
 pub given_silent : (w : World) (place : ℕ) (vs : List ListValue) {ks : List ValueKind} {ts : List Taker} → AreOf vs ks → TakenInTurn w ks ts →
     given_faults w place vs (map aim ts) ≡ []

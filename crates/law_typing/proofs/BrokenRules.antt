@@ -9,8 +9,8 @@ use Rattle.types_expr.specs.declared.types.Basic.TheVariants as basic
 use Rattle.types_expr.specs.declared.types.Builtin.{Builtin}
 use Rattle.types_expr.specs.declared.types.Builtin.TheVariants as builtin
 use Rattle.types_expr.specs.declared.symbol.Symbol.{Symbol}
-use Rattle.types_expr.specs.Types.{PlainType, BasicType, Pointer, Slice, Underlying, Plain, PointerTo, SliceOf, Struct, ValueKind, Typed, Untyped, Nil, Signature}
-use Rattle.types_expr.specs.Types.{Meaning, Value, TypeName, Function, BuiltinName, Package, Results, Broken, is_pointer}
+use Rattle.types_expr.specs.Types.{PlainType, BasicType, Pointer, Slice, Underlying, Plain, PointerTo, SliceOf, Struct, Interface, ValueKind, Typed, Untyped, Nil, Signature}
+use Rattle.types_expr.specs.Types.{Meaning, Value, TypeName, Function, BuiltinName, Package, Results, Broken, is_pointer, AFieldOf, AMethodOf}
 use Rattle.types_expr.specs.World.{World, Locals, Bound, Local, Means, BrokenVariable, BrokenFunction, BrokenType, Member, AField, AMethod, ABrokenMethod}
 use Rattle.types_expr.specs.World.{name_meaning}
 use Rattle.types_expr.specs.Operations.{operate, prefixed, converts, class_of, is_int, element_of_kind}
@@ -19,7 +19,7 @@ use Rattle.types_expr.specs.Judge.{value_or_wrong, as_value, value_kind, member_
 use Rattle.types_expr.specs.Judge.{unless_faults, wrong_if_whole, result_meaning, call_function, convert, convert_one, append, append_first, append_to}
 use Rattle.types_expr.specs.Judge.{len_fits, all_printed, call_builtin, call_of, bad_index, indexed, index_of, element_meaning, operation, prefix_of}
 use Rattle.types_expr.specs.Judge.{judge_type, named_type, imported_type, key_in, key_of_member, key_faults, is_whole_key, is_empty, misfit_if, with_element}
-use Rattle.types_expr.specs.Judge.{literal_result}
+use Rattle.types_expr.specs.Judge.{literal_result, noting, enterings}
 use Rattle.law_typing.specs.Names.{IsNotBroken, NameMeans}
 use Rattle.law_typing.specs.BrokenUses.{IsBrokenType, named, imported, pointer, slice, SelectsBroken, a_method, of_package}
 use Rattle.law_typing.proofs.Tests.{and_first, and_second, and_both}
@@ -85,7 +85,8 @@ member_or_broken : (w : World) (locals : Locals) (t : PlainType) (a : Bool) (nam
     (means_or_wrong (member_meaning w t a o) name).faults ≡ [] →
     IsNotBroken (means_or_wrong (member_meaning w t a o) name).meaning ⊎ SelectsBroken w locals (Value (Typed t) a) name
 member_or_broken w locals t a name None e h = no_fault h
-member_or_broken w locals t a name (Some (AField s u)) e h = inl value_whole
+member_or_broken w locals t a name (Some (AField s (AFieldOf u))) e h = inl value_whole
+member_or_broken w locals t a name (Some (AField s (AMethodOf g))) e h = inl function_whole
 member_or_broken w locals t a name (Some (AMethod s true g)) e h = inl (variable_method g name (is_pointer t || a) h)
 member_or_broken w locals t a name (Some (AMethod s false g)) e h = inl function_whole
 member_or_broken w locals t a name (Some (ABrokenMethod s)) e h = inr (a_method e)
@@ -146,8 +147,10 @@ fits_or_fault [] false m n e h = absurd (true≢false (sym e))
 fits_or_fault (p ∷ ps) b m n e h = no_fault h
 
 count_or_fault : (w : World) (start : ℕ) (s : Signature) (vs : List ListValue) → all_whole vs ≡ true → (b : Bool) →
-    (if b then unless_faults (misfits w vs s.parameters) (all_whole vs) (result_meaning s.results) else wrong_if_whole (all_whole vs) start).faults ≡ [] →
-    IsNotBroken (if b then unless_faults (misfits w vs s.parameters) (all_whole vs) (result_meaning s.results) else wrong_if_whole (all_whole vs) start).meaning
+    (if b then noting (enterings w vs s.parameters) (unless_faults (misfits w vs s.parameters) (all_whole vs) (result_meaning s.results))
+    else wrong_if_whole (all_whole vs) start).faults ≡ [] →
+    IsNotBroken (if b then noting (enterings w vs s.parameters) (unless_faults (misfits w vs s.parameters) (all_whole vs) (result_meaning s.results))
+    else wrong_if_whole (all_whole vs) start).meaning
 count_or_fault w start s vs a true h = fits_or_fault (misfits w vs s.parameters) (all_whole vs) (result_meaning s.results) (gives_whole (gives s.results)) a h
 count_or_fault w start s vs a false h = refused_if_whole (all_whole vs) start a h
 
@@ -271,7 +274,8 @@ free_or_fault s t false place h = refl
 member_key : (seen : Seen) (m : Option Member) (place : ℕ) → key_faults (key_of_member seen m) place ≡ [] → (is_whole_key (key_of_member seen m) ≡ true) ⊎
     IsBrokenMember m
 member_key seen None place h = no_fault h
-member_key seen (Some (AField s t)) place h = inl (free_or_fault s t (seen s.rank) place h)
+member_key seen (Some (AField s (AFieldOf t))) place h = inl (free_or_fault s t (seen s.rank) place h)
+member_key seen (Some (AField s (AMethodOf g))) place h = no_fault h
 member_key seen (Some (AMethod s b g)) place h = no_fault h
 member_key seen (Some (ABrokenMethod s)) place h = inr (s, refl)
 
@@ -281,6 +285,7 @@ key_or_broken (Struct x) seen m place h = member_key seen m place h
 key_or_broken (Plain b) seen m place h = no_fault h
 key_or_broken (PointerTo t) seen m place h = no_fault h
 key_or_broken (SliceOf t) seen m place h = no_fault h
+key_or_broken (Interface s) seen m place h = no_fault h
 
 -- the parts of an element without a fault have none
 pub record IsFaultless (w : World) (k : JudgedKey) (place : ℕ) (j : Judged) (rest : JudgedElements) : Type 0 where
@@ -315,3 +320,4 @@ ends_or_fault start t (Struct s) false h = value_whole
 ends_or_fault start t (SliceOf x) unkeyed h = value_whole
 ends_or_fault start t (Plain b) unkeyed h = no_fault h
 ends_or_fault start t (PointerTo x) unkeyed h = no_fault h
+ends_or_fault start t (Interface s) unkeyed h = no_fault h

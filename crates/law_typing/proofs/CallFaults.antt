@@ -12,7 +12,7 @@ use Rattle.types_expr.specs.World.{World, Locals, underlying}
 use Rattle.types_expr.specs.Operations.{fits, operate}
 use Rattle.types_expr.specs.Judge.{ListValue, value_kind, value_at, call_rule, call_of, call_function, call_builtin, append, append_first, append_to, misfit}
 use Rattle.types_expr.specs.Judge.{misfits, all_misfits, unless_faults, wrong_if_whole, result_meaning, all_whole, value_or_wrong, operation, operation_on}
-use Rattle.types_expr.specs.Judge.{judge, judge_value, judge_arguments}
+use Rattle.types_expr.specs.Judge.{judge, judge_value, judge_arguments, noting, enterings}
 use Rattle.law_typing.specs.Fits.{FitsType}
 use Rattle.law_typing.specs.Operators.{Operates}
 use Rattle.law_typing.specs.Names.{IsNotBroken}
@@ -109,7 +109,8 @@ unless_holds [] b m p h = absurd h
 unless_holds (x ∷ xs) b m p h = h
 
 right_count : (w : World) (start : ℕ) (s : Signature) (vs : List ListValue) (p : ℕ) (c : Bool) → c ≡ true → HasToken (misfits w vs s.parameters) p →
-    HasToken (if c then unless_faults (misfits w vs s.parameters) (all_whole vs) (result_meaning s.results) else wrong_if_whole (all_whole vs) start).faults p
+    HasToken (if c then noting (enterings w vs s.parameters) (unless_faults (misfits w vs s.parameters) (all_whole vs) (result_meaning s.results))
+    else wrong_if_whole (all_whole vs) start).faults p
 right_count w start s vs p true e h = unless_holds (misfits w vs s.parameters) (all_whole vs) (result_meaning s.results) p h
 right_count w start s vs p false e h = absurd (true≢false (sym e))
 

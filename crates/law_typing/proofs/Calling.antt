@@ -6,18 +6,19 @@ use Rattle.types_expr.specs.declared.types.Builtin.{Builtin}
 use Rattle.types_expr.specs.declared.types.Builtin.TheVariants as builtin
 use Rattle.types_expr.specs.declared.classes.ValueClass.{ValueClass}
 use Rattle.types_expr.specs.declared.classes.ValueClass.TheVariants as class
-use Rattle.types_expr.specs.Types.{PlainType, BasicType, Underlying, Plain, PointerTo, SliceOf, Struct, ValueKind, Typed, Untyped, Nil, Signature, Meaning, Value}
+use Rattle.types_expr.specs.Types.{PlainType, BasicType, Underlying, Plain, PointerTo, SliceOf, Struct, Interface, ValueKind, Typed, Untyped, Nil, Signature, Meaning, Value}
 use Rattle.types_expr.specs.Types.{TypeName, Function, BuiltinName, Package, Results, Broken, element_of}
 use Rattle.types_expr.specs.World.{World, underlying}
 use Rattle.types_expr.specs.Operations.{converts, class_of, class_of_underlying, has_length}
 use Rattle.types_expr.specs.Judge.{ListValue, means, wrong, wrong_if_whole, all_whole, misfits, all_misfits, unless_faults, result_meaning, call_function}
 use Rattle.types_expr.specs.Judge.{convert, convert_one, append, append_first, append_to, len_fits, len_value, all_printed, call_when, call_builtin, call_of}
+use Rattle.types_expr.specs.Judge.{noting, entering, enterings, all_enterings}
 use Rattle.law_typing.specs.Fits.{Converts, FitInTurn}
 use Rattle.law_typing.specs.Names.{IsNotBroken}
 use Rattle.law_typing.specs.Links.{ResultsMean, nothing, one, several, HasLength, a_string, a_slice, CallGives, function, conversion, len, panic, print, println}
 use Rattle.law_typing.specs.Links.{append as appends}
 use Rattle.law_typing.specs.IsJudgedAs.{IsJudgedAs}
-use Rattle.law_typing.proofs.Judgements.{value_whole, results_whole, agrees_as, means_it, wrong_broken}
+use Rattle.law_typing.proofs.Judgements.{value_whole, results_whole, agrees_as, noted_agrees, means_it, wrong_broken}
 use Rattle.law_typing.proofs.Fitting.{converts_true, true_converts}
 use Rattle.law_typing.proofs.Classes.{class_true, class_is, slice_class}
 use Rattle.law_typing.proofs.Arguments.{AreOf, whole_all, kinds_of, as_many, in_turn_silent, silent_in_turn, each_silent, silent_each, printed_true, true_printed}
@@ -39,19 +40,21 @@ unfolding unless_faults
 passed places b m e h = ap (λ x. unless_faults x b m) e ∙ ap (λ x. unless_faults [] x m) h
 
 function_called : (w : World) (start : ℕ) (s : Signature) (vs : List ListValue) {ks : List ValueKind} → AreOf vs ks → FitInTurn w ks s.parameters →
-    call_function w start s vs ≡ means (result_meaning s.results)
+    call_function w start s vs ≡ noting (enterings w vs s.parameters) (means (result_meaning s.results))
 unfolding call_function
 function_called w start s vs {ks} a f =
-    ap (λ b. if b then unless_faults (misfits w vs s.parameters) (all_whole vs) (result_meaning s.results) else wrong_if_whole (all_whole vs) start)
+    ap (λ b. if b then noting (enterings w vs s.parameters) (unless_faults (misfits w vs s.parameters) (all_whole vs) (result_meaning s.results))
+    else wrong_if_whole (all_whole vs) start)
     (eq-eqb (length vs) (length s.parameters) (as_many w vs a f))
-    ∙ passed (misfits w vs s.parameters) (all_whole vs) (result_meaning s.results) (in_turn_silent w vs a f) (whole_all vs ks a)
+    ∙ ap (noting (enterings w vs s.parameters)) (passed (misfits w vs s.parameters) (all_whole vs) (result_meaning s.results) (in_turn_silent w vs a f)
+    (whole_all vs ks a))
 
 one_converted : (w : World) (start : ℕ) (vs : List ListValue) {k : ValueKind} {t : PlainType} → AreOf vs (k ∷ []) → Converts w k t →
-    convert w start t vs ≡ means (Value (Typed t) false)
+    IsJudgedAs (convert w start t vs) (Value (Typed t) false)
 unfolding convert
 one_converted w start [] a c = absurd a
-one_converted w start (v ∷ []) {k} {t} a c = ap (convert_one w start t) a.0 ∙
-    ap (λ (b : Bool). if b then means (Value (Typed t) false) else wrong start) (converts_true w c)
+one_converted w start (v ∷ []) {k} {t} a c = noted_agrees (entering w v.place v.kind t) (agrees_as (ap (convert_one w start t) a.0 ∙
+    ap (λ (b : Bool). if b then means (Value (Typed t) false) else wrong start) (converts_true w c)) (means_it value_whole))
 one_converted w start (v ∷ u ∷ vs) a c = absurd a.1
 
 called_when : (fine : Bool) (vs : List ListValue) (ks : List ValueKind) (start : ℕ) (m : Meaning) → AreOf vs ks → fine ≡ true → call_when fine vs start m ≡ means m
@@ -75,20 +78,24 @@ one_value (v ∷ u ∷ vs) k a = absurd a.1
 
 appended : (w : World) (start : ℕ) (vs : List ListValue) {t : PlainType} {ks : List ValueKind} (u : PlainType) → AreOf vs (Typed t ∷ ks) →
     underlying w t ≡ SliceOf u → ((us : List ListValue) → AreOf us ks → all_misfits w us u ≡ []) →
-    append w start vs ≡ means (Value (Typed t) false)
+    IsJudgedAs (append w start vs) (Value (Typed t) false)
 unfolding append
 appended w start [] u a e f = absurd a
-appended w start (v ∷ vs) {t} {ks} u a e f = ap (λ o. append_first w start o vs) a.0 ∙ (ap (λ x. append_to w start (Typed t) (element_of x) vs) e
-    ∙ passed (all_misfits w vs u) (all_whole vs) (Value (Typed t) false) (f vs a.1) (whole_all vs ks a.1))
+appended w start (v ∷ vs) {t} {ks} u a e f = agrees_as
+    (ap (λ o. append_first w start o vs) a.0 ∙ ap (λ x. append_to w start (Typed t) (element_of x) vs) e)
+    (noted_agrees (all_enterings w vs u) (agrees_as (passed (all_misfits w vs u) (all_whole vs) (Value (Typed t) false) (f vs a.1) (whole_all vs ks a.1))
+    (means_it value_whole)))
 
 pub calls_true : (w : World) (start place : ℕ) (vs : List ListValue) {m r : Meaning} {ks : List ValueKind} → AreOf vs ks → CallGives w m ks r →
     IsJudgedAs (call_of w start place vs m) r
 unfolding call_of call_builtin
-calls_true w start place vs a (function {s} f g) = agrees_as (function_called w start s vs a f ∙ ap means (gives_meaning g)) (means_it (gives_whole g))
-calls_true w start place vs a (conversion c) = agrees_as (one_converted w start vs a c) (means_it value_whole)
+calls_true w start place vs a (function {s} f g) = agrees_as
+    (function_called w start s vs a f ∙ ap (λ r. noting (enterings w vs s.parameters) (means r)) (gives_meaning g))
+    (noted_agrees (enterings w vs s.parameters) (means_it (gives_whole g)))
+calls_true w start place vs a (conversion c) = one_converted w start vs a c
 calls_true w start place vs a (len {k} h) = agrees_as
     (called_when (len_fits w vs) vs (k ∷ []) start (Value (Typed (BasicType basic.Int)) false) a (len_found w vs a h)) (means_it value_whole)
-calls_true w start place vs a (appends {t} {u} e f) = agrees_as (appended w start vs u a e (λ us b. each_silent w u us b f)) (means_it value_whole)
+calls_true w start place vs a (appends {t} {u} e f) = appended w start vs u a e (λ us b. each_silent w u us b f)
 calls_true w start place vs a (panic {k}) = agrees_as (called_when (length vs == 1) vs (k ∷ []) start (Results []) a (one_value vs k a))
     (means_it results_whole)
 calls_true w start place vs a (print {ks} p) = agrees_as (called_when (all_printed w vs) vs ks start (Results []) a (printed_true w vs a p))
@@ -122,9 +129,10 @@ fitting_call w s vs l n = let p = passes (misfits w vs s.parameters) (all_whole 
     (ks.0, ks.1, subst (λ x. CallGives w (Function s) ks.0 x) (sym p.2) (function (silent_in_turn w vs ks.0 s.parameters ks.1 l p.0) (gives s.results)))
 
 counted_call : (w : World) (start : ℕ) (s : Signature) (vs : List ListValue) (b : Bool) → (length vs == length s.parameters) ≡ b →
-    IsNotBroken (if b then unless_faults (misfits w vs s.parameters) (all_whole vs) (result_meaning s.results) else wrong_if_whole (all_whole vs) start).meaning →
-    IsCall w vs (Function s) (if b then unless_faults (misfits w vs s.parameters) (all_whole vs) (result_meaning s.results) else wrong_if_whole
-    (all_whole vs) start).meaning
+    IsNotBroken (if b then noting (enterings w vs s.parameters) (unless_faults (misfits w vs s.parameters) (all_whole vs) (result_meaning s.results))
+    else wrong_if_whole (all_whole vs) start).meaning →
+    IsCall w vs (Function s) (if b then noting (enterings w vs s.parameters) (unless_faults (misfits w vs s.parameters) (all_whole vs)
+    (result_meaning s.results)) else wrong_if_whole (all_whole vs) start).meaning
 counted_call w start s vs true e n = fitting_call w s vs (eqb-true (length vs) (length s.parameters) e) n
 counted_call w start s vs false e n = absurd (n (wrong_broken (all_whole vs) start))
 
@@ -199,6 +207,7 @@ append_element w start v vs t (SliceOf x) e f n = let p = passes (all_misfits w 
 append_element w start v vs t (Plain b) e f n = absurd (n (wrong_broken (all_whole vs) start))
 append_element w start v vs t (PointerTo x) e f n = absurd (n (wrong_broken (all_whole vs) start))
 append_element w start v vs t (Struct s) e f n = absurd (n (wrong_broken (all_whole vs) start))
+append_element w start v vs t (Interface s) e f n = absurd (n (wrong_broken (all_whole vs) start))
 
 append_value : (w : World) (start : ℕ) (v : ListValue) (vs : List ListValue) (o : Option ValueKind) → v.kind ≡ o → IsNotBroken (append_first w start o vs).meaning →
     IsCall w (v ∷ vs) (BuiltinName builtin.Append) (append_first w start o vs).meaning

@@ -4,7 +4,7 @@ use Rattle.types_expr.specs.declared.types.Basic.{Basic}
 use Rattle.types_expr.specs.declared.types.Basic.TheVariants as basic
 use Rattle.types_expr.specs.declared.classes.ValueClass.{ValueClass}
 use Rattle.types_expr.specs.declared.classes.ValueClass.TheVariants as class
-use Rattle.types_expr.specs.Types.{PlainType, Underlying, Plain, PointerTo, SliceOf, Struct, ValueKind, Typed, Untyped, Nil}
+use Rattle.types_expr.specs.Types.{PlainType, Underlying, Plain, PointerTo, SliceOf, Struct, Interface, ValueKind, Typed, Untyped, Nil}
 use Rattle.types_expr.specs.World.{World, underlying}
 use Rattle.types_expr.specs.Operations.{class_of, class_of_underlying, is_int, is_bool, is_ordered}
 use Rattle.law_typing.specs.Operators.{IsBasic, by_type, by_kind, IsComparable, a_pointer}
@@ -19,18 +19,21 @@ plain_class (Plain c) b h = cc
 plain_class (PointerTo t) b h = cc
 plain_class (SliceOf t) b h = cc
 plain_class (Struct s) b h = cc
+plain_class (Interface s) b h = cc
 
 pointer_class : (u : Underlying) → class_of_underlying u ≡ class.Pointer → (t : PlainType) × (u ≡ PointerTo t)
 pointer_class (PointerTo t) h = (t, refl)
 pointer_class (Plain c) h = cc
 pointer_class (SliceOf t) h = cc
 pointer_class (Struct s) h = cc
+pointer_class (Interface s) h = cc
 
 pub slice_class : (u : Underlying) → class_of_underlying u ≡ class.Slice → (t : PlainType) × (u ≡ SliceOf t)
 slice_class (SliceOf t) h = (t, refl)
 slice_class (PointerTo t) h = cc
 slice_class (Plain c) h = cc
 slice_class (Struct s) h = cc
+slice_class (Interface s) h = cc
 
 same_kind : (a b : Basic) → class.Of a ≡ class.Of b → a ≡ b
 same_kind a b h = cc

@@ -9,7 +9,7 @@ use Rattle.types_expr.specs.Judge.{ListValue, judge_type}
 use Rattle.types_stmt.specs.Checked.{FoundSoFar}
 use Rattle.types_stmt.specs.Sides.{Target, Wants, all_refused}
 use Rattle.types_stmt.specs.Declarations.{literal_value, first_name, literal_faults, value_faults, global_faults, field_faults, body_faults, check_global}
-use Rattle.types_stmt.specs.Declarations.{check_type, check_decl, check_decls, check_file}
+use Rattle.types_stmt.specs.Declarations.{check_type, check_decl, check_decls, check_file, global_enterings}
 use Rattle.law_typing.specs.Names.{IsType}
 use Rattle.law_typing.proofs.Judgements.{empty_first, empty_second, empty_both}
 use Rattle.law_typing.proofs.Naming.{type_true, true_type}
@@ -96,8 +96,10 @@ global_silent w g t i h = ap (λ z. z.faults ++ value_faults w g.names z.type_of
 
 pub global_true : (w : World) (s : FoundSoFar) (g : GlobalTree) (after : Locals) → s.faults ≡ [] → GlobalIsTyped w s.locals g after →
     IsAt (check_global w s g) after
-global_true w s g after h (without_values {t = t} i e) = reached s (global_faults w g) [] h (global_silent w g t i (without_silent w g t e)) refl
-global_true w s g after h (with_literals {t = t} i e l u) = reached s (global_faults w g) [] h (global_silent w g t i (with_silent w g t e l u)) refl
+global_true w s g after h (without_values {t = t} i e) =
+    reached s (global_faults w g) (global_enterings w g) h (global_silent w g t i (without_silent w g t e)) refl
+global_true w s g after h (with_literals {t = t} i e l u) =
+    reached s (global_faults w g) (global_enterings w g) h (global_silent w g t i (with_silent w g t e l u)) refl
 
 values_cases : (w : World) (locals : Locals) (g : GlobalTree) (t : PlainType) (v : Option (ℕ × List (Item BasicTree))) → g.values ≡ v →
     IsType w g.type_use t → value_faults w g.names (Some t) v ≡ [] → GlobalIsTyped w locals g locals

@@ -4,7 +4,7 @@ use Rattle.go_ast.specs.Tree.{ExprTree, ElementTrees}
 use Rattle.go_ast.specs.Tree as tree
 use Rattle.types_expr.specs.declared.symbol.Symbol.{Symbol}
 use Rattle.types_expr.specs.Places.{place_of}
-use Rattle.types_expr.specs.Types.{PlainType, Underlying, Plain, PointerTo, SliceOf, Struct, ValueKind, Value, element_of}
+use Rattle.types_expr.specs.Types.{PlainType, Underlying, Plain, PointerTo, SliceOf, Struct, Interface, ValueKind, Value, element_of, AFieldOf, AMethodOf}
 use Rattle.types_expr.specs.World.{World, Locals, Member, AField, AMethod, ABrokenMethod, underlying}
 use Rattle.types_expr.specs.Operations.{fits}
 use Rattle.types_expr.specs.Judge.{JudgedElements, Seen, with_element, KeyMeaning, FieldKey, WrongKey, BrokenKey, key_at, key_in, key_of_member, key_faults}
@@ -53,7 +53,8 @@ free_or_wrong rank u true e = cc
 free_or_wrong rank u false e = cc
 
 member_broken : (seen : Seen) (m : Option Member) → key_of_member seen m ≡ BrokenKey → (s : Symbol) × (m ≡ Some (ABrokenMethod s))
-member_broken seen (Some (AField s t)) e = absurd (free_or_wrong s.rank t (seen s.rank) e)
+member_broken seen (Some (AField s (AFieldOf t))) e = absurd (free_or_wrong s.rank t (seen s.rank) e)
+member_broken seen (Some (AField s (AMethodOf g))) e = cc
 member_broken seen (Some (AMethod s b g)) e = cc
 member_broken seen (Some (ABrokenMethod s)) e = (s, refl)
 member_broken seen None e = cc
@@ -64,6 +65,7 @@ broken_in w t seen key (Struct x) i e = let q = member_broken seen (w.member key
 broken_in w t seen key (Plain b) i e = cc
 broken_in w t seen key (PointerTo x) i e = cc
 broken_in w t seen key (SliceOf x) i e = cc
+broken_in w t seen key (Interface x) i e = cc
 
 key_by : (w : World) (t : PlainType) (named : List ℕ) (key : ℕ) (k : KeyMeaning) → key_at w (is_taken named) t key ≡ k → KeyIs w t named key k
 key_by w t named key (FieldKey rank u) e = let q = whole_key (underlying w t) (is_taken named) (w.member key t) (ap is_whole_key e) in

@@ -5,7 +5,8 @@ use Rattle.go_ast.specs.Tree.{TypeTree, ElementTrees}
 use Rattle.go_ast.specs.Tree as tree
 use Rattle.types_expr.specs.declared.types.Basic.{Basic}
 use Rattle.types_expr.specs.declared.symbol.Symbol.{Symbol}
-use Rattle.types_expr.specs.Types.{PlainType, Underlying, Plain, PointerTo, SliceOf, Struct, ValueKind, Typed, Meaning, Value, Broken}
+use Rattle.types_expr.specs.Types.{PlainType, Underlying, Plain, PointerTo, SliceOf, Struct, Interface, ValueKind, Typed, Meaning, Value, Broken}
+use Rattle.types_expr.specs.Types.{AFieldOf, AMethodOf}
 use Rattle.types_expr.specs.World.{World, Locals, Member, AField, AMethod, ABrokenMethod, underlying}
 use Rattle.types_expr.specs.Judge.{Judged, JudgedKey, JudgedElements, TypeJudged, Seen, KeyMeaning, FieldKey, WrongKey, is_whole, is_empty, is_whole_key, key_in}
 use Rattle.types_expr.specs.Judge.{key_of_member, value_kind, misfit_if, with_element, means, judge_type, judge_elements, good_type, none_seen, literal_of}
@@ -38,7 +39,7 @@ free_new rank (x ∷ xs) h = let p = or_none (rank == x) (is_taken xs rank) h in
 
 -- keys
 
-pub field_key : {u : Underlying} {m : Option Member} (seen : Seen) {x s : Symbol} {t : PlainType} → u ≡ Struct x → m ≡ Some (AField s t) →
+pub field_key : {u : Underlying} {m : Option Member} (seen : Seen) {x s : Symbol} {t : PlainType} → u ≡ Struct x → m ≡ Some (AField s (AFieldOf t)) →
     seen s.rank ≡ false → key_in u seen m ≡ FieldKey s.rank t
 field_key {u} {m} seen {x} {s} {t} e f n = ap (λ z. key_in z seen m) e ∙ (ap (key_of_member seen) f ∙ ap (λ b. if b then WrongKey else FieldKey s.rank t) n)
 
@@ -48,17 +49,18 @@ pub record IsFieldKey (u : Underlying) (seen : Seen) (m : Option Member) (k : Ke
   pub symbol : Symbol
   pub type_of : PlainType
   pub is_struct : u ≡ Struct owner
-  pub is_field : m ≡ Some (AField symbol type_of)
+  pub is_field : m ≡ Some (AField symbol (AFieldOf type_of))
   pub is_free : seen symbol.rank ≡ false
   pub is_key : k ≡ FieldKey symbol.rank type_of
 
 free_key : (x s : Symbol) (t : PlainType) (seen : Seen) (b : Bool) → seen s.rank ≡ b → is_whole_key (if b then WrongKey else FieldKey s.rank t) ≡ true →
-    IsFieldKey (Struct x) seen (Some (AField s t)) (if b then WrongKey else FieldKey s.rank t)
+    IsFieldKey (Struct x) seen (Some (AField s (AFieldOf t))) (if b then WrongKey else FieldKey s.rank t)
 free_key x s t seen true e h = absurd (true≢false (sym h))
 free_key x s t seen false e h = record { owner = x; symbol = s; type_of = t; is_struct = refl; is_field = refl; is_free = e; is_key = refl }
 
 struct_key : (x : Symbol) (seen : Seen) (m : Option Member) → is_whole_key (key_of_member seen m) ≡ true → IsFieldKey (Struct x) seen m (key_of_member seen m)
-struct_key x seen (Some (AField s t)) h = free_key x s t seen (seen s.rank) refl h
+struct_key x seen (Some (AField s (AFieldOf t))) h = free_key x s t seen (seen s.rank) refl h
+struct_key x seen (Some (AField s (AMethodOf g))) h = absurd (true≢false (sym h))
 struct_key x seen (Some (AMethod s b g)) h = absurd (true≢false (sym h))
 struct_key x seen (Some (ABrokenMethod s)) h = absurd (true≢false (sym h))
 struct_key x seen None h = absurd (true≢false (sym h))
@@ -68,6 +70,7 @@ whole_key (Struct x) seen m h = struct_key x seen m h
 whole_key (Plain b) seen m h = absurd (true≢false (sym h))
 whole_key (PointerTo t) seen m h = absurd (true≢false (sym h))
 whole_key (SliceOf t) seen m h = absurd (true≢false (sym h))
+whole_key (Interface s) seen m h = absurd (true≢false (sym h))
 
 -- one element
 
@@ -183,6 +186,10 @@ pointer_ends : (start : ℕ) (t u : PlainType) (whole unkeyed : Bool) → (liter
 pointer_ends start t u true unkeyed = refl
 pointer_ends start t u false unkeyed = refl
 
+interface_ends : (start : ℕ) (t : PlainType) (s : Symbol) (whole unkeyed : Bool) → (literal_result start t (Interface s) whole unkeyed).meaning ≡ Broken
+interface_ends start t s true unkeyed = refl
+interface_ends start t s false unkeyed = refl
+
 by_underlying : (w : World) (locals : Locals) (x : TypeTree) (o : ℕ) (es : ElementTrees) (c start : ℕ) (t : PlainType) (whole unkeyed : Bool)
     (v : Underlying) → IsType w x t → underlying w t ≡ v →
     IsNotBroken (literal_result start t v whole unkeyed).meaning →
@@ -193,6 +200,7 @@ by_underlying w locals x o es c start t whole unkeyed (Struct s) h e n f g = str
 by_underlying w locals x o es c start t whole unkeyed (SliceOf u) h e n f g = slice_found w locals x o es c start t u whole unkeyed h e n (g u e)
 by_underlying w locals x o es c start t whole unkeyed (Plain b) h e n f g = absurd (n (plain_ends start t b whole unkeyed))
 by_underlying w locals x o es c start t whole unkeyed (PointerTo u) h e n f g = absurd (n (pointer_ends start t u whole unkeyed))
+by_underlying w locals x o es c start t whole unkeyed (Interface s) h e n f g = absurd (n (interface_ends start t s whole unkeyed))
 
 pub literal_found : (w : World) (locals : Locals) (x : TypeTree) (o : ℕ) (es : ElementTrees) (c start : ℕ) (type_of : Option PlainType) →
     (judge_type w x).type_of ≡ type_of →

@@ -7,7 +7,7 @@ use Rattle.types_expr.specs.declared.types.Basic.TheVariants as basic
 use Rattle.types_expr.specs.declared.types.Builtin.TheVariants as builtin
 use Rattle.types_expr.specs.declared.symbol.Symbol.{Symbol}
 use Rattle.types_expr.specs.Places.{first_token, place_of, place_of_links}
-use Rattle.types_expr.specs.Types.{PlainType, BasicType, Defined, Struct, Typed, Meaning, Value, TypeName, Function, BuiltinName, Broken, same_type}
+use Rattle.types_expr.specs.Types.{PlainType, BasicType, Defined, Struct, Typed, Meaning, Value, TypeName, Function, BuiltinName, Broken, same_type, AFieldOf}
 use Rattle.types_expr.specs.Types.{same_underlying, is_named, has_nil}
 use Rattle.types_expr.specs.World.{World, Means, Member, AField, AMethod, no_locals}
 use Rattle.types_expr.specs.Operations.{fits, operate, joined, class_of, family_of, result_of, is_nil, prefixed}
@@ -44,11 +44,11 @@ meaning_at p =
 
 -- 20: the field x of T, an int; 21: the method m() of *T
 abbrev member_at : ℕ → Option Member
-member_at p = if p == 20 then Some (AField (symbol 1) int) else
+member_at p = if p == 20 then Some (AField (symbol 1) (AFieldOf int)) else
     (if p == 21 then Some (AMethod (symbol 2) true (record { parameters = []; results = [] })) else None)
 
 abbrev w : World
-w = record { bound = λ p. Means (meaning_at p); member = λ p t. member_at p; definition = λ s. Struct s }
+w = record { bound = λ p. Means (meaning_at p); member = λ p t. member_at p; definition = λ s. Struct s; implements = λ t s. false }
 
 abbrev plus : ExprTree → ExprTree → ExprTree
 plus a b = tree.Binary a (tree.operand op.Add 90 b tree.no_operand)

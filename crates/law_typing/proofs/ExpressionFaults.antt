@@ -6,7 +6,7 @@ use Rattle.go_ast.specs.Tree.{TypeTree, ExprTree, LinkTrees, OperandTrees, Argum
 use Rattle.go_ast.specs.Tree as tree
 use Rattle.types_expr.specs.declared.symbol.Symbol.{Symbol}
 use Rattle.types_expr.specs.Places.{first_token, first_of_type, place_of}
-use Rattle.types_expr.specs.Types.{PlainType, Underlying, Plain, PointerTo, SliceOf, Struct, ValueKind, Typed, Untyped, Nil, Meaning, Value, TypeName, Function}
+use Rattle.types_expr.specs.Types.{PlainType, Underlying, Plain, PointerTo, SliceOf, Struct, Interface, ValueKind, Typed, Untyped, Nil, Meaning, Value, TypeName, Function}
 use Rattle.types_expr.specs.Types.{BuiltinName, Package, Results, Broken, element_of}
 use Rattle.types_expr.specs.World.{World, Locals, underlying}
 use Rattle.types_expr.specs.Operations.{prefixed}
@@ -381,6 +381,10 @@ ends_by w locals start t es (PointerTo y) i true keyless h k = fault_at start (i
 ))
 ends_by w locals start t es (PointerTo y) i false keyless h k = nothing_at start (other_none w locals t es (plain_no_struct i (λ s c. cc)) (plain_no_slice i
     (λ u c. cc)) h)
+ends_by w locals start t es (Interface y) i true keyless h k =
+    fault_at start (inr (whole_elements w locals t [] es h, plain_no_struct i (λ s c. cc), plain_no_slice i (λ u c. cc)))
+ends_by w locals start t es (Interface y) i false keyless h k =
+    nothing_at start (other_none w locals t es (plain_no_struct i (λ s c. cc)) (plain_no_slice i (λ u c. cc)) h)
 
 ends_told : (w : World) (locals : Locals) (start : ℕ) (o : Option PlainType) (es : ElementTrees) → AreExactly (literal_meaning w start o
     (judge_elements w locals o (is_taken []) es).whole (judge_elements w locals o (is_taken []) es).unkeyed).faults (At start (Ends w locals o es))

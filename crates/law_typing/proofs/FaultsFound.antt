@@ -6,7 +6,7 @@ use Rattle.go_ast.specs.Tree as tree
 use Rattle.types_expr.specs.declared.types.Builtin.TheVariants as builtin
 use Rattle.types_expr.specs.declared.symbol.Symbol.{Symbol}
 use Rattle.types_expr.specs.Places.{first_token, first_of_type, place_of}
-use Rattle.types_expr.specs.Types.{PlainType, Underlying, Plain, PointerTo, SliceOf, Struct, Typed, Untyped, Nil, Meaning, Value, TypeName, Function}
+use Rattle.types_expr.specs.Types.{PlainType, Underlying, Plain, PointerTo, SliceOf, Struct, Interface, Typed, Untyped, Nil, Meaning, Value, TypeName, Function}
 use Rattle.types_expr.specs.Types.{BuiltinName, Package, Results, Broken, element_of}
 use Rattle.types_expr.specs.World.{World, Locals, underlying}
 use Rattle.types_expr.specs.Judge.{Judged, Seen, KeyMeaning, FieldKey, WrongKey, BrokenKey, followed, value_at, value_kind, select, index_rule, index_of, as_value}
@@ -212,6 +212,12 @@ ends_each P w locals x o es c t (PointerTo y) true b i e v k f = (
   tt,
 )
 ends_each P w locals x o es c t (PointerTo y) false b i e v k f = tt
+ends_each P w locals x o es c t (Interface y) true b i e v k f = (
+  f (first_of_type x) (no_literal i (v refl) (λ s h. let q : Interface y ≡ Struct s = sym e ∙ h in cc)
+      (λ z h. let q : Interface y ≡ SliceOf z = sym e ∙ h in cc)),
+  tt,
+)
+ends_each P w locals x o es c t (Interface y) false b i e v k f = tt
 
 literal_each : (P : ℕ → Type 0) (w : World) (locals : Locals) (x : TypeTree) (o : ℕ) (es : ElementTrees) (c : ℕ) (type_of : Option PlainType) →
     (judge_type w x).type_of ≡ type_of →

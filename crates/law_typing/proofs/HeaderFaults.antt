@@ -4,7 +4,7 @@ use Rattle.std.proofs.Common.{refl, sym, ap, ◌∙◌, subst, true≢false}
 use Rattle.go_ast.specs.Tree.{Item, TypeTree, ReceiverTree, ParamTree, ResultTree, FuncTree}
 use Rattle.go_ast.specs.Tree as tree
 use Rattle.types_expr.specs.declared.symbol.Symbol.{Symbol}
-use Rattle.types_expr.specs.Types.{PlainType, BasicType, Defined, Pointer, Slice, Value, TypeName, Function, BuiltinName, Package, Results, Broken, points}
+use Rattle.types_expr.specs.Types.{PlainType, BasicType, Defined, Pointer, Slice, Value, TypeName, Function, BuiltinName, Package, Results, Broken, takes_no_methods}
 use Rattle.types_expr.specs.World.{World, Locals, Bound, Local, Means, BrokenVariable, BrokenFunction, BrokenType}
 use Rattle.types_expr.specs.Judge.{TypeJudged, judge_type, good_type, no_type_at, named_type}
 use Rattle.types_stmt.specs.Checked.{FoundSoFar, fault_if, check_items}
@@ -16,7 +16,7 @@ use Rattle.types_stmt.specs.Statements.{check_block}
 use Rattle.law_typing.specs.Faults.{IsNoType}
 use Rattle.law_typing.specs.Sequences.{InTurn, IfPresent}
 use Rattle.law_typing.specs.Declarations.{IsBehindStar}
-use Rattle.law_typing.proofs.Headers.{no_points, points_no, star_faults, star_found, star_true}
+use Rattle.law_typing.proofs.Headers.{takes_some, takes_none, star_faults, star_found, star_true}
 use Rattle.law_typing.specs.DeclaredLocals.{MayReceive, may_receive as receives_by, ReceiverTypeIs, receives, receives_nothing, ReceiverDeclares, behind_receiver}
 use Rattle.law_typing.specs.DeclaredLocals.{ParamDeclares, behind_param, BlockDeclares, FunctionDeclares, behind_function}
 use Rattle.law_typing.specs.AssignmentFaults.{as_targets}
@@ -66,9 +66,9 @@ wrong_by w place b e n m h = wrong_base (not_defined w place b e n) (not_broken 
 symbol_same : {s t : Symbol} → Means (TypeName (Defined s)) ≡ Means (TypeName (Defined t)) → s ≡ t
 symbol_same e = cc
 
-pointer_receives : (w : World) (place : ℕ) (s : Symbol) → w.bound place ≡ Means (TypeName (Defined s)) → points (w.definition s) ≡ true → NoneReceives w place
+pointer_receives : (w : World) (place : ℕ) (s : Symbol) → w.bound place ≡ Means (TypeName (Defined s)) → takes_no_methods (w.definition s) ≡ true → NoneReceives w place
 pointer_receives w place s e h t (receives_by f n) = let same : t ≡ s = symbol_same (sym f ∙ e) in
-    true≢false (sym h ∙ (ap (λ z. points (w.definition z)) (sym same) ∙ no_points (w.definition t) n))
+    true≢false (sym h ∙ (ap (λ z. takes_no_methods (w.definition z)) (sym same) ∙ takes_some (w.definition t) n))
 
 abbrev received_when : ℕ → Symbol → Bool → TypeJudged
 received_when place s c = record {
@@ -76,14 +76,14 @@ received_when place s c = record {
   faults = [] ++ (if (if c then false else true) then good_type (Defined s) else no_type_at place).faults;
 }
 
-defined_base : (w : World) (place : ℕ) (s : Symbol) (c : Bool) → points (w.definition s) ≡ c → w.bound place ≡ Means (TypeName (Defined s)) →
+defined_base : (w : World) (place : ℕ) (s : Symbol) (c : Bool) → takes_no_methods (w.definition s) ≡ c → w.bound place ≡ Means (TypeName (Defined s)) →
     Base w place (received_when place s c)
 defined_base w place s true d e = wrong_base (pointer_receives w place s e d) (not_broken w place (Means (TypeName (Defined s))) e (λ n. n)) refl
-defined_base w place s false d e = good_base (receives_by e (points_no (w.definition s) d)) refl
+defined_base w place s false d e = good_base (receives_by e (takes_none (w.definition s) d)) refl
 
 base_by : (w : World) (place : ℕ) (b : Bound) → w.bound place ≡ b → Base w place (received w place (named_type b place))
 unfolding named_type receiver_or_fault may_receive
-base_by w place (Means (TypeName (Defined s))) e = defined_base w place s (points (w.definition s)) refl e
+base_by w place (Means (TypeName (Defined s))) e = defined_base w place s (takes_no_methods (w.definition s)) refl e
 base_by w place (Means (TypeName (BasicType b))) e = wrong_by w place (Means (TypeName (BasicType b))) e (λ n. n) (λ n. n) refl
 base_by w place (Means (TypeName (Pointer t))) e = wrong_by w place (Means (TypeName (Pointer t))) e (λ n. n) (λ n. n) refl
 base_by w place (Means (TypeName (Slice t))) e = wrong_by w place (Means (TypeName (Slice t))) e (λ n. n) (λ n. n) refl

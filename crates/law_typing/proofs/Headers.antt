@@ -4,8 +4,8 @@ use Rattle.std.proofs.Common.{option_map, refl, sym, ap, ◌∙◌, subst, true�
 use Rattle.go_ast.specs.Tree.{Item, TypeTree, ReceiverTree, ParamTree, ResultTree, FuncTree}
 use Rattle.go_ast.specs.Tree as tree
 use Rattle.types_expr.specs.declared.symbol.Symbol.{Symbol}
-use Rattle.types_expr.specs.Types.{PlainType, BasicType, Defined, Pointer, Slice, Underlying, Plain, PointerTo, SliceOf, Struct, Value, TypeName, Function}
-use Rattle.types_expr.specs.Types.{BuiltinName, Package, Results, Broken, points}
+use Rattle.types_expr.specs.Types.{PlainType, BasicType, Defined, Pointer, Slice, Underlying, Plain, PointerTo, SliceOf, Struct, Interface, Value, TypeName, Function}
+use Rattle.types_expr.specs.Types.{BuiltinName, Package, Results, Broken, takes_no_methods}
 use Rattle.types_expr.specs.World.{World, Locals, Bound, Local, Means, BrokenVariable, BrokenFunction, BrokenType}
 use Rattle.types_expr.specs.Judge.{TypeJudged, judge_type, good_type, no_type_at, named_type}
 use Rattle.types_stmt.specs.Checked.{FoundSoFar, fault_if, check_items}
@@ -20,7 +20,8 @@ use Rattle.law_typing.proofs.BrokenRules.{no_fault, type_or_broken}
 use Rattle.law_typing.specs.Sequences.{InTurn, IfPresent, absent, present, ExcusedIfPresent, excused_present}
 use Rattle.law_typing.specs.Assignments.{OfType, DeclareAs}
 use Rattle.law_typing.specs.Statements.{BlockIsTyped}
-use Rattle.law_typing.specs.Declarations.{IsBehindStar, no_star, a_star, ReceiverIsTyped, a_receiver, ParamIsTyped, a_param, AreTypes, no_type_left}
+use Rattle.law_typing.specs.Declarations.{IsBehindStar, no_star, a_star, TakesNoMethods, a_pointer_takes_none}
+use Rattle.law_typing.specs.Declarations.{an_interface_takes_none, ReceiverIsTyped, a_receiver, ParamIsTyped, a_param, AreTypes, no_type_left}
 use Rattle.law_typing.specs.Declarations.{also_type, AreResults, none_written, one_written, several_written, KeepsInit, another_name, a_method}
 use Rattle.law_typing.specs.Declarations.{a_plain_one, FunctionIsTyped, a_function}
 use Rattle.law_typing.specs.Excused.{BlockIsExcused, ReceiverIsExcused, of_broken, ParamIsExcused, param_of_broken, AnyIsBrokenType, this_type}
@@ -33,14 +34,16 @@ use Rattle.law_typing.proofs.Statements.{AreTargets, block_true, block_settled, 
 
 -- receivers
 
-pub no_points : (u : Underlying) → ((t : PlainType) → u ≡ PointerTo t → ⊥) → points u ≡ false
-no_points (Plain b) n = refl
-no_points (PointerTo t) n = absurd (n t refl)
-no_points (SliceOf t) n = refl
-no_points (Struct s) n = refl
+pub takes_some : (u : Underlying) → (TakesNoMethods u → ⊥) → takes_no_methods u ≡ false
+takes_some (Plain b) n = refl
+takes_some (PointerTo t) n = absurd (n a_pointer_takes_none)
+takes_some (SliceOf t) n = refl
+takes_some (Struct s) n = refl
+takes_some (Interface s) n = absurd (n an_interface_takes_none)
 
-pub points_no : (u : Underlying) → points u ≡ false → (t : PlainType) → u ≡ PointerTo t → ⊥
-points_no u h t e = true≢false (sym (ap points e) ∙ h)
+pub takes_none : (u : Underlying) → takes_no_methods u ≡ false → TakesNoMethods u → ⊥
+takes_none _ h a_pointer_takes_none = true≢false h
+takes_none _ h an_interface_takes_none = true≢false h
 
 abbrev defined_when : ℕ → Symbol → Bool → TypeJudged
 defined_when place s c = record {
@@ -49,17 +52,17 @@ defined_when place s c = record {
       (Defined s) else no_type_at place).faults;
 }
 
-pub base_true : (w : World) (place : ℕ) (s : Symbol) → ((u : PlainType) → w.definition s ≡ PointerTo u → ⊥) →
+pub base_true : (w : World) (place : ℕ) (s : Symbol) → (TakesNoMethods (w.definition s) → ⊥) →
     received w place (good_type (Defined s)) ≡ good_type (Defined s)
 unfolding receiver_or_fault may_receive
-base_true w place s n = ap (λ c. defined_when place s (if c then false else true)) (no_points (w.definition s) n)
+base_true w place s n = ap (λ c. defined_when place s (if c then false else true)) (takes_some (w.definition s) n)
 
 pub star_true : {o : Option ℕ} {t u : PlainType} → IsBehindStar o t u → starred o (good_type t) ≡ good_type u
 star_true no_star = refl
 star_true a_star = refl
 
-receiver_type : (w : World) (r : ReceiverTree) {s : Symbol} {t : PlainType} → w.bound r.type_name ≡ Means (TypeName (Defined s)) → ((u : PlainType) →
-    w.definition s ≡ PointerTo u → ⊥) → IsBehindStar r.star (Defined s) t →
+receiver_type : (w : World) (r : ReceiverTree) {s : Symbol} {t : PlainType} → w.bound r.type_name ≡ Means (TypeName (Defined s)) →
+    (TakesNoMethods (w.definition s) → ⊥) → IsBehindStar r.star (Defined s) t →
     judge_receiver w r ≡ good_type t
 unfolding judge_receiver receiver_base named_type
 receiver_type w r {s} e n b = ap (λ z. starred r.star (received w r.type_name (named_type z r.type_name))) e
@@ -75,19 +78,19 @@ receiver_true w s r after h (a_receiver e n b d) = let q = receiver_type w r e n
 record IsBaseFound (w : World) (place : ℕ) (j : TypeJudged) : Type 0 where
   symbol : Symbol
   bound_is : w.bound place ≡ Means (TypeName (Defined symbol))
-  no_pointer : (u : PlainType) → w.definition symbol ≡ PointerTo u → ⊥
+  takes : TakesNoMethods (w.definition symbol) → ⊥
   type_is : j.type_of ≡ Some (Defined symbol)
 
-defined_base : (w : World) (place : ℕ) (s : Symbol) (c : Bool) → points (w.definition s) ≡ c → w.bound place ≡ Means (TypeName (Defined s)) →
+defined_base : (w : World) (place : ℕ) (s : Symbol) (c : Bool) → takes_no_methods (w.definition s) ≡ c → w.bound place ≡ Means (TypeName (Defined s)) →
     (if (if c then false else true) then good_type (Defined s) else no_type_at place).faults ≡ [] →
     IsBaseFound w place (if (if c then false else true) then good_type (Defined s) else no_type_at place)
 defined_base w place s true d e h = no_fault h
-defined_base w place s false d e h = record { symbol = s; bound_is = e; no_pointer = points_no (w.definition s) d; type_is = refl }
+defined_base w place s false d e h = record { symbol = s; bound_is = e; takes = takes_none (w.definition s) d; type_is = refl }
 
 type_base : (w : World) (place : ℕ) (t : PlainType) → w.bound place ≡ Means (TypeName t) → (receiver_or_fault w place (Some t)).faults ≡ [] →
     IsBaseFound w place (receiver_or_fault w place (Some t))
 unfolding receiver_or_fault may_receive
-type_base w place (Defined s) e h = defined_base w place s (points (w.definition s)) refl e h
+type_base w place (Defined s) e h = defined_base w place s (takes_no_methods (w.definition s)) refl e h
 type_base w place (BasicType b) e h = no_fault h
 type_base w place (Pointer t) e h = no_fault h
 type_base w place (Slice t) e h = no_fault h
@@ -97,7 +100,7 @@ IsBaseSettled w place j = IsBaseFound w place j ⊎ (w.bound place ≡ BrokenTyp
 
 same_base : (w : World) (place : ℕ) {j : TypeJudged} → IsBaseFound w place j → (faults : List ℕ) →
     IsBaseFound w place (record { type_of = j.type_of; faults = faults })
-same_base w place f faults = record { symbol = f.symbol; bound_is = f.bound_is; no_pointer = f.no_pointer; type_is = f.type_is }
+same_base w place f faults = record { symbol = f.symbol; bound_is = f.bound_is; takes = f.takes; type_is = f.type_is }
 
 base_settled : (w : World) (place : ℕ) (b : Bound) → w.bound place ≡ b → (received w place (named_type b place)).faults ≡ [] →
     IsBaseSettled w place (received w place (named_type b place))
@@ -127,7 +130,7 @@ receiver_found : (w : World) (s : FoundSoFar) (r : ReceiverTree) → IsBaseFound
     ReceiverIsTyped w s.locals r (with_locals s.locals (named_of r.name ∷ []) ((judge_receiver w r).type_of ∷ []))
 unfolding judge_receiver
 receiver_found w s r f = let q = star_found r.star (receiver_base w r.type_name) f.symbol f.type_is in
-    a_receiver f.bound_is f.no_pointer q.1 (subst (λ z. DeclareAs q.0 s.locals (named_of r.name ∷ []) (with_locals s.locals (named_of r.name ∷ [])
+    a_receiver f.bound_is f.takes q.1 (subst (λ z. DeclareAs q.0 s.locals (named_of r.name ∷ []) (with_locals s.locals (named_of r.name ∷ [])
     (z ∷ []))) (sym q.2) (single_as_found r.name q.0 s.locals))
 
 receiver_parts : (w : World) (r : ReceiverTree) → (judge_receiver w r).faults ≡ [] → IsBaseSettled w r.type_name (receiver_base w r.type_name)

@@ -4,7 +4,7 @@ use Rattle.std.specs.Cmp.Lexicographic.{bytes_decides}
 use Rattle.types_expr.specs.declared.types.Basic.{Basic}
 use Rattle.types_expr.specs.declared.types.Basic.TheVariants as basic
 use Rattle.types_expr.specs.declared.symbol.Symbol.{Symbol}
-use Rattle.types_expr.specs.Types.{PlainType, BasicType, Defined, Pointer, Slice, Underlying, Plain, PointerTo, SliceOf, Struct, same_basic, same_path}
+use Rattle.types_expr.specs.Types.{PlainType, BasicType, Defined, Pointer, Slice, Underlying, Plain, PointerTo, SliceOf, Struct, Interface, same_basic, same_path}
 use Rattle.types_expr.specs.Types.{same_symbol, same_type, same_underlying}
 use Rattle.law_typing.proofs.Tests.{and_first, and_second, and_both}
 
@@ -48,6 +48,7 @@ underlying_same (Plain a) (Plain b) h = ap Plain (basics_same a b h)
 underlying_same (PointerTo a) (PointerTo b) h = ap PointerTo (types_same a b h)
 underlying_same (SliceOf a) (SliceOf b) h = ap SliceOf (types_same a b h)
 underlying_same (Struct a) (Struct b) h = ap Struct (symbols_same a b h)
+underlying_same (Interface a) (Interface b) h = ap Interface (symbols_same a b h)
 underlying_same a b h = absurd (true≢false (sym h))
 
 pub same_underlyings : (a : Underlying) → same_underlying a a ≡ true
@@ -56,3 +57,4 @@ same_underlyings (Plain a) = same_basics a
 same_underlyings (PointerTo a) = same_types a
 same_underlyings (SliceOf a) = same_types a
 same_underlyings (Struct a) = same_symbols a
+same_underlyings (Interface a) = same_symbols a

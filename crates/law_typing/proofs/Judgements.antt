@@ -3,7 +3,7 @@ use Rattle.std.proofs.Common.{ℕ, ◌≡◌, Bool, true, false, List, [], ◌�
 use Rattle.go_ast.specs.Tree.{ExprTree}
 use Rattle.types_expr.specs.Places.{place_of}
 use Rattle.types_expr.specs.Types.{PlainType, ValueKind, Signature, Meaning, Value, TypeName, Function, BuiltinName, Package, Results, Broken}
-use Rattle.types_expr.specs.Judge.{Judged, MemberUse, means, means_or_wrong, followed, with_use, as_value, value_at, value_kind, wrong_if_whole}
+use Rattle.types_expr.specs.Judge.{Judged, MemberUse, Noted, noting, means, means_or_wrong, followed, with_use, as_value, value_at, value_kind, wrong_if_whole}
 use Rattle.law_typing.specs.Names.{IsNotBroken}
 use Rattle.law_typing.specs.IsJudgedAs.{IsJudgedAs}
 
@@ -31,6 +31,9 @@ followed_agrees {j} {m} {n} rule a b = record {
 
 pub used_agrees : {j : Judged} {m : Meaning} (u : MemberUse) → IsJudgedAs j m → IsJudgedAs (with_use u j) m
 used_agrees u a = record { meaning = a.meaning; faultless = a.faultless; whole = a.whole }
+
+pub noted_agrees : {j : Judged} {m : Meaning} (notes : List Noted) → IsJudgedAs j m → IsJudgedAs (noting notes j) m
+noted_agrees notes a = record { meaning = a.meaning; faultless = a.faultless; whole = a.whole }
 
 pub chosen_agrees : {o : Option Meaning} {m : Meaning} (place : ℕ) → o ≡ Some m → IsNotBroken m → IsJudgedAs (means_or_wrong o place) m
 chosen_agrees place e n = agrees_as (ap (λ x. means_or_wrong x place) e) (means_it n)

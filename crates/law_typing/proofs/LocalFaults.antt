@@ -5,7 +5,7 @@ use Rattle.types_expr.specs.Types.{PlainType}
 use Rattle.types_expr.specs.World.{World, Locals}
 use Rattle.types_expr.specs.Judge.{ListValue, judge_type}
 use Rattle.types_stmt.specs.Checked.{FoundSoFar}
-use Rattle.types_stmt.specs.Sides.{Wants, rhs, given_faults, all_named, first_of_idents, with_inferred}
+use Rattle.types_stmt.specs.Sides.{Wants, rhs, given_faults, all_named, first_of_idents, with_inferred, receiving}
 use Rattle.types_stmt.specs.Sides as sides
 use Rattle.types_stmt.specs.Simple.{check_local, check_local_of, check_typed_local, check_untyped_local, written_locals, written_targets, name_targets}
 use Rattle.law_typing.specs.Faults.{IsNoType}
@@ -56,11 +56,11 @@ new_aims names us e = fresh_aims names ∙ ap (λ z. map aim_of z) (sym e)
 
 abbrev local_added_of : World → Locals → List (Item IdentTree) → Option TypeTree → Values → List ℕ
 local_added_of w ls names (Some x) None = (judge_type w x).faults
-local_added_of w ls names (Some x) (Some v) = (judge_type w x).faults ++ ((rhs w ls v.1).faults ++ given_faults w (first_of_idents names)
-    (rhs w ls v.1).values (map (λ i. Wants (judge_type w x).type_of) names))
+local_added_of w ls names (Some x) (Some v) = (judge_type w x).faults ++ ((rhs w ls v.1).faults ++ given_faults (receiving w v.1 (rhs w ls v.1).values)
+    (first_of_idents names) (rhs w ls v.1).values (map (λ i. Wants (judge_type w x).type_of) names))
 local_added_of w ls names None None = []
-local_added_of w ls names None (Some v) = [] ++ ((rhs w ls v.1).faults ++ given_faults w (first_of_idents names)
-    (rhs w ls v.1).values (map (λ i. sides.Takes) names))
+local_added_of w ls names None (Some v) = [] ++ ((rhs w ls v.1).faults ++ given_faults (receiving w v.1 (rhs w ls v.1).values)
+    (first_of_idents names) (rhs w ls v.1).values (map (λ i. sides.Takes) names))
 
 abbrev local_added : World → Locals → LocalTree → List ℕ
 local_added w ls l = local_added_of w ls l.names l.type_use l.values
@@ -72,6 +72,9 @@ written_only_cases e f (in_values g b) = absurd (none_some f g)
 written_only_cases e f (no_values_of_type g h i s m) = absurd (none_some f h)
 written_only_cases e f (no_values g h s m) = absurd (none_some f h)
 
+abbrev IsMisgivenAt : World → LocalTree → List (Item ExprTree) → List ListValue → List (Option Taker) → ℕ → Type 0
+IsMisgivenAt w l ys vs ts p = IsAssignmentFault (receiving w ys vs) (first_of_idents l.names) vs ts p
+
 abbrev WithType : World → Locals → LocalTree → TypeTree → List (Item ExprTree) → ℕ → Type 0
 WithType w ls l x ys p = IsNoType w x p ⊎ (SidesBreakAt w ls ys p ⊎ IsMisgivenBy w ls ys (first_of_idents l.names) (TakeType w x l.names) p)
 
@@ -82,12 +85,12 @@ with_type_cases : {w : World} {ls : Locals} {l : LocalTree} {p : ℕ} {x : TypeT
     LocalBreaksAt w ls l p → WithType w ls l x v.1 p
 with_type_cases {w} {p = p} e f (in_type g b) = inl (subst (λ z. IsNoType w z p) (same_one g e) b)
 with_type_cases {w} {ls} {p = p} e f (in_values g b) = inr (inl (subst (λ (z : ℕ × List (Item ExprTree)). SidesBreakAt w ls z.1 p) (same_one g f) b))
-with_type_cases {w} {ls} {l} e f (no_values_of_type {t = t} {vs = vs} g h i s m) = inr (inr (record {
+with_type_cases {w} {ls} {l} {p} e f (no_values_of_type {t = t} {vs = vs} g h i s m) = inr (inr (record {
   values = vs;
   takers = map (λ i. taker_of t) l.names;
   give = subst (λ (z : ℕ × List (Item ExprTree)). SidesGive w ls z.1 vs) (same_one h f) s;
   take = record { type = t; written = subst (λ z. WrittenTypeIs w z t) (same_one g e) i; are = refl };
-  misgiven = m;
+  misgiven = subst (λ (z : ℕ × List (Item ExprTree)). IsMisgivenAt w l z.1 vs (map (λ i. taker_of t) l.names) p) (same_one h f) m;
 }))
 with_type_cases e f (no_values g h s m) = absurd (none_some g e)
 
@@ -96,12 +99,12 @@ without_type_cases : {w : World} {ls : Locals} {l : LocalTree} {p : ℕ} {v : �
 without_type_cases e f (in_type g b) = absurd (none_some e g)
 without_type_cases {w} {ls} {p = p} e f (in_values g b) = inr (inl (subst (λ (z : ℕ × List (Item ExprTree)). SidesBreakAt w ls z.1 p) (same_one g f) b))
 without_type_cases e f (no_values_of_type g h i s m) = absurd (none_some e g)
-without_type_cases {w} {ls} {l} e f (no_values {vs = vs} g h s m) = inr (inr (record {
+without_type_cases {w} {ls} {l} {p} e f (no_values {vs = vs} g h s m) = inr (inr (record {
   values = vs;
   takers = map (λ i. Some Fresh) l.names;
   give = subst (λ (z : ℕ × List (Item ExprTree)). SidesGive w ls z.1 vs) (same_one h f) s;
   take = refl;
-  misgiven = m;
+  misgiven = subst (λ (z : ℕ × List (Item ExprTree)). IsMisgivenAt w l z.1 vs (map (λ i. Some Fresh) l.names) p) (same_one h f) m;
 }))
 
 neither_cases : {w : World} {ls : Locals} {l : LocalTree} {p : ℕ} → l.type_use ≡ None → l.values ≡ None → LocalBreaksAt w ls l p → ⊥
@@ -110,12 +113,10 @@ neither_cases e f (in_values g b) = none_some f g
 neither_cases e f (no_values_of_type g h i s m) = none_some e g
 neither_cases e f (no_values g h s m) = none_some f h
 
-abbrev IsMisgivenAt : World → LocalTree → List ListValue → List (Option Taker) → ℕ → Type 0
-IsMisgivenAt w l vs ts p = IsAssignmentFault w (first_of_idents l.names) vs ts p
-
 of_type_misgiven : {w : World} {ls : Locals} {l : LocalTree} {p : ℕ} {x : TypeTree} {v : ℕ × List (Item ExprTree)} → l.type_use ≡ Some x → l.values ≡ Some v →
     IsMisgivenBy w ls v.1 (first_of_idents l.names) (TakeType w x l.names) p → LocalBreaksAt w ls l p
-of_type_misgiven {w} {l = l} {p} e f m = let t = m.take in no_values_of_type e f t.written m.give (subst (λ z. IsMisgivenAt w l m.values z p) t.are m.misgiven)
+of_type_misgiven {w} {l = l} {p} {v = v} e f m = let t = m.take in
+    no_values_of_type e f t.written m.give (subst (λ z. IsMisgivenAt w l v.1 m.values z p) t.are m.misgiven)
 
 local_places_of : (w : World) (ls : Locals) (l : LocalTree) (t : Option TypeTree) (v : Values) → l.type_use ≡ t → l.values ≡ v →
     AreExactly (local_added_of w ls l.names t v) (LocalBreaksAt w ls l)
@@ -133,7 +134,7 @@ local_places_of w ls l None (Some v) e f = told_as (giving_told w ls v.1 (first_
       | inl a ↦ absurd a
       | inr c ↦ elim c [
         | inl d ↦ in_values f d
-        | inr m ↦ no_values e f m.give (subst (λ z. IsMisgivenAt w l m.values z p) m.take m.misgiven)
+        | inr m ↦ no_values e f m.give (subst (λ z. IsMisgivenAt w l v.1 m.values z p) m.take m.misgiven)
       ]
     ]) (λ p b. without_type_cases e f b)
 local_places_of w ls l None None e f = none_told (λ p b. neither_cases e f b)

@@ -5,7 +5,7 @@ use Rattle.types_expr.specs.Types.{PlainType}
 use Rattle.types_expr.specs.World.{World, Locals}
 use Rattle.types_expr.specs.Judge.{TypeJudged, judge_type, good_type}
 use Rattle.types_stmt.specs.Checked.{FoundSoFar, with_declared}
-use Rattle.types_stmt.specs.Sides.{Wants, rhs, all_named, first_of_idents, with_inferred}
+use Rattle.types_stmt.specs.Sides.{Wants, rhs, all_named, first_of_idents, with_inferred, receiving}
 use Rattle.types_stmt.specs.Sides as sides
 use Rattle.types_stmt.specs.Simple.{check_local, check_local_of, check_typed_local, check_untyped_local, written_locals, written_targets, name_targets}
 use Rattle.law_typing.specs.Names.{IsType}
@@ -16,7 +16,7 @@ use Rattle.law_typing.specs.Assignments.{Taker, Fresh, OfType, DeclareAs}
 use Rattle.law_typing.specs.Simple.{LocalIsTyped, of_type, of_type_with_values, of_values}
 use Rattle.law_typing.specs.Excused.{LocalIsExcused, of_broken_type, of_broken_value, of_nothing}
 use Rattle.law_typing.proofs.Values.{rights_given, rights_settled}
-use Rattle.law_typing.proofs.Assignments.{aim, AreNew, declare_true, declare_found, declare_as_true, declare_as_found}
+use Rattle.law_typing.proofs.Assignments.{aim, AreNew, declare_true, declare_found, declare_as_true, declare_as_found, taken_by, taken_as}
 use Rattle.law_typing.proofs.Lefts.{AreLefts}
 use Rattle.law_typing.proofs.PartOutcomes.{IsAt, reached, IsSettled}
 use Rattle.law_typing.proofs.Simple.{giving_at, giving_parts, taken_found}
@@ -70,13 +70,14 @@ pub local_true : (w : World) (s : FoundSoFar) (l : LocalTree) (after : Locals) �
 unfolding check_typed_local check_untyped_local
 local_true w s l after h (of_type e f i d) = chosen w s l e f (only_written w s l.names h i d)
 local_true w s l after h (of_type_with_values {x = x} {v = v} e f i g t d) = let q = type_true w i in
-    chosen w s l e f (giving_at w s (first_of_idents l.names) (written_locals s.locals l.names (judge_type w x).type_of) (written_targets l.names
-    (judge_type w x)) (rhs w s.locals v.1) h (written_lefts l.names q)
-    (rights_given w s.locals g) t (written_true w s l.names q d))
+    let r = rights_given w s.locals g in
+    chosen w s l e f (giving_at (receiving w v.1 (rhs w s.locals v.1).values) s (first_of_idents l.names)
+    (written_locals s.locals l.names (judge_type w x).type_of) (written_targets l.names (judge_type w x)) (rhs w s.locals v.1) h (written_lefts l.names q)
+    r (taken_by w v.1 (rhs w s.locals v.1).values r.kinds t) (written_true w s l.names q d))
 local_true w s l after h (of_values {v = v} e f g t d) = let r = rights_given w s.locals g in
-    chosen w s l e f (giving_at w s (first_of_idents l.names) (with_inferred s.locals (all_named l.names) (rhs w s.locals v.1).values)
-    (name_targets l.names sides.Takes) (rhs w s.locals v.1) h (names_lefts l.names)
-    r t (declare_true (rhs w s.locals v.1).values r.kinds d))
+    chosen w s l e f (giving_at (receiving w v.1 (rhs w s.locals v.1).values) s (first_of_idents l.names)
+    (with_inferred s.locals (all_named l.names) (rhs w s.locals v.1).values) (name_targets l.names sides.Takes) (rhs w s.locals v.1) h (names_lefts l.names)
+    r (taken_by w v.1 (rhs w s.locals v.1).values r.kinds t) (declare_true (rhs w s.locals v.1).values r.kinds d))
 
 pub found_as : (names : List (Item IdentTree)) (t : PlainType) (before : Locals) {o : Option PlainType} → o ≡ Some t →
     DeclareAs t before (all_named names) (written_locals before names o)
@@ -101,14 +102,15 @@ values_settled : (w : World) (s : FoundSoFar) (l : LocalTree) (x : TypeTree) (v 
     IsLocalSettled w s l (check_typed_local w s l.names (judge_type w x) (Some v))
 unfolding check_typed_local
 values_settled w s l x v e f h =
-    let g = giving_parts w s (first_of_idents l.names) (written_locals s.locals l.names (judge_type w x).type_of) (written_targets l.names
+    let world = receiving w v.1 (rhs w s.locals v.1).values in
+    let g = giving_parts world s (first_of_idents l.names) (written_locals s.locals l.names (judge_type w x).type_of) (written_targets l.names
     (judge_type w x)) (rhs w s.locals v.1) h in (
       g.before,
       elim (type_or_broken w x g.lefts) [
         | inl t ↦ elim (rights_settled w s.locals v.1 g.rhs) [
-          | inl r ↦ inl (of_type_with_values e f (true_type w x t.0 t.1) r.given (taken_found w (first_of_idents l.names)
-              (rhs w s.locals v.1).values r.kinds (map (λ i. OfType t.0) l.names) r.found
-              (ap (λ (z : Option PlainType). map (λ i. Wants z) l.names) t.1 ∙ same_aims l.names (OfType t.0)) g.given) (found_as l.names t.0 s.locals t.1))
+          | inl r ↦ inl (of_type_with_values e f (true_type w x t.0 t.1) r.given (taken_as w v.1 (rhs w s.locals v.1).values r.found
+              (taken_found world (first_of_idents l.names) (rhs w s.locals v.1).values r.kinds (map (λ i. OfType t.0) l.names) r.found
+              (ap (λ (z : Option PlainType). map (λ i. Wants z) l.names) t.1 ∙ same_aims l.names (OfType t.0)) g.given)) (found_as l.names t.0 s.locals t.1))
           | inr u ↦ inr (of_broken_value f u)
         ]
         | inr b ↦ inr (of_broken_type e b)
@@ -120,13 +122,15 @@ unwritten_settled : (w : World) (s : FoundSoFar) (l : LocalTree) (v : ℕ × Lis
     IsLocalSettled w s l (check_untyped_local w s l.names (Some v))
 unfolding check_untyped_local
 unwritten_settled w s l v e f h =
-    let g = giving_parts w s (first_of_idents l.names) (with_inferred s.locals (all_named l.names) (rhs w s.locals v.1).values)
+    let world = receiving w v.1 (rhs w s.locals v.1).values in
+    let g = giving_parts world s (first_of_idents l.names) (with_inferred s.locals (all_named l.names) (rhs w s.locals v.1).values)
     (name_targets l.names sides.Takes) (rhs w s.locals v.1) h in (
       g.before,
       elim (rights_settled w s.locals v.1 g.rhs) [
-        | inl r ↦ let t = taken_found w (first_of_idents l.names) (rhs w s.locals v.1).values r.kinds (map (λ i. Fresh) l.names) r.found
+        | inl r ↦ let t = taken_found world (first_of_idents l.names) (rhs w s.locals v.1).values r.kinds (map (λ i. Fresh) l.names) r.found
             (same_aims l.names Fresh) g.given in
-            inl (of_values e f r.given t (declare_found w (rhs w s.locals v.1).values s.locals (all_named l.names) (all_new l.names) r.found t))
+            inl (of_values e f r.given (taken_as w v.1 (rhs w s.locals v.1).values r.found t)
+            (declare_found world (rhs w s.locals v.1).values s.locals (all_named l.names) (all_new l.names) r.found t))
         | inr u ↦ inr (of_broken_value f u)
       ],
     )

@@ -10,11 +10,11 @@ use Rattle.types_expr.specs.declared.classes.ValueClass.{ValueClass}
 use Rattle.types_expr.specs.declared.classes.ValueClass.TheVariants as class
 use Rattle.types_expr.specs.declared.classes.Family.{Family}
 use Rattle.types_expr.specs.declared.classes.Family.TheVariants as family
-use Rattle.types_expr.specs.Types.{PlainType, Underlying, Plain, PointerTo, SliceOf, Struct, ValueKind, Typed, Untyped, Nil, Meaning, Value, same_type, same_basic}
+use Rattle.types_expr.specs.Types.{PlainType, Underlying, Plain, PointerTo, SliceOf, Struct, Interface, ValueKind, Typed, Untyped, Nil, Meaning, Value, same_type, same_basic}
 use Rattle.types_expr.specs.World.{World, underlying}
 use Rattle.types_expr.specs.Operations.{fits, joined, is_nil, class_of, class_of_underlying, compares as compares_class, is_int, is_bool, is_ordered}
 use Rattle.types_expr.specs.Operations.{family_of, when, result_of, operate, operate_on, pointee, prefixed}
-use Rattle.law_typing.specs.Fits.{FitsType, nil_as_pointer, nil_as_slice}
+use Rattle.law_typing.specs.Fits.{FitsType, nil_as_pointer, nil_as_slice, nil_as_interface}
 use Rattle.law_typing.specs.Operators.{IsUntyped, a_constant, a_nil, HaveCommonKind, of_one_type, right_fits, left_fits, of_one_kind, IsArithmetic, minus, times}
 use Rattle.law_typing.specs.Operators.{divided, remainder, IsOrderOperator, less, less_or_equal, greater, greater_or_equal, IsEquality, equal, not_equal, IsLogic}
 use Rattle.law_typing.specs.Operators.{and, or, IsComparable, a_basic, a_pointer, Operates, adds, computes, orders, connects, compares, compares_with_nil}
@@ -122,6 +122,7 @@ nil_class : (w : World) (t : PlainType) → FitsType w Nil t → compares_class 
 unfolding class_of
 nil_class w t (nil_as_pointer e) = ap (λ u. compares_class true (class_of_underlying u)) e
 nil_class w t (nil_as_slice e) = ap (λ u. compares_class true (class_of_underlying u)) e
+nil_class w t (nil_as_interface e) = ap (λ u. compares_class true (class_of_underlying u)) e
 
 pub operates_true : (w : World) {o : BinaryOp} {a b k : ValueKind} → Operates w o a b k → operate w o a b ≡ Some k
 unfolding family_of result_of is_nil
@@ -159,10 +160,7 @@ logic : (w : World) (o : BinaryOp) (a b k r : ValueKind) → IsLogic o → HaveC
 logic w o a b k r q g h = let p : (is_bool (class_of w k) ≡ true) × (k ≡ r) = some_when (is_bool (class_of w k)) k r h in
     subst (λ z. Operates w o a b z) p.1 (connects q g (is_of_bool w k p.0))
 
-no_class : {A : Type 0} → class.Nil ≡ class.Slice → A
-no_class h = cc
-
-with_nil : (w : World) (o : BinaryOp) {a b k : ValueKind} → IsEquality o → HaveCommonKind w a b k → (is_nil a || is_nil b) ≡ true → class_of w k ≡ class.Slice →
+with_nil : (w : World) (o : BinaryOp) {a b k : ValueKind} → IsEquality o → HaveCommonKind w a b k → (is_nil a || is_nil b) ≡ true → (class_of w k ≡ class.Nil → ⊥) →
     Operates w o a b (Untyped basic.Bool)
 unfolding is_nil class_of
 with_nil w o q (right_fits a_nil f) h c = compares_with_nil q f
@@ -171,13 +169,14 @@ with_nil w o q of_one_type h c = absurd (true≢false (sym h))
 with_nil w o q (right_fits a_constant f) h c = absurd (true≢false (sym h))
 with_nil w o q (left_fits a_constant f) h c = absurd (true≢false (sym h))
 with_nil w o q (of_one_kind a_constant) h c = absurd (true≢false (sym h))
-with_nil w o q (of_one_kind a_nil) h c = no_class c
+with_nil w o q (of_one_kind a_nil) h c = absurd (c refl)
 
 comparison : (w : World) (o : BinaryOp) (a b k : ValueKind) (c : ValueClass) → IsEquality o → HaveCommonKind w a b k → class_of w k ≡ c →
     compares_class (is_nil a || is_nil b) c ≡ true → Operates w o a b (Untyped basic.Bool)
 comparison w o a b k (class.Of x) q g e h = compares q g (a_basic (class_is w k x e))
 comparison w o a b k class.Pointer q g e h = compares q g (pointer_comparable w k e)
-comparison w o a b k class.Slice q g e h = with_nil w o q g h e
+comparison w o a b k class.Slice q g e h = with_nil w o q g h (λ n. let same : class.Slice ≡ class.Nil = sym e ∙ n in cc)
+comparison w o a b k class.Interface q g e h = with_nil w o q g h (λ n. let same : class.Interface ≡ class.Nil = sym e ∙ n in cc)
 comparison w o a b k class.Struct q g e h = absurd (true≢false (sym h))
 comparison w o a b k class.Nil q g e h = absurd (true≢false (sym h))
 
@@ -227,6 +226,7 @@ pointed w t (PointerTo x) m e h = let q : Value (Typed x) true ≡ m = cc in sub
 pointed w t (Plain b) m e h = cc
 pointed w t (SliceOf x) m e h = cc
 pointed w t (Struct s) m e h = cc
+pointed w t (Interface s) m e h = cc
 
 pub true_prefixes : (w : World) (o : PrefixOp) (k : ValueKind) (m : Meaning) → prefixed w o k ≡ Some m → Prefixes w o k m
 unfolding prefixed

@@ -3,7 +3,7 @@ use Rattle.std.proofs.Common.{ℕ, ◌≡◌, Bool, true, false, List, [], ◌�
 use Rattle.go_ast.specs.Tree.{TypeTree, ArgumentTrees}
 use Rattle.go_ast.specs.Tree as tree
 use Rattle.types_expr.specs.Places.{place_of}
-use Rattle.types_expr.specs.Types.{PlainType, Underlying, Plain, PointerTo, SliceOf, Struct, ValueKind, Meaning, Value, TypeName, Function, BuiltinName, Package}
+use Rattle.types_expr.specs.Types.{PlainType, Underlying, Plain, PointerTo, SliceOf, Struct, Interface, ValueKind, Meaning, Value, TypeName, Function, BuiltinName, Package}
 use Rattle.types_expr.specs.Types.{Results, Broken, element_of}
 use Rattle.types_expr.specs.World.{World, Locals, Bound, Local, Means, BrokenVariable, BrokenFunction, BrokenType}
 use Rattle.types_expr.specs.Operations.{fits}
@@ -208,3 +208,4 @@ element_slice (SliceOf x) t h = let e : x ≡ t = cc in ap SliceOf e
 element_slice (Plain b) t h = cc
 element_slice (PointerTo x) t h = cc
 element_slice (Struct s) t h = cc
+element_slice (Interface s) t h = cc

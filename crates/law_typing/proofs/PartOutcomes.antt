@@ -2,7 +2,7 @@
 use Rattle.std.proofs.Common.{ℕ, ◌≡◌, ◌⊎◌, inl, inr, List, [], ◌∷◌, refl, sym, subst}
 use Rattle.go_ast.specs.Tree.{Item, Group, single, several}
 use Rattle.types_expr.specs.World.{Locals}
-use Rattle.types_expr.specs.Judge.{MemberUse}
+use Rattle.types_expr.specs.Judge.{Noted}
 use Rattle.types_stmt.specs.Checked.{FoundSoFar, with_declared, check_items, check_group}
 use Rattle.law_typing.proofs.Judgements.{empty_both}
 use Rattle.law_typing.specs.Sequences.{PartRule, InTurn, no_item, then_item, InGroup, alone, together, Excuse, ExcusedInTurn, this_item, later_item}
@@ -16,7 +16,7 @@ pub record IsAt (s : FoundSoFar) (locals : Locals) : Type 0 where
 pub here : (s : FoundSoFar) → s.faults ≡ [] → IsAt s s.locals
 here s h = record { locals_are = refl; faultless = h }
 
-pub reached : (s : FoundSoFar) {locals after : Locals} (faults : List ℕ) (uses : List MemberUse) → s.faults ≡ [] → faults ≡ [] → locals ≡ after →
+pub reached : (s : FoundSoFar) {locals after : Locals} (faults : List ℕ) (uses : List Noted) → s.faults ≡ [] → faults ≡ [] → locals ≡ after →
     IsAt (with_declared s locals faults uses) after
 reached s faults uses h f e = record { locals_are = e; faultless = empty_both s.faults faults h f }
 

@@ -14,7 +14,7 @@ use Rattle.law_typing.specs.StatementFaults.{StatementBreaksAt, no_return}
 
 -- the name at token 6 is that of a local that is declared at token 0
 abbrev world : World
-world = record { bound = λ p. if p == 6 then Local 0 else Means Broken; member = λ n t. None; definition = λ s. Struct s }
+world = record { bound = λ p. if p == 6 then Local 0 else Means Broken; member = λ n t. None; definition = λ s. Struct s; implements = λ t s. false }
 
 constant : {j k : ValueKind} → Value j false ≡ Value k true → ⊥
 constant h = let q : false ≡ true = cc in true≢false (sym q)

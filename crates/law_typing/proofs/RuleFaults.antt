@@ -9,14 +9,14 @@ use Rattle.go_ast.specs.Tree as tree
 use Rattle.types_expr.specs.declared.types.Basic.TheVariants as basic
 use Rattle.types_expr.specs.declared.types.Builtin.{Builtin}
 use Rattle.types_expr.specs.declared.types.Builtin.TheVariants as builtin
-use Rattle.types_expr.specs.Types.{PlainType, BasicType, Underlying, Plain, PointerTo, SliceOf, Struct, ValueKind, Typed, Untyped, Nil, Signature, Meaning, Value}
+use Rattle.types_expr.specs.Types.{PlainType, BasicType, Underlying, Plain, PointerTo, SliceOf, Struct, Interface, ValueKind, Typed, Untyped, Nil, Signature, Meaning, Value}
 use Rattle.types_expr.specs.Types.{TypeName, Function, BuiltinName, Package, Results, Broken, element_of}
 use Rattle.types_expr.specs.World.{World, Locals, underlying}
 use Rattle.types_expr.specs.Operations.{operate, prefixed, converts, class_of, is_int, element_of_kind}
 use Rattle.types_expr.specs.Judge.{ListValue, means, wrong, means_or_wrong, value_or_wrong, as_value, value_kind, member_meaning, select, select_member, is_whole}
 use Rattle.types_expr.specs.Judge.{all_whole, unless_faults, wrong_if_whole, bad_index, indexed, index_of, element_meaning, operation, prefix_of, misfits}
 use Rattle.types_expr.specs.Judge.{all_misfits, result_meaning, call_function, convert, convert_one, append, append_first, append_to, len_fits, all_printed}
-use Rattle.types_expr.specs.Judge.{call_builtin, call_of}
+use Rattle.types_expr.specs.Judge.{call_builtin, call_of, noting, enterings}
 use Rattle.law_typing.specs.Operators.{IsBasic, Operates, Prefixes}
 use Rattle.law_typing.specs.Names.{IsNotBroken}
 use Rattle.law_typing.specs.Links.{SelectsMember, Indexes, element}
@@ -241,9 +241,10 @@ IsWrong w vs (BuiltinName builtin.Append) = AppendsToNone w vs
 IsWrong w vs m = Unit {0}
 
 count_each : (P : ℕ → Type 0) (w : World) (start : ℕ) (s : Signature) (vs : List ListValue) (b : Bool) → (b ≡ true → Each P (misfits w vs s.parameters)) →
-    (b ≡ false → all_whole vs ≡ true → (if b then unless_faults (misfits w vs s.parameters) (all_whole vs) (result_meaning s.results) else wrong_if_whole
-    (all_whole vs) start).meaning ≡ Broken → P start) →
-    Each P (if b then unless_faults (misfits w vs s.parameters) (all_whole vs) (result_meaning s.results) else wrong_if_whole (all_whole vs) start).faults
+    (b ≡ false → all_whole vs ≡ true → (if b then noting (enterings w vs s.parameters) (unless_faults (misfits w vs s.parameters) (all_whole vs)
+    (result_meaning s.results)) else wrong_if_whole (all_whole vs) start).meaning ≡ Broken → P start) →
+    Each P (if b then noting (enterings w vs s.parameters) (unless_faults (misfits w vs s.parameters) (all_whole vs) (result_meaning s.results))
+    else wrong_if_whole (all_whole vs) start).faults
 count_each P w start s vs true f g = unless_each P (misfits w vs s.parameters) (all_whole vs) (result_meaning s.results) (f refl)
 count_each P w start s vs false f g = whole_each P (all_whole vs) start (λ a. g refl a (wrong_broken (all_whole vs) start))
 
@@ -285,6 +286,7 @@ element_each P w start k vs (SliceOf x) f g = unless_each P (all_misfits w vs x)
 element_each P w start k vs (Plain b) f g = whole_each P (all_whole vs) start (λ a. g (λ y h. cc) a (wrong_broken (all_whole vs) start))
 element_each P w start k vs (PointerTo x) f g = whole_each P (all_whole vs) start (λ a. g (λ y h. cc) a (wrong_broken (all_whole vs) start))
 element_each P w start k vs (Struct s) f g = whole_each P (all_whole vs) start (λ a. g (λ y h. cc) a (wrong_broken (all_whole vs) start))
+element_each P w start k vs (Interface s) f g = whole_each P (all_whole vs) start (λ a. g (λ y h. cc) a (wrong_broken (all_whole vs) start))
 
 underlying_along : (w : World) (t y : PlainType) {u : PlainType} → Some (Typed t) ≡ Some (Typed y) → underlying w y ≡ SliceOf u → underlying w t ≡ SliceOf u
 underlying_along w t y h e = let same : t ≡ y = cc in ap (underlying w) same ∙ e

@@ -2,15 +2,17 @@
 use Rattle.std.proofs.Common.{ℕ, ◌≡◌, Bool, true, false, ◌||◌, List, [], ◌∷◌, Option, Some, None, refl, sym, ap, ◌∙◌, if◌then◌else◌, option_map}
 use Rattle.types_expr.specs.declared.types.Basic.TheVariants as basic
 use Rattle.types_expr.specs.declared.symbol.Symbol.{Symbol}
-use Rattle.types_expr.specs.Types.{PlainType, BasicType, Defined, Pointer, Slice, Underlying, Plain, PointerTo, SliceOf, Struct, ValueKind, Typed, Untyped, Nil}
+use Rattle.types_expr.specs.Types.{PlainType, BasicType, Defined, Pointer, Slice, Underlying, Plain, PointerTo, SliceOf, Struct, Interface, ValueKind, Typed, Untyped, Nil}
 use Rattle.types_expr.specs.Types.{Signature, Meaning, Value, TypeName, Function, BuiltinName, Package, Results, Broken, points, is_pointer, element_of}
+use Rattle.types_expr.specs.Types.{AFieldOf, AMethodOf}
 use Rattle.types_expr.specs.World.{World, Locals, Member, AField, AMethod, ABrokenMethod, member_symbol, underlying}
 use Rattle.types_expr.specs.Operations.{class_of, is_int, element_of_kind}
 use Rattle.types_expr.specs.Judge.{means, means_or_wrong, member_meaning, select, select_member, as_value, value_kind, is_whole, bad_index, indexed, index_of}
 use Rattle.types_expr.specs.Judge.{element_meaning}
 use Rattle.law_typing.specs.Operators.{IsBasic}
 use Rattle.law_typing.specs.Names.{IsNotBroken}
-use Rattle.law_typing.specs.Links.{SelectsMember, field, field_through_pointer, method, method_on_pointer, method_on_variable, of_package, Indexes, element}
+use Rattle.law_typing.specs.Links.{SelectsMember, field, field_through_pointer, asked, method, method_on_pointer, method_on_variable, of_package, Indexes}
+use Rattle.law_typing.specs.Links.{element}
 use Rattle.law_typing.specs.IsJudgedAs.{IsJudgedAs}
 use Rattle.law_typing.proofs.Judgements.{value_whole, function_whole, agrees_as, means_it, used_agrees, chosen_agrees}
 use Rattle.law_typing.proofs.Naming.{name_true, name_whole, true_name}
@@ -23,6 +25,7 @@ no_pointer (PointerTo t) n = absurd (n t refl)
 no_pointer (Plain b) n = refl
 no_pointer (SliceOf t) n = refl
 no_pointer (Struct s) n = refl
+no_pointer (Interface s) n = refl
 
 abbrev found : World → PlainType → Bool → Option Member → Option Meaning
 found w t a m = member_meaning w t a m
@@ -42,6 +45,7 @@ selects_true w locals place {name = name} (field {t} {u} {a} {s = s} e n) =
     selected w t a name (found_member w t a name e (ap (λ b. Some (Value (Typed u) (b || a))) (no_pointer (underlying w t) n))) value_whole
 selects_true w locals place {name = name} (field_through_pointer {t} {u} {a = a} {s = s} e p) =
     selected w t a name (found_member w t a name e (ap (λ x. Some (Value (Typed u) (points x || a))) p)) value_whole
+selects_true w locals place {name = name} (asked {t} {a} e) = selected w t a name (found_member w t a name e refl) function_whole
 selects_true w locals place {name = name} (method {t} {a} e) = selected w t a name (found_member w t a name e refl) function_whole
 selects_true w locals place {name = name} (method_on_pointer {t} {a} e) =
     selected w (Pointer t) a name (found_member w (Pointer t) a name e refl) function_whole
@@ -53,13 +57,15 @@ selects_true w locals place {name = name} (method_on_variable {t} {s = s} {signa
     or_true false = refl
 selects_true w locals place (of_package h) = agrees_as (ap means (name_true w locals h)) (means_it (name_whole w locals h))
 
-field_of : (w : World) (locals : Locals) (t u : PlainType) (a : Bool) (name : ℕ) (s : Symbol) → w.member name t ≡ Some (AField s u) → (v : Underlying) →
+field_of : (w : World) (locals : Locals) (t u : PlainType) (a : Bool) (name : ℕ) (s : Symbol) → w.member name t ≡ Some (AField s (AFieldOf u)) →
+    (v : Underlying) →
     underlying w t ≡ v →
     SelectsMember w locals (Value (Typed t) a) name (Value (Typed u) (points v || a))
 field_of w locals t u a name s e (PointerTo x) f = field_through_pointer e f
 field_of w locals t u a name s e (Plain b) f = field e (λ x p. let c : Plain b ≡ PointerTo x = sym f ∙ p in cc)
 field_of w locals t u a name s e (SliceOf y) f = field e (λ x p. let c : SliceOf y ≡ PointerTo x = sym f ∙ p in cc)
 field_of w locals t u a name s e (Struct y) f = field e (λ x p. let c : Struct y ≡ PointerTo x = sym f ∙ p in cc)
+field_of w locals t u a name s e (Interface y) f = field e (λ x p. let c : Interface y ≡ PointerTo x = sym f ∙ p in cc)
 
 abbrev on_variable : Bool → Signature → Option Meaning
 on_variable b g = if b then Some (Function g) else None
@@ -80,7 +86,8 @@ pointer_method w locals (Slice t) name s g a e n = of_variable w locals (Slice t
 member_selected : (w : World) (locals : Locals) (t : PlainType) (a : Bool) (name : ℕ) (o : Option Member) → w.member name t ≡ o →
     IsNotBroken (means_or_wrong (found w t a o) name).meaning → SelectsMember w locals (Value (Typed t) a) name (means_or_wrong (found w t a o) name).meaning
 member_selected w locals t a name None e n = absurd (n refl)
-member_selected w locals t a name (Some (AField s u)) e n = field_of w locals t u a name s e (underlying w t) refl
+member_selected w locals t a name (Some (AField s (AFieldOf u))) e n = field_of w locals t u a name s e (underlying w t) refl
+member_selected w locals t a name (Some (AField s (AMethodOf g))) e n = asked e
 member_selected w locals t a name (Some (AMethod s true g)) e n = pointer_method w locals t name s g a e n
 member_selected w locals t a name (Some (AMethod s false g)) e n = method e
 member_selected w locals t a name (Some (ABrokenMethod s)) e n = absurd (n refl)
@@ -120,6 +127,7 @@ element_found w start t a k j (SliceOf x) e n = element e j
 element_found w start t a k j (Plain b) e n = absurd (n refl)
 element_found w start t a k j (PointerTo x) e n = absurd (n refl)
 element_found w start t a k j (Struct s) e n = absurd (n refl)
+element_found w start t a k j (Interface s) e n = absurd (n refl)
 
 value_indexed : (w : World) (start : ℕ) (s k : ValueKind) (a : Bool) → IsBasic w k basic.Int → IsNotBroken (element_meaning (element_of_kind w s) start).meaning →
     Indexes w (Value s a) k (element_meaning (element_of_kind w s) start).meaning

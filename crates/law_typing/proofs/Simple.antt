@@ -3,7 +3,7 @@ use Rattle.std.proofs.Common.{ℕ, ◌≡◌, Bool, true, false, if◌then◌els
 use Rattle.go_ast.specs.declared.syntax.BinaryOp.{BinaryOp}
 use Rattle.go_ast.specs.declared.syntax.StepOp.{StepOp}
 use Rattle.go_ast.specs.declared.syntax.UpdateOp.{UpdateOp}
-use Rattle.go_ast.specs.Tree.{Item, ExprTree, SimpleTree}
+use Rattle.go_ast.specs.Tree.{Item, ExprTree, LinkTrees, SimpleTree}
 use Rattle.go_ast.specs.Tree as tree
 use Rattle.types_expr.specs.declared.types.Basic.TheVariants as basic
 use Rattle.types_expr.specs.Places.{place_of, first_token}
@@ -12,12 +12,13 @@ use Rattle.types_expr.specs.World.{World, Locals}
 use Rattle.types_expr.specs.Operations.{operate, class_of, is_int, is_bool}
 use Rattle.types_expr.specs.Judge.{JudgedList, ListValue, judge, judge_value, value_kind}
 use Rattle.types_stmt.specs.Checked.{FoundSoFar}
-use Rattle.types_stmt.specs.Sides.{rhs, Target, Lefts, judge_operand, assigned, defined, given_faults, defined_names, first_of_exprs, with_inferred}
+use Rattle.types_stmt.specs.Sides.{rhs, Target, Lefts, judge_operand, assigned, defined, given_faults, given_enterings, defined_names, first_of_exprs}
+use Rattle.types_stmt.specs.Sides.{with_inferred, receiving}
 use Rattle.types_stmt.specs.Simple.{check_simple, check_expr_statement, check_step, check_update, check_assign, check_define, check_condition, condition_faults}
-use Rattle.types_stmt.specs.Simple.{step_faults, update_faults, fault_if_none, statement_faults, is_statement, binary_of, with_given}
+use Rattle.types_stmt.specs.Simple.{step_faults, update_faults, fault_if_none, statement_faults, is_statement, without_parentheses, binary_of, with_given}
 use Rattle.law_typing.specs.Operators.{IsBasic, a_constant, a_nil, Operates}
 use Rattle.law_typing.specs.Meanings.{HasMeaning}
-use Rattle.law_typing.specs.BrokenUses.{UsesBroken}
+use Rattle.law_typing.specs.BrokenUses.{UsesBroken, in_paren}
 use Rattle.law_typing.proofs.Judgements.{empty_first, empty_second, empty_both, kind_known}
 use Rattle.law_typing.proofs.Classes.{class_true, is_of_int, is_of_bool}
 use Rattle.law_typing.proofs.Operating.{operates_true, true_operates}
@@ -31,7 +32,7 @@ use Rattle.law_typing.specs.Simple.{ConditionIsTyped, a_condition, SimpleIsTyped
 use Rattle.law_typing.specs.Excused.{SimpleIsExcused, in_call, in_step, in_updated, in_update, updated_without_type, in_assigned, in_assignment}
 use Rattle.law_typing.specs.Excused.{in_defined, in_definition}
 use Rattle.law_typing.proofs.Values.{value_true, value_settled, operand_true, operand_settled, AreGiven, rights_given, rights_settled}
-use Rattle.law_typing.proofs.Assignments.{aim, given_silent, silent_given, declare_true, declare_found}
+use Rattle.law_typing.proofs.Assignments.{aim, given_silent, silent_given, declare_true, declare_found, taken_by, taken_as}
 use Rattle.law_typing.proofs.Lefts.{AreLefts, assigned_true, assigned_settled, defined_true, defined_new, defined_settled}
 use Rattle.law_typing.proofs.PartOutcomes.{IsAt, reached, IsSettled}
 use Rattle.law_typing.proofs.StatementCalling.{statement_true, IsCallFound, true_statement, stands_silent, silent_stands, update_is, is_update, update_fits}
@@ -76,32 +77,48 @@ condition_settled w s e h = let f = (judge_value w s.locals e).faults ++ conditi
 
 -- calls
 
-alone_true : (w : World) (s : FoundSoFar) {e : ExprTree} {m : Meaning} → s.faults ≡ [] → HasMeaning w s.locals e m → is_statement w s.locals e ≡ true →
+alone_true : (w : World) (s : FoundSoFar) (e : ExprTree) {m : Meaning} → s.faults ≡ [] → HasMeaning w s.locals (without_parentheses e) m →
+    is_statement w s.locals e ≡ true →
     IsAt (check_expr_statement w s e) s.locals
 unfolding check_expr_statement
-alone_true w s {e} h v t = let a = sound w s.locals v in
-    reached s ((judge w s.locals e).faults ++ statement_faults (place_of e) (is_statement w s.locals e) (judge w s.locals e).meaning) (judge w s.locals e).uses h
-    (empty_both (judge w s.locals e).faults (statement_faults (place_of e) (is_statement w s.locals e) (judge w s.locals e).meaning) a.faultless
-    (stands_silent (place_of e) (judge w s.locals e).meaning t)) refl
+alone_true w s e h v t = let a = sound w s.locals v in
+    let j = judge w s.locals (without_parentheses e) in
+    reached s (j.faults ++ statement_faults (place_of e) (is_statement w s.locals e) j.meaning) j.uses h
+    (empty_both j.faults (statement_faults (place_of e) (is_statement w s.locals e) j.meaning) a.faultless
+    (stands_silent (place_of e) j.meaning t)) refl
 
-pub call_found : (w : World) (ls : Locals) (e : ExprTree) (m : Meaning) → HasMeaning w ls e m → IsCallFound w ls e → SimpleIsTyped w ls (tree.Alone e) ls
+call_true : (w : World) (s : FoundSoFar) {e : ExprTree} {links : LinkTrees} {m : Meaning} → s.faults ≡ [] → HasMeaning w s.locals (tree.Chain e links) m →
+    is_statement w s.locals (tree.Chain e links) ≡ true → IsAt (check_expr_statement w s (tree.Chain e links)) s.locals
+unfolding without_parentheses
+call_true w s {e} {links} h v t = alone_true w s (tree.Chain e links) h v t
+
+pub call_found : (w : World) (ls : Locals) (e : ExprTree) (m : Meaning) → HasMeaning w ls (without_parentheses e) m → IsCallFound w ls e →
+    SimpleIsTyped w ls (tree.Alone e) ls
+unfolding without_parentheses
 call_found w ls e m v c = subst (λ z. SimpleIsTyped w ls (tree.Alone z) ls) (sym c.is_chain) (a_call (subst
-    (λ z. HasMeaning w ls z m) c.is_chain v) c.ends c.means c.stands)
+    (λ z. HasMeaning w ls (without_parentheses z) m) c.is_chain v) c.ends c.means c.stands)
 
-alone_parts : (w : World) (ls : Locals) (e : ExprTree) → ((judge w ls e).faults ++ statement_faults (place_of e) (is_statement w ls e)
-    (judge w ls e).meaning) ≡ [] →
+broken_around : (w : World) (ls : Locals) (e : ExprTree) → UsesBroken w ls (without_parentheses e) → UsesBroken w ls e
+unfolding without_parentheses
+broken_around w ls (tree.Paren o e c) u = in_paren (broken_around w ls e u)
+broken_around w ls e u = u
+
+alone_parts : (w : World) (ls : Locals) (e : ExprTree) → ((judge w ls (without_parentheses e)).faults
+    ++ statement_faults (place_of e) (is_statement w ls e) (judge w ls (without_parentheses e)).meaning) ≡ [] →
     SimpleIsTyped w ls (tree.Alone e) ls ⊎ SimpleIsExcused w ls (tree.Alone e)
-alone_parts w ls e h = elim (settle w ls e (empty_first (judge w ls e).faults (statement_faults (place_of e) (is_statement w ls e) (judge w ls e).meaning) h)) [
-  | inl n ↦ inl (call_found w ls e (judge w ls e).meaning (complete w ls e n) (true_statement w ls e (silent_stands (place_of e) (is_statement w ls e)
-      (judge w ls e).meaning n
-      (empty_second (judge w ls e).faults (statement_faults (place_of e) (is_statement w ls e) (judge w ls e).meaning) h))))
-  | inr u ↦ inr (in_call u)
-]
+alone_parts w ls e h = let j = judge w ls (without_parentheses e) in
+    let more = statement_faults (place_of e) (is_statement w ls e) j.meaning in
+    elim (settle w ls (without_parentheses e) (empty_first j.faults more h)) [
+      | inl n ↦ inl (call_found w ls e j.meaning (complete w ls (without_parentheses e) n)
+          (true_statement w ls e (silent_stands (place_of e) (is_statement w ls e) j.meaning n (empty_second j.faults more h))))
+      | inr u ↦ inr (in_call (broken_around w ls e u))
+    ]
 
 alone_settled : (w : World) (s : FoundSoFar) (e : ExprTree) → (check_expr_statement w s e).faults ≡ [] →
     IsSettled (SimpleIsTyped w) (SimpleIsExcused w) s (tree.Alone e) (check_expr_statement w s e)
 unfolding check_expr_statement
-alone_settled w s e h = let f = (judge w s.locals e).faults ++ statement_faults (place_of e) (is_statement w s.locals e) (judge w s.locals e).meaning in
+alone_settled w s e h = let j = judge w s.locals (without_parentheses e) in
+    let f = j.faults ++ statement_faults (place_of e) (is_statement w s.locals e) j.meaning in
     (empty_first s.faults f h, alone_parts w s.locals e (empty_second s.faults f h))
 
 -- `++` and `--`
@@ -208,7 +225,8 @@ update_settled w s x y o p h = let f = (judge_operand w s.locals x).faults ++ ((
 pub giving_at : (w : World) (s : FoundSoFar) (place : ℕ) (locals : Locals) (l : Lefts) (r : JudgedList) {after : Locals} {ks : List ValueKind} {ts : List Taker} →
     s.faults ≡ [] → AreLefts l ts → AreGiven r ks → TakenInTurn w ks ts →
     locals ≡ after → IsAt (with_given w s place locals l r) after
-giving_at w s place locals l r {ts = ts} h a g t e = reached s (l.faults ++ (r.faults ++ given_faults w place r.values l.targets)) (l.uses ++ r.uses) h
+giving_at w s place locals l r {ts = ts} h a g t e = reached s (l.faults ++ (r.faults ++ given_faults w place r.values l.targets)) (l.uses ++ (r.uses ++
+    given_enterings w r.values l.targets)) h
     (empty_both l.faults (r.faults ++ given_faults w place r.values l.targets) a.faultless (empty_both r.faults (given_faults w place r.values l.targets) g.faultless
     (ap (given_faults w place r.values) a.targets ∙ given_silent w place r.values g.kinds t))) e
 
@@ -238,28 +256,31 @@ taken_found w place vs ks ts a e h = silent_given w place vs ks ts a (ap (given_
 assign_settled : (w : World) (s : FoundSoFar) (xs : List (Item ExprTree)) (p : ℕ) (ys : List (Item ExprTree)) → (check_assign w s xs ys).faults ≡ [] →
     IsSettled (SimpleIsTyped w) (SimpleIsExcused w) s (tree.Assign xs p ys) (check_assign w s xs ys)
 unfolding check_assign
-assign_settled w s xs p ys h = let g = giving_parts w s (first_of_exprs xs) s.locals (assigned w s.locals xs) (rhs w s.locals ys) h in (
-  g.before,
-  elim (assigned_settled w s.locals xs g.lefts) [
-    | inl l ↦ elim (rights_settled w s.locals ys g.rhs) [
-      | inl r ↦ inl (an_assignment l.assigned r.given (taken_found w (first_of_exprs xs)
-          (rhs w s.locals ys).values r.kinds l.takers r.found l.found g.given))
-      | inr u ↦ inr (in_assignment u)
-    ]
-    | inr u ↦ inr (in_assigned u)
-  ],
-)
+assign_settled w s xs p ys h = let v = receiving w ys (rhs w s.locals ys).values in
+    let g = giving_parts v s (first_of_exprs xs) s.locals (assigned w s.locals xs) (rhs w s.locals ys) h in (
+      g.before,
+      elim (assigned_settled w s.locals xs g.lefts) [
+        | inl l ↦ elim (rights_settled w s.locals ys g.rhs) [
+          | inl r ↦ inl (an_assignment l.assigned r.given (taken_as w ys (rhs w s.locals ys).values r.found (taken_found v (first_of_exprs xs)
+              (rhs w s.locals ys).values r.kinds l.takers r.found l.found g.given)))
+          | inr u ↦ inr (in_assignment u)
+        ]
+        | inr u ↦ inr (in_assigned u)
+      ],
+    )
 
 define_settled : (w : World) (s : FoundSoFar) (xs : List (Item ExprTree)) (p : ℕ) (ys : List (Item ExprTree)) → (check_define w s xs ys).faults ≡ [] →
     IsSettled (SimpleIsTyped w) (SimpleIsExcused w) s (tree.Define xs p ys) (check_define w s xs ys)
 unfolding check_define
 define_settled w s xs p ys h = let locals = with_inferred s.locals (defined_names w xs) (rhs w s.locals ys).values in
-    let g = giving_parts w s (first_of_exprs xs) locals (defined w s.locals xs) (rhs w s.locals ys) h in (
+    let v = receiving w ys (rhs w s.locals ys).values in
+    let g = giving_parts v s (first_of_exprs xs) locals (defined w s.locals xs) (rhs w s.locals ys) h in (
       g.before,
       elim (defined_settled w s.locals xs g.lefts) [
         | inl l ↦ elim (rights_settled w s.locals ys g.rhs) [
-          | inl r ↦ let t = taken_found w (first_of_exprs xs) (rhs w s.locals ys).values r.kinds l.takers r.found l.found g.given in
-              inl (a_definition l.defined_are r.given t (declare_found w (rhs w s.locals ys).values s.locals (defined_names w xs)
+          | inl r ↦ let t = taken_found v (first_of_exprs xs) (rhs w s.locals ys).values r.kinds l.takers r.found l.found g.given in
+              inl (a_definition l.defined_are r.given (taken_as w ys (rhs w s.locals ys).values r.found t) (declare_found v
+              (rhs w s.locals ys).values s.locals (defined_names w xs)
               (defined_new l.defined_are) r.found t))
           | inr u ↦ inr (in_definition u)
         ]
@@ -272,15 +293,17 @@ define_settled w s xs p ys h = let locals = with_inferred s.locals (defined_name
 pub simple_true : (w : World) (s : FoundSoFar) (a : SimpleTree) (after : Locals) → s.faults ≡ [] → SimpleIsTyped w s.locals a after →
     IsAt (check_simple w s a) after
 unfolding check_simple check_assign check_define
-simple_true w s a after h (a_call v c u m) = alone_true w s h v (statement_true w s.locals c u m)
+simple_true w s a after h (a_call v c u m) = call_true w s h v (statement_true w s.locals c u m)
 simple_true w s a after h (a_step v i) = step_true w s h v i
 simple_true w s a after h (an_update {x = x} {y = y} u v q o f) = subst (λ z. IsAt (check_update w s z x y) s.locals) (sym (update_is u))
     (update_true w s h v q o)
-simple_true w s a after h (an_assignment {xs} {ys} l g t) = giving_at w s (first_of_exprs xs) s.locals (assigned w s.locals xs) (rhs w s.locals ys) h
-    (assigned_true w s.locals l) (rights_given w s.locals g) t refl
+simple_true w s a after h (an_assignment {xs} {ys} l g t) = let r = rights_given w s.locals g in
+    giving_at (receiving w ys (rhs w s.locals ys).values) s (first_of_exprs xs) s.locals (assigned w s.locals xs) (rhs w s.locals ys) h
+    (assigned_true w s.locals l) r (taken_by w ys (rhs w s.locals ys).values r.kinds t) refl
 simple_true w s a after h (a_definition {xs = xs} {ys = ys} l g t d) = let n = defined_true w s.locals l in let r = rights_given w s.locals g in
-    giving_at w s (first_of_exprs xs) (with_inferred s.locals (defined_names w xs) (rhs w s.locals ys).values) (defined w s.locals xs)
-    (rhs w s.locals ys) h n.lefts r t
+    giving_at (receiving w ys (rhs w s.locals ys).values) s (first_of_exprs xs)
+    (with_inferred s.locals (defined_names w xs) (rhs w s.locals ys).values) (defined w s.locals xs) (rhs w s.locals ys) h n.lefts r
+    (taken_by w ys (rhs w s.locals ys).values r.kinds t)
     (ap (λ z. with_inferred s.locals z (rhs w s.locals ys).values) n.names ∙ declare_true (rhs w s.locals ys).values r.kinds d)
 
 pub simple_settled : (w : World) (s : FoundSoFar) (a : SimpleTree) → (check_simple w s a).faults ≡ [] →

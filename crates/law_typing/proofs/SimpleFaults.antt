@@ -12,9 +12,9 @@ use Rattle.types_expr.specs.World.{World, Locals}
 use Rattle.types_expr.specs.Operations.{operate, class_of, is_int, is_bool}
 use Rattle.types_expr.specs.Judge.{ListValue, judge, judge_value, value_kind}
 use Rattle.types_stmt.specs.Checked.{FoundSoFar}
-use Rattle.types_stmt.specs.Sides.{rhs, Target, Lefts, judge_operand, assigned, defined, given_faults, defined_names, first_of_exprs, with_inferred}
+use Rattle.types_stmt.specs.Sides.{rhs, Target, Lefts, judge_operand, assigned, defined, given_faults, defined_names, first_of_exprs, with_inferred, receiving}
 use Rattle.types_stmt.specs.Simple.{check_simple, check_expr_statement, check_step, check_update, check_assign, check_define, check_condition, condition_faults}
-use Rattle.types_stmt.specs.Simple.{step_faults, update_faults, fault_if_none, statement_faults, is_statement, binary_of}
+use Rattle.types_stmt.specs.Simple.{step_faults, update_faults, fault_if_none, statement_faults, is_statement, without_parentheses, binary_of}
 use Rattle.law_typing.specs.Names.{IsNotBroken}
 use Rattle.law_typing.specs.Operators.{IsBasic, Operates}
 use Rattle.law_typing.specs.Meanings.{HasMeaning}
@@ -121,27 +121,28 @@ stands_told place false Broken f g = nothing_at place (λ c. let q = g c in q.0 
 typed_alone : (w : World) (locals after : Locals) (e : ExprTree) → SimpleIsTyped w locals (tree.Alone e) after → is_statement w locals e ≡ true
 typed_alone w locals after e (a_call h c f m) = statement_true w locals c f m
 
-alone_typed : (w : World) (locals : Locals) (e : ExprTree) (m : Meaning) → HasMeaning w locals e m → ((after : Locals) → SimpleIsTyped w locals
-    (tree.Alone e) after → ⊥) → (b : Bool) → is_statement w locals e ≡ b → b ≡ false
+alone_typed : (w : World) (locals : Locals) (e : ExprTree) (m : Meaning) → HasMeaning w locals (without_parentheses e) m →
+    ((after : Locals) → SimpleIsTyped w locals (tree.Alone e) after → ⊥) → (b : Bool) → is_statement w locals e ≡ b → b ≡ false
 alone_typed w locals e m h n true t = absurd (n locals (call_found w locals e m h (true_statement w locals e t)))
 alone_typed w locals e m h n false t = refl
 
 record IsNoStatement (w : World) (locals : Locals) (e : ExprTree) : Type 0 where
   meaning : Meaning
-  means : HasMeaning w locals e meaning
+  means : HasMeaning w locals (without_parentheses e) meaning
   is_none : (after : Locals) → SimpleIsTyped w locals (tree.Alone e) after → ⊥
 
-alone_cases : {w : World} {locals : Locals} {e : ExprTree} {p : ℕ} → SimpleBreaksAt w locals (tree.Alone e) p → BreaksAt w locals e p ⊎ At (place_of e)
-    (IsNoStatement w locals e) p
+alone_cases : {w : World} {locals : Locals} {e : ExprTree} {p : ℕ} → SimpleBreaksAt w locals (tree.Alone e) p →
+    BreaksAt w locals (without_parentheses e) p ⊎ At (place_of e) (IsNoStatement w locals e) p
 alone_cases (in_alone b) = inl b
 alone_cases (no_statement {m = m} h n) = inr (refl, record { meaning = m; means = h; is_none = n })
 
-alone_places : (w : World) (locals : Locals) (e : ExprTree) → AreExactly ((judge w locals e).faults ++ statement_faults (place_of e) (is_statement w locals e)
-    (judge w locals e).meaning) (SimpleBreaksAt w locals (tree.Alone e))
-alone_places w locals e = both_told (judge w locals e).faults (statement_faults (place_of e) (is_statement w locals e) (judge w locals e).meaning)
-    (expression_told w locals e) (stands_told (place_of e) (is_statement w locals e) (judge w locals e).meaning {C = IsNoStatement w locals e} (λ n b. record {
-      meaning = (judge w locals e).meaning;
-      means = complete w locals e n;
+alone_places : (w : World) (locals : Locals) (e : ExprTree) → AreExactly ((judge w locals (without_parentheses e)).faults
+    ++ statement_faults (place_of e) (is_statement w locals e) (judge w locals (without_parentheses e)).meaning) (SimpleBreaksAt w locals (tree.Alone e))
+alone_places w locals e = let j = judge w locals (without_parentheses e) in
+    both_told j.faults (statement_faults (place_of e) (is_statement w locals e) j.meaning) (expression_told w locals (without_parentheses e))
+    (stands_told (place_of e) (is_statement w locals e) j.meaning {C = IsNoStatement w locals e} (λ n b. record {
+      meaning = j.meaning;
+      means = complete w locals (without_parentheses e) n;
       is_none = λ after t. true≢false (sym (typed_alone w locals after e t) ∙ b);
     }) (λ c. (meant_whole w locals c.means, alone_typed w locals e c.meaning c.means c.is_none (is_statement w locals e) refl))) (λ p b. in_alone b)
     (at_place (SimpleBreaksAt w locals (tree.Alone e)) (λ c. no_statement c.means c.is_none)) (λ p b. alone_cases b)
@@ -247,30 +248,33 @@ pub record IsMisgivenBy (w : World) (locals : Locals) (ys : List (Item ExprTree)
   pub takers : List (Option Taker)
   pub give : SidesGive w locals ys values
   pub take : T takers
-  pub misgiven : IsAssignmentFault w place values takers p
+  pub misgiven : IsAssignmentFault (receiving w ys values) place values takers p
 
 given_part : (w : World) (locals : Locals) (ys : List (Item ExprTree)) (place : ℕ) (targets : List Target) (T : List (Option Taker) → Type 0) (ts : List
     (Option Taker)) → T ts → targets ≡ map aim_of ts → ((us : List (Option Taker)) → T us → targets ≡ map aim_of us) →
-    AreExactly (given_faults w place (rhs w locals ys).values targets) (IsMisgivenBy w locals ys place T)
+    AreExactly (given_faults (receiving w ys (rhs w locals ys).values) place (rhs w locals ys).values targets) (IsMisgivenBy w locals ys place T)
 given_part w locals ys place targets T ts t e only = let V = (rhs w locals ys).values in record {
-  found = λ p h. let m = misgiven_told w place V ts in record {
+  found = λ p h. let m = misgiven_told (receiving w ys V) place V ts in record {
     values = V;
     takers = ts;
     give = sides_found w locals ys;
     take = t;
-    misgiven = m.found p (subst (λ z. HasToken (given_faults w place V z) p) e h);
+    misgiven = m.found p (subst (λ z. HasToken (given_faults (receiving w ys V) place V z) p) e h);
   };
-  stands = λ p b. let m = misgiven_told w place b.values b.takers in subst (λ z. HasToken (given_faults w place z targets) p) (sym (sides_only w locals b.give)) (subst
-      (λ z. HasToken (given_faults w place b.values z) p) (sym (only b.takers b.take)) (m.stands p b.misgiven));
+  stands = λ p b. let m = misgiven_told (receiving w ys b.values) place b.values b.takers in
+      subst (λ z. HasToken (given_faults (receiving w ys z) place z targets) p) (sym (sides_only w locals b.give)) (subst
+      (λ z. HasToken (given_faults (receiving w ys b.values) place b.values z) p) (sym (only b.takers b.take)) (m.stands p b.misgiven));
 }
 
 pub giving_told : (w : World) (locals : Locals) (ys : List (Item ExprTree)) (place : ℕ) (l : Lefts) {A : ℕ → Type 0} (T : List (Option Taker) →
     Type 0) (ts : List
     (Option Taker)) → AreExactly l.faults A → T ts → l.targets ≡ map aim_of ts → ((us : List (Option Taker)) → T us → l.targets ≡ map aim_of us) →
-    AreExactly (l.faults ++ ((rhs w locals ys).faults ++ given_faults w place (rhs w locals ys).values l.targets))
+    AreExactly (l.faults ++ ((rhs w locals ys).faults ++ given_faults (receiving w ys (rhs w locals ys).values) place (rhs w locals ys).values l.targets))
     (λ p. A p ⊎ (SidesBreakAt w locals ys p ⊎ IsMisgivenBy w locals ys place T p))
-giving_told w locals ys place l T ts a t e only = both_told l.faults ((rhs w locals ys).faults ++ given_faults w place (rhs w locals ys).values l.targets) a
-    (both_told (rhs w locals ys).faults (given_faults w place (rhs w locals ys).values l.targets) {B = λ p. SidesBreakAt w locals ys p ⊎
+giving_told w locals ys place l T ts a t e only = both_told l.faults ((rhs w locals ys).faults
+    ++ given_faults (receiving w ys (rhs w locals ys).values) place (rhs w locals ys).values l.targets) a
+    (both_told (rhs w locals ys).faults (given_faults (receiving w ys (rhs w locals ys).values) place
+    (rhs w locals ys).values l.targets) {B = λ p. SidesBreakAt w locals ys p ⊎
     IsMisgivenBy w locals ys place T p} (sides_told w locals ys) (given_part w locals ys place l.targets T ts t e only) (λ p b. inl b) (λ p b. inr b)
     (λ p b. b))
     (λ p b. inl b) (λ p b. inr b) (λ p b. b)
@@ -283,7 +287,8 @@ assign_cases (no_assignment {vs = vs} {ts = ts} g t m) = inr (inr (record { valu
 
 assign_places : (w : World) (locals : Locals) (xs : List (Item ExprTree)) (q : ℕ) (ys : List (Item ExprTree)) →
     AreExactly ((assigned w locals xs).faults ++ ((rhs w locals ys).faults
-    ++ given_faults w (first_of_exprs xs) (rhs w locals ys).values (assigned w locals xs).targets)) (SimpleBreaksAt w locals (tree.Assign xs q ys))
+    ++ given_faults (receiving w ys (rhs w locals ys).values) (first_of_exprs xs) (rhs w locals ys).values (assigned w locals xs).targets))
+    (SimpleBreaksAt w locals (tree.Assign xs q ys))
 assign_places w locals xs q ys = let t = assigned_take w locals xs in
     told_as (giving_told w locals ys (first_of_exprs xs) (assigned w locals xs) (EachTakes (AssignedTakes w locals) xs) t.takers
     (assigned_told w locals xs) t.take t.found
@@ -300,7 +305,8 @@ define_cases (no_definition {vs = vs} {ts = ts} g t m) = inr (inr (record { valu
 
 define_places : (w : World) (locals : Locals) (xs : List (Item ExprTree)) (q : ℕ) (ys : List (Item ExprTree)) →
     AreExactly ((defined w locals xs).faults ++ ((rhs w locals ys).faults
-    ++ given_faults w (first_of_exprs xs) (rhs w locals ys).values (defined w locals xs).targets)) (SimpleBreaksAt w locals (tree.Define xs q ys))
+    ++ given_faults (receiving w ys (rhs w locals ys).values) (first_of_exprs xs) (rhs w locals ys).values (defined w locals xs).targets))
+    (SimpleBreaksAt w locals (tree.Define xs q ys))
 define_places w locals xs q ys = let t = defined_take w locals xs in
     told_as (giving_told w locals ys (first_of_exprs xs) (defined w locals xs) (EachTakes (DefinedTakes w locals) xs) t.takers
     (defined_told w locals xs) t.take t.found
@@ -312,14 +318,15 @@ define_places w locals xs q ys = let t = defined_take w locals xs in
 -- simple statements
 
 abbrev simple_added : World → Locals → SimpleTree → List ℕ
-simple_added w ls (tree.Alone e) = (judge w ls e).faults ++ statement_faults (place_of e) (is_statement w ls e) (judge w ls e).meaning
+simple_added w ls (tree.Alone e) = (judge w ls (without_parentheses e)).faults
+    ++ statement_faults (place_of e) (is_statement w ls e) (judge w ls (without_parentheses e)).meaning
 simple_added w ls (tree.Step e o q) = (judge_operand w ls e).faults ++ step_faults w (place_of e) (value_kind (judge_operand w ls e).meaning)
 simple_added w ls (tree.Update x o q y) = (judge_operand w ls x).faults ++ ((judge_value w ls y).faults
     ++ update_faults w (first_token x) (binary_of o) (value_kind (judge_operand w ls x).meaning) (value_kind (judge_value w ls y).meaning))
 simple_added w ls (tree.Assign xs q ys) = (assigned w ls xs).faults ++ ((rhs w ls ys).faults
-    ++ given_faults w (first_of_exprs xs) (rhs w ls ys).values (assigned w ls xs).targets)
+    ++ given_faults (receiving w ys (rhs w ls ys).values) (first_of_exprs xs) (rhs w ls ys).values (assigned w ls xs).targets)
 simple_added w ls (tree.Define xs q ys) = (defined w ls xs).faults ++ ((rhs w ls ys).faults
-    ++ given_faults w (first_of_exprs xs) (rhs w ls ys).values (defined w ls xs).targets)
+    ++ given_faults (receiving w ys (rhs w ls ys).values) (first_of_exprs xs) (rhs w ls ys).values (defined w ls xs).targets)
 
 simple_places : (w : World) (locals : Locals) (a : SimpleTree) → AreExactly (simple_added w locals a) (SimpleBreaksAt w locals a)
 simple_places w locals (tree.Alone e) = alone_places w locals e

@@ -1,5 +1,5 @@
 -- Small statements that keep the typing rules, and some that do not.
-use Rattle.std.proofs.Common.{◌==◌, if◌then◌else◌, [], ◌∷◌, Some, None, refl}
+use Rattle.std.proofs.Common.{◌==◌, if◌then◌else◌, [], ◌∷◌, false, Some, None, refl}
 use Rattle.go_ast.specs.declared.syntax.StepOp.TheVariants as step
 use Rattle.go_ast.specs.Tree.{Item, ExprTree, SimpleTree}
 use Rattle.go_ast.specs.Tree as tree
@@ -17,7 +17,13 @@ use Rattle.law_typing.specs.Statements.{StatementIsTyped, a_simple, a_return, Bl
 
 -- the names at tokens 0 and 6 are those of a local that is declared at token 0
 abbrev world : World
-world = record { bound = λ p. if p == 0 then Local 0 else (if p == 6 then Local 0 else Means Broken); member = λ n t. None; definition = λ s. Struct s }
+world = record {
+  bound = λ p. if p == 0 then Local 0 else
+      (if p == 6 then Local 0 else Means Broken);
+  member = λ n t. None;
+  definition = λ s. Struct s;
+  implements = λ t s. false;
+}
 
 abbrev int : PlainType
 int = BasicType basic.Int

@@ -6,7 +6,7 @@ use Rattle.types_expr.specs.Types.{PlainType}
 use Rattle.types_expr.specs.World.{World, Locals}
 use Rattle.types_expr.specs.Judge.{ListValue}
 use Rattle.types_stmt.specs.Checked.{FoundSoFar}
-use Rattle.types_stmt.specs.Sides.{Target, rhs}
+use Rattle.types_stmt.specs.Sides.{Target, rhs, receiving}
 use Rattle.types_stmt.specs.Simple.{check_simple, check_optional_simple, check_condition, check_optional_condition}
 use Rattle.types_stmt.specs.Statements.{returned, check_return, check_init, check_for_header, check_statement, check_block, check_statements, check_if, check_else}
 use Rattle.law_typing.specs.Sequences.{PartRule, IfPresent}
@@ -159,19 +159,20 @@ wants_are (t ∷ ts) = ap (λ z. z ∷ as_targets ts) (sym (aim_of_type t)) ∙ 
 record IsMisreturnedBy (w : World) (locals : Locals) (results : List (Option PlainType)) (q : ℕ) (es : List (Item ExprTree)) (p : ℕ) : Type 0 where
   values : List ListValue
   give : SidesGive w locals es values
-  misreturned : IsReturnFault w q values (map taker_of results) p
+  misreturned : IsReturnFault (receiving w es values) q values (map taker_of results) p
 
 return_part : (w : World) (locals : Locals) (results : List (Option PlainType)) (q : ℕ) (es : List (Item ExprTree)) →
-    AreExactly (returned w q (rhs w locals es).values (as_targets results)) (IsMisreturnedBy w locals results q es)
+    AreExactly (returned (receiving w es (rhs w locals es).values) q (rhs w locals es).values (as_targets results)) (IsMisreturnedBy w locals results q es)
 return_part w locals results q es = let V = (rhs w locals es).values in
     let e = wants_are results in record {
-      found = λ p h. let m = misreturned_told w q V (map taker_of results) in record {
+      found = λ p h. let m = misreturned_told (receiving w es V) q V (map taker_of results) in record {
         values = V;
         give = sides_found w locals es;
-        misreturned = m.found p (subst (λ z. HasToken (returned w q V z) p) e h);
+        misreturned = m.found p (subst (λ z. HasToken (returned (receiving w es V) q V z) p) e h);
       };
-      stands = λ p b. let m = misreturned_told w q b.values (map taker_of results) in subst (λ z. HasToken (returned w q z (as_targets results)) p)
-          (sym (sides_only w locals b.give)) (subst (λ z. HasToken (returned w q b.values z) p) (sym e) (m.stands p b.misreturned));
+      stands = λ p b. let m = misreturned_told (receiving w es b.values) q b.values (map taker_of results) in
+          subst (λ z. HasToken (returned (receiving w es z) q z (as_targets results)) p)
+          (sym (sides_only w locals b.give)) (subst (λ z. HasToken (returned (receiving w es b.values) q b.values z) p) (sym e) (m.stands p b.misreturned));
     }
 
 return_cases : {w : World} {results : List (Option PlainType)} {locals : Locals} {q p : ℕ} {es : List (Item ExprTree)} →
@@ -180,8 +181,10 @@ return_cases (in_return b) = inl b
 return_cases (no_return {vs = vs} g m) = inr (record { values = vs; give = g; misreturned = m })
 
 return_places : (w : World) (results : List (Option PlainType)) (locals : Locals) (q : ℕ) (es : List (Item ExprTree)) →
-    AreExactly ((rhs w locals es).faults ++ returned w q (rhs w locals es).values (as_targets results)) (StatementBreaksAt w results locals (tree.Return q es))
-return_places w results locals q es = both_told (rhs w locals es).faults (returned w q (rhs w locals es).values (as_targets results)) (sides_told w locals es)
+    AreExactly ((rhs w locals es).faults ++ returned (receiving w es (rhs w locals es).values) q (rhs w locals es).values (as_targets results))
+    (StatementBreaksAt w results locals (tree.Return q es))
+return_places w results locals q es = both_told (rhs w locals es).faults (returned (receiving w es (rhs w locals es).values) q (rhs w locals es).values
+    (as_targets results)) (sides_told w locals es)
     (return_part w locals results q es) (λ p b. in_return b) (λ p b. no_return b.give b.misreturned) (λ p b. return_cases b)
 
 -- statements: the locals after them
@@ -277,7 +280,7 @@ mutual
   statement_stays w targets s (tree.For q i b) p h = block_stays w targets (check_for_header w s i) b p (header_stays w s i p h)
   statement_stays w targets s (tree.Break q) p h = h
   statement_stays w targets s (tree.Continue q) p h = h
-  statement_stays w targets s (tree.Return q es) p h = holds_left s.faults ((rhs w s.locals es).faults ++ returned w q
+  statement_stays w targets s (tree.Return q es) p h = holds_left s.faults ((rhs w s.locals es).faults ++ returned (receiving w es (rhs w s.locals es).values) q
       (rhs w s.locals es).values targets) p h
 
   pub block_stays : (w : World) (targets : List Target) (s : FoundSoFar) (x : BlockTree) (p : ℕ) → HasToken s.faults p → HasToken (check_block w targets s x).faults p

@@ -5,7 +5,7 @@ use Rattle.go_ast.specs.Tree as tree
 use Rattle.types_expr.specs.Types.{PlainType, ValueKind}
 use Rattle.types_expr.specs.World.{World, Locals}
 use Rattle.types_stmt.specs.Checked.{FoundSoFar}
-use Rattle.types_stmt.specs.Sides.{Target, rhs}
+use Rattle.types_stmt.specs.Sides.{Target, rhs, given_enterings, receiving}
 use Rattle.types_stmt.specs.Simple.{check_optional_simple, check_condition, check_optional_condition, check_local}
 use Rattle.types_stmt.specs.Statements.{returned, check_return, check_init, check_for_header, check_statement, check_block, check_statements, check_if, check_else}
 use Rattle.law_typing.specs.BrokenUses.{UsesBroken}
@@ -22,7 +22,7 @@ use Rattle.law_typing.specs.Excused.{StatementIsExcused, in_declaration, in_simp
 use Rattle.law_typing.specs.Excused.{BlockIsExcused, in_block, StatementsAreExcused, this_statement, later_statement, IfIsExcused, before_condition}
 use Rattle.law_typing.specs.Excused.{in_condition, in_then, in_otherwise, ElseIsExcused, in_else_if, in_else}
 use Rattle.law_typing.proofs.Values.{rights_given, rights_settled}
-use Rattle.law_typing.proofs.Assignments.{aim, return_silent, silent_return}
+use Rattle.law_typing.proofs.Assignments.{aim, return_silent, silent_return, taken_by, taken_as}
 use Rattle.law_typing.proofs.PartOutcomes.{IsAt, reached, held, group_true, group_settled}
 use Rattle.law_typing.proofs.Simple.{condition_true, condition_settled, simple_true, simple_settled}
 use Rattle.law_typing.proofs.Locals.{local_true, local_settled}
@@ -101,12 +101,15 @@ header_settled w s (tree.clauses init p condition q post) h = let c = optional_s
 
 return_true : (w : World) (s : FoundSoFar) (p : ℕ) (targets : List Target) (results : List PlainType) (es : List (Item ExprTree)) {ks : List ValueKind} →
     AreTargets targets results → s.faults ≡ [] → GiveKinds w s.locals es ks →
-    TakenInTurn w ks (map OfType results) → IsAt (check_return w s p targets es) s.locals
+    TakenInTurn (receiving w es ks) ks (map OfType results) → IsAt (check_return w s p targets es) s.locals
 unfolding check_return
 return_true w s p targets results es e h g t = let r = rights_given w s.locals g in
-    reached s ((rhs w s.locals es).faults ++ returned w p (rhs w s.locals es).values targets) (rhs w s.locals es).uses h
-    (empty_both (rhs w s.locals es).faults (returned w p (rhs w s.locals es).values targets) r.faultless
-    (ap (λ z. returned w p (rhs w s.locals es).values z) e ∙ return_silent w p (rhs w s.locals es).values r.kinds t)) refl
+    let v = receiving w es (rhs w s.locals es).values in
+    reached s ((rhs w s.locals es).faults ++ returned v p (rhs w s.locals es).values targets) ((rhs w s.locals es).uses ++
+    given_enterings v (rhs w s.locals es).values targets) h
+    (empty_both (rhs w s.locals es).faults (returned v p (rhs w s.locals es).values targets) r.faultless
+    (ap (λ z. returned v p (rhs w s.locals es).values z) e
+    ∙ return_silent v p (rhs w s.locals es).values r.kinds (taken_by w es (rhs w s.locals es).values r.kinds t))) refl
 
 return_settled : (w : World) (s : FoundSoFar) (p : ℕ) (targets : List Target) (results : List PlainType) (es : List (Item ExprTree)) →
     AreTargets targets results → (check_return w s p targets es).faults ≡ [] →
@@ -114,12 +117,13 @@ return_settled : (w : World) (s : FoundSoFar) (p : ℕ) (targets : List Target) 
     (check_return w s p targets es).locals ⊎ StatementIsExcused w results s.locals (tree.Return p es))
 unfolding check_return
 return_settled w s p targets results es e h = let r = rhs w s.locals es in
-    let f = r.faults ++ returned w p r.values targets in
+    let v = receiving w es r.values in
+    let f = r.faults ++ returned v p r.values targets in
     let q = empty_second s.faults f h in (
       empty_first s.faults f h,
-      elim (rights_settled w s.locals es (empty_first r.faults (returned w p r.values targets) q)) [
-        | inl g ↦ inl (a_return g.given (silent_return w p r.values g.kinds (map OfType results) g.found (ap (λ z. returned w p r.values z) (sym e)
-            ∙ empty_second r.faults (returned w p r.values targets) q)))
+      elim (rights_settled w s.locals es (empty_first r.faults (returned v p r.values targets) q)) [
+        | inl g ↦ inl (a_return g.given (taken_as w es r.values g.found (silent_return v p r.values g.kinds (map OfType results) g.found
+            (ap (λ z. returned v p r.values z) (sym e) ∙ empty_second r.faults (returned v p r.values targets) q))))
         | inr u ↦ inr (in_return u)
       ],
     )
@@ -247,7 +251,8 @@ mutual
 return_first : (w : World) (s : FoundSoFar) (p : ℕ) (targets : List Target) (es : List (Item ExprTree)) → (check_return w s p targets es).faults ≡ [] →
     s.faults ≡ []
 unfolding check_return
-return_first w s p targets es h = empty_first s.faults ((rhs w s.locals es).faults ++ returned w p (rhs w s.locals es).values targets) h
+return_first w s p targets es h =
+    empty_first s.faults ((rhs w s.locals es).faults ++ returned (receiving w es (rhs w s.locals es).values) p (rhs w s.locals es).values targets) h
 
 mutual
   unfolding check_statement

@@ -63,6 +63,7 @@ no_type w (uses.slice b) (names.slice i) = no_type w b i
 no_selection : (w : World) (locals : Locals) {m s : Meaning} {n : ℕ} → SelectsBroken w locals m n → SelectsMember w locals m n s → ⊥
 no_selection w locals (uses.a_method e) (links.field f p) = cc
 no_selection w locals (uses.a_method e) (links.field_through_pointer f p) = cc
+no_selection w locals (uses.a_method e) (links.asked f) = cc
 no_selection w locals (uses.a_method e) (links.method f) = cc
 no_selection w locals (uses.a_method e) (links.method_on_pointer f) = cc
 no_selection w locals (uses.a_method e) (links.method_on_variable f) = cc

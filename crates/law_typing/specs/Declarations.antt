@@ -5,7 +5,7 @@ use Rattle.go_ast.specs.Tree.{BodyTree, TypeSpecTree, DeclTree, FileTree}
 use Rattle.go_ast.specs.Tree as tree
 use Rattle.types_expr.specs.declared.types.Basic.TheVariants as basic
 use Rattle.types_expr.specs.declared.symbol.Symbol.{Symbol}
-use Rattle.types_expr.specs.Types.{PlainType, Defined, Pointer, PointerTo, ValueKind, Untyped, TypeName}
+use Rattle.types_expr.specs.Types.{PlainType, Defined, Pointer, Underlying, PointerTo, Interface, ValueKind, Untyped, TypeName}
 use Rattle.types_expr.specs.World.{World, Locals, Means, no_locals}
 use Rattle.law_typing.specs.Names.{IsType}
 use Rattle.types_stmt.specs.Sides.{named, all_named}
@@ -18,11 +18,16 @@ pub data IsBehindStar : Option ℕ → PlainType → PlainType → Type 0 where
   no_star : {t : PlainType} → IsBehindStar None t t
   a_star : {p : ℕ} {t : PlainType} → IsBehindStar (Some p) t (Pointer t)
 
--- A receiver T or `*T` is typed, where T is a definition whose underlying type is no pointer. It declares its name: the locals before and
--- after it.
+-- the types with this underlying type have no methods of receivers: it is a pointer or an interface
+pub data TakesNoMethods : Underlying → Type 0 where
+  a_pointer_takes_none : {t : PlainType} → TakesNoMethods (PointerTo t)
+  an_interface_takes_none : {s : Symbol} → TakesNoMethods (Interface s)
+
+-- A receiver T or `*T` is typed, where T is a definition whose underlying type is neither a pointer nor an interface. It declares its name:
+-- the locals before and after it.
 pub data ReceiverIsTyped (w : World) : Locals → ReceiverTree → Locals → Type 0 where
   a_receiver : {before after : Locals} {r : ReceiverTree} {s : Symbol} {t : PlainType} → w.bound r.type_name ≡ Means (TypeName (Defined s)) →
-      ((u : PlainType) → w.definition s ≡ PointerTo u → ⊥) →
+      (TakesNoMethods (w.definition s) → ⊥) →
       IsBehindStar r.star (Defined s) t → DeclareAs t before (named r.name ∷ []) after → ReceiverIsTyped w before r after
 
 -- parameters of one type are typed; they declare their names

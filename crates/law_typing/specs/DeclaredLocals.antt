@@ -7,14 +7,14 @@ use Rattle.go_ast.specs.Tree.{Item, Group, TypeTree, ExprTree, SimpleTree, Local
 use Rattle.go_ast.specs.Tree.{ElseTree, ReceiverTree, ParamTree, FuncTree}
 use Rattle.go_ast.specs.Tree as tree
 use Rattle.types_expr.specs.declared.symbol.Symbol.{Symbol}
-use Rattle.types_expr.specs.Types.{PlainType, Defined, PointerTo, ValueKind, Nil, TypeName}
+use Rattle.types_expr.specs.Types.{PlainType, Defined, ValueKind, Nil, TypeName}
 use Rattle.types_expr.specs.World.{World, Locals, Means, Local, declared}
 use Rattle.types_expr.specs.Judge.{ListValue}
 use Rattle.law_typing.specs.Names.{IsType}
 use Rattle.types_stmt.specs.Sides.{named, all_named}
 use Rattle.law_typing.specs.Sequences.{InTurn, InGroup, IfPresent}
 use Rattle.law_typing.specs.Assignments.{DefaultsTo}
-use Rattle.law_typing.specs.Declarations.{IsBehindStar}
+use Rattle.law_typing.specs.Declarations.{IsBehindStar, TakesNoMethods}
 use Rattle.law_typing.specs.Excused.{IsDeclaredName}
 use Rattle.law_typing.specs.AssignmentFaults.{SidesGive}
 
@@ -130,9 +130,9 @@ mutual
 
 -- Functions
 
--- the name at token `place` denotes the definition s, whose underlying type is no pointer, so that it may have methods
+-- the name at token `place` denotes the definition s, whose underlying type is neither a pointer nor an interface, so that it may have methods
 pub data MayReceive (w : World) (place : ℕ) : Symbol → Type 0 where
-  may_receive : {s : Symbol} → w.bound place ≡ Means (TypeName (Defined s)) → ((u : PlainType) → w.definition s ≡ PointerTo u → ⊥) → MayReceive w place s
+  may_receive : {s : Symbol} → w.bound place ≡ Means (TypeName (Defined s)) → (TakesNoMethods (w.definition s) → ⊥) → MayReceive w place s
 
 -- the type of a receiver; none where its name denotes no such definition
 pub data ReceiverTypeIs (w : World) (r : ReceiverTree) : Option PlainType → Type 0 where

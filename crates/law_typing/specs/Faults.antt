@@ -11,6 +11,7 @@ use Rattle.types_expr.specs.declared.types.Builtin.TheVariants as builtin
 use Rattle.types_expr.specs.declared.symbol.Symbol.{Symbol}
 use Rattle.types_expr.specs.Places.{first_token, first_of_type, place_of}
 use Rattle.types_expr.specs.Types.{PlainType, SliceOf, Struct, ValueKind, Typed, Signature, Meaning, Value, TypeName, Function, BuiltinName, Package, Results}
+use Rattle.types_expr.specs.Types.{AFieldOf}
 use Rattle.types_expr.specs.World.{World, Locals, Local, Means, BrokenVariable, BrokenType, AField, ABrokenMethod, underlying}
 use Rattle.law_typing.specs.Fits.{FitsType}
 use Rattle.law_typing.specs.Operators.{IsBasic, Operates, Prefixes}
@@ -94,7 +95,7 @@ pub data MeaningOrNone (w : World) (locals : Locals) (e : ExprTree) : Option Mea
 
 -- the key at token `key` of a struct literal is a field with symbol and type, which no earlier key named
 pub data IsKey (w : World) (t : PlainType) (named : List ℕ) (key : ℕ) : Symbol → PlainType → Type 0 where
-  of_field : {owner s : Symbol} {u : PlainType} → underlying w t ≡ Struct owner → w.member key t ≡ Some (AField s u) → IsNew s.rank named →
+  of_field : {owner s : Symbol} {u : PlainType} → underlying w t ≡ Struct owner → w.member key t ≡ Some (AField s (AFieldOf u)) → IsNew s.rank named →
       IsKey w t named key s u
 
 -- the key at token `key` of a struct literal is a method whose signature is broken

@@ -1,7 +1,8 @@
 -- The rules of assignability and conversion: which values fit a type, and which convert to it.
-use Rattle.std.specs.Prelude.{◌≡◌, ◌⊎◌, List, [], ◌∷◌}
+use Rattle.std.specs.Prelude.{◌≡◌, ◌⊎◌, true, List, [], ◌∷◌}
 use Rattle.types_expr.specs.declared.types.Basic.{Basic}
-use Rattle.types_expr.specs.Types.{PlainType, Pointer, Slice, Plain, PointerTo, SliceOf, ValueKind, Typed, Untyped, Nil}
+use Rattle.types_expr.specs.declared.symbol.Symbol.{Symbol}
+use Rattle.types_expr.specs.Types.{PlainType, BasicType, Pointer, Slice, Plain, PointerTo, SliceOf, Interface, ValueKind, Typed, Untyped, Nil}
 use Rattle.types_expr.specs.World.{World, underlying}
 
 -- the type is not named: a pointer or slice type
@@ -10,13 +11,18 @@ pub data IsUnnamedType : PlainType → Type 0 where
   a_slice : {t : PlainType} → IsUnnamedType (Slice t)
 
 -- A value of kind k fits type t (Go specification, "Assignability"). Its type is identical; or the underlying types are identical and one
--- of the two types is not named; or it has no type and its kind is t's underlying type; or it is nil and t a pointer or slice.
+-- of the two types is not named; or t is an interface that its type implements. A constant fits its own basic type, and each interface that
+-- this type implements. Nil fits pointers, slices and interfaces.
 pub data FitsType (w : World) : ValueKind → PlainType → Type 0 where
   identical : {t : PlainType} → FitsType w (Typed t) t
   unnamed : {v t : PlainType} → IsUnnamedType v ⊎ IsUnnamedType t → underlying w v ≡ underlying w t → FitsType w (Typed v) t
+  as_interface : {v t : PlainType} {s : Symbol} → underlying w t ≡ Interface s → w.implements v s ≡ true → FitsType w (Typed v) t
   untyped : {b : Basic} {t : PlainType} → underlying w t ≡ Plain b → FitsType w (Untyped b) t
+  constant_as_interface : {b : Basic} {t : PlainType} {s : Symbol} → underlying w t ≡ Interface s → w.implements (BasicType b) s ≡ true →
+      FitsType w (Untyped b) t
   nil_as_pointer : {t target : PlainType} → underlying w t ≡ PointerTo target → FitsType w Nil t
   nil_as_slice : {t element : PlainType} → underlying w t ≡ SliceOf element → FitsType w Nil t
+  nil_as_interface : {t : PlainType} {s : Symbol} → underlying w t ≡ Interface s → FitsType w Nil t
 
 -- a value of kind k converts to type t (Go specification, "Conversions"): it fits, or the underlying types are identical
 pub data Converts (w : World) : ValueKind → PlainType → Type 0 where

@@ -5,22 +5,24 @@ use Rattle.types_expr.specs.declared.types.Basic.TheVariants as basic
 use Rattle.types_expr.specs.declared.types.Builtin.TheVariants as builtin
 use Rattle.types_expr.specs.declared.symbol.Symbol.{Symbol}
 use Rattle.types_expr.specs.Types.{PlainType, BasicType, Pointer, PointerTo, SliceOf, ValueKind, Typed, Signature, Meaning, Value, TypeName, Function, BuiltinName}
-use Rattle.types_expr.specs.Types.{Package, Results}
+use Rattle.types_expr.specs.Types.{Package, Results, AFieldOf, AMethodOf}
 use Rattle.types_expr.specs.World.{World, Locals, AField, AMethod, underlying}
 use Rattle.law_typing.specs.Fits.{Converts, FitInTurn, EachFits}
 use Rattle.law_typing.specs.Operators.{IsBasic}
 use Rattle.law_typing.specs.Names.{NameMeans}
 
 -- The selector at this token, after an operand of the first meaning, has the second. A field is addressable where the operand is, and
--- always through a pointer. A method of T is selected from a T or `*T`; a method of `*T` from a `*T` or an addressable T. After a package
--- it is a qualified identifier.
+-- always through a pointer. An interface has the methods that it asks for. A method of T is selected from a T or `*T`; a method of `*T` from a
+-- `*T` or an addressable T. After a package it is a qualified identifier.
 pub data SelectsMember (w : World) (locals : Locals) : Meaning → ℕ → Meaning → Type 0 where
-  field : {t u : PlainType} {a : Bool} {name : ℕ} {s : Symbol} → w.member name t ≡ Some (AField s u) →
+  field : {t u : PlainType} {a : Bool} {name : ℕ} {s : Symbol} → w.member name t ≡ Some (AField s (AFieldOf u)) →
       ((target : PlainType) → underlying w t ≡ PointerTo target → ⊥) →
       SelectsMember w locals (Value (Typed t) a) name (Value (Typed u) a)
-  field_through_pointer : {t u target : PlainType} {a : Bool} {name : ℕ} {s : Symbol} → w.member name t ≡ Some (AField s u) →
+  field_through_pointer : {t u target : PlainType} {a : Bool} {name : ℕ} {s : Symbol} → w.member name t ≡ Some (AField s (AFieldOf u)) →
       underlying w t ≡ PointerTo target →
       SelectsMember w locals (Value (Typed t) a) name (Value (Typed u) true)
+  asked : {t : PlainType} {a : Bool} {name : ℕ} {s : Symbol} {signature : Signature} → w.member name t ≡ Some (AField s (AMethodOf signature)) →
+      SelectsMember w locals (Value (Typed t) a) name (Function signature)
   method : {t : PlainType} {a : Bool} {name : ℕ} {s : Symbol} {signature : Signature} → w.member name t ≡ Some (AMethod s false signature) →
       SelectsMember w locals (Value (Typed t) a) name (Function signature)
   method_on_pointer : {t : PlainType} {a : Bool} {name : ℕ} {s : Symbol} {signature : Signature} → w.member name (Pointer t) ≡ Some (AMethod s true signature) →

@@ -7,7 +7,7 @@ use Rattle.go_ast.specs.Tree.{TypeTree, ExprTree, LinkTrees, OperandTrees, Argum
 use Rattle.go_ast.specs.Tree as tree
 use Rattle.types_expr.specs.declared.types.Basic.TheVariants as basic
 use Rattle.types_expr.specs.declared.symbol.Symbol.{Symbol}
-use Rattle.types_expr.specs.Types.{PlainType, Pointer, SliceOf, Struct, ValueKind, Typed, Untyped, Meaning, Value}
+use Rattle.types_expr.specs.Types.{PlainType, Pointer, SliceOf, Struct, ValueKind, Typed, Untyped, Meaning, Value, AFieldOf}
 use Rattle.types_expr.specs.World.{World, Locals, AField, underlying}
 use Rattle.law_typing.specs.Fits.{FitsType}
 use Rattle.law_typing.specs.Operators.{Operates, Prefixes}
@@ -75,7 +75,7 @@ mutual
   pub data AreFields (w : World) (locals : Locals) : PlainType → List ℕ → ElementTrees → Type 0 where
     no_field : {t : PlainType} {named : List ℕ} → AreFields w locals t named tree.no_element
     field : {t u : PlainType} {named : List ℕ} {key : ℕ × ℕ} {e : ExprTree} {c : Option ℕ} {rest : ElementTrees} {s : Symbol} {k : ValueKind} {a : Bool} →
-        w.member key.0 t ≡ Some (AField s u) → IsNew s.rank named → HasMeaning w locals e (Value k a) → FitsType w k u →
+        w.member key.0 t ≡ Some (AField s (AFieldOf u)) → IsNew s.rank named → HasMeaning w locals e (Value k a) → FitsType w k u →
         AreFields w locals t (s.rank ∷ named) rest →
         AreFields w locals t named (tree.element (Some key) e c rest)
 

@@ -58,8 +58,8 @@ pub data IsComparable (w : World) : ValueKind → Type 0 where
   a_pointer : {t target : PlainType} → underlying w t ≡ PointerTo target → IsComparable w (Typed t)
 
 -- A binary operation on operands of the first two kinds has a result of the third. `+` takes ints and strings; `-`, `*`, `/`, `%` take
--- ints. `<`, `<=`, `>`, `>=` take ints and strings; `&&` and `||` take bools. `==` and `!=` take comparable values, and a pointer or slice
--- with nil.
+-- ints. `<`, `<=`, `>`, `>=` take ints and strings; `&&` and `||` take bools. `==` and `!=` take comparable values, and a pointer, a
+-- slice or an interface with nil.
 pub data Operates (w : World) : BinaryOp → ValueKind → ValueKind → ValueKind → Type 0 where
   adds : {a b k : ValueKind} → HaveCommonKind w a b k → IsBasic w k basic.Int ⊎ IsBasic w k basic.String → Operates w op.Add a b k
   computes : {o : BinaryOp} {a b k : ValueKind} → IsArithmetic o → HaveCommonKind w a b k → IsBasic w k basic.Int → Operates w o a b k

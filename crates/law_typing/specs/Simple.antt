@@ -15,7 +15,7 @@ use Rattle.law_typing.specs.Fits.{FitsType}
 use Rattle.law_typing.specs.Operators.{IsBasic, Operates}
 use Rattle.law_typing.specs.Names.{IsType}
 use Rattle.law_typing.specs.Meanings.{HasMeaning}
-use Rattle.types_stmt.specs.Sides.{all_named}
+use Rattle.types_stmt.specs.Sides.{all_named, receiving}
 use Rattle.law_typing.specs.Assignments.{Taker, Fresh, OfType, TakenInTurn, GiveKinds, Declare, DeclareAs}
 
 -- a condition is typed: a value whose underlying type is bool
@@ -77,11 +77,11 @@ pub data SimpleIsTyped (w : World) : Locals → SimpleTree → Locals → Type 0
       HasMeaning w locals x (Value (Typed t) true) →
       HasMeaning w locals y (Value k a) → Operates w b (Typed t) k l → FitsType w l t → SimpleIsTyped w locals (tree.Update x o p y) locals
   an_assignment : {locals : Locals} {xs ys : List (Item ExprTree)} {p : ℕ} {ts : List Taker} {ks : List ValueKind} → AreAssigned w locals xs ts →
-      GiveKinds w locals ys ks → TakenInTurn w ks ts →
+      GiveKinds w locals ys ks → TakenInTurn (receiving w ys ks) ks ts →
       SimpleIsTyped w locals (tree.Assign xs p ys) locals
   a_definition : {before after : Locals} {xs ys : List (Item ExprTree)} {p : ℕ} {ts : List Taker} {ns : List (Option ℕ)} {ks : List ValueKind} →
       AreDefined w before xs ts ns → GiveKinds w before ys ks →
-      TakenInTurn w ks ts → Declare before ns ks after → SimpleIsTyped w before (tree.Define xs p ys) after
+      TakenInTurn (receiving w ys ks) ks ts → Declare before ns ks after → SimpleIsTyped w before (tree.Define xs p ys) after
 
 -- a declaration of locals is typed: with a written type, with or without values; or with values alone
 pub data LocalIsTyped (w : World) : Locals → LocalTree → Locals → Type 0 where
@@ -90,7 +90,8 @@ pub data LocalIsTyped (w : World) : Locals → LocalTree → Locals → Type 0 w
       LocalIsTyped w before l after
   of_type_with_values : {before after : Locals} {l : LocalTree} {x : TypeTree} {t : PlainType} {v : ℕ × List (Item ExprTree)} {ks : List ValueKind} →
       l.type_use ≡ Some x → l.values ≡ Some v → IsType w x t →
-      GiveKinds w before v.1 ks → TakenInTurn w ks (map (λ i. OfType t) l.names) → DeclareAs t before (all_named l.names) after → LocalIsTyped w before l after
+      GiveKinds w before v.1 ks → TakenInTurn (receiving w v.1 ks) ks (map (λ i. OfType t) l.names) → DeclareAs t before (all_named l.names) after →
+      LocalIsTyped w before l after
   of_values : {before after : Locals} {l : LocalTree} {v : ℕ × List (Item ExprTree)} {ks : List ValueKind} → l.type_use ≡ None → l.values ≡ Some v →
       GiveKinds w before v.1 ks →
-      TakenInTurn w ks (map (λ i. Fresh) l.names) → Declare before (all_named l.names) ks after → LocalIsTyped w before l after
+      TakenInTurn (receiving w v.1 ks) ks (map (λ i. Fresh) l.names) → Declare before (all_named l.names) ks after → LocalIsTyped w before l after

@@ -14,7 +14,8 @@ use Rattle.types_expr.specs.Judge.{ListValue}
 use Rattle.law_typing.specs.Operators.{IsBasic, Operates}
 use Rattle.law_typing.specs.Meanings.{HasMeaning}
 use Rattle.law_typing.specs.Faults.{IsNoValue, IsNoType}
-use Rattle.types_stmt.specs.Sides.{first_of_exprs, first_of_idents}
+use Rattle.types_stmt.specs.Sides.{first_of_exprs, first_of_idents, receiving}
+use Rattle.types_stmt.specs.Simple.{without_parentheses}
 use Rattle.law_typing.specs.Assignments.{Taker, Fresh}
 use Rattle.law_typing.specs.Simple.{SimpleIsTyped, Updates}
 use Rattle.law_typing.specs.Excused.{IsDeclaredName}
@@ -55,10 +56,11 @@ pub data DefinedBreaksAt (w : World) (locals : Locals) : ExprTree → ℕ → Ty
   defines_no_name : {e : ExprTree} {k : ValueKind} {a : Bool} → ((p : ℕ) → e ≡ tree.Name p → ⊥) → HasMeaning w locals e (Value k a) →
       DefinedBreaksAt w locals e (place_of e)
 
--- a simple statement breaks a rule at this token
+-- A simple statement breaks a rule at this token. Parentheses around an expression statement ask for no value.
 pub data SimpleBreaksAt (w : World) (locals : Locals) : SimpleTree → ℕ → Type 0 where
-  in_alone : {e : ExprTree} {p : ℕ} → BreaksAt w locals e p → SimpleBreaksAt w locals (tree.Alone e) p
-  no_statement : {e : ExprTree} {m : Meaning} → HasMeaning w locals e m → ((after : Locals) → SimpleIsTyped w locals (tree.Alone e) after → ⊥) →
+  in_alone : {e : ExprTree} {p : ℕ} → BreaksAt w locals (without_parentheses e) p → SimpleBreaksAt w locals (tree.Alone e) p
+  no_statement : {e : ExprTree} {m : Meaning} → HasMeaning w locals (without_parentheses e) m →
+      ((after : Locals) → SimpleIsTyped w locals (tree.Alone e) after → ⊥) →
       SimpleBreaksAt w locals (tree.Alone e) (place_of e)
   in_step : {e : ExprTree} {o : StepOp} {q p : ℕ} → OperandBreaksAt w locals e p → SimpleBreaksAt w locals (tree.Step e o q) p
   no_step : {e : ExprTree} {o : StepOp} {q : ℕ} {k : ValueKind} → HasMeaning w locals e (Value k true) → (IsBasic w k basic.Int → ⊥) →
@@ -70,11 +72,13 @@ pub data SimpleBreaksAt (w : World) (locals : Locals) : SimpleTree → ℕ → T
   in_assigned : {xs ys : List (Item ExprTree)} {q p : ℕ} → AnyBreaksAt (OperandBreaksAt w locals) xs p → SimpleBreaksAt w locals (tree.Assign xs q ys) p
   in_assignment : {xs ys : List (Item ExprTree)} {q p : ℕ} → SidesBreakAt w locals ys p → SimpleBreaksAt w locals (tree.Assign xs q ys) p
   no_assignment : {xs ys : List (Item ExprTree)} {q p : ℕ} {vs : List ListValue} {ts : List (Option Taker)} → SidesGive w locals ys vs →
-      EachTakes (AssignedTakes w locals) xs ts → IsAssignmentFault w (first_of_exprs xs) vs ts p → SimpleBreaksAt w locals (tree.Assign xs q ys) p
+      EachTakes (AssignedTakes w locals) xs ts → IsAssignmentFault (receiving w ys vs) (first_of_exprs xs) vs ts p →
+      SimpleBreaksAt w locals (tree.Assign xs q ys) p
   in_defined : {xs ys : List (Item ExprTree)} {q p : ℕ} → AnyBreaksAt (DefinedBreaksAt w locals) xs p → SimpleBreaksAt w locals (tree.Define xs q ys) p
   in_definition : {xs ys : List (Item ExprTree)} {q p : ℕ} → SidesBreakAt w locals ys p → SimpleBreaksAt w locals (tree.Define xs q ys) p
   no_definition : {xs ys : List (Item ExprTree)} {q p : ℕ} {vs : List ListValue} {ts : List (Option Taker)} → SidesGive w locals ys vs →
-      EachTakes (DefinedTakes w locals) xs ts → IsAssignmentFault w (first_of_exprs xs) vs ts p → SimpleBreaksAt w locals (tree.Define xs q ys) p
+      EachTakes (DefinedTakes w locals) xs ts → IsAssignmentFault (receiving w ys vs) (first_of_exprs xs) vs ts p →
+      SimpleBreaksAt w locals (tree.Define xs q ys) p
 
 -- a declaration of locals breaks a rule at this token
 pub data LocalBreaksAt (w : World) (locals : Locals) : LocalTree → ℕ → Type 0 where
@@ -82,6 +86,6 @@ pub data LocalBreaksAt (w : World) (locals : Locals) : LocalTree → ℕ → Typ
   in_values : {l : LocalTree} {v : ℕ × List (Item ExprTree)} {p : ℕ} → l.values ≡ Some v → SidesBreakAt w locals v.1 p → LocalBreaksAt w locals l p
   no_values_of_type : {l : LocalTree} {x : TypeTree} {t : Option PlainType} {v : ℕ × List (Item ExprTree)} {vs : List ListValue} {p : ℕ} →
       l.type_use ≡ Some x → l.values ≡ Some v → WrittenTypeIs w x t → SidesGive w locals v.1 vs →
-      IsAssignmentFault w (first_of_idents l.names) vs (map (λ i. taker_of t) l.names) p → LocalBreaksAt w locals l p
+      IsAssignmentFault (receiving w v.1 vs) (first_of_idents l.names) vs (map (λ i. taker_of t) l.names) p → LocalBreaksAt w locals l p
   no_values : {l : LocalTree} {v : ℕ × List (Item ExprTree)} {vs : List ListValue} {p : ℕ} → l.type_use ≡ None → l.values ≡ Some v → SidesGive w locals v.1 vs →
-      IsAssignmentFault w (first_of_idents l.names) vs (map (λ i. Some Fresh) l.names) p → LocalBreaksAt w locals l p
+      IsAssignmentFault (receiving w v.1 vs) (first_of_idents l.names) vs (map (λ i. Some Fresh) l.names) p → LocalBreaksAt w locals l p

@@ -11,6 +11,7 @@ use Rattle.law_typing.specs.AssignmentFaults.{SidesGive, taker_of, IsReturnFault
 use Rattle.law_typing.specs.DeclaredLocals.{SimpleDeclares, LocalDeclares, InitDeclares, HeaderDeclares, StatementDeclares, BlockDeclares}
 use Rattle.law_typing.specs.SequenceFaults.{BreaksInGroup, BreaksIfPresent}
 use Rattle.law_typing.specs.SimpleFaults.{ConditionBreaksAt, SidesBreakAt, SimpleBreaksAt, LocalBreaksAt}
+use Rattle.types_stmt.specs.Sides.{receiving}
 
 -- the statement before the condition of an `if` breaks a rule at this token
 pub data InitBreaksAt (w : World) : Locals → InitTree → ℕ → Type 0 where
@@ -42,7 +43,7 @@ mutual
         StatementBreaksAt w results before (tree.For q h b) p
     in_return : {before : Locals} {q p : ℕ} {es : List (Item ExprTree)} → SidesBreakAt w before es p → StatementBreaksAt w results before (tree.Return q es) p
     no_return : {before : Locals} {q p : ℕ} {es : List (Item ExprTree)} {vs : List ListValue} → SidesGive w before es vs →
-        IsReturnFault w q vs (map taker_of results) p → StatementBreaksAt w results before (tree.Return q es) p
+        IsReturnFault (receiving w es vs) q vs (map taker_of results) p → StatementBreaksAt w results before (tree.Return q es) p
 
   -- a block breaks a rule at this token
   pub data BlockBreaksAt (w : World) (results : List (Option PlainType)) : Locals → BlockTree → ℕ → Type 0 where

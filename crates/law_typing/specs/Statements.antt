@@ -8,6 +8,7 @@ use Rattle.types_expr.specs.World.{World, Locals}
 use Rattle.law_typing.specs.Sequences.{InGroup, IfPresent}
 use Rattle.law_typing.specs.Assignments.{OfType, TakenInTurn, GiveKinds}
 use Rattle.law_typing.specs.Simple.{ConditionIsTyped, SimpleIsTyped, LocalIsTyped}
+use Rattle.types_stmt.specs.Sides.{receiving}
 
 -- the statement before the condition of an `if` is typed
 pub data InitIsTyped (w : World) : Locals → InitTree → Locals → Type 0 where
@@ -36,7 +37,8 @@ mutual
         StatementIsTyped w results before (tree.For p h b) after
     a_break : {locals : Locals} {p : ℕ} → StatementIsTyped w results locals (tree.Break p) locals
     a_continue : {locals : Locals} {p : ℕ} → StatementIsTyped w results locals (tree.Continue p) locals
-    a_return : {locals : Locals} {p : ℕ} {es : List (Item ExprTree)} {ks : List ValueKind} → GiveKinds w locals es ks → TakenInTurn w ks (map OfType results) →
+    a_return : {locals : Locals} {p : ℕ} {es : List (Item ExprTree)} {ks : List ValueKind} → GiveKinds w locals es ks →
+        TakenInTurn (receiving w es ks) ks (map OfType results) →
         StatementIsTyped w results locals (tree.Return p es) locals
 
   -- a block is typed

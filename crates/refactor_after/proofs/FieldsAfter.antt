@@ -11,7 +11,6 @@ use Rattle.types_info.proofs.MeaningLists.{slice_get_some}
 use Rattle.types_declared.specs.Laid.{is_exported}
 use Rattle.types_expr.specs.declared.symbol.Symbol.{Symbol}
 use Rattle.types_expr.specs.Types.{PlainType, Defined, Underlying}
-use Rattle.types_expr.specs.Types.{Struct as StructOf}
 use Rattle.types_expr.specs.World.{is_seen, field_owner, owner}
 use Rattle.types_declared.specs.Package.{Package, symbol_in}
 use Rattle.types_declared.specs.Definitions.{HasUnderlying}
@@ -72,10 +71,12 @@ mapped_in Known path P Q to h = record { inside = h.inside; is_package = h.is_pa
 
 module _ (w : Workspace) (known : Verdicts) where
   -- A relation that holds of the package at a path holds of each package that has the path.
-  pub of_one : (p : Package) → IsCheckedPackage w known p → (path : List ℕ) → p.path ≡ path → (P : Package → Type 0) → InPackage (IsCheckedPackage w known) path P → P p
+  pub of_one : (p : Package) → IsCheckedPackage w known p → (path : List ℕ) → p.path ≡ path → (P : Package → Type 0) →
+      InPackage (IsCheckedPackage w known) path P → P p
   of_one p is path e P h = subst P (one_package w known h.inside p h.is_package is (h.of_path ∙ sym e)) h.holds
 
-  pub found_in : (p : Package) → IsCheckedPackage w known p → (path : List ℕ) → p.path ≡ path → (P : Package → ℕ → Type 0) → (o : Option ℕ) → IsRankFound (P p) o →
+  pub found_in : (p : Package) → IsCheckedPackage w known p → (path : List ℕ) → p.path ≡ path → (P : Package → ℕ → Type 0) → (o : Option ℕ) →
+      IsRankFound (P p) o →
       IsRankFound (λ n. InPackage (IsCheckedPackage w known) path (λ q. P q n)) o
   found_in p is path e P None h = λ rank k. h rank (of_one p is path e (λ q. P q rank) k)
   found_in p is path e P (Some rank) h = record { inside = p; is_package = is; of_path = e; holds = h }
@@ -91,7 +92,8 @@ module _ (w : Workspace) (known : Verdicts) where
 
   pub has_the_field : (r : Revision) (p : Package) → IsCheckedPackage w known p → (rank : ℕ) (name : List ℕ) (s : Symbol) → IsStructFound p rank (Some s) →
       (o : Option ℕ) →
-      IsRankFound (IsFieldIn (IsCheckedPackage w known) r p.path name s) o → (b : Bool) → b ≡ is_some o → IsTrue b ↔ HasFieldAfter (IsCheckedPackage w known) r p rank name
+      IsRankFound (IsFieldIn (IsCheckedPackage w known) r p.path name s) o → (b : Bool) → b ≡ is_some o →
+      IsTrue b ↔ HasFieldAfter (IsCheckedPackage w known) r p rank name
   has_the_field r p is rank name s h o found b e = (from o found e, to o found e)
     where
       from : (x : Option ℕ) → IsRankFound (IsFieldIn (IsCheckedPackage w known) r p.path name s) x → b ≡ is_some x → IsTrue b →
@@ -102,13 +104,11 @@ module _ (w : Workspace) (known : Verdicts) where
         underlying = elim (struct_had p rank s h) [
           | inl had ↦ had
           | inr own ↦ (
-              let first = of_one p is s.package (sym (ap (λ (z : Symbol). z.package) own)) (λ q. IsFirstField r q s.rank name n) k.has in
+              let first = of_one p is s.package (sym (ap (λ (z : Symbol). z.package) own.0)) (λ q. IsFirstField r q s.rank name n) k.has in
               let f = first.has.field in
-              let at : f.definition ≡ rank = first.has.of_struct ∙ ap (λ (z : Symbol). z.rank) own in
+              let at : f.definition ≡ rank = first.has.of_struct ∙ ap (λ (z : Symbol). z.rank) own.0 in
               let written = field_written p n f first.has.has_rank in
-              let here : HasUnderlying p (Defined (symbol_in p rank)) (StructOf (symbol_in p rank)) =
-              subst (λ k. HasUnderlying p (Defined (symbol_in p k)) (StructOf (symbol_in p k))) at written in
-              subst (λ z. HasUnderlying p (Defined (symbol_in p rank)) (StructOf z)) (sym own) here)
+              absurd (own.1 written.0 (subst (λ k. HasUnderlying p (Defined (symbol_in p k)) written.0) at written.1)))
         ];
         rank = n;
         has = k;
@@ -156,7 +156,8 @@ method_first Known r path d name none (Some rank) h =
 
 pub one_method : (w : Workspace) (known : Verdicts) (r : Revision) (path : List ℕ) (d : ℕ) (name : List ℕ) (o : Option ℕ) →
     IsRankFound (λ rank. InPackage (IsCheckedPackage w known) path (λ p. IsFirstMethod (IsCheckedPackage w known) r p d name rank)) o →
-    (rank : ℕ) (b : Bool) → IsTrue b ↔ (o ≡ Some rank) → IsTrue b ↔ InPackage (IsCheckedPackage w known) path (λ p. IsFirstMethod (IsCheckedPackage w known) r p d name rank)
+    (rank : ℕ) (b : Bool) → IsTrue b ↔ (o ≡ Some rank) → IsTrue b ↔ InPackage (IsCheckedPackage w known) path (λ p. IsFirstMethod (IsCheckedPackage w known)
+    r p d name rank)
 one_method w known r path d name o h rank b is = (
   (λ t. subst (IsRankFound (λ n. InPackage (IsCheckedPackage w known) path (λ p. IsFirstMethod (IsCheckedPackage w known) r p d name n))) (is.0 t) h),
   (λ k. is.1 (found o h k)),

@@ -4,50 +4,64 @@ use Rattle.std.specs.Prelude.{Option, Some, None, slice_get, slice_index_or}
 use Rattle.std.specs.List.{All, flat_map}
 use Rattle.std.proofs.lemmas.List.Elements.{All-nil, All-head, All-tail, All-append, All-map, All-weaker}
 use Rattle.std.proofs.lemmas.Option.{none-some, same_Some}
-use Rattle.go_ast.specs.Tree.{Item, FieldTree, BodyTree, Other, Struct, Interface}
+use Rattle.go_ast.specs.Tree.{Item, FieldTree, MethodTree, BodyTree, Other, Struct, Interface}
 use Rattle.go_scope.specs.WellFormed.{WellFormed}
 use Rattle.types_expr.specs.declared.symbol.Symbol.{Symbol}
 use Rattle.types_expr.specs.declared.world.Definition.{Definition}
 use Rattle.types_expr.specs.Types.{Defined, Underlying, Plain, PointerTo, SliceOf}
-use Rattle.types_expr.specs.Types.{Struct as StructOf}
+use Rattle.types_expr.specs.Types.{Struct as StructOf, Interface as InterfaceOf}
 use Rattle.types_expr.specs.World.{struct_of}
 use Rattle.types_expr.specs.World as plain
 use Rattle.types_expr.specs.WorldView.{definition_or_none}
 use Rattle.types_declared.specs.Package.{Package, PlacedType, package_types, symbol_in}
-use Rattle.types_declared.specs.Definitions.{PlacedField, body_fields, fields_from, package_fields, HasUnderlying, struct, IsUnderlyingOf, has, has_none}
+use Rattle.types_declared.specs.Definitions.{PlacedField, body_fields, fields_from, package_fields, HasUnderlying, struct, interface}
+use Rattle.types_declared.specs.Definitions.{OfType, OfSignature, IsUnderlyingOf, has, has_none}
 use Rattle.types_declared.proofs.OneUnderlying.{one_underlying, none_beyond}
 use Rattle.refs_binding.specs.Members.{AreOwnDefinitions}
 use Rattle.refactor_after.specs.MembersFound.{IsStructFound}
 
--- a definition writes a struct
-data WritesStruct : BodyTree → Type 0 where
-  writes : {k o c : ℕ} {fs : List (Item FieldTree)} → WritesStruct (Struct k o fs c)
+-- a definition writes a struct or an interface
+data WritesMembers : BodyTree → Type 0 where
+  fields : {k o c : ℕ} {fs : List (Item FieldTree)} → WritesMembers (Struct k o fs c)
+  methods : {k o c : ℕ} {ms : List (Item MethodTree)} → WritesMembers (Interface k o ms c)
 
--- one of some definitions writes the struct of a field, by its rank from a first one on
+-- one of some definitions writes a member, by its rank from a first one on
 record IsWritten (first : ℕ) (ds : List PlacedType) (f : PlacedField) : Type 0 where
   place : ℕ
   definition : PlacedType
   stands : slice_get ds place ≡ Some definition
   of_rank : f.definition ≡ first + place
-  writes : WritesStruct definition.spec.body
+  writes : WritesMembers definition.spec.body
 
 body_written : (first file : ℕ) (d : PlacedType) (ds : List PlacedType) (b : BodyTree) → d.spec.body ≡ b →
     All (IsWritten first (d ∷ ds)) (body_fields first file b)
 body_written first file d ds (Other t) e = All-nil (IsWritten first (d ∷ ds))
-body_written first file d ds (Interface k o ms c) e = All-nil (IsWritten first (d ∷ ds))
+body_written first file d ds (Interface k o ms c) e =
+    All-map (IsWritten first (d ∷ ds)) (λ (i : Item MethodTree). record {
+      definition = first;
+      file = file;
+      name = i.value.name;
+      form = OfSignature i.value.params i.value.result;
+    }) ms (λ k x lt. record { place = 0; definition = d; stands = refl; of_rank = omega arith; writes = subst WritesMembers (sym e) methods })
 body_written first file d ds (Struct k o fs c) e = items fs
   where
-    one : (i : Item FieldTree) (n : Item ℕ) → IsWritten first (d ∷ ds) (record { definition = first; file = file; name = n.value; type_use = i.value.type_use })
-    one i n = record { place = 0; definition = d; stands = refl; of_rank = omega arith; writes = subst WritesStruct (sym e) writes }
+    one : (i : Item FieldTree) (n : Item ℕ) → IsWritten first (d ∷ ds) (record {
+      definition = first;
+      file = file;
+      name = n.value;
+      form = OfType
+          i.value.type_use;
+    })
+    one i n = record { place = 0; definition = d; stands = refl; of_rank = omega arith; writes = subst WritesMembers (sym e) fields }
 
     names : (i : Item FieldTree) (xs : List (Item ℕ)) → All (IsWritten first (d ∷ ds))
-        (map (λ (n : Item ℕ). record { definition = first; file = file; name = n.value; type_use = i.value.type_use }) xs)
+        (map (λ (n : Item ℕ). record { definition = first; file = file; name = n.value; form = OfType i.value.type_use }) xs)
     names i xs = All-map (IsWritten first (d ∷ ds)) (λ (n : Item ℕ). record
-        { definition = first; file = file; name = n.value; type_use = i.value.type_use }) xs (λ k x lt. one i (slice_index_or xs k x))
+        { definition = first; file = file; name = n.value; form = OfType i.value.type_use }) xs (λ k x lt. one i (slice_index_or xs k x))
 
     items : (xs : List (Item FieldTree)) →
         All (IsWritten first (d ∷ ds)) (flat_map (λ (i : Item FieldTree). map
-        (λ (n : Item ℕ). record { definition = first; file = file; name = n.value; type_use = i.value.type_use }) i.value.names) xs)
+        (λ (n : Item ℕ). record { definition = first; file = file; name = n.value; form = OfType i.value.type_use }) i.value.names) xs)
     items [] = All-nil (IsWritten first (d ∷ ds))
     items (i ∷ is) = All-append (IsWritten first (d ∷ ds)) _ _ (names i i.value.names) (items is)
 
@@ -72,18 +86,23 @@ all_at P [] i x h e = absurd (none-some x e)
 all_at P (y ∷ ys) zero x h e = subst P (same_Some y x e) (All-head P y ys h)
 all_at P (y ∷ ys) (suc i) x h e = all_at P ys i x (All-tail P y ys h) e
 
-has_struct : (p : Package) (rank : ℕ) (d : PlacedType) (b : BodyTree) → slice_get (package_types p) rank ≡ Some d → d.spec.body ≡ b → WritesStruct b →
-    HasUnderlying p (Defined (symbol_in p rank)) (StructOf (symbol_in p rank))
-has_struct p rank d _ at e writes = struct at e
+-- a type definition has an underlying type
+abbrev IsUnder : Package → ℕ → Type 0
+IsUnder p rank = (u : Underlying) × HasUnderlying p (Defined (symbol_in p rank)) u
 
--- The type definition of a field writes the struct.
+has_members : (p : Package) (rank : ℕ) (d : PlacedType) (b : BodyTree) → slice_get (package_types p) rank ≡ Some d → d.spec.body ≡ b → WritesMembers b →
+    IsUnder p rank
+has_members p rank d _ at e fields = (StructOf (symbol_in p rank), struct at e)
+has_members p rank d _ at e methods = (InterfaceOf (symbol_in p rank), interface at e)
+
+-- The type definition of a written member is a struct or an interface.
 pub field_written : (p : Package) (rank : ℕ) (f : PlacedField) → slice_get (package_fields p) rank ≡ Some f →
-    HasUnderlying p (Defined (symbol_in p f.definition)) (StructOf (symbol_in p f.definition))
+    (u : Underlying) × HasUnderlying p (Defined (symbol_in p f.definition)) u
 field_written p rank f at =
     let w = all_at (IsWritten 0 (package_types p)) (package_fields p) rank f (all_written 0 (package_types p)) at in
     let same : w.place ≡ f.definition = (let e : f.definition ≡ 0 + w.place = w.of_rank in omega arith) in
-    subst (λ n. HasUnderlying p (Defined (symbol_in p n)) (StructOf (symbol_in p n))) same
-    (has_struct p w.place w.definition w.definition.spec.body w.stands refl w.writes)
+    subst (IsUnder p) same
+    (has_members p w.place w.definition w.definition.spec.body w.stands refl w.writes)
 
 -- The struct of a type definition, by the package's own definitions.
 pub struct_found : (p : Package) (own : List Definition) → AreOwnDefinitions p own → (s : Symbol) → p.path ≡ s.package → (o : Option Symbol) →
@@ -109,6 +128,7 @@ struct_is : (u : Underlying) (s : Symbol) → Some s ≡ struct_of u → u ≡ S
 struct_is (Plain b) s e = absurd (none-some s (sym e))
 struct_is (PointerTo t) s e = absurd (none-some s (sym e))
 struct_is (SliceOf t) s e = absurd (none-some s (sym e))
+struct_is (InterfaceOf t) s e = absurd (none-some s (sym e))
 struct_is (StructOf t) s e = ap StructOf (same_Some t s (sym e))
 
 -- the struct that was found is the one that the definition has
@@ -120,12 +140,14 @@ found_struct p w rank o s h k = h.1.1 ∙ ap struct_of (same h.0 h.1.0)
     same u (has is) = one_underlying p w (Defined (symbol_in p rank)) u (StructOf s) is k
     same _ (has_none none) = absurd (none (StructOf s) k)
 
--- The struct that was found is that of the type definition, or is a struct of its own.
+-- The struct that was found is that of the type definition, or is a struct of its own, of a definition without an underlying type.
 pub struct_had : (p : Package) (rank : ℕ) (s : Symbol) → IsStructFound p rank (Some s) →
-    HasUnderlying p (Defined (symbol_in p rank)) (StructOf s) ⊎ (s ≡ symbol_in p rank)
+    HasUnderlying p (Defined (symbol_in p rank)) (StructOf s) ⊎ ((s ≡ symbol_in p rank) × ((u : Underlying) →
+    HasUnderlying p (Defined (symbol_in p rank)) u → ⊥))
 struct_had p rank s h = by_underlying h.0 h.1.0 h.1.1
   where
     by_underlying : (u : Underlying) → IsUnderlyingOf p rank u → Some s ≡ struct_of u →
-        HasUnderlying p (Defined (symbol_in p rank)) (StructOf s) ⊎ (s ≡ symbol_in p rank)
+        HasUnderlying p (Defined (symbol_in p rank)) (StructOf s) ⊎ ((s ≡ symbol_in p rank) × ((v : Underlying) →
+        HasUnderlying p (Defined (symbol_in p rank)) v → ⊥))
     by_underlying u (has is) e = inl (subst (HasUnderlying p (Defined (symbol_in p rank))) (struct_is u s e) is)
-    by_underlying _ (has_none none) e = inr (same_Some s (symbol_in p rank) e)
+    by_underlying _ (has_none none) e = inr (same_Some s (symbol_in p rank) e, none)

@@ -4,12 +4,12 @@ use Rattle.std.specs.Prelude.{ℕ, ◌≡◌, false, List, [], Option, Some, map
 use Rattle.go_scope.specs.declared.model.Position.{Position}
 use Rattle.types_declared.specs.ExportTablesView.{export_data_known}
 use Rattle.types_info.specs.declared.lists.Qualified.{Qualified}
-use Rattle.types_info.specs.MemberUses.{uses_in}
+use Rattle.types_info.specs.MemberUses.{enterings_in, uses_in}
 use Rattle.workspace_check.specs.declared.finding.Finding.{Finding}
 use Rattle.workspace_check.specs.declared.known.Known.{Known}
 use Rattle.workspace_check.specs.declared.known.KnownVerdict.{KnownVerdict}
 use Rattle.workspace_check.specs.KnownFindings.{verdict_from}
-use Rattle.law_changed_types.specs.Moved.{PathMap, moved_use}
+use Rattle.law_changed_types.specs.Moved.{PathMap, moved_entering, moved_use}
 use Rattle.refactor_known.specs.MovedData.{moved_data}
 
 -- The positions of names that an import qualifies, with its path; and so after a move.
@@ -19,13 +19,14 @@ listed q = (q.path.items, q.places.items)
 abbrev pub moved_listed : PathMap → List ℕ × List Position → List ℕ × List Position
 moved_listed g l = (g l.0, l.1)
 
--- The finding `now` is `was` after the move: at the moved path, without faults, with moved uses of members, and with the same qualified
--- identifiers under moved paths.
+-- The finding `now` is `was` after the move: at the moved path, without faults, with moved uses of members and moved entries, and with the
+-- same qualified identifiers under moved paths.
 pub record IsMovedFinding (g : PathMap) (was now : Finding) : Type 0 where
   pub path : now.path ≡ g was.path
   pub faultless : was.faults.items ≡ []
   pub still_faultless : now.faults.items ≡ []
   pub members : map uses_in now.members.items ≡ map (map (moved_use g)) (map uses_in was.members.items)
+  pub enterings : map enterings_in now.enterings.items ≡ map (map (moved_entering g)) (map enterings_in was.enterings.items)
   pub qualified : map listed now.qualified.items ≡ map (moved_listed g) (map listed was.qualified.items)
 
 -- The known verdict `now` is `was` after the move of the package `from`, which may get another name. Its finding is moved, it has no fault,

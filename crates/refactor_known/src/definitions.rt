@@ -14,11 +14,11 @@ impl Movable for Field {
 
     fn moved(&self, alloc: Global, swap: &Swap) -> Result<Field, AllocError> {
         let symbol = swap.symbol(alloc, &self.symbol)?;
-        let field_type = swap.go_type(alloc, &self.field_type)?;
+        let form = swap.form(alloc, &self.form)?;
         Ok(Field {
             symbol,
             exported: self.exported,
-            field_type,
+            form,
         })
     }
 }

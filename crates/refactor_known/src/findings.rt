@@ -1,14 +1,14 @@
 //! Findings of packages after a move.
 ghost use Rattle.std.specs.Prelude.{◌≡◌, IfOk, IfSome, map, option_map};
-ghost use Rattle.types_expr.specs.Found.{use_of};
-ghost use Rattle.types_info.specs.MemberUses.{uses_in};
-ghost use Rattle.law_changed_types.specs.Moved.{moved_symbol, moved_use};
+ghost use Rattle.types_expr.specs.Found.{plain_entering, use_of};
+ghost use Rattle.types_info.specs.MemberUses.{enterings_in, uses_in};
+ghost use Rattle.law_changed_types.specs.Moved.{moved_entering, moved_symbol, moved_use};
 ghost use Rattle.refactor_known.specs.MovedKnown.{IsMovedFinding, listed, moved_listed};
 ghost use Rattle.refactor_known.specs.Swaps.{map_of};
 
 use crate::swap::Swap;
 use std::alloc::{AllocError, Global};
-use types_expr::found::MemberUse;
+use types_expr::found::{Entering, MemberUse};
 use types_expr::symbol::Symbol;
 use types_info::Qualified;
 use workspace_check::Finding;
@@ -67,6 +67,46 @@ impl Swap {
         Ok(moved)
     }
 
+    /// An entry of a value into an interface after the move.
+    fn entering(&self, alloc: Global, one: &Entering) -> Result<Entering, AllocError>
+        ensures { IfOk result (λ moved. plain_entering moved ≡ moved_entering (map_of self.now) (plain_entering one.now)) }
+    {
+        Ok(Entering {
+            place: one.place,
+            own: self.go_type(alloc, &one.own)?,
+        })
+    }
+
+    /// The entries of a file after the move.
+    fn file_enterings(
+        &self,
+        alloc: Global,
+        enterings: &[Entering],
+    ) -> Result<Vec<Entering>, AllocError>
+        ensures { IfOk result (λ moved. map plain_entering moved.items ≡ map (moved_entering (map_of self.now)) (map plain_entering enterings.now)) }
+    {
+        let mut moved = Vec::with_capacity(alloc, enterings.len())?;
+        for one in enterings {
+            moved.push(self.entering(alloc, one)?)?;
+        }
+        Ok(moved)
+    }
+
+    /// The entries of all files of a package after the move.
+    fn enterings(
+        &self,
+        alloc: Global,
+        lists: &[Vec<Entering>],
+    ) -> Result<Vec<Vec<Entering>>, AllocError>
+        ensures { IfOk result (λ moved. map enterings_in moved.items ≡ map (map (moved_entering (map_of self.now))) (map enterings_in lists.now)) }
+    {
+        let mut moved = Vec::with_capacity(alloc, lists.len())?;
+        for list in lists {
+            moved.push(self.file_enterings(alloc, list)?)?;
+        }
+        Ok(moved)
+    }
+
     /// The qualified identifiers under an import after the move.
     fn qualified_by(&self, alloc: Global, list: &Qualified) -> Result<Qualified, AllocError>
         ensures { IfOk result (λ moved. listed moved ≡ moved_listed (map_of self.now) (listed list.now)) }
@@ -96,11 +136,13 @@ impl Swap {
         }
         let path = self.path(alloc, &finding.path)?;
         let members = self.members(alloc, &finding.members)?;
+        let enterings = self.enterings(alloc, &finding.enterings)?;
         let qualified = self.qualified(alloc, &finding.qualified)?;
         Ok(Some(Finding {
             path,
             faults: Vec::new(alloc),
             members,
+            enterings,
             qualified,
         }))
     }

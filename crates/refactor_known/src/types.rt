@@ -1,15 +1,15 @@
 //! Types, signatures and underlying types after a move.
 ghost use Rattle.std.specs.Prelude.{◌≡◌, IfOk, map, option_map};
 ghost use Rattle.types_expr.specs.Types.{Defined};
-ghost use Rattle.types_expr.specs.View.{signature_of, type_of};
+ghost use Rattle.types_expr.specs.View.{form_of, signature_of, type_of};
 ghost use Rattle.types_expr.specs.WorldView.{underlying_of};
-ghost use Rattle.law_changed_types.specs.Moved.{moved_signature, moved_symbol, moved_type, moved_underlying};
+ghost use Rattle.law_changed_types.specs.Moved.{moved_form, moved_signature, moved_symbol, moved_type, moved_underlying};
 ghost use Rattle.refactor_known.specs.Swaps.{map_of};
 
 use crate::swap::Swap;
 use std::alloc::{AllocError, Global};
 use types_expr::symbol::Symbol;
-use types_expr::types::{GoType, Signature};
+use types_expr::types::{GoType, Signature, WrittenAs};
 use types_expr::world::Underlying;
 
 /// The type of pointers to this type.
@@ -80,6 +80,19 @@ impl Swap {
         })
     }
 
+    /// The type or the signature of a written member after the move.
+    #[tactic(auto, unfolding(types_expr::specs::View::form_of))]
+    pub(crate) fn form(&self, alloc: Global, form: &WrittenAs) -> Result<WrittenAs, AllocError>
+        ensures { IfOk result (λ moved. form_of moved ≡ moved_form (map_of self.now) (form_of form.now)) }
+    {
+        match form {
+            WrittenAs::Field(own) => Ok(WrittenAs::Field(self.go_type(alloc, own)?)),
+            WrittenAs::Method(signature) => Ok(WrittenAs::Method(self.signature(
+                alloc, signature,
+            )?)),
+        }
+    }
+
     /// A signature after the move, if there is one.
     pub(crate) fn signature_if(
         &self,
@@ -110,6 +123,7 @@ impl Swap {
             )?)),
             Underlying::SliceOf(element) => Ok(Underlying::SliceOf(self.go_type(alloc, element)?)),
             Underlying::Struct(symbol) => Ok(Underlying::Struct(self.symbol(alloc, symbol)?)),
+            Underlying::Interface(symbol) => Ok(Underlying::Interface(self.symbol(alloc, symbol)?)),
         }
     }
 }

@@ -3,15 +3,13 @@ use Rattle.std.proofs.Common.{ℕ, ◌≡◌, List, ap, sym, subst, refl, ◌∙
 use Rattle.std.specs.Prelude.{Option, Some, None, option_map, slice_get}
 use Rattle.std.proofs.lemmas.Option.{none-some}
 use Rattle.types_expr.specs.declared.world.Definition.{Definition}
-use Rattle.types_expr.specs.Types.{PlainType}
+use Rattle.types_expr.specs.Types.{WrittenAs}
 use Rattle.types_expr.specs.World as plain
 use Rattle.types_expr.specs.WorldView.{definition_or_none}
 use Rattle.types_declared.specs.Package.{Package, PlacedType, PlacedFunction, package_types, symbol_in}
-use Rattle.types_declared.specs.Written.{IsTypeOf}
 use Rattle.types_declared.specs.Definitions.{PlacedField, package_fields, IsFieldOf, IsCountingField, IsMethodOf, IsCountingMethod, IsFoundField, IsFoundMethod}
-use Rattle.types_declared.specs.Definitions.{HasUnderlying}
+use Rattle.types_declared.specs.Definitions.{HasUnderlying, HasForm}
 use Rattle.types_expr.specs.Types.{Defined}
-use Rattle.types_expr.specs.Types.{Struct as StructOf}
 use Rattle.types_declared.proofs.OneUnderlying.{none_beyond}
 use Rattle.refs_binding.specs.Members.{AreOwnDefinitions}
 use Rattle.refactor_after.proofs.Structs.{field_written}
@@ -20,7 +18,7 @@ use Rattle.refactor_members.specs.Naming.{HasField, HasMethod, IsFirstOld}
 -- In a package without faults each field and each method counts, and each field has a type.
 pub record AllCount (p : Package) : Type 0 where
   pub fields : (definition : ℕ) (name : List ℕ) (rank : ℕ) (f : PlacedField) → IsFieldOf p definition name rank f → IsCountingField p definition name rank f
-  pub typed : (rank : ℕ) (f : PlacedField) → slice_get (package_fields p) rank ≡ Some f → ((t : PlainType) → IsTypeOf p f.file f.type_use t → ⊥) → ⊥
+  pub typed : (rank : ℕ) (f : PlacedField) → slice_get (package_fields p) rank ≡ Some f → ((t : WrittenAs) → HasForm p f.file f.form t → ⊥) → ⊥
   pub methods : (definition : ℕ) (name : List ℕ) (rank : ℕ) (f : PlacedFunction) → IsMethodOf p definition name rank f →
       IsCountingMethod p definition name rank f
 
@@ -34,8 +32,7 @@ rank_of_method d name = option_map (λ x. x.symbol.rank) (d.method name)
 pub no_field_beyond : (p : Package) (definition : ℕ) → slice_get (package_types p) definition ≡ None → (rank : ℕ) (f : PlacedField) →
     slice_get (package_fields p) rank ≡ Some f → f.definition ≡ definition → ⊥
 no_field_beyond p definition none rank f has of =
-    none_beyond p definition none (StructOf (symbol_in p definition))
-    (subst (λ n. HasUnderlying p (Defined (symbol_in p n)) (StructOf (symbol_in p n))) of (field_written p rank f has))
+    let u = field_written p rank f has in none_beyond p definition none u.0 (subst (λ n. HasUnderlying p (Defined (symbol_in p n)) u.0) of u.1)
 
 module _ (p : Package) (all : AllCount p) (name : List ℕ) (definition : ℕ) where
   field_found : (o : Option plain.Field) → IsFoundField p definition name o → IsFirstOld (HasField p definition name) (option_map (λ f. f.symbol.rank) o)

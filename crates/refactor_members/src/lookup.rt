@@ -248,13 +248,13 @@ fn method(m: &MemberRename<'_>, own: &[u8], of: &Symbol) -> Option<usize>
     }
 }
 
-/// The struct that is the underlying type of a type or of the type that its pointer points to.
+/// The definition whose written members the values of a type have: that of its struct or interface, or that of the struct to which it points.
 #[tactic(auto, unfolding(types_expr::specs::View::type_of, types_expr::specs::WorldView::shape_of, types_expr::specs::World::field_owner))]
 fn field_owner<'b>(world: &'b World<'_>, of: &'b GoType) -> Option<&'b Symbol>
     ensures { option_copied result ≡ field_owner (underlying_in world.now) (type_of of.now) }
 {
     match world.underlying(of) {
-        Shape::Struct(symbol) => Some(symbol),
+        Shape::Struct(symbol) | Shape::Interface(symbol) => Some(symbol),
         Shape::PointerTo(target) => match world.underlying(target) {
             Shape::Struct(symbol) => Some(symbol),
             _ => None,

@@ -11,7 +11,7 @@ use Rattle.go_scope.specs.declared.model.Purpose.TheVariants.{ImportPath, Unname
 use Rattle.base_files.specs.Packages.{is_of_package}
 use Rattle.types_expr.specs.declared.symbol.Symbol.{Symbol}
 use Rattle.types_expr.specs.declared.types.Basic.TheVariants as basic
-use Rattle.types_expr.specs.Types.{BasicType}
+use Rattle.types_expr.specs.Types.{BasicType, AFieldOf}
 use Rattle.types_expr.specs.World.{AField, ABrokenMethod}
 use Rattle.refs_binding.specs.declared.declaration.Declaration.TheVariants.{Field, Method}
 use Rattle.refs_binding.specs.Binding.{declaration_of}
@@ -65,7 +65,7 @@ no_token_is_not h = h
 abbrev fourth : Symbol
 fourth = record { «package» = codes "a"; rank = 3 }
 
-field_by_its_rank : declaration_of (AField fourth (BasicType basic.Int)) ≡ Field fourth
+field_by_its_rank : declaration_of (AField fourth (AFieldOf (BasicType basic.Int))) ≡ Field fourth
 field_by_its_rank = refl
 
 method_without_signature : declaration_of (ABrokenMethod fourth) ≡ Method fourth

@@ -12,7 +12,7 @@ use Rattle.types_expr.specs.declared.symbol.Symbol.{Symbol}
 use Rattle.types_expr.specs.declared.world.Definition.{Definition}
 use Rattle.types_expr.specs.declared.world.Definitions.{Definitions}
 use Rattle.types_expr.specs.Found.{use_of}
-use Rattle.types_expr.specs.Judge.{MemberUse}
+use Rattle.types_expr.specs.Judge.{MemberUse, members_of}
 use Rattle.types_expr.specs.Types.{PlainType, Signature, same_path}
 use Rattle.types_expr.specs.World.{Member, a_method, member_by}
 use Rattle.types_expr.specs.World as plain
@@ -81,7 +81,8 @@ pub one_list : (p : Package) → HasOneWorld p → (file : ℕ) (us vs : List Me
 one_list p one file us vs a b =
     let sources = same_Some a.source b.source (sym a.in_file ∙ b.in_file) in
     let worlds : a.world ≡ b.world = one file b.source a.world b.world (subst (λ s. IsWorldOf p file s a.world) sources a.judged_by) b.judged_by in
-    a.found ∙ (ap (λ s. (check_file a.world (is_init s) s.tree).uses) sources ∙ ap (λ w. (check_file w (is_init b.source) b.source.tree).uses) worlds) ∙
+    a.found ∙ (ap (λ s. (members_of (check_file a.world (is_init s) s.tree).uses)) sources ∙
+    ap (λ w. (members_of (check_file w (is_init b.source) b.source.tree).uses)) worlds) ∙
     sym b.found
 
 -- what the world of a file says of a member

@@ -22,6 +22,7 @@ use Rattle.law_tokens.proofs.Places.{Marks, marked, one_has_place, named_has_one
 use Rattle.law_tokens.proofs.Roles.{named_role_told}
 use Rattle.types_expr.specs.Types.{Package as PackageName}
 use Rattle.types_expr.specs.World.{World, Means}
+use Rattle.types_expr.specs.Judge.{members_of}
 use Rattle.types_stmt.specs.Declarations.{check_file}
 use Rattle.refs_lookup.specs.Places.{IsBoundToPackage, IsMemberToken, as_key, as_selected}
 use Rattle.refs_lookup.proofs.LinkPlaces.{stands_at_link}
@@ -115,7 +116,7 @@ module _ (w : Workspace) (known : Verdicts) (path : List ℕ) (p : Package) (h :
       let s = a.judged.source in
       let v = a.judged.world in
       let t = part_at h.files file s (subst (λ fs. slice_get fs file ≡ Some s) (same_files w known path p h) a.judged.in_file) in
-      let own : Contains (check_file v (is_init s) s.tree).uses a.found = subst (λ us. Contains us a.found) a.judged.found a.is_use in
+      let own : Contains (members_of (check_file v (is_init s) s.tree).uses) a.found = subst (λ us. Contains us a.found) a.judged.found a.is_use in
       let link : IsMemberToken v s.cut a.found.place =
       stands_at_link v (is_init s) s (subst IsSourceFile t.1.1 (is_source file t.0 t.1.0)) a.found own in
       let there : IsMemberToken v t.0.cut (p.layout.place u).index =

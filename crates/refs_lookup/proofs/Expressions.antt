@@ -23,14 +23,18 @@ use Rattle.types_expr.specs.Judge.{member_meaning, select_member, select, misfit
 use Rattle.types_expr.specs.Judge.{wrong_if_whole, call_function, convert_one, convert, append_to, append_first, append, len_fits, all_printed, call_when}
 use Rattle.types_expr.specs.Judge.{call_builtin, call_of, bad_index, element_meaning, indexed, index_of, operation_on, operation, prefix_of, address_of}
 use Rattle.types_expr.specs.Judge.{judge_type, element_key, seen_after, literal_result, literal_meaning, value_at, index_rule, call_rule, judge, judge_operands}
-use Rattle.types_expr.specs.Judge.{judge_links, judge_arguments, judge_literal, judge_elements}
+use Rattle.types_expr.specs.Judge.{judge_links, judge_arguments, judge_literal, judge_elements, noting, entering, enterings, all_enterings, entering_if}
+use Rattle.types_expr.specs.Judge.{members_of}
+use Rattle.types_expr.proofs.NoteLists.{NotesNoMember, members_then, members_behind, neither_notes, no_member_entering, no_member_enterings, no_member_all}
+use Rattle.types_expr.proofs.NoteLists.{no_member_entering_if}
 use Rattle.refs_lookup.proofs.Picked.{IsPackage, MayUse, Picked, stops, passes, closes, leaves, selects, keys, Passes, pass_append, pass_none, pass_before}
+use Rattle.refs_lookup.proofs.Picked.{behind_pass}
 use Rattle.refs_lookup.proofs.Picked.{IsNoValue, Fits, Ends, Walks, walk_passes, walk_append, walk_before, walk_closed, walk_same}
 
 -- what uses nothing
 
 abbrev pub UsesNone : Judged → Type 0
-UsesNone j = j.uses ≡ []
+UsesNone j = NotesNoMember j.uses
 
 pub value_uses : (place : ℕ) (m : Meaning) → UsesNone (as_value place m)
 unfolding as_value
@@ -93,9 +97,10 @@ faults_uses fs b m = refl
 function_uses : (w : World) (start : ℕ) (s : Signature) (vs : List ListValue) → UsesNone (call_function w start s vs)
 unfolding call_function
 function_uses w start s vs =
-    if_uses (length vs == length s.parameters) (unless_faults (misfits w vs s.parameters) (all_whole vs) (result_meaning s.results))
-    (wrong_if_whole (all_whole vs) start)
-    (faults_uses (misfits w vs s.parameters) (all_whole vs) (result_meaning s.results)) (whole_uses (all_whole vs) start)
+    let found = unless_faults (misfits w vs s.parameters) (all_whole vs) (result_meaning s.results) in
+    if_uses (length vs == length s.parameters) (noting (enterings w vs s.parameters) found) (wrong_if_whole (all_whole vs) start)
+    (neither_notes (enterings w vs s.parameters) found.uses (no_member_enterings w vs s.parameters)
+    (faults_uses (misfits w vs s.parameters) (all_whole vs) (result_meaning s.results))) (whole_uses (all_whole vs) start)
 
 one_uses : (w : World) (start : ℕ) (t : PlainType) (k : Option ValueKind) → UsesNone (convert_one w start t k)
 one_uses w start t None = refl
@@ -104,12 +109,15 @@ one_uses w start t (Some k) = if_uses (converts w k t) (means (Value (Typed t) f
 convert_uses : (w : World) (start : ℕ) (t : PlainType) (vs : List ListValue) → UsesNone (convert w start t vs)
 unfolding convert
 convert_uses w start t [] = whole_uses (all_whole []) start
-convert_uses w start t (v ∷ []) = one_uses w start t v.kind
+convert_uses w start t (v ∷ []) = neither_notes (entering w v.place v.kind t) (convert_one w start t v.kind).uses (no_member_entering w v.place v.kind t)
+    (one_uses w start t v.kind)
 convert_uses w start t (v ∷ (x ∷ xs)) = whole_uses (all_whole (v ∷ (x ∷ xs))) start
 
 to_uses : (w : World) (start : ℕ) (k : ValueKind) (t : Option PlainType) (vs : List ListValue) → UsesNone (append_to w start k t vs)
 to_uses w start k None vs = whole_uses (all_whole vs) start
-to_uses w start k (Some t) vs = faults_uses (all_misfits w vs t) (all_whole vs) (Value k false)
+to_uses w start k (Some t) vs =
+    neither_notes (all_enterings w vs t) (unless_faults (all_misfits w vs t) (all_whole vs) (Value k false)).uses (no_member_all w vs t)
+    (faults_uses (all_misfits w vs t) (all_whole vs) (Value k false))
 
 first_uses : (w : World) (start : ℕ) (k : Option ValueKind) (vs : List ListValue) → UsesNone (append_first w start k vs)
 first_uses w start None vs = refl
@@ -185,7 +193,7 @@ pub followed_walks : (w : World) (j : Judged) (rule : Meaning → Judged) (ts : 
     Walks w (followed j rule).uses ts (followed j rule).meaning
 followed_walks w j rule ts none kept h =
     walk_same w j.uses (j.uses ++ (rule j.meaning).uses) ts j.meaning (rule j.meaning).meaning
-    (ap (λ us. j.uses ++ us) (none j.meaning) ∙ append-nil j.uses) (kept j.meaning) h
+    (members_then j.uses (rule j.meaning).uses (none j.meaning)) (kept j.meaning) h
 
 pub value_walks : (w : World) (e : ExprTree) (j : Judged) (ts : List Token) → Walks w j.uses ts j.meaning →
     Walks w (value_at e j).uses ts (value_at e j).meaning
@@ -255,7 +263,7 @@ mutual
       let k = followed j address_of in
       walk_before w k.uses (sign kind.Ampersand p) (literal_tokens l) k.meaning
       (walk_same w j.uses (j.uses ++ (address_of j.meaning).uses) (literal_tokens l) k.meaning k.meaning
-      (ap (λ us. j.uses ++ us) (address_uses j.meaning) ∙ append-nil j.uses) (λ h. h) (literal_walks w ls l k.meaning))
+      (members_then j.uses (address_of j.meaning).uses (address_uses j.meaning)) (λ h. h) (literal_walks w ls l k.meaning))
   expr_walks w ls (Chain e links) =
       links_walks w ls (first_token e) (place_of e) (judge w ls e) (expr_tokens e) links (expr_walks w ls e)
   expr_walks w ls (Binary e os) =
@@ -294,9 +302,10 @@ mutual
       let next = followed j (index_rule w start place e v) in
       let ps = sign kind.LeftBracket o ∷ (expr_tokens e ++ (sign kind.RightBracket c ∷ [])) in
       let m = (as_value place j.meaning).meaning in
-      let same : i.uses ≡ v.uses =
-      ap (λ us. us ++ (v.uses ++ (index_of w start (place_of e) m v.meaning).uses)) (value_uses place j.meaning)
-      ∙ ap (λ us. v.uses ++ us) (index_uses w start (place_of e) m v.meaning) ∙ append-nil v.uses in
+      let found = index_of w start (place_of e) m v.meaning in
+      let same : members_of i.uses ≡ members_of v.uses =
+      members_behind (as_value place j.meaning).uses (v.uses ++ found.uses) (value_uses place j.meaning)
+      ∙ members_then v.uses found.uses (index_uses w start (place_of e) m v.meaning) in
       let part : Walks w i.uses ps i.meaning =
       walk_same w v.uses i.uses ps i.meaning i.meaning same (λ q. q)
       (walk_before w v.uses (sign kind.LeftBracket o) (expr_tokens e ++ (sign kind.RightBracket c ∷ [])) i.meaning
@@ -312,7 +321,8 @@ mutual
       let i = call_rule w start place args j.meaning in
       let next = followed j (call_rule w start place args) in
       let ps = sign kind.LeftParen o ∷ (argument_tokens xs ++ (sign kind.RightParen c ∷ [])) in
-      let same : i.uses ≡ args.uses = ap (λ us. args.uses ++ us) (call_uses w start place args.values j.meaning) ∙ append-nil args.uses in
+      let same : members_of i.uses ≡ members_of args.uses =
+      members_then args.uses (call_of w start place args.values j.meaning).uses (call_uses w start place args.values j.meaning) in
       let part : Walks w i.uses ps i.meaning =
       walk_same w args.uses i.uses ps i.meaning i.meaning same (λ q. q)
       (walk_before w args.uses (sign kind.LeftParen o) (argument_tokens xs ++ (sign kind.RightParen c ∷ [])) i.meaning
@@ -339,7 +349,7 @@ mutual
       let ends = literal_meaning w (first_of_type t) j.type_of found.whole found.unkeyed in
       let ps = sign kind.LeftBrace o ∷ (element_tokens es ++ (sign kind.RightBrace c ∷ [])) in
       walk_same w found.uses (found.uses ++ ends.uses) (type_tokens t ++ ps) m m
-      (ap (λ us. found.uses ++ us) (literal_uses w (first_of_type t) j.type_of found.whole found.unkeyed) ∙ append-nil found.uses) (λ q. q)
+      (members_then found.uses ends.uses (literal_uses w (first_of_type t) j.type_of found.whole found.unkeyed)) (λ q. q)
       (walk_append w [] found.uses (type_tokens t) ps Broken m (none_walks w (type_tokens t))
       (λ b fits. walk_before w found.uses (sign kind.LeftBrace o) (element_tokens es ++ (sign kind.RightBrace c ∷ [])) m
       (walk_closed w found.uses (element_tokens es) kind.RightBrace c m refl (elements_pass w ls j.type_of none_seen es)) b))
@@ -351,8 +361,10 @@ mutual
       let k = element_key w t seen key in
       let v = value_at e (judge w ls e) in
       let others = judge_elements w ls t (seen_after w t seen key) rest in
-      pass_append w k.uses (v.uses ++ others.uses) (key_tokens key) (expr_tokens e ++ (sign_if kind.Comma comma ++ element_tokens rest))
+      let entry = entering_if w (place_of e) (value_kind v.meaning) k.wanted in
+      pass_append w k.uses (v.uses ++ (entry ++ others.uses)) (key_tokens key) (expr_tokens e ++ (sign_if kind.Comma comma ++ element_tokens rest))
       (key_passes w t seen key)
-      (pass_append w v.uses others.uses (expr_tokens e) (sign_if kind.Comma comma ++ element_tokens rest)
+      (pass_append w v.uses (entry ++ others.uses) (expr_tokens e) (sign_if kind.Comma comma ++ element_tokens rest)
       (walk_passes w v.uses (expr_tokens e) v.meaning (value_walks w e (judge w ls e) (expr_tokens e) (expr_walks w ls e)))
-      (pass_before w others.uses (sign_if kind.Comma comma) (element_tokens rest) (elements_pass w ls t (seen_after w t seen key) rest)))
+      (behind_pass w entry others.uses (sign_if kind.Comma comma ++ element_tokens rest) (no_member_entering_if w (place_of e) (value_kind v.meaning) k.wanted)
+      (pass_before w others.uses (sign_if kind.Comma comma) (element_tokens rest) (elements_pass w ls t (seen_after w t seen key) rest))))

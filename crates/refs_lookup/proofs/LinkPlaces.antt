@@ -13,7 +13,7 @@ use Rattle.go_ast.specs.SourceFile.{SourceFile, IsSourceFile}
 use Rattle.go_scope.specs.IdentifierTokens.{is_ident_token}
 use Rattle.law_tokens.proofs.Links.{AreConsecutive, HasKind, kind_from}
 use Rattle.law_tokens.proofs.Roles.{consecutive, of_kind, by_kind}
-use Rattle.types_expr.specs.Judge.{MemberUse}
+use Rattle.types_expr.specs.Judge.{MemberUse, members_of}
 use Rattle.types_expr.specs.World.{World}
 use Rattle.types_stmt.specs.Declarations.{check_file}
 use Rattle.refs_lookup.specs.Places.{IsBoundToPackage, IsMemberToken, as_key, as_selected}
@@ -187,10 +187,11 @@ local_all w cut (t ∷ ts) within = (
 file_picked : (w : World) (is_init : ℕ → Bool) (f : SourceFile) → IsSourceFile f → Passes w (check_file w is_init f.tree).uses (kinds_of f.cut)
 file_picked w is_init f is = subst (λ ts. Passes w (check_file w is_init f.tree).uses ts) is.is_tree.written (file_pass w is_init f.tree)
 
-pub one_at_token : (w : World) (is_init : ℕ → Bool) (f : SourceFile) → IsSourceFile f → (x y : MemberUse) → Contains (check_file w is_init f.tree).uses x →
-    Contains (check_file w is_init f.tree).uses y → x.place ≡ y.place → x ≡ y
+pub one_at_token : (w : World) (is_init : ℕ → Bool) (f : SourceFile) → IsSourceFile f → (x y : MemberUse) →
+    Contains (members_of (check_file w is_init f.tree).uses) x →
+    Contains (members_of (check_file w is_init f.tree).uses) y → x.place ≡ y.place → x ≡ y
 one_at_token w is_init f is x y a b at =
-    let us = (check_file w is_init f.tree).uses in
+    let us = members_of (check_file w is_init f.tree).uses in
     let p = file_picked w is_init f is None in
     one_use 0 us (uses_rise w 0 None p.0 us (kinds_of f.cut) p.1 (consecutive 0 f.cut.text (tokens_in f.cut))) x y (one_in x us a.0 a.1 a.2)
     (one_in y us b.0 b.1 b.2) at
@@ -201,10 +202,11 @@ at_link w cut place h = elim h [
   | inr q ↦ as_selected (q.0.0, (q.0.1.0, of_kind cut kind.Dot q.0.0 q.0.1.1)) q.1
 ]
 
-pub stands_at_link : (w : World) (is_init : ℕ → Bool) (f : SourceFile) → IsSourceFile f → (x : MemberUse) → Contains (check_file w is_init f.tree).uses x →
+pub stands_at_link : (w : World) (is_init : ℕ → Bool) (f : SourceFile) → IsSourceFile f → (x : MemberUse) →
+    Contains (members_of (check_file w is_init f.tree).uses) x →
     IsMemberToken w f.cut x.place
 stands_at_link w is_init f is x a =
-    let us = (check_file w is_init f.tree).uses in
+    let us = members_of (check_file w is_init f.tree).uses in
     let p = file_picked w is_init f is None in
     at_link w f.cut x.place
     (each_beside w (IsBoundToPackage w f.cut) (λ k l. l.names) 0 None p.0 us (kinds_of f.cut) p.1 (consecutive 0 f.cut.text (tokens_in f.cut))

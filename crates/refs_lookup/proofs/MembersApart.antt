@@ -7,11 +7,11 @@ use Rattle.go_ast.specs.Flatten.{sign, sign_if, tokens_if, all_tokens, item_toke
 use Rattle.go_ast.specs.Flatten.{body_tokens, type_spec_tokens, receiver_tokens, param_tokens, result_tokens, block_tokens, func_tokens}
 use Rattle.go_ast.specs.Flatten.{method_tokens, decl_tokens}
 use Rattle.go_ast.specs.SourceFile.{SourceFile}
-use Rattle.go_ast.specs.Tree.{Item, Group, single, several, TypeTree, FieldTree, BodyTree, Other, Struct, Interface, TypeSpecTree, DeclTree, VarDecl}
-use Rattle.go_ast.specs.Tree.{TypeDecl, FuncDecl}
+use Rattle.go_ast.specs.Tree.{Item, Group, single, several, TypeTree, FieldTree, MethodTree, BodyTree, Other, Struct, Interface, TypeSpecTree}
+use Rattle.go_ast.specs.Tree.{DeclTree, VarDecl, TypeDecl, FuncDecl}
 use Rattle.go_scope.proofs.Rising.{Rises, rises_le, rises_split}
 use Rattle.types_declared.specs.Files.{group_items}
-use Rattle.types_declared.specs.Definitions.{PlacedField, body_fields, fields_from}
+use Rattle.types_declared.specs.Definitions.{OfType, OfSignature, PlacedField, body_fields, fields_from}
 use Rattle.types_declared.specs.Package.{PlacedType, PlacedFunction, placed_type, decl_types, decl_functions, types_in, functions_in, declared_types}
 use Rattle.types_declared.specs.Package.{declared_functions, function_place}
 use Rattle.types_info.specs.Uniqueness.{TokensRise}
@@ -24,7 +24,7 @@ use Rattle.refs_lookup.proofs.Apart.{file_first}
 -- the fields of a file stand at its tokens, in their order
 
 abbrev named_field : (definition file : ℕ) → TypeTree → Item ℕ → PlacedField
-named_field definition file t n = record { definition = definition; file = file; name = n.value; type_use = t }
+named_field definition file t n = record { definition = definition; file = file; name = n.value; form = OfType t }
 
 names_rise : (definition file : ℕ) (t : TypeTree) (ns : List (Item ℕ)) (a b : ℕ) → Rises a (list_tokens kind.Comma name_tokens ns) b →
     RiseIn field_place file a (map (named_field definition file t) ns) b
@@ -56,6 +56,24 @@ fields_rise definition file (f ∷ fs) a b r =
     (names_rise definition file f.value.type_use f.value.names a names.0 names.1.0))
     (fields_rise definition file fs s.0 b s.1.1)
 
+abbrev asked_field : (definition file : ℕ) → Item MethodTree → PlacedField
+asked_field definition file i = record { definition = definition; file = file; name = i.value.name; form = OfSignature i.value.params i.value.result }
+
+asked_rise : (definition file : ℕ) (ms : List (Item MethodTree)) (a b : ℕ) → Rises a (list_tokens kind.Semicolon method_tokens ms) b →
+    RiseIn field_place file a (map (asked_field definition file) ms) b
+unfolding all_tokens method_tokens
+asked_rise definition file [] a b r = r
+asked_rise definition file (m ∷ ms) a b r =
+    let s = rises_split a (item_tokens kind.Semicolon method_tokens m) (list_tokens kind.Semicolon method_tokens ms) b r in
+    let own = rises_split a (method_tokens m.value) (sign_if kind.Semicolon m.separator) s.0 s.1.0 in
+    let behind : suc m.value.name ≤ own.0 = rises_le (suc m.value.name) (sign kind.LeftParen m.value.lparen ∷ (list_tokens kind.Comma param_tokens
+    m.value.params ++ (sign kind.RightParen m.value.rparen ∷ result_tokens m.value.result))) own.0 own.1.0.1 in
+    let further : own.0 ≤ s.0 = rises_le own.0 (sign_if kind.Semicolon m.separator) s.0 own.1.1 in (
+      refl,
+      own.1.0.0,
+      rise_down field_place file (suc m.value.name) s.0 (map (asked_field definition file) ms) b (omega arith) (asked_rise definition file ms s.0 b s.1.1),
+    )
+
 body_rises : (definition file : ℕ) (t : BodyTree) (a b : ℕ) → Rises a (body_tokens t) b → RiseIn field_place file a (body_fields definition file t) b
 unfolding body_tokens
 body_rises definition file (Other t) a b r = rises_le a (type_tokens t) b r
@@ -67,7 +85,12 @@ body_rises definition file (Struct k o fs c) a b r =
     (rise_up field_place file (suc o) (flat_map (fields_of definition file) fs) s.0 b (rises_le s.0 (sign kind.RightBrace c ∷ []) b s.1.1)
     (fields_rise definition file fs (suc o) s.0 s.1.0))
 body_rises definition file (Interface k o ms c) a b r =
-    rises_le a (sign kind.Interface k ∷ sign kind.LeftBrace o ∷ (list_tokens kind.Semicolon method_tokens ms ++ (sign kind.RightBrace c ∷ []))) b r
+    let s = rises_split (suc o) (list_tokens kind.Semicolon method_tokens ms) (sign kind.RightBrace c ∷ []) b r.1.1 in
+    let first : a ≤ k = r.0 in
+    let second : suc k ≤ o = r.1.0 in
+    rise_down field_place file a (suc o) (map (asked_field definition file) ms) b (omega arith)
+    (rise_up field_place file (suc o) (map (asked_field definition file) ms) s.0 b (rises_le s.0 (sign kind.RightBrace c ∷ []) b s.1.1)
+    (asked_rise definition file ms (suc o) s.0 s.1.0))
 
 spec_rises : (definition file : ℕ) (t : TypeSpecTree) (a b : ℕ) → Rises a (type_spec_tokens t) b →
     RiseIn field_place file a (body_fields definition file t.body) b

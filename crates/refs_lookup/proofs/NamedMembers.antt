@@ -4,8 +4,8 @@ use Rattle.std.specs.Prelude.{Contains, Some, slice_get}
 use Rattle.std.proofs.lemmas.List.Elements.{Contains-append_right}
 use Rattle.base_files.specs.Workspace.{Workspace}
 use Rattle.go_ast.specs.SourceFile.{SourceFile, source_of}
-use Rattle.go_ast.specs.Tree.{Item, Group, single, several, FieldTree, BodyTree, Other, Struct, Interface, TypeSpecTree, ReceiverTree, DeclTree}
-use Rattle.go_ast.specs.Tree.{VarDecl, TypeDecl, FuncDecl}
+use Rattle.go_ast.specs.Tree.{Item, Group, single, several, FieldTree, MethodTree, BodyTree, Other, Struct, Interface, TypeSpecTree, ReceiverTree}
+use Rattle.go_ast.specs.Tree.{DeclTree, VarDecl, TypeDecl, FuncDecl}
 use Rattle.go_scope.specs.declared.model.Position.{Position}
 use Rattle.go_scope.specs.declared.model.Purpose.TheVariants as purpose
 use Rattle.go_scope.specs.declared.model.Role.TheVariants.{NotLexical}
@@ -15,7 +15,7 @@ use Rattle.law_tokens.proofs.Lexical.{never_bound}
 use Rattle.law_tokens.proofs.Members.{named_member_stands}
 use Rattle.law_tokens.proofs.OwnPaths.{package_sources, part_at}
 use Rattle.types_declared.specs.Files.{RankedSource, ranked_files, group_items}
-use Rattle.types_declared.specs.Definitions.{PlacedField, body_fields, fields_from, package_fields}
+use Rattle.types_declared.specs.Definitions.{OfType, OfSignature, PlacedField, body_fields, fields_from, package_fields}
 use Rattle.types_declared.specs.Package.{Package, PlacedType, PlacedFunction, placed_type, decl_types, decl_functions, types_in, functions_in, package_types}
 use Rattle.types_declared.specs.Package.{package_functions, function_place}
 use Rattle.types_info.proofs.DeclKinds.{Holds, holds_got, holds_append, holds_flat, holds_map, holds_ranked, held_flat, held_map}
@@ -44,20 +44,25 @@ body_field : (definition file : ℕ) (b : BodyTree) (f : PlacedField) → Holds 
 body_field definition file (Other t) f h = absurd h
 body_field definition file (Struct k o fs c) f h =
     let x = holds_flat (λ (i : Item FieldTree). map
-    (λ (n : Item ℕ). record { definition = definition; file = file; name = n.value; type_use = i.value.type_use }) i.value.names) fs f h in
+    (λ (n : Item ℕ). record { definition = definition; file = file; name = n.value; form = OfType i.value.type_use }) i.value.names) fs f h in
     let n = holds_map (λ (n : Item ℕ). record {
       definition = definition;
       file = file;
       name = n.value;
-      type_use =
-          x.0.value.type_use;
+      form = OfType x.0.value.type_use;
     }) x.0.value.names f x.1.1 in (
       ap (λ (z : PlacedField). z.file) n.1.1,
       held_flat (λ (i : Item FieldTree). field_name_tokens i.value) fs x.0 f.name x.1.0
           (subst (λ q. Holds (field_name_tokens x.0.value) q) (ap (λ (z : PlacedField). z.name) n.1.1)
           (held_map (λ (i : Item ℕ). i.value) x.0.value.names n.0 n.1.0)),
     )
-body_field definition file (Interface k o ms c) f h = absurd h
+body_field definition file (Interface k o ms c) f h =
+    let asked : Item MethodTree → PlacedField =
+    λ i. record { definition = definition; file = file; name = i.value.name; form = OfSignature i.value.params i.value.result } in
+    let x = holds_map asked ms f h in (
+      ap (λ (z : PlacedField). z.file) x.1.1,
+      held_flat (λ (i : Item MethodTree). i.value.name ∷ []) ms x.0 f.name x.1.0 (inl (ap (λ (z : PlacedField). z.name) x.1.1)),
+    )
 
 type_of_field : (rank : ℕ) (ds : List PlacedType) (f : PlacedField) → Holds (fields_from rank ds) f → (d : PlacedType) ×
     (Holds ds d × ((d.file ≡ f.file) × Holds (body_members d.spec.body) f.name))

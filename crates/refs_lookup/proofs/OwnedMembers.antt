@@ -211,7 +211,7 @@ module _ (w : Workspace) (known : Verdicts) (right : AreVerdicts w known) (p : P
       ((x : Method) → m ≡ Some x → IsMethodSeen name (is_exported name) x.symbol) → (found : Member) → first_member f m ≡ Some found →
       IsOwnedAs name (declaration_of found)
   first_owned name (Some x) m field method found e =
-      subst (λ (y : Member). IsOwnedAs name (declaration_of y)) (same_Some (AField x.symbol x.type_of) found e) (field x refl)
+      subst (λ (y : Member). IsOwnedAs name (declaration_of y)) (same_Some (AField x.symbol x.form) found e) (field x refl)
   first_owned name None (Some x) field method found e =
       subst (λ (y : Member). IsOwnedAs name (declaration_of y)) (same_Some (a_method x.symbol x.on_pointer x.signature) found e)
       (subst (IsOwnedAs name) (sym (method_declared x.symbol x.on_pointer x.signature)) (method x refl))

@@ -1,5 +1,5 @@
 -- The uses of members in the statements and declarations of a file stand among its tokens.
-use Rattle.std.proofs.Common.{ℕ, ◌≡◌, List, [], ◌∷◌, ◌++◌, Option, Some, None, Bool, true, false, append_assoc, append-nil, ap, sym, ◌∙◌, refl, subst}
+use Rattle.std.proofs.Common.{ℕ, ◌≡◌, List, [], ◌∷◌, ◌++◌, Option, Some, None, Bool, true, false, append_assoc, sym, refl, subst}
 use Rattle.std.proofs.Common.{if◌then◌else◌}
 use Rattle.go_ast.specs.declared.syntax.Kind.{Kind}
 use Rattle.go_ast.specs.declared.syntax.Kind.TheVariants as kind
@@ -8,32 +8,32 @@ use Rattle.go_ast.specs.Flatten.{sign, sign_if, tokens_if, all_tokens, item_toke
 use Rattle.go_ast.specs.Flatten.{type_tokens, expr_tokens, exprs_tokens, value_tokens, simple_tokens, local_tokens, init_tokens, for_tokens}
 use Rattle.go_ast.specs.Flatten.{statement_tokens, block_tokens, statements_tokens, if_tokens, else_tokens, global_tokens, type_spec_tokens}
 use Rattle.go_ast.specs.Flatten.{receiver_tokens, param_tokens, result_tokens, func_tokens, imports_tokens, decl_tokens, flatten}
-use Rattle.go_ast.specs.Tree.{Item, Group, single, several, IdentTree, TypeTree, ExprTree, Name, Blank, SimpleTree, Alone, Step, Update, Assign, Define}
-use Rattle.go_ast.specs.Tree.{LocalTree, InitTree, ForTree, forever, while, clauses, StatementTree, Empty, Var, Simple, Inner, If, For, Break, Continue}
+use Rattle.go_ast.specs.Tree.{Item, Group, single, several, IdentTree, TypeTree, ExprTree, Name, Blank, Paren, SimpleTree, Alone, Step, Update, Assign}
+use Rattle.go_ast.specs.Tree.{Define, LocalTree, InitTree, ForTree, forever, while, clauses, StatementTree, Empty, Var, Simple, Inner, If, For, Break, Continue}
 use Rattle.go_ast.specs.Tree.{Return, BlockTree, block, StatementTrees, no_statement, statement, IfTree, if_tree, ElseTree, no_else, else_if, else_block}
-use Rattle.go_ast.specs.Tree.{ReceiverTree, ParamTree, FuncTree, DeclTree, VarDecl, TypeDecl, FuncDecl, FileTree}
+use Rattle.go_ast.specs.Tree.{ReceiverTree, ParamTree, FuncTree, GlobalTree, DeclTree, VarDecl, TypeDecl, FuncDecl, FileTree}
 use Rattle.types_expr.specs.Places.{place_of}
 use Rattle.types_expr.specs.Types.{Meaning, Value, Results, Broken}
 use Rattle.types_expr.specs.World.{World, Locals}
-use Rattle.types_expr.specs.Judge.{MemberUse, TypeJudged, judge, judge_value, judge_type, as_value, followed}
+use Rattle.types_expr.specs.Judge.{Noted, TypeJudged, judge, judge_value, judge_type, as_value, followed}
 use Rattle.types_stmt.specs.Checked.{FoundSoFar, check_items, check_group}
 use Rattle.types_stmt.specs.Sides.{Target, Lefts, values_of, judge_each, rhs, assignable, judge_operand, assigned_one, assigned, no_name, declares, reassigned}
-use Rattle.types_stmt.specs.Sides.{defined_one, defined}
-use Rattle.types_stmt.specs.Simple.{check_condition, check_step, check_update, check_expr_statement, check_assign, check_define, check_simple, check_optional_simple}
-use Rattle.types_stmt.specs.Simple.{check_optional_condition, check_typed_local, check_untyped_local, check_local_of, check_local}
+use Rattle.types_stmt.specs.Sides.{Takes, defined_one, defined, receiving, given_enterings}
+use Rattle.types_stmt.specs.Simple.{without_parentheses, check_condition, check_step, check_update, check_expr_statement, check_assign, check_define, check_simple}
+use Rattle.types_stmt.specs.Simple.{check_optional_simple, written_targets, name_targets, check_optional_condition}
+use Rattle.types_stmt.specs.Simple.{check_typed_local, check_untyped_local, check_local_of, check_local}
 use Rattle.types_stmt.specs.Statements.{check_return, check_init, check_for_header, check_statement, check_block, check_statements, check_if, check_else}
 use Rattle.types_stmt.specs.Headers.{judge_results, check_optional_receiver, check_receiver, check_param, check_signature, check_function}
-use Rattle.types_stmt.specs.Declarations.{check_global, check_type, check_decl, check_decls, check_file}
-use Rattle.refs_lookup.proofs.Picked.{Passes, pass_append, pass_none, pass_behind, pass_before, walk_passes}
+use Rattle.types_stmt.specs.Declarations.{global_enterings, check_global, check_type, check_decl, check_decls, check_file}
+use Rattle.types_expr.proofs.NoteLists.{NotesNoMember}
+use Rattle.types_stmt.proofs.NoMembers.{no_member_given, no_member_global}
+use Rattle.refs_lookup.proofs.Picked.{Passes, pass_append, pass_none, pass_behind, pass_before, more_pass, walk_passes}
 use Rattle.refs_lookup.proofs.Expressions.{UsesNone, expr_walks, value_uses}
 
 -- lists of expressions
 
 expr_pass : (w : World) (ls : Locals) (e : ExprTree) → Passes w (judge w ls e).uses (expr_tokens e)
 expr_pass w ls e = walk_passes w (judge w ls e).uses (expr_tokens e) (judge w ls e).meaning (expr_walks w ls e)
-
-more_pass : (w : World) (us vs : List MemberUse) (ts : List Token) → vs ≡ [] → Passes w us ts → Passes w (us ++ vs) ts
-more_pass w us vs ts e p = subst (λ xs. Passes w xs ts) (sym (ap (λ xs. us ++ xs) e ∙ append-nil us)) p
 
 value_pass : (w : World) (ls : Locals) (e : ExprTree) → Passes w (judge_value w ls e).uses (expr_tokens e)
 value_pass w ls e =
@@ -47,12 +47,12 @@ each_pass w ls (i ∷ is) =
     pass_append w (judge_value w ls i.value).uses (judge_each w ls is).uses (item_tokens kind.Comma expr_tokens i) (exprs_tokens is)
     (pass_behind w (judge_value w ls i.value).uses (expr_tokens i.value) (sign_if kind.Comma i.separator) (value_pass w ls i.value)) (each_pass w ls is)
 
-values_uses : (place : ℕ) (m : Meaning) → (values_of place m).uses ≡ []
+values_uses : (place : ℕ) (m : Meaning) → NotesNoMember (values_of place m).uses
 unfolding values_of
 values_uses place (Results ts) = refl
 values_uses place m = value_uses place m
 
-one_pass : (w : World) (us : List MemberUse) (i : Item ExprTree) → Passes w us (expr_tokens i.value) → Passes w us (exprs_tokens (i ∷ []))
+one_pass : (w : World) (us : List Noted) (i : Item ExprTree) → Passes w us (expr_tokens i.value) → Passes w us (exprs_tokens (i ∷ []))
 unfolding all_tokens
 one_pass w us i p =
     pass_behind w us (item_tokens kind.Comma expr_tokens i) [] (pass_behind w us (expr_tokens i.value) (sign_if kind.Comma i.separator) p)
@@ -65,6 +65,10 @@ rights_pass w ls (i ∷ []) =
     (more_pass w (judge w ls i.value).uses (values_of (place_of i.value) (judge w ls i.value).meaning).uses (expr_tokens i.value)
     (values_uses (place_of i.value) (judge w ls i.value).meaning) (expr_pass w ls i.value))
 rights_pass w ls (i ∷ (j ∷ is)) = each_pass w ls (i ∷ (j ∷ is))
+
+rights_entered : (w : World) (ls : Locals) (es : List (Item ExprTree)) (ns : List Noted) → NotesNoMember ns →
+    Passes w ((rhs w ls es).uses ++ ns) (exprs_tokens es)
+rights_entered w ls es ns none = more_pass w (rhs w ls es).uses ns (exprs_tokens es) none (rights_pass w ls es)
 
 assignable_uses : (place : ℕ) (m : Meaning) → UsesNone (assignable place m)
 unfolding assignable
@@ -104,7 +108,7 @@ defined_pass w ls (Name p) = lefts_if w (declares w p) _ (reassigned w ls p) (ex
 defined_pass w ls e = unnamed_pass w ls e
 
 lefts_pass : (w : World) (es : List (Item ExprTree)) (f : ExprTree → Lefts) → ((e : ExprTree) → Passes w (f e).uses (expr_tokens e)) →
-    (i : Item ExprTree) (us : List MemberUse) → Passes w us (exprs_tokens es) → Passes w ((f i.value).uses ++ us) (exprs_tokens (i ∷ es))
+    (i : Item ExprTree) (us : List Noted) → Passes w us (exprs_tokens es) → Passes w ((f i.value).uses ++ us) (exprs_tokens (i ∷ es))
 unfolding all_tokens
 lefts_pass w es f h i us p =
     pass_append w (f i.value).uses us (item_tokens kind.Comma expr_tokens i) (exprs_tokens es)
@@ -162,9 +166,16 @@ condition_grows : (w : World) (s : FoundSoFar) (e : ExprTree) → Grows w s (che
 unfolding check_condition
 condition_grows w s e ts h = pass_append w s.uses (judge_value w s.locals e).uses ts (expr_tokens e) h (value_pass w s.locals e)
 
+inside_pass : (w : World) (ls : Locals) (e : ExprTree) → Passes w (judge w ls (without_parentheses e)).uses (expr_tokens e)
+unfolding without_parentheses expr_tokens
+inside_pass w ls (Paren o e c) = let us = (judge w ls (without_parentheses e)).uses in
+    pass_before w us (sign kind.LeftParen o ∷ []) (expr_tokens e ++ (sign kind.RightParen c ∷ []))
+    (pass_behind w us (expr_tokens e) (sign kind.RightParen c ∷ []) (inside_pass w ls e))
+inside_pass w ls e = expr_pass w ls e
+
 simple_grows : (w : World) (s : FoundSoFar) (x : SimpleTree) → Grows w s (check_simple w s x) (simple_tokens x)
 unfolding check_simple check_step check_update check_expr_statement check_assign check_define simple_tokens
-simple_grows w s (Alone e) = λ ts h. pass_append w s.uses (judge w s.locals e).uses ts (expr_tokens e) h (expr_pass w s.locals e)
+simple_grows w s (Alone e) = λ ts h. pass_append w s.uses (judge w s.locals (without_parentheses e)).uses ts (expr_tokens e) h (inside_pass w s.locals e)
 simple_grows w s (Step e op p) = λ ts h.
     pass_append w s.uses (judge_operand w s.locals e).uses ts (expr_tokens e ++ (sign (step_kind op) p ∷ [])) h
     (pass_behind w (judge_operand w s.locals e).uses (expr_tokens e) (sign (step_kind op) p ∷ []) (operand_pass w s.locals e))
@@ -174,13 +185,23 @@ simple_grows w s (Update x op p y) = λ ts h.
     (pass_append w (judge_operand w s.locals x).uses (judge_value w s.locals y).uses (expr_tokens x) (sign (update_kind op) p ∷ expr_tokens y)
     (operand_pass w s.locals x) (pass_before w (judge_value w s.locals y).uses (sign (update_kind op) p ∷ []) (expr_tokens y) (value_pass w s.locals y)))
 simple_grows w s (Assign xs p ys) = λ ts h.
-    pass_append w s.uses ((assigned w s.locals xs).uses ++ (rhs w s.locals ys).uses) ts (exprs_tokens xs ++ (sign kind.Assign p ∷ exprs_tokens ys)) h
-    (pass_append w (assigned w s.locals xs).uses (rhs w s.locals ys).uses (exprs_tokens xs) (sign kind.Assign p ∷ exprs_tokens ys)
-    (all_assigned w s.locals xs) (pass_before w (rhs w s.locals ys).uses (sign kind.Assign p ∷ []) (exprs_tokens ys) (rights_pass w s.locals ys)))
+    let l = assigned w s.locals xs in
+    let r = rhs w s.locals ys in
+    let x = receiving w ys r.values in
+    let entries = given_enterings x r.values l.targets in
+    pass_append w s.uses (l.uses ++ (r.uses ++ entries)) ts (exprs_tokens xs ++ (sign kind.Assign p ∷ exprs_tokens ys)) h
+    (pass_append w l.uses (r.uses ++ entries) (exprs_tokens xs) (sign kind.Assign p ∷ exprs_tokens ys) (all_assigned w s.locals xs)
+    (pass_before w (r.uses ++ entries) (sign kind.Assign p ∷ []) (exprs_tokens ys)
+    (rights_entered w s.locals ys entries (no_member_given x r.values l.targets))))
 simple_grows w s (Define xs p ys) = λ ts h.
-    pass_append w s.uses ((defined w s.locals xs).uses ++ (rhs w s.locals ys).uses) ts (exprs_tokens xs ++ (sign kind.Define p ∷ exprs_tokens ys)) h
-    (pass_append w (defined w s.locals xs).uses (rhs w s.locals ys).uses (exprs_tokens xs) (sign kind.Define p ∷ exprs_tokens ys)
-    (all_defined w s.locals xs) (pass_before w (rhs w s.locals ys).uses (sign kind.Define p ∷ []) (exprs_tokens ys) (rights_pass w s.locals ys)))
+    let l = defined w s.locals xs in
+    let r = rhs w s.locals ys in
+    let x = receiving w ys r.values in
+    let entries = given_enterings x r.values l.targets in
+    pass_append w s.uses (l.uses ++ (r.uses ++ entries)) ts (exprs_tokens xs ++ (sign kind.Define p ∷ exprs_tokens ys)) h
+    (pass_append w l.uses (r.uses ++ entries) (exprs_tokens xs) (sign kind.Define p ∷ exprs_tokens ys) (all_defined w s.locals xs)
+    (pass_before w (r.uses ++ entries) (sign kind.Define p ∷ []) (exprs_tokens ys)
+    (rights_entered w s.locals ys entries (no_member_given x r.values l.targets))))
 
 optional_grows : (w : World) (s : FoundSoFar) (x : Option SimpleTree) → Grows w s (check_optional_simple w s x) (tokens_if simple_tokens x)
 optional_grows w s None = grows_none w s []
@@ -195,16 +216,24 @@ written_grows : (w : World) (s : FoundSoFar) (names : List (Item IdentTree)) (t 
 unfolding check_typed_local
 written_grows w s names t None = λ ts h. pass_append w s.uses [] ts [] h (pass_none w [])
 written_grows w s names t (Some v) = λ ts h.
-    pass_append w s.uses (rhs w s.locals v.1).uses ts (value_tokens expr_tokens v) h
-    (pass_before w (rhs w s.locals v.1).uses (sign kind.Assign v.0 ∷ []) (exprs_tokens v.1) (rights_pass w s.locals v.1))
+    let r = rhs w s.locals v.1 in
+    let x = receiving w v.1 r.values in
+    let entries = given_enterings x r.values (written_targets names t).targets in
+    pass_append w s.uses (r.uses ++ entries) ts (value_tokens expr_tokens v) h
+    (pass_before w (r.uses ++ entries) (sign kind.Assign v.0 ∷ []) (exprs_tokens v.1)
+    (rights_entered w s.locals v.1 entries (no_member_given x r.values (written_targets names t).targets)))
 
 unwritten_grows : (w : World) (s : FoundSoFar) (names : List (Item IdentTree)) (v : Option (ℕ × List (Item ExprTree))) →
     Grows w s (check_untyped_local w s names v) (tokens_if (value_tokens expr_tokens) v)
 unfolding check_untyped_local
 unwritten_grows w s names None = λ ts h. pass_append w s.uses [] ts [] h (pass_none w [])
 unwritten_grows w s names (Some v) = λ ts h.
-    pass_append w s.uses (rhs w s.locals v.1).uses ts (value_tokens expr_tokens v) h
-    (pass_before w (rhs w s.locals v.1).uses (sign kind.Assign v.0 ∷ []) (exprs_tokens v.1) (rights_pass w s.locals v.1))
+    let r = rhs w s.locals v.1 in
+    let x = receiving w v.1 r.values in
+    let entries = given_enterings x r.values (name_targets names Takes).targets in
+    pass_append w s.uses (r.uses ++ entries) ts (value_tokens expr_tokens v) h
+    (pass_before w (r.uses ++ entries) (sign kind.Assign v.0 ∷ []) (exprs_tokens v.1)
+    (rights_entered w s.locals v.1 entries (no_member_given x r.values (name_targets names Takes).targets)))
 
 local_of_grows : (w : World) (s : FoundSoFar) (names : List (Item IdentTree)) (t : Option TypeTree) (v : Option (ℕ × List (Item ExprTree))) →
     Grows w s (check_local_of w s names t v) (tokens_if (value_tokens expr_tokens) v)
@@ -242,7 +271,11 @@ header_grows w s (clauses init p condition q post) =
 return_grows : (w : World) (s : FoundSoFar) (place : ℕ) (results : List Target) (es : List (Item ExprTree)) →
     Grows w s (check_return w s place results es) (exprs_tokens es)
 unfolding check_return
-return_grows w s place results es = λ ts h. pass_append w s.uses (rhs w s.locals es).uses ts (exprs_tokens es) h (rights_pass w s.locals es)
+return_grows w s place results es = λ ts h.
+    let r = rhs w s.locals es in
+    let x = receiving w es r.values in
+    let entries = given_enterings x r.values results in
+    pass_append w s.uses (r.uses ++ entries) ts (exprs_tokens es) h (rights_entered w s.locals es entries (no_member_given x r.values results))
 
 mutual
   unfolding check_statement check_block check_statements check_if check_else statement_tokens block_tokens statements_tokens if_tokens else_tokens
@@ -326,13 +359,16 @@ function_grows w is_init s f =
     (grows_then w b c d (sign kind.RightParen f.rparen ∷ results) (block_tokens f.body) (noted w b c (sign kind.RightParen f.rparen ∷ results) refl)
     (block_grows w (judge_results w f.result).wanted c f.body))))
 
+global_grows : (w : World) (s : FoundSoFar) (g : GlobalTree) → Grows w s (check_global w s g) (global_tokens g)
+global_grows w s g ts h = more_pass w s.uses (global_enterings w g) (ts ++ global_tokens g) (no_member_global w g) (pass_behind w s.uses ts (global_tokens g) h)
+
 decl_grows : (w : World) (is_init : ℕ → Bool) (s : FoundSoFar) (d : DeclTree) → Grows w s (check_decl w is_init s d) (decl_tokens d)
 unfolding check_decl decl_tokens
 decl_grows w is_init s (VarDecl k g c) =
     let a = check_group (check_global w) s g in
     grows_behind w s a (sign kind.Var k) (group_tokens global_tokens g ++ (sign kind.Semicolon c ∷ []))
     (grows_before w s a (group_tokens global_tokens g) (sign kind.Semicolon c ∷ [])
-    (group_grows w (check_global w) global_tokens (λ x y. noted w x (check_global w x y) (global_tokens y) refl) s g))
+    (group_grows w (check_global w) global_tokens (λ x y. global_grows w x y) s g))
 decl_grows w is_init s (TypeDecl k g c) =
     let a = check_group (check_type w) s g in
     grows_behind w s a (sign kind.TypeWord k) (group_tokens type_spec_tokens g ++ (sign kind.Semicolon c ∷ []))

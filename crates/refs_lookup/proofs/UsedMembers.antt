@@ -12,7 +12,7 @@ use Rattle.law_tokens.proofs.HeldBytes.{source_file_at}
 use Rattle.law_tokens.proofs.Lexical.{never_bound}
 use Rattle.law_tokens.proofs.OwnPaths.{package_sources, part_at}
 use Rattle.law_tokens.proofs.Roles.{named_role_told}
-use Rattle.types_expr.specs.Judge.{MemberUse}
+use Rattle.types_expr.specs.Judge.{MemberUse, members_of}
 use Rattle.types_expr.specs.World.{World}
 use Rattle.types_stmt.specs.Declarations.{check_file}
 use Rattle.refs_lookup.specs.Places.{IsMemberToken, as_key, as_selected}
@@ -53,8 +53,9 @@ module _ (w : Workspace) (known : Verdicts) (path : List ℕ) (p : Package) (h :
       let sources : b.judged.source ≡ s = same_Some b.judged.source s (sym b.judged.in_file ∙ a.judged.in_file) in
       let worlds : b.judged.world ≡ a.judged.world =
       is_one_world file s b.judged.world a.judged.world (subst (λ z. IsWorldOf p file z b.judged.world) sources b.judged.judged_by) a.judged.judged_by in
-      let own : Contains (check_file a.judged.world (is_init s) s.tree).uses a.found = subst (λ us. Contains us a.found) a.judged.found a.is_use in
-      let other : Contains (check_file a.judged.world (is_init s) s.tree).uses b.found = subst (λ us. Contains us b.found) (lists ∙ a.judged.found) b.is_use in
+      let own : Contains (members_of (check_file a.judged.world (is_init s) s.tree).uses) a.found = subst (λ us. Contains us a.found) a.judged.found a.is_use in
+      let other : Contains (members_of (check_file a.judged.world (is_init s) s.tree).uses) b.found =
+      subst (λ us. Contains us b.found) (lists ∙ a.judged.found) b.is_use in
       let same : a.found ≡ b.found =
       one_at_token a.judged.world (is_init s) s (is_source file s a.judged.in_file) a.found b.found own other (a.at ∙ sym b.at) in
       let members : Some a.member ≡ Some b.member =
@@ -85,7 +86,7 @@ module _ (w : Workspace) (known : Verdicts) (path : List ℕ) (p : Package) (h :
   link_role u d stands a =
       let s = a.judged.source in
       let t = part_of (p.layout.place u).file s a.judged.in_file in
-      let own : Contains (check_file a.judged.world (is_init s) s.tree).uses a.found = subst (λ us. Contains us a.found) a.judged.found a.is_use in
+      let own : Contains (members_of (check_file a.judged.world (is_init s) s.tree).uses) a.found = subst (λ us. Contains us a.found) a.judged.found a.is_use in
       let link = stands_at_link a.judged.world (is_init s) s (is_source (p.layout.place u).file s a.judged.in_file) a.found own in
       by_link a.judged.world u stands t.0 t.1.0
       (subst (λ n. IsMemberToken a.judged.world t.0.cut n) a.at

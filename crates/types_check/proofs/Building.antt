@@ -1,26 +1,29 @@
 -- Definitions while fields and methods are added by rank.
 use Rattle.std.proofs.Common.{ℕ, zero, suc, ◌≡◌, ◌+◌, ◌<◌, ◌≤◌, inl, inr, List, [], ◌∷◌, ◌++◌, length, get_or, ap, sym, subst, refl, ◌∙◌, arith}
-use Rattle.std.specs.Prelude.{Option, Some, None, slice_get, map}
+use Rattle.std.specs.Prelude.{Option, Some, None, option_map, slice_get, map}
 use Rattle.std.specs.List.{flat_map}
 use Rattle.std.proofs.Math.ListN.{set}
 use Rattle.std.proofs.lemmas.Bool.{cases_lt, cases_eq}
 use Rattle.std.proofs.lemmas.List.{length-set}
 use Rattle.std.proofs.lemmas.Option.{same_Some, none-some, slice_get_within, slice_get_read}
 use Rattle.go_scope.specs.WellFormed.{WellFormed}
-use Rattle.go_ast.specs.Tree.{Item, FieldTree, BodyTree, Other, Struct, Interface}
+use Rattle.go_ast.specs.Tree.{Item, FieldTree, MethodTree, ParamTree, ResultTree, TypeTree, BodyTree, Other, Struct, Interface}
 use Rattle.types_expr.specs.declared.world.Definition.{Definition}
-use Rattle.types_expr.specs.Types.{PlainType, Signature}
+use Rattle.types_expr.specs.Types.{PlainType, Signature, WrittenAs, AFieldOf, AMethodOf}
 use Rattle.types_expr.specs.World.{Field, Method}
 use Rattle.types_expr.specs.World as plain
 use Rattle.types_expr.specs.WorldView.{definition_of}
 use Rattle.types_declared.specs.Package.{Package, PlacedType, PlacedFunction, package_types, package_functions, spelled}
-use Rattle.types_declared.specs.Written.{IsTypeOf}
-use Rattle.types_declared.specs.Definitions.{PlacedField, body_fields, fields_from, package_fields, IsCountingField, IsMethodOf, IsCountingMethod, IsFoundField}
+use Rattle.types_declared.specs.Definitions.{OfType, OfSignature, HasForm, PlacedField, body_fields, fields_from, package_fields, IsCountingField, IsMethodOf}
+use Rattle.types_declared.specs.Definitions.{IsCountingMethod, IsFoundField, IsSignatureFound}
 use Rattle.types_declared.specs.Definitions.{IsFoundSignature, IsFoundMethod, IsUnderlyingOf}
+use Rattle.types_declared.specs.MeaningOf.{IsSignatureOf}
+use Rattle.types_declared.specs.Written.{IsTypeOf}
+use Rattle.types_declared.specs.WrittenView.{IsTypeFound}
 use Rattle.types_members.specs.MembersView.{CountsAsField, IsMethodOn, CountsAsMethod}
 use Rattle.types_info.specs.DefinitionsView.{HaveDefinitions}
 use Rattle.types_check.specs.Building.{IsFieldBelow, IsMethodBelow, IsDefinitionBelow, HaveMembersBelow, SetsField, typed_field, received_by_pointer, signed_method}
-use Rattle.types_check.specs.Building.{SetsMethodOf, ChangesAt, AddsField, typed, untyped}
+use Rattle.types_check.specs.Building.{SetsMethodOf, ChangesAt, AddsField, IsWrittenFound, typed, untyped}
 use Rattle.types_declared.proofs.ByteKeys.{cases_bytes}
 use Rattle.types_declared.proofs.Mentioning.{get_set_same, get_set_other}
 use Rattle.types_members.proofs.Owning.{HasOwner}
@@ -43,12 +46,12 @@ bounded_append n [] ys h k = k
 bounded_append n (x ∷ xs) ys h k = bounded_more n x (xs ++ ys) (h 0 x refl) (bounded_append n xs ys (λ r f e. h (suc r) f e) k)
 
 abbrev named_fields : ℕ → ℕ → Item FieldTree → List PlacedField
-named_fields rank file i = map (λ n. record { definition = rank; file = file; name = n.value; type_use = i.value.type_use }) i.value.names
+named_fields rank file i = map (λ n. record { definition = rank; file = file; name = n.value; form = OfType i.value.type_use }) i.value.names
 
 bounded_names : (n rank file : ℕ) (type_use : _) (names : List (Item ℕ)) → rank < n →
-    Bounded n (map (λ i. record { definition = rank; file = file; name = i.value; type_use = type_use }) names)
+    Bounded n (map (λ i. record { definition = rank; file = file; name = i.value; form = OfType type_use }) names)
 bounded_names n rank file t [] lt = bounded_none n
-bounded_names n rank file t (x ∷ xs) lt = bounded_more n (record { definition = rank; file = file; name = x.value; type_use = t }) _ lt
+bounded_names n rank file t (x ∷ xs) lt = bounded_more n (record { definition = rank; file = file; name = x.value; form = OfType t }) _ lt
     (bounded_names n rank file t xs lt)
 
 bounded_items : (n rank file : ℕ) (fs : List (Item FieldTree)) → rank < n → Bounded n (flat_map (named_fields rank file) fs)
@@ -56,10 +59,17 @@ bounded_items n rank file [] lt = bounded_none n
 bounded_items n rank file (i ∷ fs) lt = bounded_append n (named_fields rank file i) (flat_map (named_fields rank file) fs)
     (bounded_names n rank file i.value.type_use i.value.names lt) (bounded_items n rank file fs lt)
 
+bounded_asked : (n rank file : ℕ) (ms : List (Item MethodTree)) → rank < n →
+    Bounded n (map (λ i. record { definition = rank; file = file; name = i.value.name; form = OfSignature i.value.params i.value.result }) ms)
+bounded_asked n rank file [] lt = bounded_none n
+bounded_asked n rank file (m ∷ ms) lt =
+    bounded_more n (record { definition = rank; file = file; name = m.value.name; form = OfSignature m.value.params m.value.result }) _ lt
+    (bounded_asked n rank file ms lt)
+
 bounded_body : (n rank file : ℕ) (b : BodyTree) → rank < n → Bounded n (body_fields rank file b)
 bounded_body n rank file (Other t) lt = bounded_none n
 bounded_body n rank file (Struct k o fs c) lt = bounded_items n rank file fs lt
-bounded_body n rank file (Interface k o ms c) lt = bounded_none n
+bounded_body n rank file (Interface k o ms c) lt = bounded_asked n rank file ms lt
 
 bounded_from : (n rank : ℕ) (ds : List PlacedType) → rank + length ds ≤ n → Bounded n (fields_from rank ds)
 bounded_from n rank [] le = bounded_none n
@@ -106,7 +116,7 @@ counting_field p rank f e c =
 
 -- the field of this rank isn't a field of this name of the definition
 abbrev NoField : Package → (rank definition : ℕ) → List ℕ → Type 0
-NoField p rank d n = (f : PlacedField) (t : PlainType) → IsCountingField p d n rank f → IsTypeOf p f.file f.type_use t → ⊥
+NoField p rank d n = (f : PlacedField) (t : WrittenAs) → IsCountingField p d n rank f → HasForm p f.file f.form t → ⊥
 
 field_later : (p : Package) (count d : ℕ) (n : List ℕ) (o : Option Field) → NoField p count d n → IsFieldBelow p count d n o → IsFieldBelow p (count + 1) d n o
 field_later p count d n None none h = λ r f t lt c is. elim (cases_lt r count) [
@@ -130,9 +140,9 @@ pub field_skipped : (p : Package) (count methods : ℕ) (found : List Definition
 field_skipped p count methods found none h = fields_skipped p count methods found
     (λ d n f t c is. none (record { definition = d; name = n; field = f; counting = c })) h
 
-field_set : (p : Package) (count methods : ℕ) (f : PlacedField) (t : PlainType) (x y : plain.Definition) → slice_get (package_fields p) count ≡ Some f →
+field_set : (p : Package) (count methods : ℕ) (f : PlacedField) (t : WrittenAs) (x y : plain.Definition) → slice_get (package_fields p) count ≡ Some f →
     IsCountingField p f.definition (spelled p f.file f.name) count f →
-    IsTypeOf p f.file f.type_use t → SetsField x y (spelled p f.file f.name) (typed_field p count f t) → IsDefinitionBelow p count methods f.definition x →
+    HasForm p f.file f.form t → SetsField x y (spelled p f.file f.name) (typed_field p count f t) → IsDefinitionBelow p count methods f.definition x →
     IsDefinitionBelow p (count + 1) methods f.definition y
 field_set p count methods f t x y at c is s h = record {
   underlying = subst (IsUnderlyingOf p f.definition) (sym s.underlying) h.underlying;
@@ -145,8 +155,8 @@ field_set p count methods f t x y at c is s h = record {
   has_methods = λ n. subst (IsMethodBelow p methods f.definition n) (sym (s.methods n)) (h.has_methods n);
 }
 
-fields_added : (p : Package) (count methods : ℕ) (f : PlacedField) (t : PlainType) (old new : List Definition) → slice_get (package_fields p) count ≡ Some f →
-    IsCountingField p f.definition (spelled p f.file f.name) count f → IsTypeOf p f.file f.type_use t →
+fields_added : (p : Package) (count methods : ℕ) (f : PlacedField) (t : WrittenAs) (old new : List Definition) → slice_get (package_fields p) count ≡ Some f →
+    IsCountingField p f.definition (spelled p f.file f.name) count f → HasForm p f.file f.form t →
     ChangesAt old new f.definition (λ x y. SetsField (definition_of x) (definition_of y) (spelled p f.file f.name) (typed_field p count f t)) →
     HaveMembersBelow p count methods old →
     HaveMembersBelow p (count + 1) methods new
@@ -162,8 +172,8 @@ fields_added p count methods f t old new at c is ch h = record {
   ];
 }
 
-pub field_changed : (p : Package) (rank : ℕ) (f : PlacedField) (t : PlainType) (old : List Definition) (x y : Definition) → f.definition < length old →
-    x ≡ get_or old f.definition x → IsTypeOf p f.file f.type_use t →
+pub field_changed : (p : Package) (rank : ℕ) (f : PlacedField) (t : WrittenAs) (old : List Definition) (x y : Definition) → f.definition < length old →
+    x ≡ get_or old f.definition x → HasForm p f.file f.form t →
     SetsField (definition_of x) (definition_of y) (spelled p f.file f.name) (typed_field p rank f t) → AddsField p rank f old (set old f.definition y)
 field_changed p rank f t old x y lt at is s =
     typed is (changes_set old f.definition x y (λ a b. SetsField (definition_of a) (definition_of b) (spelled p f.file f.name) (typed_field p rank f t)) lt at s)
@@ -176,7 +186,7 @@ field_added p count methods f old new at c (typed {t = t} is ch) h = fields_adde
 field_added p count methods f old new at c (untyped none e) h =
     subst (HaveMembersBelow p (count + 1) methods) (sym e)
     (fields_skipped p count methods old (λ d n g u k is.
-    none u (subst (λ (z : PlacedField). IsTypeOf p z.file z.type_use u) (same_field p count d n f g at k) is)) h)
+    none u (subst (λ (z : PlacedField). HasForm p z.file z.form u) (same_field p count d n f g at k) is)) h)
 
 -- Methods
 
@@ -291,3 +301,24 @@ have_definitions p found h = record {
         methods = λ n. all_methods p r n ((definition_of d).method n) (k.has_methods n);
       };
 }
+
+-- What a written member has, by what is found for its type or its signature
+
+no_other_form : (p : Package) (file : ℕ) (x : TypeTree) → ((t : PlainType) → IsTypeOf p file x t → ⊥) → (t : WrittenAs) → HasForm p file (OfType x) t → ⊥
+no_other_form p file x none (AFieldOf t) h = none t h
+no_other_form p file x none (AMethodOf s) h = h
+
+pub type_written : (p : Package) (file : ℕ) (x : TypeTree) (o : Option PlainType) → IsTypeFound p file x o →
+    IsWrittenFound p file (OfType x) (option_map AFieldOf o)
+type_written p file x None h = no_other_form p file x h
+type_written p file x (Some t) h = h
+
+no_other_signature : (p : Package) (file : ℕ) (ps : List (Item ParamTree)) (r : ResultTree) → ((s : Signature) → IsSignatureOf p file ps r s → ⊥) →
+    (t : WrittenAs) → HasForm p file (OfSignature ps r) t → ⊥
+no_other_signature p file ps r none (AFieldOf t) h = h
+no_other_signature p file ps r none (AMethodOf s) h = none s h
+
+pub signature_written : (p : Package) (file : ℕ) (ps : List (Item ParamTree)) (r : ResultTree) (o : Option Signature) → IsSignatureFound p file ps r o →
+    IsWrittenFound p file (OfSignature ps r) (option_map AMethodOf o)
+signature_written p file ps r None h = no_other_signature p file ps r h
+signature_written p file ps r (Some s) h = h

@@ -1,5 +1,6 @@
 -- The lemmas of this crate.
 pub mod Building
+pub mod NotesInTurn
 pub mod TypeFaultParts
 pub mod OneLaid
 pub mod Staging

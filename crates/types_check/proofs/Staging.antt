@@ -33,6 +33,7 @@ faulty_by P p c ne h sorted none = record {
   order = sorted;
   export_data = subst (λ o. MatchOption o (c.faults.items ≡ [] → ⊥) (λ i. (c.faults.items ≡ []) × IsExportData p (export_data_of p.path i))) (sym none) ne;
   members = λ e. absurd (ne e);
+  enterings = λ e. absurd (ne e);
   qualified = λ e. absurd (ne e);
 }
 
@@ -64,6 +65,7 @@ checked_same P Q p c same h = record {
   order = h.order;
   export_data = h.export_data;
   members = h.members;
+  enterings = h.enterings;
   qualified = h.qualified;
 }
 

@@ -1,7 +1,6 @@
 -- The faults of types in files, and their member uses, file by file.
 use Rattle.std.proofs.Common.{ℕ, ◌≡◌, ◌+◌, ◌<◌, ◌⊎◌, inl, inr, suc, List, [], ◌∷◌, ◌++◌, length, take, get_or, ap, sym, subst, refl, ◌∙◌, arith, length-append}
-use Rattle.std.specs.Prelude.{Contains, Some, slice_get, map}
-use Rattle.std.specs.Global.{Vec}
+use Rattle.std.specs.Prelude.{Contains, Some, slice_get}
 use Rattle.std.proofs.Math.Seq.{take-suc, take-length}
 use Rattle.std.proofs.lemmas.Bool.{cases_lt}
 use Rattle.std.proofs.lemmas.List.Elements.{Contains-append_left, Contains-push, Contains-push_cases}
@@ -15,14 +14,13 @@ use Rattle.go_ast.specs.SourceFile.{FileParts, source_of}
 use Rattle.types_expr.specs.declared.world.World.{World as FileWorld}
 use Rattle.types_expr.specs.WorldView.{world_of}
 use Rattle.types_stmt.specs.View.{is_init_in}
-use Rattle.types_expr.specs.declared.found.MemberUse.{MemberUse as FoundUse}
-use Rattle.types_expr.specs.Judge.{MemberUse}
+use Rattle.types_expr.specs.Judge.{MemberUse, Entering, members_of, enterings_of}
 use Rattle.types_stmt.specs.Checked.{FoundSoFar}
 use Rattle.types_stmt.specs.Declarations.{check_file}
 use Rattle.types_declared.specs.Package.{Package}
 use Rattle.types_info.specs.Worlds.{IsWorldOf, is_init}
 use Rattle.types_check.specs.TypeFaults.{IsTypeFault}
-use Rattle.types_info.specs.MemberUses.{AreUsesIn, AreMemberUsesBelow, AreMemberUses, uses_in, AddsUses, AddsFile}
+use Rattle.types_info.specs.MemberUses.{AreUsesIn, AreEnteringsIn, AreFileListsBelow, AddsFileList, AddsFileListOf}
 use Rattle.types_info.specs.Uniqueness.{HasOneWorld}
 use Rattle.types_check.specs.TypesView.{IsChecked, IsAtToken, IsTypeFaultIn}
 use Rattle.types_declared.proofs.DeclaredPaths.{get_before, get_last}
@@ -101,41 +99,44 @@ all_faults p n found e h =
     lists_from found (IsTypeFault p)
     (adds_as [] found (IsFaultBelow (IsTypeFaultIn p) n) (IsTypeFault p) h (some_file p n) (λ f t. subst (λ k. IsFaultBelow (IsTypeFaultIn p) k f) (sym e) (own_file p f t)))
 
--- Member uses
+-- Member uses and entries
 
-pub uses_of_file : (p : Package) (file : ℕ) (c : FoundSoFar) (old new : List (Vec FoundUse)) → IsChecked p file c → AddsUses old new c.uses →
-    AddsFile p file old new
+pub uses_of_file : (p : Package) (file : ℕ) (c : FoundSoFar) (old new : List (List MemberUse)) → IsChecked p file c → AddsFileList old new (members_of c.uses) →
+    AddsFileListOf (AreUsesIn p) file old new
 uses_of_file p file c old new ch h = (
-  c.uses,
-  (
-    h,
-    record
-        { source = ch.source; in_file = ch.in_file; world = ch.world; judged_by = ch.judged_by; found = ap (λ z. z.uses) ch.is },
-  ),
+  members_of c.uses,
+  (h, record { source = ch.source; in_file = ch.in_file; world = ch.world; judged_by = ch.judged_by; found = ap (λ z. members_of z.uses) ch.is }),
 )
 
-pub next_uses : (p : Package) (n : ℕ) (old new : List (Vec FoundUse)) → AddsFile p n old new → AreMemberUsesBelow p n (map uses_in old) →
-    AreMemberUsesBelow p (n + 1) (map uses_in new)
-next_uses p n old new added h =
-    let xs = map uses_in old in
-    let e : map uses_in new ≡ xs ++ (added.0 ∷ []) = added.1.0 in
-    let size : length (map uses_in new) ≡ n + 1 = ap length e ∙ length-append xs (added.0 ∷ []) ∙ ap (λ m. m + 1) h.all in
+pub enterings_of_file : (p : Package) (file : ℕ) (c : FoundSoFar) (old new : List (List Entering)) → IsChecked p file c →
+    AddsFileList old new (enterings_of c.uses) → AddsFileListOf (AreEnteringsIn p) file old new
+enterings_of_file p file c old new ch h = (
+  enterings_of c.uses,
+  (h, record { source = ch.source; in_file = ch.in_file; world = ch.world; judged_by = ch.judged_by; found = ap (λ z. enterings_of z.uses) ch.is }),
+)
+
+pub next_list : {X : Type 0} (Is : ℕ → List X → Type 0) (n : ℕ) (old new : List (List X)) → AddsFileListOf Is n old new → AreFileListsBelow Is n old →
+    AreFileListsBelow Is (n + 1) new
+next_list {X} Is n old new added h =
+    let e : new ≡ old ++ (added.0 ∷ []) = added.1.0 in
+    let size : length new ≡ n + 1 = ap length e ∙ length-append old (added.0 ∷ []) ∙ ap (λ m. m + 1) h.all in
     record {
       all = size;
-      each = λ file uses at. elim (cases_lt file n) [
-        | inl lt ↦ h.each file uses (sym (ap (λ z. slice_get z file) e ∙ get_before xs added.0 file (subst (λ m. file < m) (sym h.all) lt)) ∙ at)
+      each = λ file list at. elim (cases_lt file n) [
+        | inl lt ↦ h.each file list (sym (ap (λ z. slice_get z file) e ∙ get_before old added.0 file (subst (λ m. file < m) (sym h.all) lt)) ∙ at)
         | inr ge ↦
-            let lt : file < n + 1 = subst (λ m. file < m) size (slice_get_within (map uses_in new) file uses at) in
+            let lt : file < n + 1 = subst (λ m. file < m) size (slice_get_within new file list at) in
             let same : file ≡ n = omega arith in
-            let last : slice_get (map uses_in new) n ≡ Some added.0 = ap (λ z. slice_get z n) e ∙ ap (slice_get (xs ++ (added.0 ∷ []))) (sym h.all) ∙
-            get_last xs added.0 in
-            let equal : added.0 ≡ uses = same_Some added.0 uses (sym last ∙ ap (slice_get (map uses_in new)) (sym same) ∙ at) in
-            subst (λ k. AreUsesIn p k uses) (sym same) (subst (AreUsesIn p n) equal added.1.1)
+            let last : slice_get new n ≡ Some added.0 = ap (λ z. slice_get z n) e ∙ ap (slice_get (old ++ (added.0 ∷ []))) (sym h.all) ∙
+            get_last old added.0 in
+            let equal : added.0 ≡ list = same_Some added.0 list (sym last ∙ ap (slice_get new) (sym same) ∙ at) in
+            subst (λ k. Is k list) (sym same) (subst (Is n) equal added.1.1)
       ];
     }
 
-pub all_uses : (p : Package) (n : ℕ) (members : List (List MemberUse)) → n ≡ length p.files → AreMemberUsesBelow p n members → AreMemberUses p members
-all_uses p n members e h = subst (λ k. AreMemberUsesBelow p k members) e h
+pub all_lists : {X : Type 0} (Is : ℕ → List X → Type 0) (p : Package) (n : ℕ) (lists : List (List X)) → n ≡ length p.files → AreFileListsBelow Is n lists →
+    AreFileListsBelow Is (length p.files) lists
+all_lists Is p n lists e h = subst (λ k. AreFileListsBelow Is k lists) e h
 
 -- the result of checking a file in the program's world
 pub checked_by : (p : Package) (file : ℕ) (x : FileParts) (w : FileWorld) (c : FoundSoFar) (t : FileTree) → slice_get p.files file ≡ Some (source_of x) →

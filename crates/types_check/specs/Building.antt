@@ -2,19 +2,19 @@
 use Rattle.std.specs.Prelude.{ℕ, ◌≡◌, ◌<◌, Bool, false, List, Option, Some, None, length, slice_get}
 use Rattle.go_ast.specs.Tree.{ReceiverTree}
 use Rattle.types_expr.specs.declared.world.Definition.{Definition}
-use Rattle.types_expr.specs.Types.{PlainType, Signature}
+use Rattle.types_expr.specs.Types.{WrittenAs, Signature}
 use Rattle.types_expr.specs.World.{Field, Method}
 use Rattle.types_expr.specs.World as plain
 use Rattle.types_expr.specs.WorldView.{definition_of}
 use Rattle.types_declared.specs.Laid.{is_exported}
 use Rattle.types_declared.specs.Package.{Package, PlacedFunction, package_types, symbol_in, spelled}
-use Rattle.types_declared.specs.Written.{IsTypeOf}
-use Rattle.types_declared.specs.Definitions.{PlacedField, IsCountingField, IsCountingMethod, IsFoundField, IsFoundSignature, IsFoundMethod, IsUnderlyingOf, is_on_pointer}
+use Rattle.types_declared.specs.Definitions.{PlacedField, WrittenForm, HasForm, IsCountingField, IsCountingMethod, IsFoundField, IsFoundSignature}
+use Rattle.types_declared.specs.Definitions.{IsFoundMethod, IsUnderlyingOf, is_on_pointer}
 
 -- the definition's field of this name, while only the fields below count are added
 abbrev pub IsFieldBelow : Package → (count definition : ℕ) → List ℕ → Option Field → Type 0
-IsFieldBelow p count definition name None = (rank : ℕ) (f : PlacedField) (t : PlainType) → rank < count → IsCountingField p definition name rank f →
-    IsTypeOf p f.file f.type_use t → ⊥
+IsFieldBelow p count definition name None = (rank : ℕ) (f : PlacedField) (t : WrittenAs) → rank < count → IsCountingField p definition name rank f →
+    HasForm p f.file f.form t → ⊥
 IsFieldBelow p count definition name (Some x) = IsFoundField p definition name (Some x)
 
 -- the definition's method of this name, while only the methods below count are added
@@ -47,9 +47,18 @@ pub record SetsMethod (old new : plain.Definition) (name : List ℕ) (x : Method
   pub elsewhere : (n : List ℕ) → (n ≡ name → ⊥) → new.method n ≡ old.method n
   pub fields : (n : List ℕ) → new.field n ≡ old.field n
 
--- the field of this rank, with its type, as expressions see it
-abbrev pub typed_field : Package → ℕ → PlacedField → PlainType → Field
-typed_field p rank f t = record { symbol = symbol_in p rank; exported = is_exported (spelled p f.file f.name); type_of = t }
+-- the written member of this rank, with its type or signature, as expressions see it
+abbrev pub typed_field : Package → ℕ → PlacedField → WrittenAs → Field
+typed_field p rank f t = record { symbol = symbol_in p rank; exported = is_exported (spelled p f.file f.name); form = t }
+
+-- the type or the signature that is written in a file; none where a type expression in it is broken
+abbrev pub IsWrittenFound : Package → (file : ℕ) → WrittenForm → Option WrittenAs → Type 0
+IsWrittenFound p file form None = (t : WrittenAs) → HasForm p file form t → ⊥
+IsWrittenFound p file form (Some t) = HasForm p file form t
+
+-- the type or the signature of a written member
+abbrev pub IsFormFound : Package → PlacedField → Option WrittenAs → Type 0
+IsFormFound p f found = IsWrittenFound p f.file f.form found
 
 -- whether there is a receiver whose type is a pointer
 abbrev pub received_by_pointer : Option ReceiverTree → Bool
@@ -83,9 +92,9 @@ pub record ChangesAt {X : Type 0} (old new : List X) (place : ℕ) (C : X → X 
   pub elsewhere : (i : ℕ) → (i ≡ place → ⊥) → slice_get new i ≡ slice_get old i
   pub changed : C before after
 
--- the field f was added to its definition; nothing was added where its type expression is broken
+-- the written member f was added to its definition; nothing was added where a type expression in it is broken
 pub data AddsField (p : Package) (rank : ℕ) (f : PlacedField) (old new : List Definition) : Type 0 where
-  typed : {t : PlainType} → IsTypeOf p f.file f.type_use t →
+  typed : {t : WrittenAs} → HasForm p f.file f.form t →
       ChangesAt old new f.definition (λ x y. SetsField (definition_of x) (definition_of y) (spelled p f.file f.name) (typed_field p rank f t)) →
       AddsField p rank f old new
-  untyped : ((t : PlainType) → IsTypeOf p f.file f.type_use t → ⊥) → new ≡ old → AddsField p rank f old new
+  untyped : ((t : WrittenAs) → HasForm p f.file f.form t → ⊥) → new ≡ old → AddsField p rank f old new

@@ -19,7 +19,7 @@ use Rattle.types_members.specs.MemberFaults.{IsMemberFault}
 use Rattle.types_check.specs.TypeFaults.{IsTypeFault}
 use Rattle.types_info.specs.declared.meanings.MeaningTable.{MeaningTable}
 use Rattle.types_info.specs.MeaningsView.{AreMeanings}
-use Rattle.types_info.specs.MemberUses.{AreMemberUses, uses_in}
+use Rattle.types_info.specs.MemberUses.{AreEnterings, AreMemberUses, enterings_in, uses_in}
 use Rattle.types_info.specs.PackageOf.{IsPackageOf}
 use Rattle.types_info.specs.QualifiedIdentifiers.{AreQualified}
 
@@ -32,12 +32,13 @@ abbrev pub IsPackageFault : (List ℕ → ImportState) → Package → Fault →
 IsPackageFault state p = IsFaultIn state p.files (exports_in p) (laid_of p) (IsMemberFault p) (IsTypeFault p)
 
 -- c is the finding of a package whose faults are those with the property P. The faults are sorted by file and token, each once. Where there
--- is none, c has the package's export data, its uses of members and its qualified identifiers.
+-- is none, c has the package's export data, its uses of members, its entries and its qualified identifiers.
 pub record IsFindingBy (P : Fault → Type 0) (p : Package) (c : Checked) : Type 0 where
   pub faults : HoldsExactly P c.faults.items
   pub order : IsStrictlySortedBy order.ghosts.cmp c.faults.items
   pub export_data : MatchOption c.export_data (c.faults.items ≡ [] → ⊥) (λ i. (c.faults.items ≡ []) × IsExportData p (export_data_of p.path i))
   pub members : c.faults.items ≡ [] → AreMemberUses p (map uses_in c.members.items)
+  pub enterings : c.faults.items ≡ [] → AreEnterings p (map enterings_in c.enterings.items)
   pub qualified : c.faults.items ≡ [] → AreQualified p c.qualified.items
 
 -- c is the finding of p; state gives the states of imported paths

@@ -1,4 +1,5 @@
-//! Checks a package: finds all its faults, or where it has none, its export data, its uses of members and its qualified identifiers.
+//! Checks a package: finds all its faults. Where it has none, it finds its export data, its uses of members and its qualified identifiers,
+//! and the entries of values into interfaces.
 ghost use Rattle.std.specs.Prelude.{ℕ, List, Option, None, ◌≡◌, map, IfOk};
 ghost use Rattle.std.specs.List.Sorted.{IsStrictlySortedBy};
 ghost use Rattle.types_declared.specs.contracts.fault.FaultOrd.TheImpl as order;
@@ -18,7 +19,7 @@ ghost use Rattle.types_info.specs.PackageOf.{package_in, IsPackageOf};
 ghost use Rattle.types_check.specs.Check.{IsFindingBy, IsFindingOfPackage, IsLaterFault, IsFindingIn, IsTableFound, AreMeaningsFound};
 ghost use Rattle.types_members.specs.TypeMembers.{AreMembers};
 ghost use Rattle.types_info.specs.MeaningsView.{AreMeanings};
-ghost use Rattle.types_info.specs.MemberUses.{AreMemberUses, uses_in};
+ghost use Rattle.types_info.specs.MemberUses.{AreEnterings, AreMemberUses, enterings_in, uses_in};
 ghost use Rattle.types_declared.specs.PackageView.{package_of, IsIndexOf};
 
 use crate::definitions::definitions;
@@ -31,20 +32,21 @@ use std::alloc::{AllocError, Global};
 use types_declared::{
     ExportData, ExportTable, Fault, ImportStates, Index, Package, broken_definitions, lay_names,
 };
-use types_expr::found::MemberUse;
+use types_expr::found::{Entering, MemberUse};
 use types_expr::symbol::SharedPath;
 use types_expr::world::Definition;
 use types_info::{MeaningTable, Qualified, meanings_of, qualified_identifiers};
 use types_members::{Members, member_faults};
 use types_resolve::{inner_faults, outer_faults};
 
-/// The finding of a package: its faults, sorted by file and token. Where it has none, also its export data, the uses of members in each
-/// file by rank, and the qualified identifiers.
+/// The finding of a package: its faults, sorted by file and token. Where it has none, also its export data, the uses of members
+/// and the entries of each file by rank, and the qualified identifiers.
 #[derive(Drop)]
 pub struct Checked {
     pub faults: Vec<Fault>,
     pub export_data: Option<ExportData>,
     pub members: Vec<Vec<MemberUse>>,
+    pub enterings: Vec<Vec<Entering>>,
     pub qualified: Vec<Qualified>,
 }
 
@@ -58,6 +60,7 @@ impl Checked {
             faults,
             export_data: None,
             members: Vec::new(alloc),
+            enterings: Vec::new(alloc),
             qualified: Vec::new(alloc),
         }
     }
@@ -84,7 +87,7 @@ impl CheckedPackage {
     }
 }
 
-/// Makes the finding of a package from the types' faults and the uses of members in its files.
+/// Makes the finding of a package from the types' faults, the uses of members and the entries of its files.
 fn judged(
     alloc: Global,
     pkg: Package<'_>,
@@ -99,6 +102,7 @@ fn judged(
     requires listed { HoldsExactly (IsTypeFault (package_of pkg)) typed.faults.items }
     requires order { IsStrictlySortedBy order.ghosts.cmp typed.faults.items }
     requires members { AreMemberUses (package_of pkg) (map uses_in typed.members.items) }
+    requires enterings { AreEnterings (package_of pkg) (map enterings_in typed.enterings.items) }
     ensures checked { IfOk result (λ c. IsFindingBy (IsTypeFault (package_of pkg.entry)) (package_of pkg.entry) c.checked) }
     ensures bounds { IfOk result (AreMeaningsFound (package_of pkg.entry)) }
 {
@@ -111,6 +115,7 @@ fn judged(
         faults: typed.faults,
         export_data: Some(export_data),
         members: typed.members,
+        enterings: typed.enterings,
         qualified,
     };
     Ok(CheckedPackage {

@@ -1,26 +1,29 @@
 //! Builds the type definitions of a package, as expressions see them: underlying types, fields and methods.
 ghost use Rattle.std.specs.Prelude.{◌≡◌, ◌<◌, length, map, option_map, IfOk, OnOk};
-ghost use Rattle.types_expr.specs.View.{type_of};
+ghost use Rattle.go_ast.specs.View.{type_view};
+ghost use Rattle.go_ast.specs.FileView.{method_view};
+ghost use Rattle.types_expr.specs.View.{form_of};
 ghost use Rattle.types_expr.specs.WorldView.{definition_of, field_of as plain_field, plain_method_of as plain_method, underlying_of};
 ghost use Rattle.types_declared.specs.Package.{package_functions, spelled};
-ghost use Rattle.types_declared.specs.Definitions.{IsUnderlyingOf, package_fields};
+ghost use Rattle.types_declared.specs.Definitions.{IsUnderlyingOf, OfType, OfSignature, package_fields};
 ghost use Rattle.types_declared.specs.DeclaredView.{function_of};
 ghost use Rattle.types_members.specs.FieldsView.{field_of};
 ghost use Rattle.types_declared.specs.Broken.{AreBroken};
-ghost use Rattle.types_check.specs.Building.{IsDefinitionBelow, HaveMembersBelow, SetsField, SetsMethod, SetsMethodOf, AddsField, typed_field, received_by_pointer};
+ghost use Rattle.types_check.specs.Building.{IsDefinitionBelow, HaveMembersBelow, SetsField, SetsMethod, SetsMethodOf, AddsField, IsWrittenFound, IsFormFound, typed_field, received_by_pointer};
 ghost use Rattle.types_members.specs.MembersView.{IsUnderlyingFound, AreUnderlying, AreCountingFields, AreOwners, AreCountingMethods};
 ghost use Rattle.types_info.specs.DefinitionsView.{HaveDefinitions};
 ghost use Rattle.types_members.specs.TypeMembers.{AreMembers};
 ghost use Rattle.types_declared.specs.PackageView.{package_of, IsIndexOf};
 
+use go_ast::tree::{MethodSpec, TypeExpr};
 use std::alloc::{AllocError, Global};
 use std::collections::BTreeMap;
 use types_declared::{Function, Index, Package, is_exported};
 use types_expr::symbol::Symbol;
-use types_expr::types::GoType;
+use types_expr::types::WrittenAs;
 use types_expr::world::{Definition, Field, Method, Underlying};
-use types_info::{signature, valid_type};
-use types_members::{FieldDef, Members, copy, own_struct};
+use types_info::{signature, valid_type, written_signature};
+use types_members::{FieldDef, MemberForm, Members, copy, own_struct};
 
 /// The underlying type of the definition of this rank; a struct of its own where none was found.
 fn underlying_or_struct(
@@ -72,7 +75,7 @@ fn bare_definitions(
     Ok(found)
 }
 
-/// Sets the field of this name.
+/// Sets the written member of this name.
 fn insert_field(definition: &mut Definition, name: Vec<u8>, field: Field) -> Result<(), AllocError>
     ensures { OnOk result (SetsField (definition_of definition.old) (definition_of definition.new) name.items (plain_field field)) }
 {
@@ -80,17 +83,17 @@ fn insert_field(definition: &mut Definition, name: Vec<u8>, field: Field) -> Res
     Ok(())
 }
 
-/// Sets the field of this rank, with its type.
+/// Sets the written member of this rank, with its type or signature.
 fn set_field(
     alloc: Global,
     pkg: Package<'_>,
     definition: &mut Definition,
     rank: usize,
     field: FieldDef<'_>,
-    own: GoType,
+    own: WrittenAs,
 ) -> Result<(), AllocError>
     ensures { OnOk result (SetsField (definition_of definition.old) (definition_of definition.new)
-        (spelled (package_of pkg.entry) field.entry.file field.entry.name) (typed_field (package_of pkg.entry) rank (field_of field.entry) (type_of own))) }
+        (spelled (package_of pkg.entry) field.entry.file field.entry.name) (typed_field (package_of pkg.entry) rank (field_of field.entry) (form_of own))) }
 {
     let name = pkg.spelling(field.file, field.name);
     let key = Vec::from_slice(alloc, name)?;
@@ -98,7 +101,7 @@ fn set_field(
     let made = Field {
         symbol: Symbol { package, rank },
         exported: is_exported(name),
-        field_type: own,
+        form: own,
     };
     insert_field(definition, key, made)
 }
@@ -111,7 +114,69 @@ struct BuildInputs<'a> {
     broken: &'a [bool],
 }
 
-/// Adds a field to its definition, unless its type expression is broken.
+/// Returns the type of a field, none where it is broken.
+#[tactic(auto, unfolding(types_members::specs::FieldsView::placed_form, types_expr::specs::View::form_of))]
+fn type_form(
+    alloc: Global,
+    of: &BuildInputs<'_>,
+    file: usize,
+    written: &TypeExpr,
+) -> Result<Option<WrittenAs>, AllocError>
+    requires index { IsIndexOf (package_of of.now.pkg) of.now.index.now }
+    requires broken { AreBroken (package_of of.now.pkg) of.now.broken.now }
+    ensures { IfOk result (λ o. IsWrittenFound (package_of of.now.pkg) file (OfType (type_view written.now)) (option_map form_of o)) }
+{
+    match valid_type(alloc, of.pkg, of.index, of.broken, file, written)? {
+        None => Ok(None),
+        Some(own) => Ok(Some(WrittenAs::Field(own))),
+    }
+}
+
+/// Returns the signature of a method that an interface asks for, none where it is broken.
+#[tactic(auto, unfolding(go_ast::specs::FileView::method_view, types_expr::specs::View::form_of))]
+fn asked_form(
+    alloc: Global,
+    of: &BuildInputs<'_>,
+    file: usize,
+    method: &MethodSpec,
+) -> Result<Option<WrittenAs>, AllocError>
+    requires index { IsIndexOf (package_of of.now.pkg) of.now.index.now }
+    requires broken { AreBroken (package_of of.now.pkg) of.now.broken.now }
+    ensures { IfOk result (λ o. IsWrittenFound (package_of of.now.pkg) file (OfSignature (method_view method.now).params (method_view method.now).result) (option_map form_of o)) }
+{
+    let found = written_signature(
+        alloc,
+        of.pkg,
+        of.index,
+        of.broken,
+        file,
+        &method.params,
+        &method.results,
+    )?;
+    match found {
+        None => Ok(None),
+        Some(signature) => Ok(Some(WrittenAs::Method(signature))),
+    }
+}
+
+/// Returns the type or the signature of a written member, none where it is broken.
+#[tactic(auto, unfolding(types_members::specs::FieldsView::placed_form))]
+fn found_form(
+    alloc: Global,
+    of: &BuildInputs<'_>,
+    field: FieldDef<'_>,
+) -> Result<Option<WrittenAs>, AllocError>
+    requires index { IsIndexOf (package_of of.now.pkg) of.now.index.now }
+    requires broken { AreBroken (package_of of.now.pkg) of.now.broken.now }
+    ensures { IfOk result (λ o. IsFormFound (package_of of.now.pkg) (field_of field.entry) (option_map form_of o)) }
+{
+    match field.form {
+        MemberForm::Type(written) => type_form(alloc, of, field.file, written),
+        MemberForm::Asked(method) => asked_form(alloc, of, field.file, method),
+    }
+}
+
+/// Adds a written member to its definition, unless a type expression in it is broken.
 fn add_field(
     alloc: Global,
     of: &BuildInputs<'_>,
@@ -124,14 +189,7 @@ fn add_field(
     requires in_range { field.definition < length definitions.old.items }
     ensures { OnOk result (AddsField (package_of of.now.pkg) rank (field_of field.entry) definitions.old.items definitions.new.items) }
 {
-    match valid_type(
-        alloc,
-        of.pkg,
-        of.index,
-        of.broken,
-        field.file,
-        field.field_type,
-    )? {
+    match found_form(alloc, of, field)? {
         None => Ok(()),
         Some(own) => set_field(
             alloc,

@@ -1,14 +1,14 @@
 //! Compares types and type definitions: underlying types, fields and methods.
 ghost use Rattle.std.specs.Prelude.{◌≡◌, ◌↔◌, IsTrue, map, option_map};
 ghost use Rattle.types_expr.specs.Types.{same_underlying};
-ghost use Rattle.types_expr.specs.View.{type_of, signature_of};
+ghost use Rattle.types_expr.specs.View.{type_of, signature_of, form_of};
 ghost use Rattle.types_expr.specs.WorldView.{underlying_of, field_of, plain_method_of};
 ghost use Rattle.types_check.specs.Known.{entry_value, known_definition};
 
 use crate::equality::{Alike, are_lists_alike, are_maps_alike};
 use std::collections::BTreeMap;
 use types_expr::symbol::Symbol;
-use types_expr::types::{GoType, Signature};
+use types_expr::types::{GoType, Signature, WrittenAs};
 use types_expr::world::{Definition, Field, Method, Underlying};
 
 /// Fields by name.
@@ -64,6 +64,7 @@ fn has_same_shape(one: &Underlying, other: &Underlying) -> bool
         (Underlying::PointerTo(one), Underlying::PointerTo(other)) => one.same(other),
         (Underlying::SliceOf(one), Underlying::SliceOf(other)) => one.same(other),
         (Underlying::Struct(one), Underlying::Struct(other)) => one.same(other),
+        (Underlying::Interface(one), Underlying::Interface(other)) => one.same(other),
         _ => false,
     }
 }
@@ -86,13 +87,25 @@ fn is_same_result(one: &Option<Signature>, other: &Option<Signature>) -> bool
     }
 }
 
+/// Whether two written members are identical: fields of one type, or methods of one signature.
+#[tactic(auto, unfolding(types_expr::specs::View::form_of))]
+fn is_same_form(one: &WrittenAs, other: &WrittenAs) -> bool
+    ensures { IsTrue result ↔ (form_of one.now ≡ form_of other.now) }
+{
+    match (one, other) {
+        (WrittenAs::Field(one), WrittenAs::Field(other)) => is_same_type(one, other),
+        (WrittenAs::Method(one), WrittenAs::Method(other)) => is_same_signature(one, other),
+        _ => false,
+    }
+}
+
 impl Alike for Field {
     ghost alike = { λ one other. field_of one ≡ field_of other };
 
     fn is_like(&self, other: &Field) -> bool {
         self.exported == other.exported
             && is_same_symbol(&self.symbol, &other.symbol)
-            && is_same_type(&self.field_type, &other.field_type)
+            && is_same_form(&self.form, &other.form)
     }
 }
 

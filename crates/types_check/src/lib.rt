@@ -1,7 +1,8 @@
 //! Checks a package stage by stage, builds its export data, and compares export data.
 //!
-//! Crates above rely on: `check` finds exactly the faults of a package, or where it has none its export data, its uses of members and its
-//! qualified identifiers. `are_alike` is true exactly where what is known of a package equals what a table has at a path, value by value.
+//! Crates above rely on: `check` finds exactly the faults of a package. Where it has none, `check` finds its export data, its uses of
+//! members and its qualified identifiers, and the entries of values into interfaces. `are_alike` is true exactly where what is known of a
+//! package equals what a table has at a path, value by value.
 #![tactic(auto)]
 
 mod alike;
@@ -12,6 +13,7 @@ mod equal_scopes;
 mod equality;
 mod exporting;
 pub mod laws;
+mod notes;
 mod type_faults;
 mod worlds;
 

@@ -1,5 +1,5 @@
-//! Finds the faults of types in a package's files, and their uses of members.
-ghost use Rattle.std.specs.Prelude.{◌<◌, length, map, IfOk, OnOk};
+//! Finds the faults of types in a package's files, their uses of members, and their entries of values into interfaces.
+ghost use Rattle.std.specs.Prelude.{◌≡◌, ◌<◌, length, map, IfOk, OnOk};
 ghost use Rattle.std.specs.List.Sorted.{IsStrictlySortedBy};
 ghost use Rattle.types_declared.specs.contracts.fault.FaultOrd.TheImpl as order;
 ghost use Rattle.types_declared.specs.Listing.{AddsFaults, HoldsExactly};
@@ -7,26 +7,30 @@ ghost use Rattle.types_stmt.specs.View.{checked_of};
 ghost use Rattle.types_info.specs.MeaningsView.{AreMeanings};
 ghost use Rattle.types_info.specs.DefinitionsView.{HaveDefinitions};
 ghost use Rattle.types_check.specs.TypeFaults.{IsTypeFault};
-ghost use Rattle.types_info.specs.MemberUses.{AddsUses, AddsFile, AreMemberUses, uses_in};
+ghost use Rattle.types_expr.specs.Found.{noted_of};
+ghost use Rattle.types_expr.specs.Judge.{enterings_of, members_of};
+ghost use Rattle.types_info.specs.MemberUses.{AddsFileList, AddsFileListOf, AreEnterings, AreEnteringsIn, AreMemberUses, AreUsesIn, enterings_in, uses_in};
 ghost use Rattle.types_info.specs.NamesView.{AreNames};
 ghost use Rattle.types_info.specs.Uniqueness.{HasOneWorld};
 ghost use Rattle.types_check.specs.TypesView.{IsChecked, IsAtToken, IsTypeFaultIn};
 ghost use Rattle.types_declared.specs.PackageView.{package_of, IsIndexOf};
 
+use crate::notes::Notes;
 use crate::worlds::file_world;
 use base_files::FaultKind;
 use std::alloc::{AllocError, Global};
 use types_declared::{Fault, Index, Package, push, sort};
-use types_expr::found::{FoundInFile, MemberUse};
+use types_expr::found::{Entering, FoundInFile, MemberUse};
 use types_expr::world::{Bound, Definition, Name};
 use types_info::{MeaningTable, file_names, has_one_world};
 use types_stmt::{CheckedBody, check_file};
 
-/// The result of checking the types of a package's files: the faults, and the uses of members of each file by rank.
+/// The result of checking the types of a package's files: the faults, and the uses of members and the entries of each file by rank.
 #[derive(Drop)]
 pub struct Typed {
     pub faults: Vec<Fault>,
     pub members: Vec<Vec<MemberUse>>,
+    pub enterings: Vec<Vec<Entering>>,
 }
 
 /// Adds a fault of type at each of the tokens.
@@ -91,22 +95,37 @@ fn check_source(
 }
 
 impl Typed {
-    /// Adds the faults and the uses of members of one file.
-    fn add(&mut self, file: usize, checked: CheckedBody) -> Result<(), AllocError>
+    /// Adds the uses of members and the entries of one file.
+    fn add_notes(&mut self, notes: Notes) -> Result<(), AllocError>
+        ensures faults { OnOk result (self.new.faults ≡ self.old.faults) }
+        ensures members { OnOk result (AddsFileList (map uses_in self.old.members.items) (map uses_in self.new.members.items) (uses_in notes.members)) }
+        ensures enterings { OnOk result (AddsFileList (map enterings_in self.old.enterings.items) (map enterings_in self.new.enterings.items) (enterings_in notes.enterings)) }
+    {
+        let Notes { members, enterings } = notes;
+        let mut members = members;
+        members.shrink_to_fit();
+        let mut enterings = enterings;
+        enterings.shrink_to_fit();
+        self.members.push(members)?;
+        self.enterings.push(enterings)?;
+        Ok(())
+    }
+
+    /// Adds the faults, the uses of members and the entries of one file.
+    fn add(&mut self, alloc: Global, file: usize, checked: CheckedBody) -> Result<(), AllocError>
         ensures faults { OnOk result (AddsFaults self.old.faults.items self.new.faults.items (IsAtToken file checked.found.faults.items)) }
-        ensures members { OnOk result (AddsUses self.old.members.items self.new.members.items (uses_in checked.found.uses)) }
+        ensures members { OnOk result (AddsFileList (map uses_in self.old.members.items) (map uses_in self.new.members.items) (members_of (map noted_of checked.found.uses.items))) }
+        ensures enterings { OnOk result (AddsFileList (map enterings_in self.old.enterings.items) (map enterings_in self.new.enterings.items) (enterings_of (map noted_of checked.found.uses.items))) }
     {
         let CheckedBody { found, locals: _ } = checked;
         let FoundInFile { faults, uses } = found;
         add_tokens(&mut self.faults, file, &faults)?;
-        let mut uses = uses;
-        uses.shrink_to_fit();
-        self.members.push(uses)?;
-        Ok(())
+        let notes = Notes::of(alloc, uses)?;
+        self.add_notes(notes)
     }
 }
 
-/// Checks the types of one file, and adds its faults and its uses of members.
+/// Checks the types of one file, and adds its faults, its uses of members and its entries.
 fn add_file(
     alloc: Global,
     of: &Judging<'_>,
@@ -120,11 +139,12 @@ fn add_file(
     requires in_range { file < length of.now.pkg.files.now }
     requires one { HasOneWorld (package_of of.now.pkg) }
     ensures faults { OnOk result (AddsFaults typed.old.faults.items typed.new.faults.items (IsTypeFaultIn (package_of of.now.pkg) file)) }
-    ensures members { OnOk result (AddsFile (package_of of.now.pkg) file typed.old.members.items typed.new.members.items) }
+    ensures members { OnOk result (AddsFileListOf (AreUsesIn (package_of of.now.pkg)) file (map uses_in typed.old.members.items) (map uses_in typed.new.members.items)) }
+    ensures enterings { OnOk result (AddsFileListOf (AreEnteringsIn (package_of of.now.pkg)) file (map enterings_in typed.old.enterings.items) (map enterings_in typed.new.enterings.items)) }
     ensures bounds { OnOk result (AreMeanings (package_of of.now.pkg) bounds.new.list.items bounds.new.of.items) }
 {
     let checked = check_source(alloc, of, bounds, file)?;
-    typed.add(file, checked)
+    typed.add(alloc, file, checked)
 }
 
 /// Checks the types of a package's files. The faults are sorted by file and token. The meanings of qualified identifiers are appended to
@@ -142,12 +162,14 @@ pub fn type_faults(
     ensures listed { IfOk result (λ t. HoldsExactly (IsTypeFault (package_of pkg.entry)) t.faults.items) }
     ensures order { IfOk result (λ t. IsStrictlySortedBy order.ghosts.cmp t.faults.items) }
     ensures members { IfOk result (λ t. AreMemberUses (package_of pkg.entry) (map uses_in t.members.items)) }
+    ensures enterings { IfOk result (λ t. AreEnterings (package_of pkg.entry) (map enterings_in t.enterings.items)) }
     ensures bounds { OnOk result (AreMeanings (package_of pkg.entry) bounds.new.list.items bounds.new.of.items) }
 {
     has_one_world(pkg);
     let mut typed = Typed {
         faults: Vec::new(alloc),
         members: Vec::new(alloc),
+        enterings: Vec::new(alloc),
     };
     let of = Judging {
         pkg,

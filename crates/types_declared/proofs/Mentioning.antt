@@ -1,5 +1,6 @@
 -- The targets of type expressions, one by one.
 use Rattle.std.proofs.Common.{ℕ, suc, ◌≡◌, ◌+◌, ◌<◌, ◌≤◌, ◌⊎◌, inl, inr, List, [], ◌∷◌, ◌++◌, length, get_or, take, ap, sym, subst, refl, ◌∙◌, arith}
+use Rattle.std.proofs.Common.{append_assoc, append-nil}
 use Rattle.std.specs.Prelude.{Option, Some, None, slice_get}
 use Rattle.std.specs.Global.{Vec}
 use Rattle.std.proofs.Math.Seq.{take-suc}
@@ -7,16 +8,19 @@ use Rattle.std.proofs.Math.ListN.{set}
 use Rattle.std.specs.Prelude.{map, Contains}
 use Rattle.std.proofs.lemmas.Bool.{cases_eq, cases_lt}
 use Rattle.std.proofs.lemmas.List.{get_or-set_same, get_or-set_other, length-set, map-append}
-use Rattle.std.proofs.lemmas.List.Elements.{Contains-append_left, Contains-push, Contains-push_cases}
+use Rattle.std.proofs.lemmas.List.Elements.{Contains-append_left, Contains-append_right, Contains-append_cases, Contains-push, Contains-push_cases}
 use Rattle.std.proofs.lemmas.Option.{slice_get_within, slice_get-get_or, slice_get_past}
 use Rattle.go_ast.specs.declared.tree.Item.{Item}
 use Rattle.go_ast.specs.declared.tree.FieldDecl.{FieldDecl}
+use Rattle.go_ast.specs.declared.tree.MethodSpec.{MethodSpec}
+use Rattle.go_ast.specs.declared.tree.Param.{Param}
+use Rattle.go_ast.specs.declared.tree.TypeExpr.{TypeExpr}
 use Rattle.go_ast.specs.View.{item_view, list_view, type_view}
-use Rattle.go_ast.specs.FileView.{field_view}
+use Rattle.go_ast.specs.FileView.{field_view, method_view, param_view}
 use Rattle.go_ast.specs.Tree.{TypeTree}
 use Rattle.types_expr.specs.Types.{PlainType}
 use Rattle.types_declared.specs.Package.{Package, package_types}
-use Rattle.types_declared.specs.Written.{DenotesType, Mentions, by_name, by_pointer, by_slice, defined, pointer, slice}
+use Rattle.types_declared.specs.Written.{DenotesType, Mentions, by_name, by_pointer, by_slice, defined, pointer, slice, signature_types, asked_types}
 use Rattle.types_declared.specs.WrittenView.{IsMentionedBy}
 use Rattle.types_declared.specs.Reachability.{LinksTo, links_from}
 use Rattle.types_declared.specs.Broken.{AddsLinks, IsTarget, nothing, definition, IsOneTarget, IsTargetOfSome}
@@ -167,3 +171,61 @@ some_one p file t a s = elim (some_cases p file [] (t ∷ []) t a refl s)
 
 pub one_some : (p : Package) (file : ℕ) (t : TypeTree) (a : ℕ) → IsTarget p file t a → IsTargetOfSome p file (t ∷ []) a
 one_some p file t a is = some_push p file [] (t ∷ []) t a refl (inr is)
+
+-- lists after one another
+
+pub some_joined : (p : Package) (file : ℕ) (ts us vs : List TypeTree) (a : ℕ) → vs ≡ ts ++ us → IsTargetOfSome p file ts a ⊎ IsTargetOfSome p file us a →
+    IsTargetOfSome p file vs a
+some_joined p file ts us vs a e h = elim h [
+  | inl s ↦ (s.0, (subst (λ xs. Contains xs s.0) (sym e) (Contains-append_left ts us s.0 s.1.0), s.1.1))
+  | inr s ↦ (s.0, (subst (λ xs. Contains xs s.0) (sym e) (Contains-append_right ts us s.0 s.1.0), s.1.1))
+]
+
+pub some_parted : (p : Package) (file : ℕ) (ts us vs : List TypeTree) (a : ℕ) → vs ≡ ts ++ us → IsTargetOfSome p file vs a →
+    IsTargetOfSome p file ts a ⊎ IsTargetOfSome p file us a
+some_parted p file ts us vs a e s = elim (Contains-append_cases ts us s.0 (subst (λ xs. Contains xs s.0) e s.1.0)) [
+  | inl one ↦ inl (s.0, (one, s.1.1))
+  | inr other ↦ inr (s.0, (other, s.1.1))
+]
+
+-- the items of a list of the program, one by one
+
+abbrev pub param_list : List (Item Param) → List TypeTree
+param_list params = map (λ p. p.value.type_use) (list_view param_view params)
+
+abbrev pub type_list : List (Item TypeExpr) → List TypeTree
+type_list types = map (λ t. t.value) (list_view type_view types)
+
+abbrev pub method_list : List (Item MethodSpec) → List TypeTree
+method_list methods = asked_types (list_view method_view methods)
+
+pub params_next : (params : List (Item Param)) (i : ℕ) (x : Item Param) → i < length params → x ≡ get_or params i x →
+    param_list (take (i + 1) params) ≡ param_list (take i params) ++ (type_view x.value.param_type ∷ [])
+unfolding param_view
+params_next params i x lt e =
+    ap (λ k. param_list (take k params)) (let z : i + 1 ≡ suc i = omega arith in z) ∙
+    ap param_list (take-suc params i x lt ∙ ap (λ y. take i params ++ (y ∷ [])) (sym e)) ∙
+    (ap (map (λ p. p.value.type_use)) (map-append (item_view param_view) (take i params) (x ∷ [])) ∙
+    map-append (λ p. p.value.type_use) (list_view param_view (take i params)) (item_view param_view x ∷ []))
+
+pub types_next : (types : List (Item TypeExpr)) (i : ℕ) (x : Item TypeExpr) → i < length types → x ≡ get_or types i x →
+    type_list (take (i + 1) types) ≡ type_list (take i types) ++ (type_view x.value ∷ [])
+types_next types i x lt e =
+    ap (λ k. type_list (take k types)) (let z : i + 1 ≡ suc i = omega arith in z) ∙
+    ap type_list (take-suc types i x lt ∙ ap (λ y. take i types ++ (y ∷ [])) (sym e)) ∙
+    (ap (map (λ t. t.value)) (map-append (item_view type_view) (take i types) (x ∷ [])) ∙
+    map-append (λ t. t.value) (list_view type_view (take i types)) (item_view type_view x ∷ []))
+
+abbrev pub method_types : MethodSpec → List TypeTree
+method_types m = signature_types (method_view m).params (method_view m).result
+
+methods_joined : (ms : List (Item MethodSpec)) (x : Item MethodSpec) → method_list (ms ++ (x ∷ [])) ≡ method_list ms ++ method_types x.value
+methods_joined [] x = append-nil (method_types x.value)
+methods_joined (m ∷ ms) x = ap (λ ts. method_types m.value ++ ts) (methods_joined ms x)
+    ∙ sym (append_assoc (method_types m.value) (method_list ms) (method_types x.value))
+
+pub methods_next : (methods : List (Item MethodSpec)) (i : ℕ) (x : Item MethodSpec) → i < length methods → x ≡ get_or methods i x →
+    method_list (take (i + 1) methods) ≡ method_list (take i methods) ++ method_types x.value
+methods_next methods i x lt e =
+    ap (λ k. method_list (take k methods)) (let z : i + 1 ≡ suc i = omega arith in z) ∙
+    ap method_list (take-suc methods i x lt ∙ ap (λ y. take i methods ++ (y ∷ [])) (sym e)) ∙ methods_joined (take i methods) x

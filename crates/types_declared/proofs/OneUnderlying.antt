@@ -6,16 +6,16 @@ use Rattle.go_scope.specs.WellFormed.{WellFormed}
 use Rattle.go_ast.specs.Tree.{BodyTree, Other, Struct, Interface}
 use Rattle.types_expr.specs.declared.symbol.Symbol.{Symbol}
 use Rattle.types_expr.specs.Types.{PlainType, BasicType, Defined, Pointer, Slice, Underlying, Plain, PointerTo, SliceOf}
-use Rattle.types_expr.specs.Types.{Struct as StructOf}
+use Rattle.types_expr.specs.Types.{Struct as StructOf, Interface as InterfaceOf}
 use Rattle.types_declared.specs.Package.{Package, PlacedType, package_types, symbol_in}
 use Rattle.types_declared.specs.Written.{DenotesType}
-use Rattle.types_declared.specs.Definitions.{HasUnderlying, basic, pointer, slice, struct, named, imported}
+use Rattle.types_declared.specs.Definitions.{HasUnderlying, basic, pointer, slice, struct, interface, named, imported}
 use Rattle.types_declared.proofs.Naming.{one_named}
 
 -- a definition of the package with this body has the underlying type
 abbrev pub BodyHas : Package → (rank : ℕ) → PlacedType → BodyTree → Underlying → Type 0
 BodyHas p rank d (Struct k o fs c) u = u ≡ StructOf (symbol_in p rank)
-BodyHas p rank d (Interface k o ms c) u = ⊥
+BodyHas p rank d (Interface k o ms c) u = u ≡ InterfaceOf (symbol_in p rank)
 BodyHas p rank d (Other tree) u = (t : PlainType) × (DenotesType p d.file tree t × HasUnderlying p t u)
 
 pub record OwnHas (p : Package) (rank : ℕ) (u : Underlying) : Type 0 where
@@ -39,6 +39,8 @@ by_form p _ _ (pointer {t = t}) = refl
 by_form p _ _ (slice {t = t}) = refl
 by_form p _ _ (struct {rank = rank} {d = d} {k = k} {o = o} {c = c} {fs = fs} is written) =
     inl (refl, record { definition = d; has_rank = is; by_body = subst (λ b. BodyHas p rank d b (StructOf (symbol_in p rank))) (sym written) refl })
+by_form p _ _ (interface {rank = rank} {d = d} {k = k} {o = o} {c = c} {ms = ms} is written) =
+    inl (refl, record { definition = d; has_rank = is; by_body = subst (λ b. BodyHas p rank d b (InterfaceOf (symbol_in p rank))) (sym written) refl })
 by_form p _ _ (named {rank = rank} {d = d} {tree = tree} {t = t} {u = u} is written names h) =
     inl (refl, record { definition = d; has_rank = is; by_body = subst (λ b. BodyHas p rank d b u) (sym written) (t, (names, h)) })
 by_form p _ _ (imported {path = path} {rank = rank} other) = inr (record { other = other; is = refl })
@@ -70,6 +72,9 @@ one_underlying p w _ _ v (pointer {t = t}) k = sym (by_form p (Pointer t) v k)
 one_underlying p w _ _ v (slice {t = t}) k = sym (by_form p (Slice t) v k)
 one_underlying p w _ _ v (struct {rank = rank} {d = d} {k = keyword} {o = o} {c = c} {fs = fs} is written) k =
     let body : BodyHas p rank d (Struct keyword o fs c) v = subst (λ b. BodyHas p rank d b v) written (of_body p rank d v is k) in
+    sym body
+one_underlying p w _ _ v (interface {rank = rank} {d = d} {k = keyword} {o = o} {c = c} {ms = ms} is written) k =
+    let body : BodyHas p rank d (Interface keyword o ms c) v = subst (λ b. BodyHas p rank d b v) written (of_body p rank d v is k) in
     sym body
 one_underlying p w _ _ v (named {rank = rank} {d = d} {tree = tree} {t = t} {u = u} is written names h) k =
     let body : BodyHas p rank d (Other tree) v = subst (λ b. BodyHas p rank d b v) written (of_body p rank d v is k) in

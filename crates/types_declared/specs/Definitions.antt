@@ -1,47 +1,61 @@
 -- The type definitions of a package: their underlying types, and the fields and methods that count.
-use Rattle.std.specs.Prelude.{ℕ, suc, ◌≡◌, ◌<◌, Bool, true, is_some, List, [], ◌∷◌, ◌++◌, map, Option, Some, None, slice_get}
+use Rattle.std.specs.Prelude.{ℕ, suc, ◌≡◌, ◌<◌, Bool, true, is_some, List, [], ◌∷◌, ◌++◌, map, Option, Some, None, All, slice_get}
 use Rattle.std.specs.List.{flat_map}
-use Rattle.go_ast.specs.Tree.{TypeTree, BodyTree, Other, Struct, Interface, ReceiverTree}
+use Rattle.go_ast.specs.Tree.{Item, TypeTree, BodyTree, Other, Struct, Interface, ReceiverTree, ParamTree, ResultTree}
 use Rattle.types_expr.specs.declared.symbol.Symbol.{Symbol}
 use Rattle.types_expr.specs.Types.{PlainType, BasicType, Defined, Pointer, Slice, Underlying, Plain, PointerTo, SliceOf, Signature}
-use Rattle.types_expr.specs.Types.{Struct as StructOf}
+use Rattle.types_expr.specs.Types.{Struct as StructOf, Interface as InterfaceOf, WrittenAs, AFieldOf, AMethodOf}
 use Rattle.types_expr.specs.World.{Definition, Field, Method}
 use Rattle.types_expr.specs.WorldView.{no_definition}
 use Rattle.types_declared.specs.Laid.{is_exported}
 use Rattle.types_declared.specs.Package.{Package, PlacedType, PlacedFunction, package_types, package_functions, symbol_in, spelled}
-use Rattle.types_declared.specs.Written.{BindsToken, DeclaresType, DenotesType, IsTypeOf}
-use Rattle.types_declared.specs.MeaningOf.{HasSignature}
+use Rattle.types_declared.specs.Written.{BindsToken, DeclaresType, DenotesType, IsTypeOf, signature_types}
+use Rattle.types_declared.specs.MeaningOf.{IsSignatureOf}
 
 -- The underlying type of a type, of this package or of an imported one (the Go specification, "Underlying types"). It is found through
--- definitions, broken or not, up to a predeclared type, a pointer, a slice or a struct. A struct is identified by the definition that
--- contains it. A type has none where its definitions form a cycle, name no type, or lead to an interface.
+-- definitions, broken or not, up to a predeclared type, a pointer, a slice, a struct or an interface. A struct is identified by the
+-- definition that writes it, and so is an interface. A type has none where its definitions form a cycle or name no type.
 pub data HasUnderlying (p : Package) : PlainType → Underlying → Type 0 where
   basic : {b : _} → HasUnderlying p (BasicType b) (Plain b)
   pointer : {t : PlainType} → HasUnderlying p (Pointer t) (PointerTo t)
   slice : {t : PlainType} → HasUnderlying p (Slice t) (SliceOf t)
   struct : {rank : ℕ} {d : PlacedType} {k o c : ℕ} {fs : _} → slice_get (package_types p) rank ≡ Some d → d.spec.body ≡ Struct k o fs c →
       HasUnderlying p (Defined (symbol_in p rank)) (StructOf (symbol_in p rank))
+  interface : {rank : ℕ} {d : PlacedType} {k o c : ℕ} {ms : _} → slice_get (package_types p) rank ≡ Some d → d.spec.body ≡ Interface k o ms c →
+      HasUnderlying p (Defined (symbol_in p rank)) (InterfaceOf (symbol_in p rank))
   named : {rank : ℕ} {d : PlacedType} {tree : TypeTree} {t : PlainType} {u : Underlying} → slice_get (package_types p) rank ≡ Some d →
       d.spec.body ≡ Other tree → DenotesType p d.file tree t →
       HasUnderlying p t u → HasUnderlying p (Defined (symbol_in p rank)) u
   imported : {path : List ℕ} {rank : ℕ} → (path ≡ p.path → ⊥) →
       HasUnderlying p (Defined (record { «package» = path; rank = rank })) (((p.export_data_of path).definition rank).underlying)
 
--- Fields: each name of each struct, in the order of path and offset; the rank of a field is its index in this list
+-- Members that definitions write: each name of each struct, and each method that an interface asks for, in the order of path and offset.
+-- The rank of a written member is its index in this list. Below, fields are written members of both kinds.
 
--- a field: the rank of its definition, the rank of its file, the token of its name, its type expression
+-- what a written member has: a field its type expression, a method that an interface asks for its parameters and results
+pub data WrittenForm : Type 0 where
+  OfType : TypeTree → WrittenForm
+  OfSignature : List (Item ParamTree) → ResultTree → WrittenForm
+
+-- what is said of each type expression of a written member
+abbrev pub OfForm : (TypeTree → Type 0) → WrittenForm → Type 0
+OfForm P (OfType t) = P t
+OfForm P (OfSignature ps r) = All P (signature_types ps r)
+
+-- a written member: the rank of its definition, the rank of its file, the token of its name, and its form
 pub record PlacedField : Type 0 where
   pub definition : ℕ
   pub file : ℕ
   pub name : ℕ
-  pub type_use : TypeTree
+  pub form : WrittenForm
 
--- the fields of a definition's body; none where it is no struct
+-- the members that a definition's body writes; none where it is neither a struct nor an interface
 abbrev pub body_fields : (definition file : ℕ) → BodyTree → List PlacedField
 body_fields definition file (Other t) = []
 body_fields definition file (Struct k o fs c) =
-    flat_map (λ i. map (λ n. record { definition = definition; file = file; name = n.value; type_use = i.value.type_use }) i.value.names) fs
-body_fields definition file (Interface k o ms c) = []
+    flat_map (λ i. map (λ n. record { definition = definition; file = file; name = n.value; form = OfType i.value.type_use }) i.value.names) fs
+body_fields definition file (Interface k o ms c) =
+    map (λ i. record { definition = definition; file = file; name = i.value.name; form = OfSignature i.value.params i.value.result }) ms
 
 -- the fields of type definitions whose ranks begin at rank
 abbrev pub fields_from : ℕ → List PlacedType → List PlacedField
@@ -101,16 +115,29 @@ pub record IsCountingMethod (p : Package) (definition : ℕ) (name : List ℕ) (
 
 -- Definitions as expressions see them. A definition with a broken field type is broken, and no rule looks at its fields.
 
--- the definition's field of this name, with its type; none where no field of this name counts or its type is broken
+-- what is written stands for this type, or for this signature
+abbrev pub HasForm : Package → ℕ → WrittenForm → WrittenAs → Type 0
+HasForm p file (OfType x) (AFieldOf t) = IsTypeOf p file x t
+HasForm p file (OfType x) (AMethodOf s) = ⊥
+HasForm p file (OfSignature ps r) (AFieldOf t) = ⊥
+HasForm p file (OfSignature ps r) (AMethodOf s) = IsSignatureOf p file ps r s
+
+-- the definition's written member of this name, with its type or signature; none where none of this name counts or what it is written with is
+-- broken
 abbrev pub IsFoundField : Package → ℕ → List ℕ → Option Field → Type 0
-IsFoundField p definition name None = (rank : ℕ) (f : PlacedField) (t : PlainType) → IsCountingField p definition name rank f → IsTypeOf p f.file f.type_use t → ⊥
-IsFoundField p definition name (Some x) = (f : PlacedField) × (IsCountingField p definition name x.symbol.rank f × IsTypeOf p f.file f.type_use x.type_of
+IsFoundField p definition name None = (rank : ℕ) (f : PlacedField) (t : WrittenAs) → IsCountingField p definition name rank f →
+    HasForm p f.file f.form t → ⊥
+IsFoundField p definition name (Some x) = (f : PlacedField) × (IsCountingField p definition name x.symbol.rank f × HasForm p f.file f.form x.form
     × (x.symbol ≡ symbol_in p x.symbol.rank) × (x.exported ≡ is_exported name))
 
--- the signature of the function f; none where a type expression in it is broken
+-- the signature of parameters and results in a file; none where a type expression in them is broken
+abbrev pub IsSignatureFound : Package → (file : ℕ) → List (Item ParamTree) → ResultTree → Option Signature → Type 0
+IsSignatureFound p file params result None = (s : Signature) → IsSignatureOf p file params result s → ⊥
+IsSignatureFound p file params result (Some s) = IsSignatureOf p file params result s
+
+-- the signature of the function f
 abbrev pub IsFoundSignature : Package → PlacedFunction → Option Signature → Type 0
-IsFoundSignature p f None = (s : Signature) → HasSignature p f s → ⊥
-IsFoundSignature p f (Some s) = HasSignature p f s
+IsFoundSignature p f o = IsSignatureFound p f.file f.function.params f.function.result o
 
 -- the definition's method of this name, with its signature and kind of receiver; none where no method of this name counts
 abbrev pub IsFoundMethod : Package → ℕ → List ℕ → Option Method → Type 0

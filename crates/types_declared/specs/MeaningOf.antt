@@ -1,6 +1,6 @@
 -- The meanings of a package's declarations where they are used.
 use Rattle.std.specs.Prelude.{ℕ, ◌≡◌, true, false, List, [], ◌∷◌, map, Some, slice_get, codes}
-use Rattle.go_ast.specs.Tree.{Item, TypeTree, ParamTree, ResultTree, no_result, one_result, results}
+use Rattle.go_ast.specs.Tree.{Item, TypeTree, ParamTree, ResultTree}
 use Rattle.go_scope.specs.declared.model.Block.TheVariants.{Inner}
 use Rattle.go_scope.specs.Bindings.{block_of, IsPackageLevel}
 use Rattle.std.specs.List.{flat_map}
@@ -14,6 +14,7 @@ use Rattle.types_expr.specs.World.{Bound, Local, BrokenVariable, BrokenFunction,
 use Rattle.types_expr.specs.World.{Means as Stands}
 use Rattle.types_declared.specs.Package.{Package, PlacedVariable, PlacedFunction, IsRanked, package_variables, package_functions, variable_place}
 use Rattle.types_declared.specs.Package.{function_place, symbol_in}
+pub use Rattle.types_declared.specs.Written.{result_types}
 use Rattle.types_declared.specs.Written.{IsPredeclared, DeclaresType, DeclaresImport, basic_name, IsBroken, IsTypeOf}
 
 -- Meanings of predeclared identifiers
@@ -45,16 +46,14 @@ AreTypesOf p file (x ∷ xs) (t ∷ ts) = IsTypeOf p file x t × AreTypesOf p fi
 abbrev pub parameter_types : List (Item ParamTree) → List TypeTree
 parameter_types ps = flat_map (λ i. map (λ n. i.value.type_use) i.value.names) ps
 
--- the type expressions of a function's results
-abbrev pub result_types : ResultTree → List TypeTree
-result_types no_result = []
-result_types (one_result t) = t ∷ []
-result_types (results o ts c) = map (λ i. i.value) ts
+-- parameters and results in a file have the types of the signature; no type expression in them is broken
+pub record IsSignatureOf (p : Package) (file : ℕ) (params : List (Item ParamTree)) (result : ResultTree) (s : Signature) : Type 0 where
+  pub parameters : AreTypesOf p file (parameter_types params) s.parameters
+  pub results : AreTypesOf p file (result_types result) s.results
 
--- the function's parameters and results have the types of the signature; no type expression in them is broken
-pub record HasSignature (p : Package) (f : PlacedFunction) (s : Signature) : Type 0 where
-  pub parameters : AreTypesOf p f.file (parameter_types f.function.params) s.parameters
-  pub results : AreTypesOf p f.file (result_types f.function.result) s.results
+-- the function has this signature
+abbrev pub HasSignature : Package → PlacedFunction → Signature → Type 0
+HasSignature p f s = IsSignatureOf p f.file f.function.params f.function.result s
 
 -- d declares the package-level variable of this rank
 abbrev pub DeclaresVariable : Package → (d rank : ℕ) → Type 0

@@ -1,7 +1,9 @@
 -- The types that type expressions name, and broken definitions: those with a type expression that names no type or mentions a broken
 -- definition.
-use Rattle.std.specs.Prelude.{ℕ, ◌≡◌, true, List, [], ◌∷◌, map, Some, slice_get, Contains, codes}
-use Rattle.go_ast.specs.Tree.{TypeTree, Local, Imported, Pointer, Slice, BodyTree, Other, Struct, Interface}
+use Rattle.std.specs.Prelude.{ℕ, ◌≡◌, true, List, [], ◌∷◌, ◌++◌, map, Some, slice_get, Contains, codes}
+use Rattle.std.specs.List.{flat_map}
+use Rattle.go_ast.specs.Tree.{Item, TypeTree, Local, Imported, Pointer, Slice, BodyTree, Other, Struct, Interface, ParamTree, ResultTree, MethodTree}
+use Rattle.go_ast.specs.Tree.{no_result, one_result, results}
 use Rattle.go_scope.specs.declared.model.Block.TheVariants.{Universe}
 use Rattle.go_scope.specs.Bindings.{IsBoundTo, IsImport, block_of, is_implied}
 use Rattle.go_scope.specs.Table.{IsFoundAt}
@@ -65,11 +67,31 @@ pub data DenotesType (p : Package) (file : ℕ) : TypeTree → PlainType → Typ
   pointer : {s : ℕ} {tree : TypeTree} {t : PlainType} → DenotesType p file tree t → DenotesType p file (Pointer s tree) (PointerType t)
   slice : {o c : ℕ} {tree : TypeTree} {t : PlainType} → DenotesType p file tree t → DenotesType p file (Slice o c tree) (SliceType t)
 
--- The type expressions of a definition: its type, or the types of its struct's fields. No rule looks at those of an interface, which is a fault.
+-- the type expressions of results
+abbrev pub result_types : ResultTree → List TypeTree
+result_types no_result = []
+result_types (one_result t) = t ∷ []
+result_types (results o ts c) = map (λ i. i.value) ts
+
+-- the type expressions of parameters and results, each once
+abbrev pub signature_types : List (Item ParamTree) → ResultTree → List TypeTree
+signature_types ps r = map (λ i. i.value.type_use) ps ++ result_types r
+
+-- the type expressions of methods that an interface asks for
+abbrev pub asked_types : List (Item MethodTree) → List TypeTree
+asked_types ms = flat_map (λ i. signature_types i.value.params i.value.result) ms
+
+-- the type expressions of a definition: its type, the types of its struct's fields, or those of the methods that its interface asks for
 abbrev pub written_types : BodyTree → List TypeTree
 written_types (Other t) = t ∷ []
 written_types (Struct k o fs c) = map (λ f. f.value.type_use) fs
-written_types (Interface k o ms c) = []
+written_types (Interface k o ms c) = asked_types ms
+
+-- those whose values are in a value of the definition: an interface has none
+abbrev pub contained_types : BodyTree → List TypeTree
+contained_types (Other t) = t ∷ []
+contained_types (Struct k o fs c) = map (λ f. f.value.type_use) fs
+contained_types (Interface k o ms c) = []
 
 -- the type expression mentions the definition of this rank: it names it, itself or under pointers and slices
 pub data Mentions (p : Package) (file : ℕ) : TypeTree → ℕ → Type 0 where

@@ -1,9 +1,9 @@
 //! Finds the broken type definitions of a package: those with a type expression that names no type or mentions a broken definition.
 ghost use Rattle.std.specs.Prelude.{◌≡◌, ◌<◌, ◌↔◌, ℕ, suc, length, map, IsTrue, IfOk, OnOk};
 ghost use Rattle.go_ast.specs.View.{type_view, list_view};
-ghost use Rattle.go_ast.specs.FileView.{field_view, body_view};
+ghost use Rattle.go_ast.specs.FileView.{field_view, param_view, results_view, method_view, body_view};
 ghost use Rattle.types_declared.specs.Package.{package_types};
-ghost use Rattle.types_declared.specs.Written.{written_types};
+ghost use Rattle.types_declared.specs.Written.{result_types, signature_types, asked_types, written_types};
 ghost use Rattle.types_declared.specs.Reachability.{LinksTo};
 ghost use Rattle.types_declared.specs.Broken.{AddsLinks, IsTarget, IsOneTarget, IsTargetOfSome, NamesSome, AreMentions, AreBroken};
 ghost use Rattle.types_declared.specs.PackageView.{package_of, IsIndexOf};
@@ -12,7 +12,7 @@ use crate::declared::TypeDef;
 use crate::index::{Index, Package};
 use crate::reachability::reached;
 use crate::written::{mentioned, named_type};
-use go_ast::tree::{FieldDecl, Item, TypeBody, TypeExpr};
+use go_ast::tree::{FieldDecl, Item, MethodSpec, Param, Results, TypeBody, TypeExpr};
 use std::alloc::{AllocError, Global};
 
 /// Adds the link from the number `to` to the definition `rank` that mentions it.
@@ -102,6 +102,100 @@ fn note_fields(
     Ok(())
 }
 
+/// Links the targets of the parameters' type expressions to the definition that contains them.
+fn note_params(
+    alloc: Global,
+    pkg: Package<'_>,
+    index: &Index<'_>,
+    links: &mut Vec<Vec<usize>>,
+    at: DefinitionPlace,
+    params: &[Item<Param>],
+) -> Result<(), AllocError>
+    requires index { IsIndexOf (package_of pkg) index.now }
+    requires size { length links.old.items ≡ suc (length (package_types (package_of pkg))) }
+    ensures { OnOk result (AddsLinks links.old.items links.new.items at.rank (IsTargetOfSome (package_of pkg.entry) at.file (map (λ p. p.value.type_use) (list_view param_view params.now)))) }
+{
+    for param in params {
+        note_type(alloc, pkg, index, links, at, &param.value.param_type)?;
+    }
+    Ok(())
+}
+
+/// Links the targets of type expressions to the definition that contains them.
+fn note_types(
+    alloc: Global,
+    pkg: Package<'_>,
+    index: &Index<'_>,
+    links: &mut Vec<Vec<usize>>,
+    at: DefinitionPlace,
+    types: &[Item<TypeExpr>],
+) -> Result<(), AllocError>
+    requires index { IsIndexOf (package_of pkg) index.now }
+    requires size { length links.old.items ≡ suc (length (package_types (package_of pkg))) }
+    ensures { OnOk result (AddsLinks links.old.items links.new.items at.rank (IsTargetOfSome (package_of pkg.entry) at.file (map (λ t. t.value) (list_view type_view types.now)))) }
+{
+    for written in types {
+        note_type(alloc, pkg, index, links, at, &written.value)?;
+    }
+    Ok(())
+}
+
+/// Links the targets of the results' type expressions to the definition that contains them.
+fn note_results(
+    alloc: Global,
+    pkg: Package<'_>,
+    index: &Index<'_>,
+    links: &mut Vec<Vec<usize>>,
+    at: DefinitionPlace,
+    results: &Results,
+) -> Result<(), AllocError>
+    requires index { IsIndexOf (package_of pkg) index.now }
+    requires size { length links.old.items ≡ suc (length (package_types (package_of pkg))) }
+    ensures { OnOk result (AddsLinks links.old.items links.new.items at.rank (IsTargetOfSome (package_of pkg.entry) at.file (result_types (results_view results.now)))) }
+{
+    match results {
+        Results::None => Ok(()),
+        Results::Single(written) => note_type(alloc, pkg, index, links, at, written),
+        Results::Several { types, .. } => note_types(alloc, pkg, index, links, at, types),
+    }
+}
+
+/// Links the targets of a method's type expressions to the interface that asks for it.
+fn note_method(
+    alloc: Global,
+    pkg: Package<'_>,
+    index: &Index<'_>,
+    links: &mut Vec<Vec<usize>>,
+    at: DefinitionPlace,
+    method: &MethodSpec,
+) -> Result<(), AllocError>
+    requires index { IsIndexOf (package_of pkg) index.now }
+    requires size { length links.old.items ≡ suc (length (package_types (package_of pkg))) }
+    ensures { OnOk result (AddsLinks links.old.items links.new.items at.rank (IsTargetOfSome (package_of pkg.entry) at.file (signature_types (method_view method.now).params (method_view method.now).result))) }
+{
+    note_params(alloc, pkg, index, links, at, &method.params)?;
+    note_results(alloc, pkg, index, links, at, &method.results)
+}
+
+/// Links the targets of the type expressions of methods to the interface that asks for them.
+fn note_methods(
+    alloc: Global,
+    pkg: Package<'_>,
+    index: &Index<'_>,
+    links: &mut Vec<Vec<usize>>,
+    at: DefinitionPlace,
+    methods: &[Item<MethodSpec>],
+) -> Result<(), AllocError>
+    requires index { IsIndexOf (package_of pkg) index.now }
+    requires size { length links.old.items ≡ suc (length (package_types (package_of pkg))) }
+    ensures { OnOk result (AddsLinks links.old.items links.new.items at.rank (IsTargetOfSome (package_of pkg.entry) at.file (asked_types (list_view method_view methods.now)))) }
+{
+    for method in methods {
+        note_method(alloc, pkg, index, links, at, &method.value)?;
+    }
+    Ok(())
+}
+
 /// Links the targets of a definition's type expressions to the definition.
 #[tactic(auto, unfolding(go_ast::specs::FileView::type_spec_view))]
 fn note_definition(
@@ -121,7 +215,7 @@ fn note_definition(
     match &definition.spec.body {
         TypeBody::Type(written) => note_type(alloc, pkg, index, links, at, written),
         TypeBody::Struct { fields, .. } => note_fields(alloc, pkg, index, links, at, fields),
-        TypeBody::Interface { .. } => Ok(()),
+        TypeBody::Interface { methods, .. } => note_methods(alloc, pkg, index, links, at, methods),
     }
 }
 

@@ -8,9 +8,10 @@ use Rattle.types_expr.specs.Types.{Meaning, ValueKind, PlainType}
 use Rattle.types_expr.specs.World.{World, Member, member_symbol}
 use Rattle.types_expr.specs.View.{type_of}
 use Rattle.types_expr.specs.Judge.{Judged, followed, means, JudgedList, ListValue, with_values, value_before, value_kind, JudgedElements, JudgedKey, TypeJudged}
-use Rattle.types_expr.specs.Judge.{MemberUse, with_use, means_or_wrong, member_meaning, select_member, with_element, literal_of, literal_meaning, misfit_if}
-use Rattle.types_expr.specs.Judge.{is_whole, is_empty}
-use Rattle.types_expr.specs.Found.{AddsJudged, AddsJudgedList, AddsType, AddsKey, AddsElements, AddsMisfits, AddsByRule, use_of}
+use Rattle.types_expr.specs.Judge.{MemberUse, Noted, OfMember, with_use, means_or_wrong}
+use Rattle.types_expr.specs.Judge.{member_meaning, select_member, with_element, literal_of, literal_meaning, misfit_if}
+use Rattle.types_expr.specs.Judge.{is_whole, is_empty, entering_if}
+use Rattle.types_expr.specs.Found.{AddsJudged, AddsJudgedList, AddsType, AddsKey, AddsElements, AddsMisfits, AddsByRule, noted_of}
 
 -- a meaning alone
 pub adds_meaning : {m n : Meaning} (f : FoundInFile) → n ≡ m → AddsJudged (means m) f f n
@@ -27,13 +28,17 @@ adds_then {j} rule {old} {mid} {new} {m} {r} a b =
 
 -- the use of a member, followed by the meaning of the member
 adds_use : {u : MemberUse} {j : Judged} {old mid new : FoundInFile} {m : Meaning} → mid.faults.items ≡ old.faults.items →
-    map use_of mid.uses.items ≡ map use_of old.uses.items ++ (u ∷ []) → AddsJudged j mid new m → AddsJudged (with_use u j) old new m
+    map noted_of mid.uses.items ≡ map noted_of old.uses.items ++ (OfMember u ∷ []) → AddsJudged j mid new m → AddsJudged (with_use u j) old new m
 adds_use {u} {j} {old} {mid} {new} {m} faults uses b =
-    record { meaning = b.meaning; faults = b.faults ∙ ap (λ x. x ++ j.faults) faults; uses = joined (map use_of old.uses.items) (u ∷ []) j.uses uses b.uses }
+    record {
+      meaning = b.meaning;
+      faults = b.faults ∙ ap (λ x. x ++ j.faults) faults;
+      uses = joined (map noted_of old.uses.items) (OfMember u ∷ []) j.uses uses b.uses;
+    }
 
 pub adds_member : (w : World) (t : PlainType) (name : ℕ) (a : Bool) (o : Option Member) (x : Option Meaning) {old mid new : FoundInFile} {m : Meaning} →
     o ≡ w.member name t → x ≡ member_meaning w t a o → mid.faults.items ≡ old.faults.items →
-    map use_of mid.uses.items ≡ map use_of old.uses.items ++ (record { place = name; before = t; member = option_map member_symbol o } ∷ []) →
+    map noted_of mid.uses.items ≡ map noted_of old.uses.items ++ (OfMember (record { place = name; before = t; member = option_map member_symbol o }) ∷ []) →
     AddsJudged (means_or_wrong x name) mid new m → AddsJudged (select_member w name t a) old new m
 unfolding select_member
 adds_member w t name a o x {old} {mid} {new} {m} o_is x_is faults uses b =
@@ -128,7 +133,8 @@ reached_list_end {total} {rest} {before} {now} {vs} c e =
     record {
       values = c.adds.values ∙ (sym (append-nil c.so_far.values) ∙ ap (λ x. x.values) t);
       faults = c.adds.faults ∙ (ap (λ x. before.faults.items ++ x) (sym (append-nil c.so_far.faults)) ∙ ap (λ x. before.faults.items ++ x.faults) t);
-      uses = c.adds.uses ∙ (ap (λ x. map use_of before.uses.items ++ x) (sym (append-nil c.so_far.uses)) ∙ ap (λ x. map use_of before.uses.items ++ x.uses) t);
+      uses = c.adds.uses ∙ (ap (λ x. map noted_of before.uses.items ++ x) (sym (append-nil c.so_far.uses)) ∙
+          ap (λ x. map noted_of before.uses.items ++ x.uses) t);
     }
 
 -- the progress of a loop over the elements of a literal
@@ -144,13 +150,13 @@ one_element w k place j = record {
   whole = k.whole && (is_whole (value_kind j.meaning) && is_empty (misfit_if w place (value_kind j.meaning) k.wanted));
   unkeyed = k.unkeyed;
   faults = k.faults ++ (j.faults ++ misfit_if w place (value_kind j.meaning) k.wanted);
-  uses = k.uses ++ j.uses;
+  uses = k.uses ++ (j.uses ++ entering_if w place (value_kind j.meaning) k.wanted);
 }
 
 abbrev Equal : JudgedElements → JudgedElements → Type 0
 Equal a b = a ≡ b
 
-same_elements : {w x u v : Bool} {f g : List ℕ} {s t : List MemberUse} → w ≡ x → u ≡ v → f ≡ g → s ≡ t →
+same_elements : {w x u v : Bool} {f g : List ℕ} {s t : List Noted} → w ≡ x → u ≡ v → f ≡ g → s ≡ t →
     Equal (record { whole = w; unkeyed = u; faults = f; uses = s }) (record { whole = x; unkeyed = v; faults = g; uses = t })
 same_elements {w} {x} {u} {v} {f} {g} {s} {t} a b c d =
     ap (λ z. record { whole = z; unkeyed = u; faults = f; uses = s }) a ∙ (ap (λ z. record { whole = x; unkeyed = z; faults = f; uses = s }) b
@@ -169,16 +175,13 @@ or_then false k r = refl
 four : {X : Type 0} (a k j m r : List X) → (a ++ (k ++ (j ++ m))) ++ r ≡ a ++ (k ++ (j ++ (m ++ r)))
 four a k j m r = append_assoc a (k ++ (j ++ m)) r ∙ ap (λ x. a ++ x) (append_assoc k (j ++ m) r ∙ ap (λ x. k ++ x) (append_assoc j m r))
 
-three : {X : Type 0} (a k j r : List X) → (a ++ (k ++ j)) ++ r ≡ a ++ (k ++ (j ++ r))
-three a k j r = append_assoc a (k ++ j) r ∙ ap (λ x. a ++ x) (append_assoc k j r)
-
 element_split : (w : World) (a : JudgedElements) (k : JudgedKey) (place : ℕ) (j : Judged) (more : JudgedElements) →
     elements_then (elements_then a (one_element w k place j)) more ≡ elements_then a (with_element w k place j more)
 element_split w a k place j more = same_elements
     (and_then a.whole k.whole (is_whole (value_kind j.meaning)) (is_empty (misfit_if w place (value_kind j.meaning) k.wanted)) more.whole)
     (or_then a.unkeyed k.unkeyed more.unkeyed)
     (four a.faults k.faults j.faults (misfit_if w place (value_kind j.meaning) k.wanted) more.faults)
-    (three a.uses k.uses j.uses more.uses)
+    (four a.uses k.uses j.uses (entering_if w place (value_kind j.meaning) k.wanted) more.uses)
 
 pub record ReachedElements (total rest : JudgedElements) (before now : FoundInFile) (all_whole some_unkeyed : Bool) : Type 0 where
   pub so_far : JudgedElements
@@ -197,7 +200,7 @@ reached_elements_start total = record {
 pub reached_element : (w : World) (k : JudgedKey) (place at : ℕ) (j : Judged) (kind : Option ValueKind) (wanted : Option PlainType)
     {total rest more : JudgedElements} {before now keyed valued new : FoundInFile} {whole unkeyed key_whole key_unkeyed fits : Bool} {m : Meaning} →
     ReachedElements total rest before now whole unkeyed → (key : ElementKey) → AddsKey k now keyed key → AddsJudged j keyed valued m →
-    AddsMisfits (misfit_if w at kind wanted) valued new fits →
+    AddsMisfits (misfit_if w at kind wanted) (entering_if w at kind wanted) valued new fits →
     at ≡ place → kind ≡ value_kind m → wanted ≡ option_map (λ t. type_of t.now) key.wanted → key_whole ≡ key.whole → key_unkeyed ≡ key.unkeyed →
     rest ≡ with_element w k place j more →
     ReachedElements total more before new (whole && (key_whole && (is_whole kind && fits))) (unkeyed || key_unkeyed)
@@ -207,6 +210,8 @@ reached_element w k place at j kind wanted {total} {rest} {more} {before} {now} 
     let ww : wanted ≡ k.wanted = we ∙ a.wanted in
     let places : misfit_if w at kind wanted ≡ misfit_if w place (value_kind j.meaning) k.wanted =
     ap (λ x. misfit_if w x kind wanted) pe ∙ (ap (λ x. misfit_if w place x wanted) kk ∙ ap (λ x. misfit_if w place (value_kind j.meaning) x) ww) in
+    let entries : entering_if w at kind wanted ≡ entering_if w place (value_kind j.meaning) k.wanted =
+    ap (λ x. entering_if w x kind wanted) pe ∙ (ap (λ x. entering_if w place x wanted) kk ∙ ap (λ x. entering_if w place (value_kind j.meaning) x) ww) in
     record {
       so_far = elements_then c.so_far (one_element w k place j);
       adds = record {
@@ -218,8 +223,10 @@ reached_element w k place at j kind wanted {total} {rest} {more} {before} {now} 
             (joined now.faults.items k.faults (j.faults ++ misfit_if w place (value_kind j.meaning) k.wanted) a.faults
             (joined keyed.faults.items j.faults (misfit_if w place (value_kind j.meaning) k.wanted) b.faults
             (d.faults ∙ ap (λ x. valued.faults.items ++ x) places)));
-        uses = joined (map use_of before.uses.items) c.so_far.uses (k.uses ++ j.uses) c.adds.uses
-            (joined (map use_of now.uses.items) k.uses j.uses a.uses (ap (map use_of) d.uses ∙ b.uses));
+        uses = joined (map noted_of before.uses.items) c.so_far.uses (k.uses ++ (j.uses ++ entering_if w place (value_kind j.meaning) k.wanted)) c.adds.uses
+            (joined (map noted_of now.uses.items) k.uses (j.uses ++ entering_if w place (value_kind j.meaning) k.wanted) a.uses
+            (joined (map noted_of keyed.uses.items) j.uses (entering_if w place (value_kind j.meaning) k.wanted) b.uses
+            (d.uses ∙ ap (λ x. map noted_of valued.uses.items ++ x) entries)));
       };
       goes_on = element_split w c.so_far k place j more ∙ (ap (λ x. elements_then c.so_far x) (sym r) ∙ c.goes_on);
     }
@@ -243,7 +250,8 @@ reached_elements_end {total} {rest} {before} {now} {whole} {unkeyed} c e =
       whole = c.adds.whole ∙ (sym (and_end c.so_far.whole) ∙ ap (λ x. x.whole) t);
       unkeyed = c.adds.unkeyed ∙ (sym (or-false c.so_far.unkeyed) ∙ ap (λ x. x.unkeyed) t);
       faults = c.adds.faults ∙ (ap (λ x. before.faults.items ++ x) (sym (append-nil c.so_far.faults)) ∙ ap (λ x. before.faults.items ++ x.faults) t);
-      uses = c.adds.uses ∙ (ap (λ x. map use_of before.uses.items ++ x) (sym (append-nil c.so_far.uses)) ∙ ap (λ x. map use_of before.uses.items ++ x.uses) t);
+      uses = c.adds.uses ∙ (ap (λ x. map noted_of before.uses.items ++ x) (sym (append-nil c.so_far.uses)) ∙
+          ap (λ x. map noted_of before.uses.items ++ x.uses) t);
     }
 
 -- a literal: its type, its elements, and its meaning
@@ -264,6 +272,6 @@ adds_literal w start t rest {old} {typed} {filled} {new} {own} {whole} {unkeyed}
       faults = joined old.faults.items (t.faults ++ (rest t.type_of).faults)
           (literal_meaning w start t.type_of (rest t.type_of).whole (rest t.type_of).unkeyed).faults
           (joined old.faults.items t.faults (rest t.type_of).faults a.faults b'.faults) c'.faults;
-      uses = joined (map use_of old.uses.items) (rest t.type_of).uses (literal_meaning w start t.type_of (rest t.type_of).whole (rest t.type_of).unkeyed).uses
-          (b'.uses ∙ ap (λ x. map use_of x ++ (rest t.type_of).uses) a.uses) c'.uses;
+      uses = joined (map noted_of old.uses.items) (rest t.type_of).uses (literal_meaning w start t.type_of (rest t.type_of).whole (rest t.type_of).unkeyed).uses
+          (b'.uses ∙ ap (λ x. map noted_of x ++ (rest t.type_of).uses) a.uses) c'.uses;
     }

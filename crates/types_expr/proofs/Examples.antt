@@ -10,10 +10,11 @@ use Rattle.types_expr.specs.declared.types.Builtin.TheVariants as builtin
 use Rattle.types_expr.specs.declared.symbol.Symbol.{Symbol}
 use Rattle.types_expr.specs.Places.{first_token, place_of, place_of_links}
 use Rattle.types_expr.specs.Types.{PlainType, BasicType, Defined, Pointer, Slice, Struct, Typed, Untyped, Nil, Meaning, Value, TypeName, Function, BuiltinName}
-use Rattle.types_expr.specs.Types.{Package, Broken, same_type, same_underlying, is_named, has_nil}
+use Rattle.types_expr.specs.Types.{Package, Broken, same_type, same_underlying, is_named, has_nil, AFieldOf}
 use Rattle.types_expr.specs.World.{World, Bound, Means, BrokenVariable, BrokenFunction, BrokenType, Member, AField, AMethod, ABrokenMethod, no_locals}
 use Rattle.types_expr.specs.Operations.{fits, operate, joined, class_of, family_of, result_of, is_nil, prefixed}
 use Rattle.types_expr.specs.Judge.{judge, judge_type, as_value, value_kind, select, select_member, all_whole, misfit, misfits, all_misfits, unless_faults}
+use Rattle.types_expr.specs.Judge.{OfMember, entering, enterings, all_enterings}
 use Rattle.types_expr.specs.Judge.{call_function, convert, append, all_printed, call_builtin, call_of, bad_index, indexed, index_of, operation, prefix_of}
 use Rattle.types_expr.specs.Judge.{named_type, imported_type, address_of}
 
@@ -52,13 +53,14 @@ meaning_at p =
 
 -- what the names behind dots and the keys are. 60 and 64: the field x of T, an int; 61: the method m(int); 62: the method q() of *T; 63: a broken method
 abbrev member_of : ℕ → Option Member
-member_of p = if p == 60 then Some (AField (member_at 0) int) else
-    (if p == 64 then Some (AField (member_at 0) int) else (if p == 61 then Some (AMethod (member_at 1) false (record { parameters = int ∷ []; results = [] }))
+member_of p = if p == 60 then Some (AField (member_at 0) (AFieldOf int)) else
+    (if p == 64 then Some (AField (member_at 0) (AFieldOf int)) else (if p == 61 then Some (AMethod (member_at 1) false
+    (record { parameters = int ∷ []; results = [] }))
     else (if p == 62 then Some (AMethod (member_at 2) true (record { parameters = []; results = [] })) else
     (if p == 63 then Some (ABrokenMethod (member_at 3)) else None))))
 
 abbrev w : World
-w = record { bound = meaning_at; member = λ p t. member_of p; definition = λ s. Struct s }
+w = record { bound = meaning_at; member = λ p t. member_of p; definition = λ s. Struct s; implements = λ t s. false }
 
 abbrev faults_of : ExprTree → List ℕ
 faults_of e = (judge w no_locals e).faults
@@ -200,7 +202,7 @@ values =
 faults_stand : map (λ e. faults_of e.0) expressions ≡ map (λ e. e.1) expressions
 unfolding first_token place_of place_of_links same_type same_underlying is_named has_nil fits operate joined class_of family_of result_of is_nil prefixed
     judge judge_type as_value value_kind select select_member all_whole misfit misfits all_misfits unless_faults call_function convert append all_printed
-    call_builtin call_of bad_index indexed index_of operation prefix_of named_type imported_type address_of
+    entering enterings all_enterings call_builtin call_of bad_index indexed index_of operation prefix_of named_type imported_type address_of
 faults_stand = refl
 
 types_stand : map (λ t. (judge_type w t.0).faults) types ≡ map (λ t. t.1) types
@@ -210,14 +212,14 @@ types_stand = refl
 values_stand : map (λ e. meaning_of e.0) values ≡ map (λ e. e.1) values
 unfolding first_token place_of place_of_links same_type same_underlying is_named has_nil fits operate joined class_of family_of result_of is_nil prefixed
     judge judge_type as_value value_kind select select_member all_whole misfit misfits all_misfits unless_faults call_function convert append all_printed
-    call_builtin call_of bad_index indexed index_of operation prefix_of named_type imported_type address_of
+    entering enterings all_enterings call_builtin call_of bad_index indexed index_of operation prefix_of named_type imported_type address_of
 values_stand = refl
 
 -- the members that are used, in source order
-uses_found : (judge w no_locals (brace (LocalType 30) (keyed 60 (Chain (Name 13) (dot 64)) no_element))).uses ≡ record
-    { place = 60; before = Defined here; member = Some (member_at 0) } ∷ record { place = 64; before = Pointer (Defined here); member = Some (member_at 0) }
-    ∷ []
+uses_found : (judge w no_locals (brace (LocalType 30) (keyed 60 (Chain (Name 13) (dot 64)) no_element))).uses ≡ OfMember
+    (record { place = 60; before = Defined here; member = Some (member_at 0) }) ∷ OfMember
+    (record { place = 64; before = Pointer (Defined here); member = Some (member_at 0) }) ∷ []
 unfolding first_token place_of place_of_links same_type same_underlying is_named has_nil fits operate joined class_of family_of result_of is_nil prefixed
     judge judge_type as_value value_kind select select_member all_whole misfit misfits all_misfits unless_faults call_function convert append all_printed
-    call_builtin call_of bad_index indexed index_of operation prefix_of named_type imported_type address_of
+    entering enterings all_enterings call_builtin call_of bad_index indexed index_of operation prefix_of named_type imported_type address_of
 uses_found = refl

@@ -5,6 +5,7 @@ pub mod Examples
 pub mod Items
 pub mod LocalTypes
 pub mod Misfits
+pub mod NoteLists
 pub mod SeenRanks
 pub mod Trees
 pub mod Values

@@ -13,10 +13,11 @@ use Rattle.types_expr.specs.declared.types.Builtin.TheVariants as builtin
 use Rattle.types_expr.specs.declared.symbol.Symbol.{Symbol}
 use Rattle.types_expr.specs.Places.{first_token, first_of_type, place_of}
 use Rattle.types_expr.specs.Types.{PlainType, BasicType, Pointer, Slice, Underlying, SliceOf, Struct, ValueKind, Typed, Untyped, Signature, Meaning, Value}
-use Rattle.types_expr.specs.Types.{TypeName, Function, BuiltinName, Package, Results, Broken, is_pointer, points, element_of}
+use Rattle.types_expr.specs.Types.{TypeName, Function, BuiltinName, Package, Results, Broken, AFieldOf, AMethodOf, is_pointer, points, element_of}
+use Rattle.types_expr.specs.Types.{Nil, is_interface}
 use Rattle.types_expr.specs.World.{World, Locals, Bound, Local, Means, BrokenVariable, BrokenType, Member, AField, AMethod, ABrokenMethod, member_symbol}
 use Rattle.types_expr.specs.World.{underlying, name_meaning}
-use Rattle.types_expr.specs.Operations.{fits, converts, operate, class_of, is_int, has_length, is_printed, element_of_kind, prefixed}
+use Rattle.types_expr.specs.Operations.{enters, fits, converts, operate, class_of, is_int, has_length, is_printed, element_of_kind, prefixed}
 
 -- A use of a member's name: the name after the dot of a selection, or a key of a composite literal. `place` is its token, `before` the type
 -- of the operand or of the literal, `member` the field or method, if any.
@@ -25,11 +26,33 @@ pub record MemberUse : Type 0 where
   pub before : PlainType
   pub member : Option Symbol
 
--- the judgement of an expression: its meaning, the tokens of its faults, and its uses of members' names
+-- A value that enters an interface, by the place of its faults. Its own type is no interface; that of a constant is its basic type.
+pub record Entering : Type 0 where
+  pub place : ℕ
+  pub own : PlainType
+
+-- what the judgement of a file notes, in order: uses of members' names, and entries of values into interfaces
+pub data Noted : Type 0 where
+  OfMember : MemberUse → Noted
+  OfEntering : Entering → Noted
+
+-- the uses of members' names among what is noted
+abbrev pub members_of : List Noted → List MemberUse
+members_of [] = []
+members_of (OfMember u ∷ ns) = u ∷ members_of ns
+members_of (OfEntering e ∷ ns) = members_of ns
+
+-- the entries among what is noted
+abbrev pub enterings_of : List Noted → List Entering
+enterings_of [] = []
+enterings_of (OfMember u ∷ ns) = enterings_of ns
+enterings_of (OfEntering e ∷ ns) = e ∷ enterings_of ns
+
+-- the judgement of an expression: its meaning, the tokens of its faults, and its uses of members' names and its entries
 pub record Judged : Type 0 where
   pub meaning : Meaning
   pub faults : List ℕ
-  pub uses : List MemberUse
+  pub uses : List Noted
 
 -- meaning m, without a fault
 abbrev pub means : Meaning → Judged
@@ -79,14 +102,19 @@ value_kind m = None
 --   T{}.m    // none
 abbrev pub member_meaning : World → PlainType → (addressable : Bool) → Option Member → Option Meaning
 member_meaning w t addressable None = None
-member_meaning w t addressable (Some (AField s ft)) = Some (Value (Typed ft) (points (underlying w t) || addressable))
+member_meaning w t addressable (Some (AField s (AFieldOf ft))) = Some (Value (Typed ft) (points (underlying w t) || addressable))
+member_meaning w t addressable (Some (AField s (AMethodOf signature))) = Some (Function signature)
 member_meaning w t addressable (Some (AMethod s on_pointer signature)) =
     if on_pointer then (if is_pointer t || addressable then Some (Function signature) else None) else Some (Function signature)
 member_meaning w t addressable (Some (ABrokenMethod s)) = Some Broken
 
+-- j, with these before its own uses and entries
+abbrev pub noting : List Noted → Judged → Judged
+noting notes j = record { meaning = j.meaning; faults = j.faults; uses = notes ++ j.uses }
+
 -- j, with one more member use before its own
 abbrev pub with_use : MemberUse → Judged → Judged
-with_use u j = record { meaning = j.meaning; faults = j.faults; uses = u ∷ j.uses }
+with_use u j = record { meaning = j.meaning; faults = j.faults; uses = OfMember u ∷ j.uses }
 
 -- The selection, from a value of type t, of the member whose name is at token `name`. It is a fault at the name where there is no such
 -- member.
@@ -115,7 +143,7 @@ pub record ListValue : Type 0 where
 pub record JudgedList : Type 0 where
   pub values : List ListValue
   pub faults : List ℕ
-  pub uses : List MemberUse
+  pub uses : List Noted
 
 -- whether a value is not broken
 abbrev pub is_whole : Option ValueKind → Bool
@@ -143,6 +171,29 @@ unfoldable pub all_misfits : World → List ListValue → PlainType → List ℕ
 all_misfits w [] t = []
 all_misfits w (v ∷ vs) t = misfit w v.place v.kind t ++ all_misfits w vs t
 
+-- The entry of a value of type v into type t: t is an interface that v implements, and v is no interface.
+abbrev pub enters_at : World → ℕ → (v t : PlainType) → List Noted
+enters_at w place v t =
+    if is_interface (underlying w v) then [] else (if enters w v (underlying w t) then OfEntering (record { place = place; own = v }) ∷ [] else [])
+
+-- the entry, if there is one, of a value of kind k at `place` that has to fit type t; nil enters nothing
+unfoldable pub entering : World → ℕ → Option ValueKind → PlainType → List Noted
+entering w place None t = []
+entering w place (Some (Typed v)) t = enters_at w place v t
+entering w place (Some (Untyped b)) t = enters_at w place (BasicType b) t
+entering w place (Some Nil) t = []
+
+-- the entries of values into the types at their positions
+unfoldable pub enterings : World → List ListValue → List PlainType → List Noted
+enterings w [] ts = []
+enterings w (v ∷ vs) [] = []
+enterings w (v ∷ vs) (t ∷ ts) = entering w v.place v.kind t ++ enterings w vs ts
+
+-- the entries of values into one type
+unfoldable pub all_enterings : World → List ListValue → PlainType → List Noted
+all_enterings w [] t = []
+all_enterings w (v ∷ vs) t = entering w v.place v.kind t ++ all_enterings w vs t
+
 -- Calls
 
 -- the meaning of a call with these results: a value where there is exactly one
@@ -163,7 +214,8 @@ wrong_if_whole false place = means Broken
 -- The call of a function. An argument that does not fit its parameter is a fault of its own; a wrong count is a fault at `start`.
 unfoldable pub call_function : World → ℕ → Signature → List ListValue → Judged
 call_function w start s vs =
-    if length vs == length s.parameters then unless_faults (misfits w vs s.parameters) (all_whole vs) (result_meaning s.results)
+    if length vs == length s.parameters
+    then noting (enterings w vs s.parameters) (unless_faults (misfits w vs s.parameters) (all_whole vs) (result_meaning s.results))
     else wrong_if_whole (all_whole vs) start
 
 -- the conversion of a value to type t
@@ -173,13 +225,13 @@ convert_one w start t (Some k) = if converts w k t then means (Value (Typed t) f
 
 -- the conversion `T(x)` to type t, which takes exactly one value
 unfoldable pub convert : World → ℕ → PlainType → List ListValue → Judged
-convert w start t (v ∷ []) = convert_one w start t v.kind
+convert w start t (v ∷ []) = noting (entering w v.place v.kind t) (convert_one w start t v.kind)
 convert w start t vs = wrong_if_whole (all_whole vs) start
 
 -- the call of `append` whose first argument has kind k, with elements of the given type, if it is a slice
 abbrev pub append_to : World → ℕ → ValueKind → Option PlainType → List ListValue → Judged
 append_to w start k None vs = wrong_if_whole (all_whole vs) start
-append_to w start k (Some t) vs = unless_faults (all_misfits w vs t) (all_whole vs) (Value k false)
+append_to w start k (Some t) vs = noting (all_enterings w vs t) (unless_faults (all_misfits w vs t) (all_whole vs) (Value k false))
 
 -- the call of `append` whose first argument has the given kind, none where it is broken
 abbrev pub append_first : World → ℕ → Option ValueKind → List ListValue → Judged
@@ -347,7 +399,7 @@ none_seen = λ rank. false
 
 -- The key whose name denotes this member. A field that an earlier key named is a fault, and so is a method.
 abbrev pub key_of_member : Seen → Option Member → KeyMeaning
-key_of_member seen (Some (AField s t)) = if seen s.rank then WrongKey else FieldKey s.rank t
+key_of_member seen (Some (AField s (AFieldOf t))) = if seen s.rank then WrongKey else FieldKey s.rank t
 key_of_member seen (Some (ABrokenMethod s)) = BrokenKey
 key_of_member seen m = WrongKey
 
@@ -387,12 +439,17 @@ pub record JudgedElements : Type 0 where
   pub whole : Bool
   pub unkeyed : Bool
   pub faults : List ℕ
-  pub uses : List MemberUse
+  pub uses : List Noted
 
 -- a fault where a value does not fit the type that it has to fit, if that is known
 abbrev pub misfit_if : World → ℕ → Option ValueKind → Option PlainType → List ℕ
 misfit_if w place k None = []
 misfit_if w place k (Some t) = misfit w place k t
+
+-- the entry of such a value
+abbrev pub entering_if : World → ℕ → Option ValueKind → Option PlainType → List Noted
+entering_if w place k None = []
+entering_if w place k (Some t) = entering w place k t
 
 abbrev pub is_empty : List ℕ → Bool
 is_empty [] = true
@@ -405,7 +462,7 @@ pub record JudgedKey : Type 0 where
   pub unkeyed : Bool
   pub wanted : Option PlainType
   pub faults : List ℕ
-  pub uses : List MemberUse
+  pub uses : List Noted
 
 -- an element of a literal whose type is broken: its key is not judged
 abbrev pub unjudged_key : JudgedKey
@@ -422,7 +479,7 @@ judge_key w t place k = record {
   unkeyed = false;
   wanted = wanted_after_key k (underlying w t);
   faults = key_faults k place;
-  uses = record { place = place; before = t; member = symbol_of_key (underlying w t) (w.member place t) } ∷ [];
+  uses = OfMember (record { place = place; before = t; member = symbol_of_key (underlying w t) (w.member place t) }) ∷ [];
 }
 
 -- what the key at token `place` is, in a literal of type t
@@ -446,7 +503,7 @@ with_element w k place j rest = record {
   whole = k.whole && (is_whole (value_kind j.meaning) && (is_empty (misfit_if w place (value_kind j.meaning) k.wanted) && rest.whole));
   unkeyed = k.unkeyed || rest.unkeyed;
   faults = k.faults ++ (j.faults ++ (misfit_if w place (value_kind j.meaning) k.wanted ++ rest.faults));
-  uses = k.uses ++ (j.uses ++ rest.uses);
+  uses = k.uses ++ (j.uses ++ (entering_if w place (value_kind j.meaning) k.wanted ++ rest.uses));
 }
 
 -- A literal of type t with the given underlying type, by whether its elements are whole and whether one has no key. A struct literal with

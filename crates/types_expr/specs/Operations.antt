@@ -9,16 +9,25 @@ use Rattle.types_expr.specs.declared.classes.ValueClass.{ValueClass}
 use Rattle.types_expr.specs.declared.classes.ValueClass.TheVariants as class
 use Rattle.types_expr.specs.declared.classes.Family.{Family}
 use Rattle.types_expr.specs.declared.classes.Family.TheVariants as family
-use Rattle.types_expr.specs.Types.{PlainType, Underlying, Plain, PointerTo, SliceOf, Struct, ValueKind, Typed, Untyped, Nil, Meaning, Value, same_basic, same_type}
-use Rattle.types_expr.specs.Types.{same_underlying, is_named, either_unnamed, has_nil, element_of}
+use Rattle.types_expr.specs.Types.{PlainType, BasicType, Underlying, Plain, PointerTo, SliceOf, Struct, Interface, ValueKind, Typed, Untyped, Nil}
+use Rattle.types_expr.specs.Types.{Meaning, Value, same_basic, same_type, same_underlying, is_named, either_unnamed, has_nil, element_of}
 use Rattle.types_expr.specs.World.{World, underlying}
 
--- Whether a value fits a type (Go specification, "Assignability"). Either its type is identical. Or one of the two types is not named and
--- the underlying types are identical. Or the value has no type: an untyped constant fits its own basic type, and nil fits pointers and
--- slices.
+-- whether a value of type v is one of type t: the types are identical, or one of the two is not named and the underlying types are identical
+abbrev pub is_value_of : World → (v t : PlainType) → Bool
+is_value_of w v t = same_type v t || (either_unnamed (is_named v) (is_named t) && same_underlying (underlying w v) (underlying w t))
+
+-- whether values of type v enter the types with this underlying type: it is an interface that v implements
+abbrev pub enters : World → PlainType → Underlying → Bool
+enters w v (Interface s) = w.implements v s
+enters w v u = false
+
+-- Whether a value fits a type (Go specification, "Assignability"). It is of that type, or the type is an interface that its own type
+-- implements. An untyped constant fits its own basic type, and the interfaces that this type implements. Nil fits pointers, slices and
+-- interfaces.
 unfoldable pub fits : World → ValueKind → PlainType → Bool
-fits w (Typed v) t = same_type v t || (either_unnamed (is_named v) (is_named t) && same_underlying (underlying w v) (underlying w t))
-fits w (Untyped b) t = same_underlying (Plain b) (underlying w t)
+fits w (Typed v) t = is_value_of w v t || enters w v (underlying w t)
+fits w (Untyped b) t = same_underlying (Plain b) (underlying w t) || enters w (BasicType b) (underlying w t)
 fits w Nil t = has_nil (underlying w t)
 
 -- whether a value converts to a type (Go specification, "Conversions"): it fits, or the underlying types are identical
@@ -45,6 +54,7 @@ class_of_underlying (Plain b) = class.Of b
 class_of_underlying (PointerTo t) = class.Pointer
 class_of_underlying (SliceOf t) = class.Slice
 class_of_underlying (Struct s) = class.Struct
+class_of_underlying (Interface s) = class.Interface
 
 -- the class of the values of a kind
 unfoldable pub class_of : World → ValueKind → ValueClass
@@ -57,6 +67,7 @@ abbrev pub compares : Bool → ValueClass → Bool
 compares with_nil (class.Of b) = true
 compares with_nil class.Pointer = true
 compares with_nil class.Slice = with_nil
+compares with_nil class.Interface = with_nil
 compares with_nil c = false
 
 abbrev pub is_int : ValueClass → Bool

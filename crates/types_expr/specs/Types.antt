@@ -13,12 +13,13 @@ pub data PlainType : Type 0 where
   Pointer : PlainType → PlainType
   Slice : PlainType → PlainType
 
--- an underlying type; a struct type is identified by the definition that writes it
+-- an underlying type; a struct and an interface are identified by the definition that writes them
 pub data Underlying : Type 0 where
   Plain : Basic → Underlying
   PointerTo : PlainType → Underlying
   SliceOf : PlainType → Underlying
   Struct : Symbol → Underlying
+  Interface : Symbol → Underlying
 
 -- the kind of a value: its type, the basic type of an untyped constant, or nil
 pub data ValueKind : Type 0 where
@@ -29,6 +30,11 @@ pub data ValueKind : Type 0 where
 pub record Signature : Type 0 where
   pub parameters : List PlainType
   pub results : List PlainType
+
+-- what a written member is: a field of this type, or a method of this signature that an interface asks for
+pub data WrittenAs : Type 0 where
+  AFieldOf : PlainType → WrittenAs
+  AMethodOf : Signature → WrittenAs
 
 -- The meaning of an expression. Results: a call with none or several results. Broken: the expression or a part of it is a fault, or it uses
 -- a declaration that has a broken part.
@@ -61,11 +67,20 @@ same_type (Pointer a) (Pointer b) = same_type a b
 same_type (Slice a) (Slice b) = same_type a b
 same_type a b = false
 
+-- whether two lists have identical types in the same order
+abbrev pub identical_types : List PlainType → List PlainType → Bool
+identical_types a b = pointwise same_type a b
+
+-- whether two signatures have identical parameters and results
+unfoldable pub identical_signatures : Signature → Signature → Bool
+identical_signatures a b = identical_types a.parameters b.parameters && identical_types a.results b.results
+
 unfoldable pub same_underlying : Underlying → Underlying → Bool
 same_underlying (Plain a) (Plain b) = same_basic a b
 same_underlying (PointerTo a) (PointerTo b) = same_type a b
 same_underlying (SliceOf a) (SliceOf b) = same_type a b
 same_underlying (Struct a) (Struct b) = same_symbol a b
+same_underlying (Interface a) (Interface b) = same_symbol a b
 same_underlying a b = false
 
 -- the underlying type of a type, where `definition` gives those of type definitions
@@ -90,6 +105,7 @@ either_unnamed a b = true
 unfoldable pub has_nil : Underlying → Bool
 has_nil (PointerTo t) = true
 has_nil (SliceOf t) = true
+has_nil (Interface s) = true
 has_nil u = false
 
 abbrev pub is_pointer : PlainType → Bool
@@ -100,6 +116,16 @@ is_pointer t = false
 abbrev pub points : Underlying → Bool
 points (PointerTo t) = true
 points u = false
+
+abbrev pub is_interface : Underlying → Bool
+is_interface (Interface s) = true
+is_interface u = false
+
+-- whether the types with this underlying type have no methods of receivers: pointers and interfaces
+abbrev pub takes_no_methods : Underlying → Bool
+takes_no_methods (PointerTo t) = true
+takes_no_methods (Interface s) = true
+takes_no_methods u = false
 
 abbrev pub is_struct : Underlying → Bool
 is_struct (Struct s) = true

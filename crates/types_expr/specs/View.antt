@@ -5,6 +5,8 @@ use Rattle.types_expr.specs.declared.types.GoType.TheVariants as type
 use Rattle.types_expr.specs.declared.types.ValueKind.{ValueKind}
 use Rattle.types_expr.specs.declared.types.ValueKind.TheVariants as kind
 use Rattle.types_expr.specs.declared.types.Signature.{Signature}
+use Rattle.types_expr.specs.declared.types.WrittenAs.{WrittenAs}
+use Rattle.types_expr.specs.declared.types.WrittenAs.TheVariants as written
 use Rattle.types_expr.specs.Types as types
 
 unfoldable pub type_of : GoType → types.PlainType
@@ -20,3 +22,7 @@ kind_of kind.Nil = types.Nil
 
 abbrev pub signature_of : Signature → types.Signature
 signature_of s = record { parameters = map type_of s.parameters.items; results = map type_of s.results.items }
+
+unfoldable pub form_of : WrittenAs → types.WrittenAs
+form_of (written.Field t) = types.AFieldOf (type_of t)
+form_of (written.Method s) = types.AMethodOf (signature_of s)

@@ -1,5 +1,5 @@
 -- Views of the `World` of src/: the plain world, with its bindings, definitions and members.
-use Rattle.std.specs.Prelude.{ℕ, true, false, if◌then◌else◌, List, [], Option, Some, None, option_map, slice_get}
+use Rattle.std.specs.Prelude.{ℕ, Bool, true, false, if◌then◌else◌, List, [], Option, Some, None, option_map, map, slice_get}
 use Rattle.std.specs.Arc.{arc_value}
 use Rattle.std.specs.Option.{option_flatten}
 use Rattle.std.specs.FinMap.{find}
@@ -22,13 +22,14 @@ use Rattle.types_expr.specs.declared.world.Method.{Method}
 use Rattle.types_expr.specs.declared.world.Definition.{Definition}
 use Rattle.types_expr.specs.declared.world.Definitions.{Definitions}
 use Rattle.types_expr.specs.declared.world.World.{World}
+use Rattle.types_expr.specs.declared.world.SetMethod.{SetMethod}
 use Rattle.types_expr.specs.declared.world.Shape.{Shape}
 use Rattle.types_expr.specs.declared.world.Shape.TheVariants as shape
 use Rattle.types_expr.specs.declared.world.Member.{Member}
 use Rattle.types_expr.specs.declared.world.Member.TheVariants as member
 use Rattle.types_expr.specs.Types as types
 use Rattle.types_expr.specs.World as plain
-use Rattle.types_expr.specs.View.{type_of, signature_of}
+use Rattle.types_expr.specs.View.{type_of, signature_of, form_of}
 
 unfoldable pub bound_of : Bound → plain.Bound
 bound_of (bound.Local p) = plain.Local p
@@ -48,21 +49,23 @@ underlying_of (underlying.Plain b) = types.Plain b
 underlying_of (underlying.PointerTo t) = types.PointerTo (type_of t)
 underlying_of (underlying.SliceOf t) = types.SliceOf (type_of t)
 underlying_of (underlying.Struct s) = types.Struct s
+underlying_of (underlying.Interface s) = types.Interface s
 
 unfoldable pub shape_of : Shape → types.Underlying
 shape_of (shape.Plain b) = types.Plain b
 shape_of (shape.PointerTo t) = types.PointerTo (type_of t.now)
 shape_of (shape.SliceOf t) = types.SliceOf (type_of t.now)
 shape_of (shape.Struct s) = types.Struct s.now
+shape_of (shape.Interface s) = types.Interface s.now
 
 abbrev pub field_of : Field → plain.Field
-field_of f = record { symbol = f.symbol; exported = f.exported; type_of = type_of f.field_type }
+field_of f = record { symbol = f.symbol; exported = f.exported; form = form_of f.form }
 
 abbrev pub plain_method_of : Method → plain.Method
 plain_method_of m = record { symbol = m.symbol; exported = m.exported; on_pointer = m.on_pointer; signature = option_map signature_of m.signature }
 
 unfoldable pub member_of : Member → plain.Member
-member_of (member.Field f) = plain.AField f.now.symbol (type_of f.now.field_type)
+member_of (member.Field f) = plain.AField f.now.symbol (form_of f.now.form)
 member_of (member.Method m) = plain.a_method m.now.symbol m.now.on_pointer (option_map signature_of m.now.signature)
 
 abbrev pub definition_of : Definition → plain.Definition
@@ -150,5 +153,17 @@ token_spelling (Some n) = n.spelling.now
 unfoldable pub member_in : World → ℕ → types.PlainType → Option plain.Member
 member_in w place t = plain.member_by (definition_in w) w.package.now (token_spelling (name_in w place)) t
 
+abbrev pub set_method_of : SetMethod → plain.SetMethod
+set_method_of m = record { symbol = m.symbol.now; exported = m.exported; signature = option_map (λ s. signature_of s.now) m.signature }
+
+-- the names under which a definition writes members; none where it is not known
+abbrev pub names_written : Option Definition → List (List ℕ)
+names_written None = []
+names_written (Some d) = map (λ entry. entry.0.items) d.fields.entries
+
+-- whether type t implements the interface that the definition of a symbol writes
+unfoldable pub implements_in : World → types.PlainType → Symbol → Bool
+implements_in w t s = plain.implements_by (definition_in w) (names_written (definition_at w s)) t s
+
 abbrev pub world_of : World → plain.World
-world_of w = record { bound = bound_in w; member = member_in w; definition = underlying_in w }
+world_of w = record { bound = bound_in w; member = member_in w; definition = underlying_in w; implements = implements_in w }

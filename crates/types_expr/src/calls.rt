@@ -1,13 +1,14 @@
 //! Calls of functions and builtins, and conversions.
-ghost use Rattle.std.specs.Prelude.{◌≡◌, IfOk, map, option_map};
+ghost use Rattle.std.specs.Prelude.{◌≡◌, ◌++◌, IfOk, OnOk, map, option_map};
 ghost use Rattle.std.specs.List.{list_all};
 ghost use Rattle.types_expr.specs.Operations.{element_of_kind};
-ghost use Rattle.types_expr.specs.Judge.{call_of, call_function, call_builtin, call_when, convert, append, append_to, misfit, misfits, all_misfits, all_whole, all_printed, is_printed_value, len_fits, wrong_if_whole};
+ghost use Rattle.types_expr.specs.Judge.{call_of, call_function, call_builtin, call_when, enters_at, entering, enterings, all_enterings, convert, append, append_to, misfit, misfits, all_misfits, all_whole, all_printed, is_printed_value, len_fits, wrong_if_whole};
 ghost use Rattle.types_expr.specs.View.{type_of, kind_of, signature_of};
+ghost use Rattle.types_expr.specs.World.{giving};
 ghost use Rattle.types_expr.specs.WorldView.{world_of};
-ghost use Rattle.types_expr.specs.Found.{meaning_of, list_value, AddsJudged, AddsMisfits};
+ghost use Rattle.types_expr.specs.Found.{meaning_of, noted_of, list_value, AddsJudged, AddsMisfits};
 
-use crate::found::FoundInFile;
+use crate::found::{Entering, FoundInFile, Noted};
 use crate::meaning::{ListValue, Meaning, all_whole, result_meaning};
 use crate::places::FaultPlaces;
 use crate::types::{Basic, Builtin, GoType, Signature, ValueKind};
@@ -71,39 +72,108 @@ impl FoundInFile {
         }
     }
 
-    /// Notes a fault where the value does not fit `wanted`. Returns whether the value fits or is broken.
-    #[tactic(auto, unfolding(crate::specs::View::kind_of, crate::specs::Judge::misfit))]
-    pub fn misfit(
+    /// Notes the entry of a value of the type `of` into `wanted`, if that is an interface which `of` implements, and `of` is none.
+    #[tactic(auto, unfolding(crate::specs::Found::noted_of))]
+    fn note_entering(
         &mut self,
+        alloc: Global,
         world: &World<'_>,
+        own: bool,
+        place: usize,
+        of: &GoType,
+        wanted: &GoType,
+    ) -> Result<(), AllocError>
+        ensures faults { OnOk result (self.new.faults.items ≡ self.old.faults.items) }
+        ensures enterings { OnOk result (map noted_of self.new.uses.items ≡ map noted_of self.old.uses.items ++ enters_at (giving own (world_of world.now)) place (type_of of.now) (type_of wanted.now)) }
+    {
+        if world.underlying(of).is_interface() {
+            return Ok(());
+        }
+        let shape = world.underlying(wanted);
+        if world.enters(own, of, shape) {
+            let own = of.copy(alloc)?;
+            self.uses.push(Noted::Entering(Entering { place, own }))?;
+        }
+        Ok(())
+    }
+
+    /// Notes the entry, if there is one, of a value that has to fit `wanted`.
+    #[tactic(auto, unfolding(crate::specs::View::kind_of, crate::specs::View::type_of, crate::specs::Judge::entering))]
+    fn enter(
+        &mut self,
+        alloc: Global,
+        world: &World<'_>,
+        own: bool,
+        value: &ListValue,
+        wanted: &GoType,
+    ) -> Result<(), AllocError>
+        ensures faults { OnOk result (self.new.faults.items ≡ self.old.faults.items) }
+        ensures enterings { OnOk result (map noted_of self.new.uses.items ≡ map noted_of self.old.uses.items ++ entering (giving own (world_of world.now)) value.now.place (option_map kind_of value.now.kind) (type_of wanted.now)) }
+    {
+        let place = value.place;
+        match &value.kind {
+            Some(ValueKind::Typed(of)) => self.note_entering(alloc, world, own, place, of, wanted),
+            Some(ValueKind::Untyped(basic)) => {
+                self.note_entering(alloc, world, own, place, &GoType::Basic(*basic), wanted)
+            }
+            Some(ValueKind::Nil) | None => Ok(()),
+        }
+    }
+
+    /// Notes a fault where the value does not fit `wanted`, or the entry where it enters it. Returns whether the value fits or is broken.
+    /// `own` is false for one of several results of a call.
+    #[tactic(auto, unfolding(crate::specs::View::kind_of, crate::specs::Judge::misfit))]
+    pub fn misfit_given(
+        &mut self,
+        alloc: Global,
+        world: &World<'_>,
+        own: bool,
         value: &ListValue,
         wanted: &GoType,
     ) -> Result<bool, AllocError>
-        ensures { IfOk result (λ none. AddsMisfits (misfit (world_of world.now) value.now.place (option_map kind_of value.now.kind) (type_of wanted.now)) self.old self.new none) }
+        ensures { IfOk result (λ none. AddsMisfits (misfit (giving own (world_of world.now)) value.now.place (option_map kind_of value.now.kind) (type_of wanted.now))
+            (entering (giving own (world_of world.now)) value.now.place (option_map kind_of value.now.kind) (type_of wanted.now)) self.old self.new none) }
     {
+        self.enter(alloc, world, own, value, wanted)?;
         let Some(kind) = &value.kind else {
             return Ok(true);
         };
-        if world.fits(kind, wanted) {
+        if world.fits_given(own, kind, wanted) {
             return Ok(true);
         }
         self.faults.push(value.place)?;
         Ok(false)
     }
 
+    /// Notes a fault where the value does not fit `wanted`. Returns whether the value fits or is broken.
+    pub fn misfit(
+        &mut self,
+        alloc: Global,
+        world: &World<'_>,
+        value: &ListValue,
+        wanted: &GoType,
+    ) -> Result<bool, AllocError>
+        ensures { IfOk result (λ none. AddsMisfits (misfit (world_of world.now) value.now.place (option_map kind_of value.now.kind) (type_of wanted.now))
+            (entering (world_of world.now) value.now.place (option_map kind_of value.now.kind) (type_of wanted.now)) self.old self.new none) }
+    {
+        self.misfit_given(alloc, world, true, value, wanted)
+    }
+
     /// Notes each value that does not fit the type at its position. Returns whether there is none.
     fn misfits(
         &mut self,
+        alloc: Global,
         world: &World<'_>,
         values: &[ListValue],
         types: &[GoType],
     ) -> Result<bool, AllocError>
-        ensures { IfOk result (λ none. AddsMisfits (misfits (world_of world.now) (map list_value values.now) (map type_of types.now)) self.old self.new none) }
+        ensures { IfOk result (λ none. AddsMisfits (misfits (world_of world.now) (map list_value values.now) (map type_of types.now))
+            (enterings (world_of world.now) (map list_value values.now) (map type_of types.now)) self.old self.new none) }
     {
         let mut none = true;
         let mut i = 0;
         'each: while i < values.len() && i < types.len() {
-            let fits = self.misfit(world, &values[i], &types[i])?;
+            let fits = self.misfit(alloc, world, &values[i], &types[i])?;
             none = none && fits;
             i += 1;
         }
@@ -113,15 +183,17 @@ impl FoundInFile {
     /// Notes each value that does not fit `wanted`. Returns whether there is none.
     fn all_misfits(
         &mut self,
+        alloc: Global,
         world: &World<'_>,
         values: &[ListValue],
         wanted: &GoType,
     ) -> Result<bool, AllocError>
-        ensures { IfOk result (λ none. AddsMisfits (all_misfits (world_of world.now) (map list_value values.now) (type_of wanted.now)) self.old self.new none) }
+        ensures { IfOk result (λ none. AddsMisfits (all_misfits (world_of world.now) (map list_value values.now) (type_of wanted.now))
+            (all_enterings (world_of world.now) (map list_value values.now) (type_of wanted.now)) self.old self.new none) }
     {
         let mut none = true;
         for value in values {
-            let fits = self.misfit(world, value, wanted)?;
+            let fits = self.misfit(alloc, world, value, wanted)?;
             none = none && fits;
         }
         Ok(none)
@@ -142,7 +214,7 @@ impl FoundInFile {
         if values.len() != signature.parameters.len() {
             return self.wrong_if_whole(start, values);
         }
-        let fits = self.misfits(world, values, &signature.parameters)?;
+        let fits = self.misfits(alloc, world, values, &signature.parameters)?;
         if !fits || !all_whole(values) {
             return Ok(Meaning::Broken);
         }
@@ -164,6 +236,7 @@ impl FoundInFile {
         let [value] = values else {
             return self.wrong_if_whole(start, values);
         };
+        self.enter(alloc, world, true, value, wanted)?;
         match &value.kind {
             None => Ok(Meaning::Broken),
             Some(kind) if world.converts(kind, wanted) => {
@@ -188,7 +261,7 @@ impl FoundInFile {
         let Some(element) = world.element_of(slice) else {
             return self.wrong_if_whole(start, values);
         };
-        let fits = self.all_misfits(world, values, element)?;
+        let fits = self.all_misfits(alloc, world, values, element)?;
         if !fits || !all_whole(values) {
             return Ok(Meaning::Broken);
         }

@@ -8,6 +8,7 @@ pub enum ValueClass {
     Pointer,
     Slice,
     Struct,
+    Interface,
     Nil,
 }
 

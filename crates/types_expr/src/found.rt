@@ -1,17 +1,17 @@
 //! What the judgement of expressions finds: faults, and uses of members' names.
 ghost use Rattle.std.specs.Prelude.{◌≡◌, IfOk, OnOk, option_map, Some, map, ◌++◌, ◌∷◌, []};
-ghost use Rattle.types_expr.specs.Judge.{as_value, means_or_wrong, member_meaning, select, select_member, wrong};
+ghost use Rattle.types_expr.specs.Judge.{OfMember, as_value, means_or_wrong, member_meaning, select, select_member, wrong};
 ghost use Rattle.types_expr.specs.Types.{Typed, Value};
 ghost use Rattle.types_expr.specs.World.{World as PlainWorld, a_method, member_symbol, name_meaning, variable};
 ghost use Rattle.types_expr.specs.View.{signature_of, type_of};
 ghost use Rattle.types_expr.specs.WorldView.{member_of, world_of};
-ghost use Rattle.types_expr.specs.Found.{locals_of, meaning_of, use_of, AddsJudged};
+ghost use Rattle.types_expr.specs.Found.{locals_of, meaning_of, noted_of, AddsJudged};
 
 use crate::locals::Locals;
 use crate::meaning::Meaning;
 use crate::symbol::Symbol;
-use crate::types::{Basic, GoType, ValueKind};
-use crate::world::{Bound, Field, Member, Method, World};
+use crate::types::{Basic, GoType, ValueKind, WrittenAs};
+use crate::world::{Bound, Member, Method, World};
 use std::alloc::{AllocError, Global};
 
 /// A use of a member's name: the name after the dot of a selection, or a key of a composite literal. `place` is its token, `before` the
@@ -23,11 +23,25 @@ pub struct MemberUse {
     pub member: Option<Symbol>,
 }
 
-/// What was found in a file so far: the tokens of its faults, and its uses of members' names.
+/// A value that enters an interface, by the token at which it reports its faults. `own` is its type, which is no interface.
+#[derive(Drop)]
+pub struct Entering {
+    pub place: usize,
+    pub own: GoType,
+}
+
+/// What the judgement of a file notes, in order.
+#[derive(Drop)]
+pub enum Noted {
+    Member(MemberUse),
+    Entering(Entering),
+}
+
+/// What was found in a file so far: the tokens of its faults, and its uses of members' names and its entries.
 #[derive(Drop)]
 pub struct FoundInFile {
     pub faults: Vec<usize>,
-    pub uses: Vec<MemberUse>,
+    pub uses: Vec<Noted>,
 }
 
 /// What an expression is judged by: the world of its file, and the locals that are declared before it.
@@ -47,16 +61,16 @@ pub(crate) fn symbol_of(member: Option<Member<'_>>) -> Result<Option<Symbol>, Al
     }
 }
 
-/// Returns the meaning of a field of a value.
+/// Returns the meaning of a field of this type.
 #[tactic(auto, unfolding(crate::specs::Found::meaning_of, crate::specs::View::kind_of))]
 fn field_meaning<'w>(
     alloc: Global,
-    field: &Field,
+    own: &GoType,
     addressable: bool,
 ) -> Result<Meaning<'w>, AllocError>
-    ensures { IfOk result (λ m. meaning_of m ≡ Value (Typed (type_of field.now.field_type)) addressable) }
+    ensures { IfOk result (λ m. meaning_of m ≡ Value (Typed (type_of own.now)) addressable) }
 {
-    let kind = ValueKind::Typed(field.field_type.copy(alloc)?);
+    let kind = ValueKind::Typed(own.copy(alloc)?);
     Ok(Meaning::Value { kind, addressable })
 }
 
@@ -76,7 +90,7 @@ fn method_meaning<'w>(method: &'w Method, of: &GoType, addressable: bool) -> Opt
 impl World<'_> {
     /// Returns the meaning of a member of a value of the type `of`. There is none where there is no member, or where `method_meaning` has
     /// none.
-    #[tactic(auto, unfolding(crate::specs::WorldView::member_of))]
+    #[tactic(auto, unfolding(crate::specs::Found::meaning_of, crate::specs::View::form_of, crate::specs::WorldView::member_of))]
     fn member_meaning<'m>(
         &self,
         alloc: Global,
@@ -88,11 +102,14 @@ impl World<'_> {
     {
         match member {
             None => Ok(None),
-            Some(Member::Field(field)) => {
-                let through = self.underlying(of).is_pointer();
-                let meaning = field_meaning(alloc, field, through || addressable)?;
-                Ok(Some(meaning))
-            }
+            Some(Member::Field(field)) => match &field.form {
+                WrittenAs::Field(own) => {
+                    let through = self.underlying(of).is_pointer();
+                    let meaning = field_meaning(alloc, own, through || addressable)?;
+                    Ok(Some(meaning))
+                }
+                WrittenAs::Method(signature) => Ok(Some(Meaning::Function(signature))),
+            },
             Some(Member::Method(method)) => Ok(method_meaning(method, of, addressable)),
         }
     }
@@ -125,6 +142,7 @@ impl FoundInFile {
 
     /// Notes the use of a member's name at a token, after a value or in a literal of the type `before`. `member` is none where the name
     /// denotes no member.
+    #[tactic(auto, unfolding(crate::specs::Found::noted_of))]
     pub(crate) fn note_use(
         &mut self,
         place: usize,
@@ -132,13 +150,13 @@ impl FoundInFile {
         member: Option<Symbol>,
     ) -> Result<(), AllocError>
         ensures faults { OnOk result (self.new.faults.items ≡ self.old.faults.items) }
-        ensures uses { OnOk result (map use_of self.new.uses.items ≡ map use_of self.old.uses.items ++ (record { place = place; before = type_of before; member = member } ∷ [])) }
+        ensures uses { OnOk result (map noted_of self.new.uses.items ≡ map noted_of self.old.uses.items ++ (OfMember (record { place = place; before = type_of before; member = member }) ∷ [])) }
     {
-        self.uses.push(MemberUse {
+        self.uses.push(Noted::Member(MemberUse {
             place,
             before,
             member,
-        })?;
+        }))?;
         Ok(())
     }
 

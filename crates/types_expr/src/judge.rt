@@ -220,7 +220,7 @@ fn elements<'w>(
         let place = place_of(&element.value);
         let kind = judge_value(alloc, scope, &element.value, found)?.into_kind();
         let value = ListValue { place, kind };
-        let fits = found.misfit_if(scope.world, &value, key.wanted)?;
+        let fits = found.misfit_if(alloc, scope.world, &value, key.wanted)?;
         elements = elements.with(key, &value, fits);
     }
     Ok(elements)

@@ -1,16 +1,16 @@
 //! Keys of composite literals.
-ghost use Rattle.std.specs.Prelude.{◌≡◌, IfOk, OnOk, option_map, map, ◌++◌, ◌∷◌, []};
+ghost use Rattle.std.specs.Prelude.{◌≡◌, if◌then◌else◌, IfOk, OnOk, option_map, map, ◌++◌, ◌∷◌, []};
 ghost use Rattle.go_ast.specs.View.{key_view};
-ghost use Rattle.types_expr.specs.Judge.{none_seen, seen_with, key_at, element_key, seen_after, key_faults, is_whole_key, wanted_after_key, symbol_of_key};
+ghost use Rattle.types_expr.specs.Judge.{OfMember, WrongKey, FieldKey, none_seen, seen_with, key_at, element_key, seen_after, key_faults, is_whole_key, wanted_after_key, symbol_of_key};
 ghost use Rattle.types_expr.specs.World.{underlying};
 ghost use Rattle.types_expr.specs.Types.{element_of};
 ghost use Rattle.types_expr.specs.View.{type_of};
 ghost use Rattle.types_expr.specs.WorldView.{world_of};
-ghost use Rattle.types_expr.specs.Found.{seen_of, key_of, use_of, AddsKey};
+ghost use Rattle.types_expr.specs.Found.{seen_of, key_of, noted_of, AddsKey};
 
 use crate::found::{FoundInFile, symbol_of};
 use crate::symbol::Symbol;
-use crate::types::GoType;
+use crate::types::{GoType, WrittenAs};
 use crate::world::{Member, Shape, World};
 use go_ast::tree;
 use std::alloc::{AllocError, Global};
@@ -58,6 +58,18 @@ impl SeenFields {
         self.ranks.contains(&rank)
     }
 
+    /// Returns the key that names the field of this rank: a fault, where an earlier key named it.
+    #[tactic(auto, unfolding(crate::specs::Found::key_of))]
+    fn key<'w>(&self, rank: usize, field_type: &'w GoType) -> LiteralKey<'w>
+        ensures { key_of result ≡ (if seen_of self.now rank then WrongKey else FieldKey rank (type_of field_type.now)) }
+    {
+        if self.contains(rank) {
+            LiteralKey::Wrong
+        } else {
+            LiteralKey::Field { rank, field_type }
+        }
+    }
+
     /// Adds the field that a key names, if it names one.
     #[tactic(auto, unfolding(crate::specs::Found::key_of))]
     fn add(&mut self, key: LiteralKey<'_>) -> Result<(), AllocError>
@@ -82,7 +94,7 @@ impl LiteralKey<'_> {
 
 impl<'w> World<'w> {
     /// Returns what the key at a token is, in a literal of the type `literal_type`.
-    #[tactic(auto, unfolding(crate::specs::Found::key_of, crate::specs::WorldView::shape_of, crate::specs::WorldView::member_of))]
+    #[tactic(auto, unfolding(crate::specs::Found::key_of, crate::specs::View::form_of, crate::specs::WorldView::shape_of, crate::specs::WorldView::member_of))]
     fn key(&self, literal_type: &GoType, seen: &SeenFields, place: usize) -> LiteralKey<'w>
         ensures { key_of result ≡ key_at (world_of self.now) (seen_of seen.now) (type_of literal_type.now) place }
     {
@@ -91,16 +103,10 @@ impl<'w> World<'w> {
         };
         match self.member(place, literal_type) {
             None => LiteralKey::Wrong,
-            Some(Member::Field(field)) => {
-                if seen.contains(field.symbol.rank) {
-                    LiteralKey::Wrong
-                } else {
-                    LiteralKey::Field {
-                        rank: field.symbol.rank,
-                        field_type: &field.field_type,
-                    }
-                }
-            }
+            Some(Member::Field(field)) => match &field.form {
+                WrittenAs::Field(field_type) => seen.key(field.symbol.rank, field_type),
+                WrittenAs::Method(_) => LiteralKey::Wrong,
+            },
             Some(Member::Method(method)) => match &method.signature {
                 Some(_) => LiteralKey::Wrong,
                 None => LiteralKey::Broken,
@@ -158,8 +164,8 @@ impl FoundInFile {
         key: LiteralKey<'_>,
     ) -> Result<(), AllocError>
         ensures faults { OnOk result (self.new.faults.items ≡ self.old.faults.items ++ key_faults (key_of key.entry) place) }
-        ensures uses { OnOk result (map use_of self.new.uses.items ≡ map use_of self.old.uses.items ++
-            (record { place = place; before = type_of literal_type.now; member = symbol_of_key (underlying (world_of world.now) (type_of literal_type.now)) ((world_of world.now).member place (type_of literal_type.now)) } ∷ [])) }
+        ensures uses { OnOk result (map noted_of self.new.uses.items ≡ map noted_of self.old.uses.items ++
+            (OfMember (record { place = place; before = type_of literal_type.now; member = symbol_of_key (underlying (world_of world.now) (type_of literal_type.now)) ((world_of world.now).member place (type_of literal_type.now)) }) ∷ [])) }
     {
         let member = world.key_symbol(literal_type, place)?;
         let before = literal_type.copy(alloc)?;

@@ -1,6 +1,6 @@
 //! The meanings of composite literals.
 ghost use Rattle.std.specs.Prelude.{◌≡◌, ◌&&◌, ◌||◌, IfOk, option_map};
-ghost use Rattle.types_expr.specs.Judge.{literal_meaning, misfit_if, is_whole};
+ghost use Rattle.types_expr.specs.Judge.{literal_meaning, misfit_if, entering_if, is_whole};
 ghost use Rattle.types_expr.specs.View.{type_of, kind_of};
 ghost use Rattle.types_expr.specs.WorldView.{world_of};
 ghost use Rattle.types_expr.specs.Found.{meaning_of, AddsJudged, AddsMisfits};
@@ -10,7 +10,7 @@ use crate::keys::ElementKey;
 use crate::meaning::{ListValue, Meaning};
 use crate::types::{GoType, ValueKind};
 use crate::world::{Shape, World};
-use std::alloc::AllocError;
+use std::alloc::{AllocError, Global};
 
 /// A literal's elements so far: whether none has a fault or is broken, and whether one has no key.
 #[derive(Clone, Copy)]
@@ -37,14 +37,16 @@ impl FoundInFile {
     /// Notes a fault where the value does not fit `wanted`, if that is known. Returns whether the value fits or is broken.
     pub(crate) fn misfit_if(
         &mut self,
+        alloc: Global,
         world: &World<'_>,
         value: &ListValue,
         wanted: Option<&GoType>,
     ) -> Result<bool, AllocError>
-        ensures { IfOk result (λ fits. AddsMisfits (misfit_if (world_of world.now) value.now.place (option_map kind_of value.now.kind) (option_map (λ t. type_of t.now) wanted.entry)) self.old self.new fits) }
+        ensures { IfOk result (λ fits. AddsMisfits (misfit_if (world_of world.now) value.now.place (option_map kind_of value.now.kind) (option_map (λ t. type_of t.now) wanted.entry))
+            (entering_if (world_of world.now) value.now.place (option_map kind_of value.now.kind) (option_map (λ t. type_of t.now) wanted.entry)) self.old self.new fits) }
     {
         match wanted {
-            Some(wanted) => self.misfit(world, value, wanted),
+            Some(wanted) => self.misfit(alloc, world, value, wanted),
             None => Ok(true),
         }
     }
@@ -69,7 +71,7 @@ impl FoundInFile {
         let fine = match world.underlying(&own) {
             Shape::Struct(_) => !elements.unkeyed,
             Shape::SliceOf(_) => true,
-            Shape::Plain(_) | Shape::PointerTo(_) => false,
+            Shape::Plain(_) | Shape::PointerTo(_) | Shape::Interface(_) => false,
         };
         if fine {
             Ok(Meaning::value(ValueKind::Typed(own)))

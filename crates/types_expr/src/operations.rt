@@ -1,7 +1,8 @@
 //! The rules of operations on types and kinds: assignability, conversion and binary operators.
 ghost use Rattle.std.specs.Prelude.{◌≡◌, option_map};
-ghost use Rattle.types_expr.specs.Types.{same_underlying, is_named, has_nil, either_unnamed, points};
-ghost use Rattle.types_expr.specs.Operations.{fits, converts, joined, operate, class_of, class_of_underlying, family_of, result_of, is_nil, is_int, is_bool, is_ordered, has_length, is_printed, compares, element_of_kind};
+ghost use Rattle.types_expr.specs.Types.{BasicType, same_underlying, is_interface, is_named, has_nil, either_unnamed, points, takes_no_methods};
+ghost use Rattle.types_expr.specs.World.{giving, may_enter, underlying};
+ghost use Rattle.types_expr.specs.Operations.{is_value_of, enters, fits, converts, joined, operate, class_of, class_of_underlying, family_of, result_of, is_nil, is_int, is_bool, is_ordered, has_length, is_printed, compares, element_of_kind};
 ghost use Rattle.types_expr.specs.View.{type_of, kind_of};
 ghost use Rattle.types_expr.specs.WorldView.{world_of, shape_of};
 
@@ -20,6 +21,7 @@ fn same_shape(a: Shape<'_>, b: Shape<'_>) -> bool
         (Shape::PointerTo(a), Shape::PointerTo(b)) => a.same(b),
         (Shape::SliceOf(a), Shape::SliceOf(b)) => a.same(b),
         (Shape::Struct(a), Shape::Struct(b)) => a.same(b),
+        (Shape::Interface(a), Shape::Interface(b)) => a.same(b),
         _ => false,
     }
 }
@@ -30,7 +32,18 @@ impl Shape<'_> {
     fn has_nil(self) -> bool
         ensures { result ≡ has_nil (shape_of self.entry) }
     {
-        matches!(self, Shape::PointerTo(_) | Shape::SliceOf(_))
+        matches!(
+            self,
+            Shape::PointerTo(_) | Shape::SliceOf(_) | Shape::Interface(_)
+        )
+    }
+
+    /// Whether it is an interface.
+    #[tactic(auto, unfolding(crate::specs::WorldView::shape_of))]
+    pub(crate) fn is_interface(self) -> bool
+        ensures { result ≡ is_interface (shape_of self.entry) }
+    {
+        matches!(self, Shape::Interface(_))
     }
 
     /// Whether it is the underlying type of pointers.
@@ -39,6 +52,14 @@ impl Shape<'_> {
         ensures { result ≡ points (shape_of self.entry) }
     {
         matches!(self, Shape::PointerTo(_))
+    }
+
+    /// Whether the types with this underlying type have no methods of receivers: pointers and interfaces.
+    #[tactic(auto, unfolding(crate::specs::WorldView::shape_of))]
+    pub fn takes_no_methods(self) -> bool
+        ensures { result ≡ takes_no_methods (shape_of self.entry) }
+    {
+        matches!(self, Shape::PointerTo(_) | Shape::Interface(_))
     }
 
     /// Returns the class of its values.
@@ -51,6 +72,7 @@ impl Shape<'_> {
             Shape::PointerTo(_) => ValueClass::Pointer,
             Shape::SliceOf(_) => ValueClass::Slice,
             Shape::Struct(_) => ValueClass::Struct,
+            Shape::Interface(_) => ValueClass::Interface,
         }
     }
 }
@@ -95,7 +117,7 @@ impl ValueClass {
     {
         match self {
             ValueClass::Of(_) | ValueClass::Pointer => true,
-            ValueClass::Slice => with_nil,
+            ValueClass::Slice | ValueClass::Interface => with_nil,
             ValueClass::Struct | ValueClass::Nil => false,
         }
     }
@@ -161,21 +183,60 @@ impl ValueKind {
     }
 }
 
+/// Whether values may enter an interface: one of several results of a call (`own` is false) may only from an interface.
+fn may_enter(own: bool, from_interface: bool) -> bool
+    ensures { result ≡ may_enter own from_interface }
+{
+    own || from_interface
+}
+
 impl World<'_> {
+    /// Whether a value of one type is one of another: the types are identical, or one is not named and the underlying types are identical.
+    fn is_value_of(&self, own: &GoType, wanted: &GoType) -> bool
+        ensures { result ≡ is_value_of (world_of self.now) (type_of own.now) (type_of wanted.now) }
+    {
+        own.same(wanted)
+            || (either_unnamed(own, wanted)
+                && same_shape(self.underlying(own), self.underlying(wanted)))
+    }
+
+    /// Whether values of a type enter the types with this underlying type: it is an interface that the type implements. `own` is false for
+    /// one of several results of a call.
+    #[tactic(auto, unfolding(crate::specs::WorldView::shape_of))]
+    pub(crate) fn enters(&self, own: bool, of: &GoType, wanted: Shape<'_>) -> bool
+        ensures { result ≡ enters (giving own (world_of self.now)) (type_of of.now) (shape_of wanted.entry) }
+    {
+        match wanted {
+            Shape::Interface(interface) => {
+                may_enter(own, self.underlying(of).is_interface()) && self.implements(of, interface)
+            }
+            _ => false,
+        }
+    }
+
+    /// Whether a value of that kind fits the type (Go specification, "Assignability"); `own` is false for one of several results of a call.
+    #[tactic(auto, unfolding(crate::specs::View::kind_of, crate::specs::View::type_of, crate::specs::WorldView::shape_of, crate::specs::Operations::fits))]
+    pub(crate) fn fits_given(&self, own: bool, kind: &ValueKind, wanted: &GoType) -> bool
+        ensures { result ≡ fits (giving own (world_of self.now)) (kind_of kind.now) (type_of wanted.now) }
+    {
+        let shape = self.underlying(wanted);
+        match kind {
+            ValueKind::Typed(typed) => {
+                self.is_value_of(typed, wanted) || self.enters(own, typed, shape)
+            }
+            ValueKind::Untyped(basic) => {
+                same_shape(Shape::Plain(*basic), shape)
+                    || self.enters(own, &GoType::Basic(*basic), shape)
+            }
+            ValueKind::Nil => shape.has_nil(),
+        }
+    }
+
     /// Whether a value of that kind fits the type (Go specification, "Assignability").
-    #[tactic(auto, unfolding(crate::specs::View::kind_of, crate::specs::WorldView::shape_of, crate::specs::Operations::fits))]
     pub fn fits(&self, kind: &ValueKind, wanted: &GoType) -> bool
         ensures { result ≡ fits (world_of self.now) (kind_of kind.now) (type_of wanted.now) }
     {
-        match kind {
-            ValueKind::Typed(own) => {
-                own.same(wanted)
-                    || (either_unnamed(own, wanted)
-                        && same_shape(self.underlying(own), self.underlying(wanted)))
-            }
-            ValueKind::Untyped(basic) => same_shape(Shape::Plain(*basic), self.underlying(wanted)),
-            ValueKind::Nil => self.underlying(wanted).has_nil(),
-        }
+        self.fits_given(true, kind, wanted)
     }
 
     /// Whether a value of that kind converts to the type (Go specification, "Conversions").

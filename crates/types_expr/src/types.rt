@@ -1,7 +1,7 @@
 //! Types, kinds and signatures.
-ghost use Rattle.std.specs.Prelude.{◌≡◌, IfOk};
-ghost use Rattle.types_expr.specs.Types.{Defined, Pointer, Slice, same_type, same_basic, is_named, is_pointer};
-ghost use Rattle.types_expr.specs.View.{type_of, kind_of};
+ghost use Rattle.std.specs.Prelude.{◌≡◌, IfOk, map};
+ghost use Rattle.types_expr.specs.Types.{Defined, Pointer, Slice, same_type, same_basic, identical_types, identical_signatures, is_named, is_pointer};
+ghost use Rattle.types_expr.specs.View.{type_of, kind_of, signature_of};
 
 use crate::symbol::Symbol;
 use std::alloc::{AllocError, Global};
@@ -36,6 +36,13 @@ pub enum ValueKind {
 pub struct Signature {
     pub parameters: Vec<GoType>,
     pub results: Vec<GoType>,
+}
+
+/// What a written member is: a field of this type, or a method of this signature that an interface asks for.
+#[derive(Drop)]
+pub enum WrittenAs {
+    Field(GoType),
+    Method(Signature),
 }
 
 /// The predeclared functions.
@@ -131,6 +138,32 @@ impl ValueKind {
             ValueKind::Untyped(basic) => Ok(ValueKind::Untyped(*basic)),
             ValueKind::Nil => Ok(ValueKind::Nil),
         }
+    }
+}
+
+/// Whether two lists have identical types in the same order.
+fn are_identical(one: &[GoType], other: &[GoType]) -> bool
+    ensures { result ≡ identical_types (map type_of one.now) (map type_of other.now) }
+{
+    if one.len() != other.len() {
+        return false;
+    }
+    for i in 0..one.len() {
+        if !one[i].same(&other[i]) {
+            return false;
+        }
+    }
+    true
+}
+
+impl Signature {
+    /// Whether the two signatures have identical parameters and results.
+    #[tactic(auto, unfolding(crate::specs::Types::identical_signatures))]
+    pub(crate) fn is_identical(&self, other: &Signature) -> bool
+        ensures { result ≡ identical_signatures (signature_of self.now) (signature_of other.now) }
+    {
+        are_identical(&self.parameters, &other.parameters)
+            && are_identical(&self.results, &other.results)
     }
 }
 

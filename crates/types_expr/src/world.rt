@@ -1,13 +1,14 @@
 //! The bindings of a file's names, and the definitions and members of types.
-ghost use Rattle.std.specs.Prelude.{◌≡◌, option_copied, option_map, MatchOption};
+ghost use Rattle.std.specs.Prelude.{◌≡◌, Some, option_copied, option_map, MatchOption};
+ghost use Rattle.std.specs.List.{list_all};
 ghost use Rattle.types_expr.specs.Types.{Broken};
-ghost use Rattle.types_expr.specs.World.{underlying, Means, is_seen, seen_field, seen_method, member_symbol, field_owner, owner};
-ghost use Rattle.types_expr.specs.View.{type_of};
-ghost use Rattle.types_expr.specs.WorldView.{definition_at, definition_in, definition_of, definitions_at, field_of, shared_at, imported_at, known_at, plain_method_of, member_in, member_of, name_in, token_spelling, bound_in, bound_of, shape_of, underlying_of, underlying_in, world_of};
+ghost use Rattle.types_expr.specs.World.{underlying, Means, is_seen, seen_field, seen_method, member_symbol, field_owner, owner, reaches, received_method, as_set_method, in_set, in_method_set, has_signature, is_as_asked, has_if_asked};
+ghost use Rattle.types_expr.specs.View.{type_of, signature_of};
+ghost use Rattle.types_expr.specs.WorldView.{definition_at, definition_in, definition_of, definitions_at, field_of, shared_at, imported_at, known_at, plain_method_of, member_in, member_of, name_in, token_spelling, bound_in, bound_of, shape_of, underlying_of, underlying_in, set_method_of, names_written, implements_in, world_of};
 
 use crate::exports::ExportData;
 use crate::symbol::{SharedPath, Symbol};
-use crate::types::{Basic, Builtin, GoType, Signature};
+use crate::types::{Basic, Builtin, GoType, Signature, WrittenAs};
 use base_files::PathTable;
 use std::alloc::Global;
 use std::collections::BTreeMap;
@@ -37,21 +38,22 @@ pub struct Name<'w> {
     pub spelling: &'w [u8],
 }
 
-/// The underlying type of a definition. A struct type is identified by the definition that writes it.
+/// The underlying type of a definition. A struct and an interface are identified by the definition that writes them.
 #[derive(Drop)]
 pub enum Underlying {
     Plain(Basic),
     PointerTo(GoType),
     SliceOf(GoType),
     Struct(Symbol),
+    Interface(Symbol),
 }
 
-/// A field of a struct.
+/// A member that a definition writes: a field of a struct, or a method that an interface asks for.
 #[derive(Drop)]
 pub struct Field {
     pub symbol: Symbol,
     pub exported: bool,
-    pub field_type: GoType,
+    pub form: WrittenAs,
 }
 
 /// A method. It has no signature where a parameter or result has a broken part.
@@ -63,7 +65,7 @@ pub struct Method {
     pub signature: Option<Signature>,
 }
 
-/// A type definition: its underlying type, and by name the fields of the struct that it writes and the methods of its type. Only members
+/// A type definition: its underlying type, and by name the members that it writes and the methods of receivers of its type. Only members
 /// that count are there.
 #[derive(Drop)]
 pub struct Definition {
@@ -108,6 +110,7 @@ pub enum Shape<'a> {
     PointerTo(&'a GoType),
     SliceOf(&'a GoType),
     Struct(&'a Symbol),
+    Interface(&'a Symbol),
 }
 
 impl Underlying {
@@ -121,6 +124,7 @@ impl Underlying {
             Underlying::PointerTo(target) => Shape::PointerTo(target),
             Underlying::SliceOf(element) => Shape::SliceOf(element),
             Underlying::Struct(symbol) => Shape::Struct(symbol),
+            Underlying::Interface(symbol) => Shape::Interface(symbol),
         }
     }
 }
@@ -179,7 +183,7 @@ impl Definitions {
 }
 
 impl Definition {
-    /// Returns the field of that name of the struct that this definition writes.
+    /// Returns the member of that name that this definition writes.
     fn field(&self, name: &[u8]) -> Option<&Field>
         ensures { option_map (λ f. field_of f.now) result ≡ (definition_of self.now).field name.now }
     {
@@ -250,13 +254,14 @@ impl<'w> World<'w> {
         }
     }
 
-    /// Returns the struct type whose fields a value of this type has: its own, or that of the values to which it points.
+    /// Returns the definition whose written members a value of this type has: that of its struct or interface, or that of the struct to
+    /// which it points.
     #[tactic(auto, unfolding(crate::specs::View::type_of, crate::specs::WorldView::shape_of, crate::specs::World::field_owner))]
     fn field_owner<'a>(&'a self, of: &'a GoType) -> Option<&'a Symbol>
         ensures { option_copied result ≡ field_owner (underlying_in self.now) (type_of of.now) }
     {
         match self.underlying(of) {
-            Shape::Struct(symbol) => Some(symbol),
+            Shape::Struct(symbol) | Shape::Interface(symbol) => Some(symbol),
             Shape::PointerTo(target) => match self.underlying(target) {
                 Shape::Struct(symbol) => Some(symbol),
                 _ => None,
@@ -273,7 +278,7 @@ impl<'w> World<'w> {
         exported || self.package.path() == symbol.package.path()
     }
 
-    /// Returns the field of that name of a struct, if the file's package sees it.
+    /// Returns the member of that name that a definition writes, if the file's package sees it.
     #[tactic(auto, unfolding(crate::specs::WorldView::definition_in))]
     fn field(&self, of: &Symbol, name: &[u8]) -> Option<&'w Field>
         ensures { option_map (λ f. field_of f.now) result ≡ seen_field self.now.package.now ((definition_in self.now of.now).field name.now) }
@@ -312,6 +317,154 @@ impl<'w> World<'w> {
         }
         let method = self.method(owner(of)?, name)?;
         Some(Member::Method(method))
+    }
+}
+
+/// A method of a method set. It has no signature where a parameter or result has a broken part.
+#[derive(Clone, Copy)]
+pub struct SetMethod<'w> {
+    pub symbol: &'w Symbol,
+    pub exported: bool,
+    pub signature: Option<&'w Signature>,
+}
+
+/// Whether a method set holds a method of a receiver: that of T those of T, that of `*T` (`behind_star`) both.
+fn reaches(behind_star: bool, on_pointer: bool) -> bool
+    ensures { result ≡ reaches behind_star on_pointer }
+{
+    behind_star || !on_pointer
+}
+
+/// Returns a method of T as one of the method set of T, or of `*T`, if that holds it.
+fn received_method(behind_star: bool, method: &Method) -> Option<SetMethod<'_>>
+    ensures { option_map set_method_of result ≡ received_method behind_star (Some (plain_method_of method.now)) }
+{
+    if !reaches(behind_star, method.on_pointer) {
+        return None;
+    }
+    Some(SetMethod {
+        symbol: &method.symbol,
+        exported: method.exported,
+        signature: method.signature.as_ref(),
+    })
+}
+
+/// Returns a written member as a method of the interface that writes it; a field is none.
+#[tactic(auto, unfolding(crate::specs::View::form_of))]
+fn as_set_method(field: &Field) -> Option<SetMethod<'_>>
+    ensures { option_map set_method_of result ≡ as_set_method (Some (field_of field.now)) }
+{
+    match &field.form {
+        WrittenAs::Field(_) => None,
+        WrittenAs::Method(signature) => Some(SetMethod {
+            symbol: &field.symbol,
+            exported: field.exported,
+            signature: Some(signature),
+        }),
+    }
+}
+
+/// Whether a signature, none where it is broken, is identical to the one that is wanted.
+fn has_signature(signature: Option<&Signature>, wanted: &Signature) -> bool
+    ensures { result ≡ has_signature (option_map (λ s. signature_of s.now) signature.entry) (signature_of wanted.now) }
+{
+    match signature {
+        None => false,
+        Some(signature) => signature.is_identical(wanted),
+    }
+}
+
+/// Whether a method, which is spelled as the written member `asked`, is the method of the signature `wanted` that it asks for.
+fn is_as_asked(asked: &Field, wanted: &Signature, method: Option<SetMethod<'_>>) -> bool
+    ensures { result ≡ is_as_asked (field_of asked.now) (signature_of wanted.now) (option_map set_method_of method.entry) }
+{
+    let Some(method) = method else {
+        return false;
+    };
+    (method.exported || asked.symbol.package.path() == method.symbol.package.path())
+        && has_signature(method.signature, wanted)
+}
+
+/// Whether a method set has what a written member asks for; `method` is what it has under that name.
+#[tactic(auto, unfolding(crate::specs::View::form_of))]
+pub fn has_if_asked(asked: &Field, method: Option<SetMethod<'_>>) -> bool
+    ensures { result ≡ has_if_asked (Some (field_of asked.now)) (option_map set_method_of method.entry) }
+{
+    match &asked.form {
+        WrittenAs::Field(_) => true,
+        WrittenAs::Method(wanted) => is_as_asked(asked, wanted, method),
+    }
+}
+
+impl World<'_> {
+    /// Returns the method of that name in the method set of a definition, or of pointers to its values.
+    #[tactic(auto, unfolding(crate::specs::WorldView::definition_in, crate::specs::WorldView::shape_of))]
+    pub fn in_set_of(
+        &self,
+        symbol: &Symbol,
+        behind_star: bool,
+        name: &[u8],
+    ) -> Option<SetMethod<'_>>
+        ensures { option_map set_method_of result ≡ in_set (definition_in self.now) behind_star symbol.now name.now }
+    {
+        if let Shape::Interface(written) = self.underlying_of(symbol) {
+            if behind_star {
+                return None;
+            }
+            return as_set_method(self.definition(written)?.field(name)?);
+        }
+        received_method(behind_star, self.definition(symbol)?.method(name)?)
+    }
+
+    /// Returns the method of that name in the method set of a type.
+    #[tactic(auto, unfolding(crate::specs::View::type_of, crate::specs::World::in_method_set))]
+    fn in_method_set(&self, of: &GoType, name: &[u8]) -> Option<SetMethod<'_>>
+        ensures { option_map set_method_of result ≡ in_method_set (definition_in self.now) (type_of of.now) name.now }
+    {
+        match of {
+            GoType::Defined(symbol) => self.in_set_of(symbol, false, name),
+            GoType::Pointer(target) => match &**target {
+                GoType::Defined(symbol) => self.in_set_of(symbol, true, name),
+                _ => None,
+            },
+            _ => None,
+        }
+    }
+
+    /// Whether a type has what a definition asks for under a name, if it asks for something.
+    fn has_named(&self, of: &GoType, definition: &Definition, name: &[u8]) -> bool
+        ensures { result ≡ has_if_asked ((definition_of definition.now).field name.now) (in_method_set (definition_in self.now) (type_of of.now) name.now) }
+    {
+        match definition.field(name) {
+            None => true,
+            Some(asked) => has_if_asked(asked, self.in_method_set(of, name)),
+        }
+    }
+
+    /// Whether a type has what a definition asks for under each of the names under which it writes members.
+    fn has_each(&self, of: &GoType, definition: &Definition) -> bool
+        ensures { result ≡ list_all (λ name. has_if_asked ((definition_of definition.now).field name) (in_method_set (definition_in self.now) (type_of of.now) name)) (names_written (Some definition.now)) }
+    {
+        for (name, _) in &definition.fields {
+            if !self.has_named(of, definition, name) {
+                return false;
+            }
+        }
+        true
+    }
+
+    /// Whether a type implements the interface that the definition of a symbol writes.
+    #[tactic(auto, unfolding(crate::specs::WorldView::implements_in, crate::specs::WorldView::definition_in, crate::specs::WorldView::shape_of, crate::specs::World::implements_by))]
+    pub fn implements(&self, of: &GoType, interface: &Symbol) -> bool
+        ensures { result ≡ implements_in self.now (type_of of.now) interface.now }
+    {
+        let Shape::Interface(_) = self.underlying_of(interface) else {
+            return false;
+        };
+        match self.definition(interface) {
+            None => false,
+            Some(definition) => self.has_each(of, definition),
+        }
     }
 }
 

@@ -5,6 +5,7 @@ pub mod SignatureParts
 pub mod MeaningLists
 pub mod DeclaredMeanings
 pub mod NameParts
+pub mod Implementing
 pub mod WorldParts
 pub mod DeclKinds
 pub mod TreeOrder

@@ -4,7 +4,7 @@ use Rattle.std.specs.Prelude.{Option, Some, None, slice_get, codes, bytes_eq}
 use Rattle.std.proofs.Math.Path.{ap₂}
 use Rattle.std.proofs.lemmas.Bool.{false≢true}
 use Rattle.std.proofs.lemmas.Option.{same_Some}
-use Rattle.go_ast.specs.Tree.{TypeTree}
+use Rattle.go_ast.specs.Tree.{TypeTree, Item, ParamTree, ResultTree}
 use Rattle.go_ast.specs.SourceFile.{SourceFile}
 use Rattle.go_scope.specs.declared.model.Position.{Position}
 use Rattle.go_scope.specs.declared.model.Block.{Block}
@@ -26,7 +26,7 @@ use Rattle.types_declared.specs.Written.{BindsToken, DeclaresType, IsBroken, IsT
 use Rattle.types_declared.specs.WrittenView.{IsTypeFound}
 use Rattle.types_declared.specs.MeaningOf.{PredeclaredMeans, a_type, a_truth, an_untruth, a_nil, a_function, AreTypesOf, parameter_types, result_types}
 use Rattle.types_declared.specs.MeaningOf.{HasSignature, IsVariable, IsFunction, IsMeaningOf, predeclared, import_name, local, variable, broken_variable, function}
-use Rattle.types_declared.specs.MeaningOf.{broken_function, definition, broken_definition}
+use Rattle.types_declared.specs.MeaningOf.{broken_function, definition, broken_definition, IsSignatureOf}
 use Rattle.types_declared.specs.Definitions.{IsFoundSignature}
 use Rattle.types_info.specs.MeaningsView.{IsPredeclaredMeaning}
 use Rattle.types_info.specs.Uniqueness.{TokensRise}
@@ -86,12 +86,16 @@ one_types p w file (x ∷ xs) [] us a b = absurd a
 one_types p w file (x ∷ xs) (t ∷ ts) [] a b = absurd b
 one_types p w file (x ∷ xs) (t ∷ ts) (u ∷ us) a b = ap₂ (λ v vs. v ∷ vs) (one_type p w file x t u a.0 b.0) (one_types p w file xs ts us a.1 b.1)
 
-pub one_signature : (p : Package) → WellFormed p.layout → (f : PlacedFunction) (s t : Signature) → HasSignature p f s → HasSignature p f t → s ≡ t
-one_signature p w f s t a b =
+pub one_signature_of : (p : Package) → WellFormed p.layout → (file : ℕ) (params : List (Item ParamTree)) (result : ResultTree) (s t : Signature) →
+    IsSignatureOf p file params result s → IsSignatureOf p file params result t → s ≡ t
+one_signature_of p w file params result s t a b =
     ap (λ ps. record { parameters = ps; results = s.results })
-    (one_types p w f.file (parameter_types f.function.params) s.parameters t.parameters a.parameters b.parameters) ∙
+    (one_types p w file (parameter_types params) s.parameters t.parameters a.parameters b.parameters) ∙
     ap (λ rs. record { parameters = t.parameters; results = rs })
-    (one_types p w f.file (result_types f.function.result) s.results t.results a.results b.results)
+    (one_types p w file (result_types result) s.results t.results a.results b.results)
+
+pub one_signature : (p : Package) → WellFormed p.layout → (f : PlacedFunction) (s t : Signature) → HasSignature p f s → HasSignature p f t → s ≡ t
+one_signature p w f s t a b = one_signature_of p w f.file f.function.params f.function.result s t a b
 
 pub one_found : {X : Type 0} (P : X → Type 0) → ((x y : X) → P x → P y → x ≡ y) → (o u : Option X) → MatchOption o ((x : X) → P x → ⊥) P →
     MatchOption u ((x : X) → P x → ⊥) P → o ≡ u

@@ -9,16 +9,16 @@ use Rattle.go_ast.specs.Tree.{ReceiverTree}
 use Rattle.go_ast.specs.SourceFile.{SourceFile, spelling_of}
 use Rattle.go_scope.specs.WellFormed.{WellFormed}
 use Rattle.types_expr.specs.declared.symbol.Symbol.{Symbol}
-use Rattle.types_expr.specs.Types.{Defined, Underlying, same_path}
-use Rattle.types_expr.specs.World.{World, Definition, Field, Method, member_by}
+use Rattle.types_expr.specs.Types.{PlainType, Defined, Underlying, WrittenAs, AFieldOf, AMethodOf, same_path}
+use Rattle.types_expr.specs.World.{World, Definition, Field, Method, Implements, member_by}
 use Rattle.types_declared.specs.Package.{Package, PlacedType, PlacedFunction, package_types, package_functions, symbol_in}
-use Rattle.types_declared.specs.Written.{IsTypeOf}
-use Rattle.types_declared.specs.Definitions.{PlacedField, package_fields, IsCountingField, IsCountingMethod, is_on_pointer, IsFoundField, IsFoundMethod, IsFoundSignature}
+use Rattle.types_declared.specs.Definitions.{WrittenForm, OfType, OfSignature, HasForm, PlacedField, package_fields, IsCountingField}
+use Rattle.types_declared.specs.Definitions.{IsCountingMethod, is_on_pointer, IsFoundField, IsFoundMethod, IsFoundSignature}
 use Rattle.types_declared.specs.Definitions.{IsUnderlyingOf, has, has_none, IsDefinition, AreDefinitions}
 use Rattle.types_info.specs.Worlds.{IsWorldOf}
 use Rattle.types_info.specs.Uniqueness.{TokensRise}
 use Rattle.types_declared.proofs.OneUnderlying.{one_underlying}
-use Rattle.types_info.proofs.OneMeaning.{one_type, one_signature_found, one_name}
+use Rattle.types_info.proofs.OneMeaning.{one_type, one_signature_of, one_signature_found, one_name}
 
 -- fields
 
@@ -29,21 +29,28 @@ counting_rank p definition name r s f g a b = elim (cases_order r s) [
   | inr o ↦ elim o [ inl less ↦ absurd (b.first r f less a.is_field) | inr more ↦ absurd (a.first s g more b.is_field) ]
 ]
 
+pub one_form : (p : Package) → WellFormed p.layout → (file : ℕ) (form : WrittenForm) (t u : WrittenAs) → HasForm p file form t → HasForm p file form u → t ≡ u
+one_form p w file (OfType x) (AFieldOf t) (AFieldOf u) h k = ap AFieldOf (one_type p w file x t u h k)
+one_form p w file (OfType x) (AFieldOf t) (AMethodOf u) h k = absurd k
+one_form p w file (OfType x) (AMethodOf t) u h k = absurd h
+one_form p w file (OfSignature ps r) (AMethodOf s) (AMethodOf u) h k = ap AMethodOf (one_signature_of p w file ps r s u h k)
+one_form p w file (OfSignature ps r) (AMethodOf s) (AFieldOf u) h k = absurd k
+one_form p w file (OfSignature ps r) (AFieldOf t) u h k = absurd h
+
 one_field : (p : Package) → WellFormed p.layout → (definition : ℕ) (name : List ℕ) (o u : Option Field) → IsFoundField p definition name o →
     IsFoundField p definition name u → o ≡ u
 one_field p w definition name None None a b = refl
-one_field p w definition name None (Some y) a b = absurd (a y.symbol.rank b.0 y.type_of b.1.0 b.1.1)
-one_field p w definition name (Some x) None a b = absurd (b x.symbol.rank a.0 x.type_of a.1.0 a.1.1)
+one_field p w definition name None (Some y) a b = absurd (a y.symbol.rank b.0 y.form b.1.0 b.1.1)
+one_field p w definition name (Some x) None a b = absurd (b x.symbol.rank a.0 x.form a.1.0 a.1.1)
 one_field p w definition name (Some x) (Some y) a b =
     let rank : x.symbol.rank ≡ y.symbol.rank = counting_rank p definition name x.symbol.rank y.symbol.rank a.0 b.0 a.1.0 b.1.0 in
     let place : b.0 ≡ a.0 = same_Some b.0 a.0 (sym b.1.0.is_field.has_rank ∙ ap (slice_get (package_fields p)) (sym rank) ∙ a.1.0.is_field.has_rank) in
     let symbols : x.symbol ≡ y.symbol = a.1.2 ∙ ap (symbol_in p) rank ∙ sym b.1.2 in
-    let types : x.type_of ≡ y.type_of = one_type p w a.0.file a.0.type_use x.type_of y.type_of a.1.1
-    (subst (λ f. IsTypeOf p f.file f.type_use y.type_of) place b.1.1) in
+    let forms : x.form ≡ y.form = one_form p w a.0.file a.0.form x.form y.form a.1.1 (subst (λ f. HasForm p f.file f.form y.form) place b.1.1) in
     ap Some (
-    ap (λ s. record { symbol = s; exported = x.exported; type_of = x.type_of }) symbols ∙
-    ap (λ e. record { symbol = y.symbol; exported = e; type_of = x.type_of }) (a.1.3 ∙ sym b.1.3) ∙
-    ap (λ t. record { symbol = y.symbol; exported = y.exported; type_of = t }) types)
+    ap (λ s. record { symbol = s; exported = x.exported; form = x.form }) symbols ∙
+    ap (λ e. record { symbol = y.symbol; exported = e; form = x.form }) (a.1.3 ∙ sym b.1.3) ∙
+    ap (λ t. record { symbol = y.symbol; exported = y.exported; form = t }) forms)
 
 -- methods
 
@@ -67,7 +74,8 @@ one_method p w definition name (Some x) (Some y) a b =
     let rank : x.symbol.rank ≡ y.symbol.rank = counting_method p definition name x.symbol.rank y.symbol.rank a.0 b.0 a.1 b.1 in
     let place : b.0 ≡ a.0 = same_Some b.0 a.0 (sym b.1.is_method.has_rank ∙ ap (slice_get (package_functions p)) (sym rank) ∙ a.1.is_method.has_rank) in
     let symbols : x.symbol ≡ y.symbol = a.4 ∙ ap (symbol_in p) rank ∙ sym b.4 in
-    let signatures : x.signature ≡ y.signature = one_signature_found p w a.0 x.signature y.signature a.2 (subst (λ f. IsFoundSignature p f y.signature) place b.2) in
+    let signatures : x.signature ≡ y.signature = one_signature_found p w a.0 x.signature y.signature a.2 (subst (λ f. IsFoundSignature p f y.signature)
+    place b.2) in
     let pointers : is_on_pointer a.1.is_method.receiver ≡ is_on_pointer b.1.is_method.receiver =
     ap pointer_or (sym a.1.is_method.received ∙ ap (λ f. f.function.receiver) (sym place) ∙ b.1.is_method.received) in
     ap Some (
@@ -112,6 +120,20 @@ one_definitions p w c d a b = fun_ext (λ s. in_package p w c d a b s (same_path
 
 -- worlds
 
+-- two tests that hold in the same cases
+pub same_tests : (a b : Bool) → (a ≡ true → b ≡ true) → (b ≡ true → a ≡ true) → a ≡ b
+same_tests true b f g = sym (f refl)
+same_tests false true f g = g refl
+same_tests false false f g = refl
+
+-- worlds with one list of definitions agree on which types implement which interfaces
+pub same_implementing : (p q : Package) (i j : ℕ) (f g : SourceFile) (v w : World) (a : IsWorldOf p i f v) (b : IsWorldOf q j g w) →
+    a.definitions ≡ b.definitions → (t : PlainType) (s : Symbol) → v.implements t s ≡ w.implements t s
+same_implementing p q i j f g v w a b same t s =
+    same_tests (v.implements t s) (w.implements t s)
+    (λ e. (b.implements t s).1 (subst (λ d. Implements d t s) same ((a.implements t s).0 e)))
+    (λ e. (a.implements t s).1 (subst (λ d. Implements d t s) (sym same) ((b.implements t s).0 e)))
+
 pub has_one_world : (p : Package) → WellFormed p.layout → TokensRise p.files → (file : ℕ) (s : SourceFile) (v w : World) → IsWorldOf p file s v →
     IsWorldOf p file s w → v ≡ w
 has_one_world p formed rising file s v w a b =
@@ -121,6 +143,9 @@ has_one_world p formed rising file s v w a b =
     fun_ext (λ token. fun_ext (λ t. a.member token t ∙ ap (λ d. member_by d p.path (spelling_of s token) t) same ∙ sym (b.member token t))) in
     let definitions : v.definition ≡ w.definition = fun_ext
     (λ symbol. a.definition symbol ∙ ap (λ d. (d symbol).underlying) same ∙ sym (b.definition symbol)) in
-    ap (λ x. record { bound = x; member = v.member; definition = v.definition }) bounds ∙
-    ap (λ x. record { bound = w.bound; member = x; definition = v.definition }) members ∙
-    ap (λ x. record { bound = w.bound; member = w.member; definition = x }) definitions
+    let implementing : v.implements ≡ w.implements =
+    fun_ext (λ t. fun_ext (λ i. same_implementing p p file file s s v w a b same t i)) in
+    ap (λ x. record { bound = x; member = v.member; definition = v.definition; implements = v.implements }) bounds ∙
+    ap (λ x. record { bound = w.bound; member = x; definition = v.definition; implements = v.implements }) members ∙
+    ap (λ x. record { bound = w.bound; member = w.member; definition = x; implements = v.implements }) definitions ∙
+    ap (λ x. record { bound = w.bound; member = w.member; definition = w.definition; implements = x }) implementing

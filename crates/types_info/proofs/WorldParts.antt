@@ -20,6 +20,7 @@ use Rattle.types_info.specs.DefinitionsView.{HaveDefinitions}
 use Rattle.types_info.specs.Worlds.{IsWorldOf, is_init}
 use Rattle.types_info.specs.NamesView.{AreNames}
 use Rattle.types_info.proofs.MeaningLists.{slice_get_some, none_past}
+use Rattle.types_info.proofs.Implementing.{implementing_decided}
 
 -- Definitions
 
@@ -66,6 +67,7 @@ world_from p w file s at here names definitions = record {
       ap (λ own. member_by (definition_in w) own (view.token_spelling (name_in w token)) t) here ∙
       ap (λ name. member_by (definition_in w) p.path name t) (names.spelling token ∙ ap (λ o. spelled_at o token) at);
   definition = λ symbol. refl;
+  implements = implementing_decided w;
 }
 
 pub init_from : (p : Package) (w : World) (file : ℕ) (s : SourceFile) → slice_get p.files file ≡ Some s → AreNames p file w.bounds.now w.names.now →

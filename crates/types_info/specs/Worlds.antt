@@ -1,5 +1,5 @@
 -- The meanings of a file's names, and the world that a file is checked in.
-use Rattle.std.specs.Prelude.{ℕ, suc, ◌≡◌, ◌==◌, Bool}
+use Rattle.std.specs.Prelude.{ℕ, suc, ◌≡◌, ◌==◌, ◌↔◌, Bool, true}
 use Rattle.std.specs.Cmp.Lexicographic.{pointwise}
 use Rattle.go_ast.specs.SourceFile.{SourceFile, spelling_of}
 use Rattle.go_scope.specs.declared.model.Role.TheVariants.{NotLexical}
@@ -8,7 +8,7 @@ use Rattle.go_scope.specs.Table.{IsFoundAt}
 use Rattle.types_declared.specs.Laid.{init_name}
 use Rattle.types_expr.specs.declared.symbol.Symbol.{Symbol}
 use Rattle.types_expr.specs.Types.{PlainType, Broken}
-use Rattle.types_expr.specs.World.{World, Bound, Definition, member_by}
+use Rattle.types_expr.specs.World.{World, Bound, Definition, Implements, member_by}
 use Rattle.types_expr.specs.World.{Means as Stands}
 use Rattle.types_declared.specs.Package.{Package, Export}
 use Rattle.types_declared.specs.Written.{BindsToken, IsExportAt}
@@ -34,14 +34,15 @@ pub data IsName (p : Package) (file token : ℕ) : Bound → Type 0 where
   is_bound : {b : Bound} → IsBoundAt p file token b → IsName p file token b
   is_unbound : ((b : Bound) → IsBoundAt p file token b → ⊥) → IsName p file token (Stands Broken)
 
--- The world that the file is checked in: the meanings of its names, the members of types and the underlying types of definitions. There is
--- at most one.
+-- The world that the file is checked in: the meanings of its names, the members of types, the underlying types of definitions, and which types
+-- implement which interfaces. There is at most one.
 pub record IsWorldOf (p : Package) (file : ℕ) (s : SourceFile) (w : World) : Type 0 where
   pub names : (token : ℕ) → IsName p file token (w.bound token)
   pub definitions : Symbol → Definition
   pub are_definitions : AreDefinitions p definitions
   pub member : (token : ℕ) (t : PlainType) → w.member token t ≡ member_by definitions p.path (spelling_of s token) t
   pub definition : (symbol : Symbol) → w.definition symbol ≡ (definitions symbol).underlying
+  pub implements : (t : PlainType) (interface : Symbol) → (w.implements t interface ≡ true) ↔ Implements definitions t interface
 
 -- whether the name at the token is `init`
 abbrev pub is_init : SourceFile → ℕ → Bool

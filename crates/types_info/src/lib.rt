@@ -23,5 +23,5 @@ pub use names_of_files::{file_names, is_name_after_dot};
 pub use qualified::qualified_identifiers;
 pub use qualifiers::qualifying_path;
 pub use resolved_types::valid_type;
-pub use signatures::signature;
+pub use signatures::{signature, written_signature};
 pub use uniqueness::{has_one_meaning, has_one_world};

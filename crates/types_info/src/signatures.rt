@@ -6,7 +6,7 @@ ghost use Rattle.types_declared.specs.Appending.{Appends};
 ghost use Rattle.types_declared.specs.MeaningOf.{parameter_types, result_types};
 ghost use Rattle.types_info.specs.SignatureView.{AreTypesFound, tree_of, plain_types};
 ghost use Rattle.types_expr.specs.View.{signature_of};
-ghost use Rattle.types_declared.specs.Definitions.{IsFoundSignature};
+ghost use Rattle.types_declared.specs.Definitions.{IsFoundSignature, IsSignatureFound};
 ghost use Rattle.types_declared.specs.DeclaredView.{function_of};
 ghost use Rattle.types_declared.specs.Broken.{AreBroken};
 ghost use Rattle.types_declared.specs.PackageView.{package_of, IsIndexOf};
@@ -84,6 +84,36 @@ fn add_results<'a>(found: &mut Vec<&'a TypeExpr>, results: &'a Results) -> Resul
     }
 }
 
+/// The signature of parameters and results that a file writes; none where a type expression in them names no type or mentions a broken
+/// definition.
+pub fn written_signature(
+    alloc: Global,
+    pkg: Package<'_>,
+    index: &Index<'_>,
+    broken: &[bool],
+    file: usize,
+    params: &[Item<Param>],
+    results: &Results,
+) -> Result<Option<Signature>, AllocError>
+    requires index { IsIndexOf (package_of pkg) index.now }
+    requires broken { AreBroken (package_of pkg) broken.now }
+    ensures { IfOk result (λ s. IsSignatureFound (package_of pkg.entry) file (list_view param_view params.now) (results_view results.now) (option_map signature_of s)) }
+{
+    let params = param_types(alloc, params)?;
+    let mut written = Vec::new(alloc);
+    add_results(&mut written, results)?;
+    let Some(parameters) = valid_types(alloc, pkg, index, broken, file, &params)? else {
+        return Ok(None);
+    };
+    let Some(results) = valid_types(alloc, pkg, index, broken, file, &written)? else {
+        return Ok(None);
+    };
+    Ok(Some(Signature {
+        parameters,
+        results,
+    }))
+}
+
 /// The signature of a function; none where a type expression in it names no type or mentions a broken definition.
 #[tactic(auto, unfolding(go_ast::specs::FileView::func_view))]
 pub fn signature(
@@ -97,18 +127,13 @@ pub fn signature(
     requires broken { AreBroken (package_of pkg) broken.now }
     ensures { IfOk result (λ s. IsFoundSignature (package_of pkg.entry) (function_of function.entry) (option_map signature_of s)) }
 {
-    let file = function.file;
-    let params = param_types(alloc, &function.func.params)?;
-    let mut written = Vec::new(alloc);
-    add_results(&mut written, &function.func.results)?;
-    let Some(parameters) = valid_types(alloc, pkg, index, broken, file, &params)? else {
-        return Ok(None);
-    };
-    let Some(results) = valid_types(alloc, pkg, index, broken, file, &written)? else {
-        return Ok(None);
-    };
-    Ok(Some(Signature {
-        parameters,
-        results,
-    }))
+    written_signature(
+        alloc,
+        pkg,
+        index,
+        broken,
+        function.file,
+        &function.func.params,
+        &function.func.results,
+    )
 }

@@ -7,7 +7,7 @@ use Rattle.std.proofs.lemmas.List.{get_or-set_same, get_or-set_other, length-set
 use Rattle.std.proofs.lemmas.Option.{same_Some, none-some, slice_get_within, slice_get-get_or}
 use Rattle.base_lemmas.proofs.Tests.{none_from_map}
 use Rattle.go_scope.specs.WellFormed.{WellFormed}
-use Rattle.go_ast.specs.Tree.{TypeTree, BodyTree, Other, Struct}
+use Rattle.go_ast.specs.Tree.{TypeTree, BodyTree, Other, Struct, Interface}
 use Rattle.types_expr.specs.declared.world.Underlying.{Underlying}
 use Rattle.types_expr.specs.WorldView.{underlying_of}
 use Rattle.types_expr.specs.Types.{PlainType, Defined}
@@ -16,7 +16,7 @@ use Rattle.types_members.specs.declared.underlying.NameStep.{NameStep}
 use Rattle.types_members.specs.declared.underlying.NameStep.TheVariants.{Ends, Continues, Nothing}
 use Rattle.types_declared.specs.Package.{Package, PlacedType, package_types, symbol_in}
 use Rattle.types_declared.specs.Written.{DenotesType}
-use Rattle.types_declared.specs.Definitions.{HasUnderlying, basic, pointer, slice, struct, named, imported}
+use Rattle.types_declared.specs.Definitions.{HasUnderlying, basic, pointer, slice, struct, interface, named, imported}
 use Rattle.types_members.specs.MembersView.{IsUnderlyingFound, AreUnderlying}
 use Rattle.types_members.specs.Steps.{NamesDefinition, IsStep, AreSteps, ComesAfterTarget, IsInOrder, IsStepOrder, reached_type}
 use Rattle.types_declared.proofs.Naming.{one_named}
@@ -134,6 +134,13 @@ no_name p rank to d k o c fs is written n =
     let e : Other n.tree ≡ Struct k o fs c = sym n.written ∙ (ap (λ x. x.spec.body) same ∙ written) in
     cc
 
+interface_names_none : (p : Package) (rank to : ℕ) (d : PlacedType) (k o c : ℕ) (ms : _) → slice_get (package_types p) rank ≡ Some d →
+    d.spec.body ≡ Interface k o ms c → NamesDefinition p rank to → ⊥
+interface_names_none p rank to d k o c ms is written n =
+    let same : n.definition ≡ d = same_Some n.definition d (sym n.has_rank ∙ is) in
+    let e : Other n.tree ≡ Interface k o ms c = sym n.written ∙ (ap (λ x. x.spec.body) same ∙ written) in
+    cc
+
 placed : (p : Package) → WellFormed p.layout → (steps : List NameStep) (order : List ℕ) → AreSteps p steps → IsStepOrder steps order →
     (t : PlainType) (u : types.Underlying) → HasUnderlying p t u →
     (rank : ℕ) → rank < length (package_types p) → t ≡ Defined (symbol_in p rank) → IsInOrder order rank
@@ -144,6 +151,10 @@ placed p w steps order are o _ _ (struct {rank = r} {d = d} {k = k} {o = op} {c 
     let there : slice_get (package_types p) rank ≡ Some d = ap (slice_get (package_types p)) (sym (ap rank_of e)) ∙ is in
     by_any_step p steps order are o rank lt (types.Struct (symbol_in p rank)) (struct there written)
     (λ to below n. absurd (no_name p rank to d k op c fs there written n))
+placed p w steps order are o _ _ (interface {rank = r} {d = d} {k = k} {o = op} {c = c} {ms = ms} is written) rank lt e =
+    let there : slice_get (package_types p) rank ≡ Some d = ap (slice_get (package_types p)) (sym (ap rank_of e)) ∙ is in
+    by_any_step p steps order are o rank lt (types.Interface (symbol_in p rank)) (interface there written)
+    (λ to below n. absurd (interface_names_none p rank to d k op c ms there written n))
 placed p w steps order are o _ _ (named {rank = r} {d = d} {tree = tree} {t = t} {u = u} is written names h) rank lt e =
     let there : slice_get (package_types p) rank ≡ Some d = ap (slice_get (package_types p)) (sym (ap rank_of e)) ∙ is in
     by_any_step p steps order are o rank lt u (named there written names h)

@@ -8,7 +8,7 @@ use Rattle.std.proofs.lemmas.List.Elements.{Contains-append_left, Contains-push,
 use Rattle.std.proofs.lemmas.Option.{same_Some, slice_get_within, slice_get_past}
 use Rattle.go_ast.specs.Tree.{TypeTree, Local, Imported, Pointer, Slice}
 use Rattle.types_declared.specs.Package.{Package, PlacedType, package_types}
-use Rattle.types_declared.specs.Written.{BindsToken, Mentions, by_name, written_types}
+use Rattle.types_declared.specs.Written.{BindsToken, Mentions, by_name, contained_types}
 use Rattle.types_declared.specs.WrittenView.{IsMentionedBy}
 use Rattle.types_members.specs.MemberFaults.{ContainsDirectly, ContainsType, directly, through}
 use Rattle.types_declared.specs.Reachability.{links_from, LinksTo, AreLinksInRange, HasMark, IsReachable, first, behind}
@@ -108,23 +108,23 @@ alone_one p file t r is = one_push p file [] (t ∷ []) t r refl (inr is)
 
 -- The definitions that the definition of a rank contains
 
-direct_from : (p : Package) (a b : ℕ) (d : PlacedType) → slice_get (package_types p) a ≡ Some d → HasBareName p d.file (written_types d.spec.body) b →
+direct_from : (p : Package) (a b : ℕ) (d : PlacedType) → slice_get (package_types p) a ≡ Some d → HasBareName p d.file (contained_types d.spec.body) b →
     ContainsDirectly p a b
 direct_from p a b d e h = record {
   definition = d;
   has_rank = e;
   name = h.1.1.name;
-  written = subst (Contains (written_types d.spec.body)) h.1.1.is_name h.1.0;
+  written = subst (Contains (contained_types d.spec.body)) h.1.1.is_name h.1.0;
   declaration = h.1.1.declaration;
   binds = h.1.1.binds;
   names = h.1.1.names;
 }
 
 direct_to : (p : Package) (a b : ℕ) (d : PlacedType) → slice_get (package_types p) a ≡ Some d → ContainsDirectly p a b →
-    HasBareName p d.file (written_types d.spec.body) b
+    HasBareName p d.file (contained_types d.spec.body) b
 direct_to p a b d e h =
     let same : h.definition ≡ d = same_Some h.definition d (sym h.has_rank ∙ e) in
-    subst (λ x. HasBareName p x.file (written_types x.spec.body) b) same
+    subst (λ x. HasBareName p x.file (contained_types x.spec.body) b) same
     (Local h.name, (h.written, record { name = h.name; is_name = refl; declaration = h.declaration; binds = h.binds; names = h.names }))
 
 -- the links lead exactly from each definition below count to those that it contains directly
@@ -146,7 +146,7 @@ held_none p links e = record {
 
 pub held_next : (p : Package) (old new : List (Vec ℕ)) (count : ℕ) (row : Vec ℕ) (d : PlacedType) → new ≡ old ++ (row ∷ []) →
     slice_get (package_types p) count ≡ Some d →
-    ((r : ℕ) → Contains row.items r ↔ HasBareName p d.file (written_types d.spec.body) r) → HeldBelow p old count → HeldBelow p new (count + 1)
+    ((r : ℕ) → Contains row.items r ↔ HasBareName p d.file (contained_types d.spec.body) r) → HeldBelow p old count → HeldBelow p new (count + 1)
 held_next p old new count row d e is each h =
     let len : length (old ++ (row ∷ [])) ≡ length old + 1 = length_push old row in
     let before : (a : ℕ) → a < count → slice_get new a ≡ slice_get old a = λ a lt. ap (λ ls. slice_get ls a) e ∙

@@ -17,7 +17,7 @@ use Rattle.types_members.specs.declared.underlying.NameStep.{NameStep}
 use Rattle.types_members.specs.declared.underlying.NameStep.TheVariants.{Ends, Continues, Nothing}
 use Rattle.types_declared.specs.Package.{Package, PlacedType, package_types, symbol_in}
 use Rattle.types_declared.specs.Written.{DenotesType}
-use Rattle.types_declared.specs.Definitions.{HasUnderlying, struct, named, imported}
+use Rattle.types_declared.specs.Definitions.{HasUnderlying, struct, interface, named, imported}
 use Rattle.types_declared.specs.Reachability.{LinksTo, HasMark, IsReachable, first, behind, IsReachOrder}
 use Rattle.types_declared.specs.Broken.{AddsLinks}
 use Rattle.types_members.specs.Steps.{IsStepFrom, IsStepBy, IsStep, AreSteps, AreStepLinks, ComesAfterTarget, IsStepOrder, is_last_step}
@@ -65,9 +65,9 @@ pub of_struct : (p : Package) (rank : ℕ) (d : PlacedType) (k o c : ℕ) (fs : 
     HasUnderlying p (Defined (symbol_in p rank)) u
 of_struct p rank d k o c fs u is written e = subst (HasUnderlying p (Defined (symbol_in p rank))) (sym e) (struct is written)
 
-pub of_interface : (p : Package) (rank : ℕ) (d : PlacedType) (k o c : ℕ) (ms : _) → slice_get (package_types p) rank ≡ Some d →
-    d.spec.body ≡ Interface k o ms c → IsStep p rank Nothing
-of_interface p rank d k o c ms is written = λ u h. subst (λ b. BodyHas p rank d b u) written (of_body p rank d u is h)
+pub of_interface : (p : Package) (rank : ℕ) (d : PlacedType) (k o c : ℕ) (ms : _) (u : types.Underlying) → slice_get (package_types p) rank ≡ Some d →
+    d.spec.body ≡ Interface k o ms c → u ≡ types.Interface (symbol_in p rank) → HasUnderlying p (Defined (symbol_in p rank)) u
+of_interface p rank d k o c ms u is written e = subst (HasUnderlying p (Defined (symbol_in p rank))) (sym e) (interface is written)
 
 -- each item of a list has a property after one more is pushed
 pub each_push : {X : Type 0} (P : ℕ → X → Type 0) (old new : List X) (n : ℕ) (x : X) → new ≡ old ++ (x ∷ []) → length old ≡ n →

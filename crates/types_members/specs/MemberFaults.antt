@@ -4,7 +4,7 @@ use Rattle.base_files.specs.declared.fault_kind.FaultKind.TheVariants as kind
 use Rattle.types_declared.specs.declared.fault.Fault.{Fault}
 use Rattle.go_ast.specs.Tree.{Local}
 use Rattle.types_declared.specs.Package.{Package, PlacedType, PlacedFunction, package_types}
-use Rattle.types_declared.specs.Written.{BindsToken, DeclaresType, written_types}
+use Rattle.types_declared.specs.Written.{BindsToken, DeclaresType, contained_types}
 use Rattle.types_declared.specs.Definitions.{PlacedField, IsFieldOf, IsCountingField, IsMethodOf, IsCountingMethod}
 
 -- the fault, at its name, of a field that doesn't count
@@ -32,7 +32,7 @@ pub record ContainsDirectly (p : Package) (outer inner : ℕ) : Type 0 where
   pub definition : PlacedType
   pub has_rank : slice_get (package_types p) outer ≡ Some definition
   pub name : ℕ
-  pub written : Contains (written_types definition.spec.body) (Local name)
+  pub written : Contains (contained_types definition.spec.body) (Local name)
   pub declaration : ℕ
   pub binds : BindsToken p definition.file name declaration
   pub names : DeclaresType p declaration inner

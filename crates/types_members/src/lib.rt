@@ -25,6 +25,6 @@ pub use link_cycles::cycles;
 pub use method_marks::counting_methods;
 pub use methods::owners;
 pub use recursion::recursive_definitions;
-pub use struct_fields::{FieldDef, fields};
+pub use struct_fields::{FieldDef, MemberForm, fields};
 pub use type_members::{Fields, Members, Methods};
 pub use underlying::{copy, own_struct, underlying_types};

@@ -70,7 +70,10 @@ fn underlying_has(
 {
     match underlying {
         Underlying::Struct(symbol) => struct_has(pkg, structs, symbol, name),
-        Underlying::Plain(_) | Underlying::PointerTo(_) | Underlying::SliceOf(_) => false,
+        Underlying::Plain(_)
+        | Underlying::PointerTo(_)
+        | Underlying::SliceOf(_)
+        | Underlying::Interface(_) => false,
     }
 }
 

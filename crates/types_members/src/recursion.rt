@@ -2,7 +2,7 @@
 ghost use Rattle.std.specs.Prelude.{◌≡◌, ◌↔◌, ℕ, map, Contains, IfOk, OnOk, MatchOption};
 ghost use Rattle.go_ast.specs.View.{type_view, list_view};
 ghost use Rattle.go_ast.specs.FileView.{field_view, body_view};
-ghost use Rattle.types_declared.specs.Written.{written_types};
+ghost use Rattle.types_declared.specs.Written.{contained_types};
 ghost use Rattle.types_members.specs.Recursion.{AddsItems, IsBareName, HasBareName, AreContained, AreRecursive};
 ghost use Rattle.types_declared.specs.PackageView.{package_of, IsIndexOf};
 
@@ -71,7 +71,7 @@ fn add_body(
     body: &TypeBody,
 ) -> Result<(), AllocError>
     requires { IsIndexOf (package_of pkg) index.now }
-    ensures { OnOk result (AddsItems found.old.items found.new.items (HasBareName (package_of pkg.entry) file (written_types (body_view body.now)))) }
+    ensures { OnOk result (AddsItems found.old.items found.new.items (HasBareName (package_of pkg.entry) file (contained_types (body_view body.now)))) }
 {
     match body {
         TypeBody::Type(written) => add_type(found, pkg, index, file, written),
@@ -89,7 +89,7 @@ fn held_by(
     definition: TypeDef<'_>,
 ) -> Result<Vec<usize>, AllocError>
     requires { IsIndexOf (package_of pkg) index.now }
-    ensures { IfOk result (λ found. (r : ℕ) → Contains found.items r ↔ HasBareName (package_of pkg.entry) definition.entry.file (written_types (body_view definition.entry.spec.now.body)) r) }
+    ensures { IfOk result (λ found. (r : ℕ) → Contains found.items r ↔ HasBareName (package_of pkg.entry) definition.entry.file (contained_types (body_view definition.entry.spec.now.body)) r) }
 {
     let mut found = Vec::new(alloc);
     add_body(

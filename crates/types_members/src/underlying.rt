@@ -4,7 +4,7 @@ ghost use Rattle.types_expr.specs.View.{type_of as plain_type};
 ghost use Rattle.types_expr.specs.WorldView.{underlying_of};
 ghost use Rattle.types_declared.specs.DeclaredView.{type_of};
 ghost use Rattle.go_ast.specs.View.{type_view};
-ghost use Rattle.types_expr.specs.Types.{Defined, Struct};
+ghost use Rattle.types_expr.specs.Types.{Defined, Struct, Interface};
 ghost use Rattle.types_declared.specs.Package.{package_types, symbol_in};
 ghost use Rattle.types_declared.specs.Broken.{AddsLinks};
 ghost use Rattle.types_members.specs.Steps.{IsStepFrom, IsStepBy, IsStep, AreSteps, AreStepLinks, IsStepOrder, is_last_step, reached_type, reached_type_at};
@@ -38,6 +38,7 @@ pub fn copy(alloc: Global, underlying: &Underlying) -> Result<Underlying, AllocE
         Underlying::PointerTo(target) => Ok(Underlying::PointerTo(target.copy(alloc)?)),
         Underlying::SliceOf(element) => Ok(Underlying::SliceOf(element.copy(alloc)?)),
         Underlying::Struct(symbol) => Ok(Underlying::Struct(symbol.copy()?)),
+        Underlying::Interface(symbol) => Ok(Underlying::Interface(symbol.copy()?)),
     }
 }
 
@@ -113,6 +114,15 @@ pub fn own_struct(pkg: Package<'_>, rank: usize) -> Result<Underlying, AllocErro
     Ok(Underlying::Struct(Symbol { package, rank }))
 }
 
+/// The interface that the definition of this rank is identified by.
+#[tactic(auto, unfolding(types_expr::specs::WorldView::underlying_of))]
+fn own_interface(pkg: Package<'_>, rank: usize) -> Result<Underlying, AllocError>
+    ensures { IfOk result (λ u. underlying_of u ≡ Interface (symbol_in (package_of pkg.entry) rank)) }
+{
+    let package = pkg.path.clone()?;
+    Ok(Underlying::Interface(Symbol { package, rank }))
+}
+
 /// The step from a definition whose body is a type expression.
 fn step_by(
     alloc: Global,
@@ -146,7 +156,7 @@ fn step_of(
 {
     match &definition.spec.body {
         TypeBody::Struct { .. } => Ok(NameStep::Ends(own_struct(pkg, rank)?)),
-        TypeBody::Interface { .. } => Ok(NameStep::Nothing),
+        TypeBody::Interface { .. } => Ok(NameStep::Ends(own_interface(pkg, rank)?)),
         TypeBody::Type(written) => step_by(alloc, pkg, index, definition.file, written),
     }
 }

@@ -15,7 +15,7 @@ use Rattle.types_expr.specs.Types.{Meaning}
 use Rattle.types_expr.specs.Found.{AddsJudged}
 use Rattle.types_expr.proofs.Trees.{chain_tree, named_chain_tree, place_step}
 use Rattle.types_expr.proofs.Equations.{links_step, links_end}
-use Rattle.types_stmt.specs.Simple.{is_end, is_statement, may_be_statement, ends_in_call, without_last}
+use Rattle.types_stmt.specs.Simple.{is_end, without_parentheses, is_statement, may_be_statement, ends_in_call, without_last}
 use Rattle.types_expr.proofs.AddedJudgements.{adds_then}
 use Rattle.types_stmt.proofs.LoopProgress.{adds_as}
 
@@ -155,3 +155,13 @@ pub named_chain_is : {e : Expr} (n : ℕ) (links : _) → e ≡ expr.NamedChain 
     Chain (expr_view (expr.Name n)) (links_in xs) ≡ expr_view e
 unfolding expr_view
 named_chain_is n links is xs hxs = ap (λ ys. Chain (Name n) (links_in ys)) hxs ∙ (sym (named_chain_tree n links) ∙ ap expr_view (sym is))
+
+-- an expression in parentheses
+pub paren_dropped : {e : Expr} (o : ℕ) (b : _) (c : ℕ) → e ≡ expr.Paren o b c → (x : Expr) → x ≡ b.value →
+    without_parentheses (expr_view x) ≡ without_parentheses (expr_view e)
+unfolding without_parentheses expr_view
+paren_dropped o b c is x hx = ap (λ z. without_parentheses (expr_view z)) hx ∙ sym (ap (λ z. without_parentheses (expr_view z)) is)
+
+pub paren_stands : (w : World) (ls : Locals) {e : Expr} (o : ℕ) (b : _) (c : ℕ) → e ≡ expr.Paren o b c → false ≡ is_statement w ls (expr_view e)
+unfolding is_statement expr_view
+paren_stands w ls o b c is = sym (ap (λ z. is_statement w ls (expr_view z)) is)

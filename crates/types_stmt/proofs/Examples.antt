@@ -9,7 +9,7 @@ use Rattle.types_expr.specs.declared.types.Basic.TheVariants as basic
 use Rattle.types_expr.specs.declared.types.Builtin.TheVariants as builtin
 use Rattle.types_expr.specs.declared.symbol.Symbol.{Symbol}
 use Rattle.types_expr.specs.Types.{PlainType, BasicType, Defined, Pointer, PointerTo, Struct, Typed, Nil, Value, TypeName, Function, BuiltinName, Broken}
-use Rattle.types_expr.specs.Types.{same_type, same_underlying, is_named}
+use Rattle.types_expr.specs.Types.{same_type, same_underlying, is_named, AFieldOf}
 use Rattle.types_expr.specs.World.{World, Bound, Local, Means, BrokenVariable, BrokenFunction, BrokenType, Member, AField, no_locals}
 use Rattle.types_expr.specs.Operations.{fits, operate, joined, class_of}
 use Rattle.types_expr.specs.Places.{first_token, place_of, place_of_links}
@@ -20,8 +20,8 @@ use Rattle.types_stmt.specs.Sides.{Wants, rhs, values_of, judge_each, given_faul
 use Rattle.types_stmt.specs.Sides.{assigned_one, defined, defined_one, no_name, default_type, inferred_type, inferred, with_locals, defined_name, named, ident_place}
 use Rattle.types_stmt.specs.Sides.{first_of_exprs, first_of_idents}
 use Rattle.types_stmt.specs.Simple.{condition_faults, check_condition, step_faults, update_faults, ends_in_call, without_last, may_be_statement, is_statement}
-use Rattle.types_stmt.specs.Simple.{statement_faults, check_expr_statement, check_step, check_update, check_assign, check_define, check_simple, check_typed_local}
-use Rattle.types_stmt.specs.Simple.{check_untyped_local, check_local}
+use Rattle.types_stmt.specs.Simple.{without_parentheses, statement_faults, check_expr_statement, check_step, check_update, check_assign, check_define}
+use Rattle.types_stmt.specs.Simple.{check_simple, check_typed_local, check_untyped_local, check_local}
 use Rattle.types_stmt.specs.Statements.{returned, check_return}
 use Rattle.types_stmt.specs.Headers.{may_receive, receiver_or_fault, receiver_base, judge_receiver, check_receiver, check_param, is_bad_init}
 use Rattle.types_stmt.specs.Declarations.{first_name, literal_faults, value_faults, global_faults}
@@ -58,10 +58,10 @@ names p = if p == 10 then Means (Value (Typed text) true) else (if p == 11 then 
     (if p == 72 then Local 72 else (if p == 73 then Local 72 else Means Broken))))))))))))))))))
 
 abbrev field : ℕ → PlainType → Option Member
-field p t = if p == 33 then Some (AField structure int) else (if p == 35 then Some (AField pointer text) else None)
+field p t = if p == 33 then Some (AField structure (AFieldOf int)) else (if p == 35 then Some (AField pointer (AFieldOf text)) else None)
 
 abbrev w : World
-w = record { bound = names; member = field; definition = λ s. if s.rank == 1 then PointerTo int else Struct s }
+w = record { bound = names; member = field; definition = λ s. if s.rank == 1 then PointerTo int else Struct s; implements = λ t s. false }
 
 abbrev start : FoundSoFar
 start = record { locals = no_locals; faults = []; uses = [] }
@@ -228,30 +228,37 @@ update_of_number = refl
 
 -- `t.f`: behind the dot
 value_stands : (check_simple w start (Alone t_f)).faults ≡ 33 ∷ []
-unfolding check_simple check_expr_statement is_statement ends_in_call statement_faults judge place_of place_of_links first_token as_value select select_member
+unfolding check_simple check_expr_statement without_parentheses is_statement ends_in_call statement_faults judge place_of place_of_links first_token as_value
+    select select_member
 value_stands = refl
 
 -- `g()`, `f(1)`, `println(n)`
 calls_stand : (check_simple w (check_simple w (check_simple w start (Alone g)) (Alone f))
     (Alone (Chain (Name 51) (call 2 (argument (Name 11) None no_argument) 3 no_link)))).faults ≡ []
-unfolding check_simple check_expr_statement is_statement ends_in_call without_last may_be_statement statement_faults judge place_of place_of_links first_token as_value
-    value_kind call_of call_function call_builtin all_printed class_of misfits misfit fits same_underlying unless_faults all_whole
+unfolding check_simple check_expr_statement without_parentheses is_statement ends_in_call without_last may_be_statement statement_faults judge place_of
+    place_of_links first_token as_value value_kind call_of call_function call_builtin all_printed class_of misfits misfit fits same_underlying unless_faults
+    all_whole
 calls_stand = refl
 
--- `(g())`: at the parenthesis; `len(s)`, `int(n)`: at the first token
+-- `(f(1))` and `((g()))`: at the parenthesis, whatever results there are; `len(s)`, `int(n)`: at the first token
 call_in_parentheses : (check_simple w start (Alone (Paren 1 f 4))).faults ≡ 1 ∷ []
-unfolding check_simple check_expr_statement is_statement statement_faults judge place_of place_of_links first_token as_value value_kind call_of call_function misfits
-    misfit fits same_underlying unless_faults all_whole
+unfolding check_simple check_expr_statement without_parentheses is_statement statement_faults judge place_of place_of_links first_token as_value value_kind
+    call_of call_function misfits misfit fits same_underlying unless_faults all_whole
 call_in_parentheses = refl
 
+empty_call_in_parentheses : (check_simple w start (Alone (Paren 1 (Paren 3 g 6) 7))).faults ≡ 1 ∷ []
+unfolding check_simple check_expr_statement without_parentheses is_statement statement_faults judge place_of place_of_links first_token as_value value_kind
+    call_of call_function misfits misfit fits same_underlying unless_faults all_whole
+empty_call_in_parentheses = refl
+
 length_stands : (check_simple w start (Alone (Chain (Name 50) (call 2 (argument (Name 10) None no_argument) 3 no_link)))).faults ≡ 50 ∷ []
-unfolding check_simple check_expr_statement is_statement ends_in_call without_last may_be_statement statement_faults judge place_of place_of_links first_token as_value
-    value_kind call_of call_builtin all_printed class_of all_whole
+unfolding check_simple check_expr_statement without_parentheses is_statement ends_in_call without_last may_be_statement statement_faults judge place_of
+    place_of_links first_token as_value value_kind call_of call_builtin all_printed class_of all_whole
 length_stands = refl
 
 conversion_stands : (check_simple w start (Alone (Chain (Name 61) (call 2 (argument (Name 11) None no_argument) 3 no_link)))).faults ≡ 61 ∷ []
-unfolding check_simple check_expr_statement is_statement ends_in_call without_last may_be_statement statement_faults judge place_of place_of_links first_token as_value
-    value_kind call_of convert fits same_type all_whole
+unfolding check_simple check_expr_statement without_parentheses is_statement ends_in_call without_last may_be_statement statement_faults judge place_of
+    place_of_links first_token as_value value_kind call_of convert fits same_type all_whole
 conversion_stands = refl
 
 -- `return`

@@ -7,3 +7,4 @@ pub mod LoopProgress
 pub mod Lists
 pub mod CheckedSums
 pub mod ListEquations
+pub mod NoMembers

@@ -16,7 +16,8 @@ use Rattle.types_stmt.specs.Checked.{FoundSoFar, check_items}
 use Rattle.types_stmt.specs.Headers.{judge_types, with_result}
 use Rattle.types_stmt.specs.Declarations.{field_faults, check_decl, check_decls}
 use Rattle.types_stmt.specs.Sides.{judge_each, assigned, assigned_one, defined, defined_one, join_lefts, Target, refused_at, all_refused, with_locals}
-use Rattle.types_stmt.specs.Sides.{declared_if, head_or_none, tail_of}
+use Rattle.types_stmt.specs.Sides.{entered_at, all_entered, declared_if, head_or_none, tail_of}
+use Rattle.types_stmt.proofs.LoopProgress.{GivenNotes, join_notes}
 
 -- the values of expressions in turn are those of the arguments of a call
 pub arguments_each : (w : World) (ls : Locals) (xs : List ExprItem) → judge_arguments w ls (arguments_in xs) ≡ judge_each w ls (exprs_view xs)
@@ -42,17 +43,25 @@ pub defined_end : (w : World) (ls : Locals) → defined w ls (exprs_view []) ≡
 unfolding defined
 defined_end w ls = refl
 
+-- what targets refuse of values, and the entries into the targets' types
+abbrev pub refused_notes : World → List ListValue → List Target → GivenNotes
+refused_notes w vs ts = record { faults = all_refused w vs ts; entries = all_entered w vs ts }
+
+-- the same for one value
+abbrev pub refused_note : World → ListValue → Target → GivenNotes
+refused_note w v t = record { faults = refused_at w v.place v.kind t; entries = entered_at w v.place v.kind t }
+
 pub all_refused_step : (w : World) (v : ListValue) (vs : List ListValue) (t : Target) (ts : List Target) →
-    all_refused w (v ∷ vs) (t ∷ ts) ≡ refused_at w v.place v.kind t ++ all_refused w vs ts
-unfolding all_refused
+    refused_notes w (v ∷ vs) (t ∷ ts) ≡ join_notes (refused_note w v t) (refused_notes w vs ts)
+unfolding all_refused all_entered
 all_refused_step w v vs t ts = refl
 
-pub all_refused_no_values : (w : World) (ts : List Target) → all_refused w [] ts ≡ []
-unfolding all_refused
+pub all_refused_no_values : (w : World) (ts : List Target) → refused_notes w [] ts ≡ record { faults = []; entries = [] }
+unfolding all_refused all_entered
 all_refused_no_values w ts = refl
 
-pub all_refused_no_targets : (w : World) (vs : List ListValue) → all_refused w vs [] ≡ []
-unfolding all_refused
+pub all_refused_no_targets : (w : World) (vs : List ListValue) → refused_notes w vs [] ≡ record { faults = []; entries = [] }
+unfolding all_refused all_entered
 all_refused_no_targets w [] = refl
 all_refused_no_targets w (v ∷ vs) = refl
 

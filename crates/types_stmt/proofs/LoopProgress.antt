@@ -2,11 +2,11 @@
 use Rattle.std.proofs.Common.{ℕ, ◌≡◌, List, [], ◌∷◌, ◌++◌, ap, sym, ◌∙◌, refl, subst, append_assoc, append-nil, map, Option}
 use Rattle.types_expr.specs.declared.found.FoundInFile.{FoundInFile}
 use Rattle.types_expr.specs.Types.{Meaning, PlainType, Results}
-use Rattle.types_expr.specs.Judge.{Judged, JudgedList, TypeJudged, ListValue, means}
-use Rattle.types_expr.specs.Found.{use_of, AddsJudged, AddsJudgedList, AddsType}
+use Rattle.types_expr.specs.Judge.{Judged, JudgedList, Noted, TypeJudged, ListValue, means}
+use Rattle.types_expr.specs.Found.{noted_of, AddsJudged, AddsJudgedList, AddsType}
 use Rattle.types_stmt.specs.Sides.{Target, Wants, Lefts, left_side, join_lefts, list_followed, values_of, results_at}
 use Rattle.types_stmt.specs.Headers.{ResultsJudged, with_result}
-use Rattle.types_stmt.specs.View.{AddsLefts, AddsResults, AddsFaultsAt}
+use Rattle.types_stmt.specs.View.{AddsLefts, AddsResults, AddsFaultsAt, AddsGiven}
 
 grown : {X : Type 0} (now more rest : List X) {total : List X} → now ++ (more ++ rest) ≡ total → (now ++ more) ++ rest ≡ total
 grown now more rest e = append_assoc now more rest ∙ e
@@ -16,15 +16,15 @@ grown now more rest e = append_assoc now more rest ∙ e
 pub record GrownLefts (rest total : Lefts) (old now : FoundInFile) (ts : List Target) : Type 0 where
   pub targets : ts ++ rest.targets ≡ total.targets
   pub faults : now.faults.items ++ rest.faults ≡ old.faults.items ++ total.faults
-  pub uses : map use_of now.uses.items ++ rest.uses ≡ map use_of old.uses.items ++ total.uses
+  pub uses : map noted_of now.uses.items ++ rest.uses ≡ map noted_of old.uses.items ++ total.uses
 
 pub grown_lefts_step : {rest more total : Lefts} (one : Lefts) {old now new : FoundInFile} {ts us : List Target} →
     GrownLefts rest total old now ts → AddsLefts one now new us → rest ≡ join_lefts one more → GrownLefts more total old new (ts ++ us)
 grown_lefts_step {rest} {more} {total} one {old} {now} {new} {ts} {us} g a e = record {
   targets = ap (λ x. (ts ++ x) ++ more.targets) a.targets ∙ grown ts one.targets more.targets (ap (λ x. ts ++ x.targets) (sym e) ∙ g.targets);
   faults = ap (λ x. x ++ more.faults) a.faults ∙ grown now.faults.items one.faults more.faults (ap (λ x. now.faults.items ++ x.faults) (sym e) ∙ g.faults);
-  uses = ap (λ x. x ++ more.uses) a.uses ∙ grown (map use_of now.uses.items) one.uses more.uses
-      (ap (λ x. map use_of now.uses.items ++ x.uses) (sym e) ∙ g.uses);
+  uses = ap (λ x. x ++ more.uses) a.uses ∙ grown (map noted_of now.uses.items) one.uses more.uses
+      (ap (λ x. map noted_of now.uses.items ++ x.uses) (sym e) ∙ g.uses);
 }
 
 pub grown_lefts_end : {rest total : Lefts} {old now : FoundInFile} {ts : List Target} → GrownLefts rest total old now ts →
@@ -32,7 +32,7 @@ pub grown_lefts_end : {rest total : Lefts} {old now : FoundInFile} {ts : List Ta
 grown_lefts_end {rest} {total} {old} {now} {ts} g e = record {
   targets = sym (append-nil ts) ∙ (ap (λ x. ts ++ x.targets) (sym e) ∙ g.targets);
   faults = sym (append-nil now.faults.items) ∙ (ap (λ x. now.faults.items ++ x.faults) (sym e) ∙ g.faults);
-  uses = sym (append-nil (map use_of now.uses.items)) ∙ (ap (λ x. map use_of now.uses.items ++ x.uses) (sym e) ∙ g.uses);
+  uses = sym (append-nil (map noted_of now.uses.items)) ∙ (ap (λ x. map noted_of now.uses.items ++ x.uses) (sym e) ∙ g.uses);
 }
 
 pub adds_left : {j : Judged} (t : Target) {old new : FoundInFile} {m : Meaning} {ts : List Target} → AddsJudged j old new m → ts ≡ t ∷ [] →
@@ -40,7 +40,7 @@ pub adds_left : {j : Judged} (t : Target) {old new : FoundInFile} {m : Meaning} 
 adds_left t a e = record { targets = e; faults = a.faults; uses = a.uses }
 
 pub adds_no_left : (t : Target) (m : Meaning) (f : FoundInFile) → AddsLefts (left_side t (means m)) f f (t ∷ [])
-adds_no_left t m f = record { targets = refl; faults = sym (append-nil f.faults.items); uses = sym (append-nil (map use_of f.uses.items)) }
+adds_no_left t m f = record { targets = refl; faults = sym (append-nil f.faults.items); uses = sym (append-nil (map noted_of f.uses.items)) }
 
 pub lefts_as : {l k : Lefts} {old new : FoundInFile} {ts : List Target} → AddsLefts l old new ts → l ≡ k → AddsLefts k old new ts
 lefts_as {old = old} {new = new} {ts = ts} a e = subst (λ (x : Lefts). AddsLefts x old new ts) e a
@@ -54,7 +54,7 @@ adds_followed {j} rule {old} {mid} {new} {m} {vs} a b =
     record {
       values = b'.values;
       faults = b'.faults ∙ (ap (λ x. x ++ (rule j.meaning).faults) a.faults ∙ append_assoc old.faults.items j.faults (rule j.meaning).faults);
-      uses = b'.uses ∙ (ap (λ x. x ++ (rule j.meaning).uses) a.uses ∙ append_assoc (map use_of old.uses.items) j.uses (rule j.meaning).uses);
+      uses = b'.uses ∙ (ap (λ x. x ++ (rule j.meaning).uses) a.uses ∙ append_assoc (map noted_of old.uses.items) j.uses (rule j.meaning).uses);
     }
 
 pub adds_as : {j k : Judged} {old new : FoundInFile} {m : Meaning} → AddsJudged j old new m → j ≡ k → AddsJudged k old new m
@@ -66,7 +66,7 @@ list_as {old = old} {new = new} {vs = vs} a e = subst (λ (x : JudgedList). Adds
 pub adds_results : (place : ℕ) (ts : List PlainType) (f : FoundInFile) {vs : List ListValue} → vs ≡ results_at place ts →
     AddsJudgedList (values_of place (Results ts)) f f vs
 unfolding values_of
-adds_results place ts f e = record { values = e; faults = sym (append-nil f.faults.items); uses = sym (append-nil (map use_of f.uses.items)) }
+adds_results place ts f e = record { values = e; faults = sym (append-nil f.faults.items); uses = sym (append-nil (map noted_of f.uses.items)) }
 
 -- faults alone
 
@@ -84,6 +84,35 @@ grown_faults_step {rest} {more} {total} places {old} {now} {new} g a e = record 
 pub grown_faults_end : {rest total : List ℕ} {old now : FoundInFile} → GrownFaults rest total old now → rest ≡ [] → AddsFaultsAt total old now
 grown_faults_end {rest} {total} {old} {now} g e = record
     { faults = sym (append-nil now.faults.items) ∙ (ap (λ x. now.faults.items ++ x) (sym e) ∙ g.faults); uses = g.uses }
+
+-- faults and entries of values that are given to targets
+
+-- what is noted of such values
+pub record GivenNotes : Type 0 where
+  pub faults : List ℕ
+  pub entries : List Noted
+
+abbrev pub join_notes : GivenNotes → GivenNotes → GivenNotes
+join_notes a b = record { faults = a.faults ++ b.faults; entries = a.entries ++ b.entries }
+
+pub record GrownNotes (rest total : GivenNotes) (old now : FoundInFile) : Type 0 where
+  pub faults : now.faults.items ++ rest.faults ≡ old.faults.items ++ total.faults
+  pub uses : map noted_of now.uses.items ++ rest.entries ≡ map noted_of old.uses.items ++ total.entries
+
+pub grown_notes_step : {rest more total : GivenNotes} (one : GivenNotes) {old now new : FoundInFile} → GrownNotes rest total old now →
+    AddsGiven one.faults one.entries now new → rest ≡ join_notes one more → GrownNotes more total old new
+grown_notes_step {rest} {more} {total} one {old} {now} {new} g a e = record {
+  faults = ap (λ x. x ++ more.faults) a.faults ∙ grown now.faults.items one.faults more.faults (ap (λ x. now.faults.items ++ x.faults) (sym e) ∙ g.faults);
+  uses = ap (λ x. x ++ more.entries) a.uses ∙ grown (map noted_of now.uses.items) one.entries more.entries
+      (ap (λ x. map noted_of now.uses.items ++ x.entries) (sym e) ∙ g.uses);
+}
+
+pub grown_notes_end : {rest total : GivenNotes} {old now : FoundInFile} → GrownNotes rest total old now → rest ≡ record { faults = []; entries = [] } →
+    AddsGiven total.faults total.entries old now
+grown_notes_end {rest} {total} {old} {now} g e = record {
+  faults = sym (append-nil now.faults.items) ∙ (ap (λ x. now.faults.items ++ x.faults) (sym e) ∙ g.faults);
+  uses = sym (append-nil (map noted_of now.uses.items)) ∙ (ap (λ x. map noted_of now.uses.items ++ x.entries) (sym e) ∙ g.uses);
+}
 
 -- results
 

@@ -2,20 +2,20 @@
 use Rattle.std.specs.Prelude.{ℕ, Bool, if◌then◌else◌, List, [], ◌∷◌, ◌++◌}
 use Rattle.go_ast.specs.Tree.{Item, Group, single, several}
 use Rattle.types_expr.specs.World.{Locals}
-use Rattle.types_expr.specs.Judge.{Judged, MemberUse}
+use Rattle.types_expr.specs.Judge.{Judged, Noted}
 
--- the types of the locals declared so far, and the faults and member uses found so far
+-- the types of the locals declared so far, and the faults and member uses and entries found so far
 pub record FoundSoFar : Type 0 where
   pub locals : Locals
   pub faults : List ℕ
-  pub uses : List MemberUse
+  pub uses : List Noted
 
--- s, after a part that changes the locals to `locals` and has these faults and member uses
-abbrev pub with_declared : FoundSoFar → Locals → List ℕ → List MemberUse → FoundSoFar
+-- s, after a part that changes the locals to `locals` and has these faults and member uses and entries
+abbrev pub with_declared : FoundSoFar → Locals → List ℕ → List Noted → FoundSoFar
 with_declared s locals faults uses = record { locals = locals; faults = s.faults ++ faults; uses = s.uses ++ uses }
 
--- s, after a part that declares no local and has these faults and member uses
-abbrev pub with_found : FoundSoFar → List ℕ → List MemberUse → FoundSoFar
+-- s, after a part that declares no local and has these faults and member uses and entries
+abbrev pub with_found : FoundSoFar → List ℕ → List Noted → FoundSoFar
 with_found s faults uses = with_declared s s.locals faults uses
 
 -- s, after an expression judged as j, with more faults behind its own

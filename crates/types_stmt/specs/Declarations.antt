@@ -1,13 +1,14 @@
 -- The check of package-level declarations and of whole files.
 use Rattle.std.specs.Prelude.{ℕ, ◌==◌, Bool, if◌then◌else◌, List, [], ◌∷◌, ◌++◌, Option, Some, None, length, map}
-use Rattle.go_ast.specs.Tree.{Item, BasicTree, Integer, String, GlobalTree, FieldTree, BodyTree, Other, Struct, Interface, TypeSpecTree, DeclTree}
+use Rattle.go_ast.specs.Tree.{Item, BasicTree, Integer, String, GlobalTree, FieldTree, BodyTree, Other, Struct, Interface}
+use Rattle.go_ast.specs.Tree.{TypeSpecTree, DeclTree}
 use Rattle.go_ast.specs.Tree.{VarDecl, TypeDecl, FuncDecl, FileTree}
 use Rattle.types_expr.specs.declared.types.Basic.TheVariants as basic
 use Rattle.types_expr.specs.Types.{PlainType, Untyped}
 use Rattle.types_expr.specs.World.{World, no_locals}
-use Rattle.types_expr.specs.Judge.{ListValue, judge_type}
+use Rattle.types_expr.specs.Judge.{ListValue, Noted, judge_type}
 use Rattle.types_stmt.specs.Checked.{FoundSoFar, with_found, check_group}
-use Rattle.types_stmt.specs.Sides.{Wants, all_refused}
+use Rattle.types_stmt.specs.Sides.{Wants, all_refused, all_entered}
 use Rattle.types_stmt.specs.Headers.{check_function}
 
 -- Variables: their values are literals, which have to fit their type. A wrong count is a fault at the first name, also where the type is
@@ -33,9 +34,23 @@ unfoldable pub value_faults : World → List (Item ℕ) → Option PlainType →
 value_faults w names t None = []
 value_faults w names t (Some v) = literal_faults w names t v.1
 
+-- the entries of literals given to variables of type t; under a wrong count none enters
+unfoldable pub literal_enterings : World → List (Item ℕ) → Option PlainType → List (Item BasicTree) → List Noted
+literal_enterings w names t literals =
+    if length literals == length names then all_entered w (map (λ i. literal_value i.value) literals) (map (λ i. Wants t) names) else []
+
+-- the entries of the values of variables of type t, if values are written
+unfoldable pub value_enterings : World → List (Item ℕ) → Option PlainType → Option (ℕ × List (Item BasicTree)) → List Noted
+value_enterings w names t None = []
+value_enterings w names t (Some v) = literal_enterings w names t v.1
+
 -- the faults of a declaration of package-level variables of one type: those of its type, then those of its values
 unfoldable pub global_faults : World → GlobalTree → List ℕ
 global_faults w g = (judge_type w g.type_use).faults ++ value_faults w g.names (judge_type w g.type_use).type_of g.values
+
+-- the entries of the values of such a declaration
+abbrev pub global_enterings : World → GlobalTree → List Noted
+global_enterings w g = value_enterings w g.names (judge_type w g.type_use).type_of g.values
 
 -- Types: the faults of a type definition are those of the types written in it. An interface is a fault, at its keyword.
 
@@ -53,7 +68,7 @@ body_faults w (Interface p o ms c) = p ∷ []
 -- Declarations and files
 
 abbrev pub check_global : World → FoundSoFar → GlobalTree → FoundSoFar
-check_global w s g = with_found s (global_faults w g) []
+check_global w s g = with_found s (global_faults w g) (global_enterings w g)
 
 abbrev pub check_type : World → FoundSoFar → TypeSpecTree → FoundSoFar
 check_type w s t = with_found s (body_faults w t.body) []

@@ -1,7 +1,7 @@
 -- The check of function headers (receivers, parameters and results) and of whole functions.
 use Rattle.std.specs.Prelude.{ℕ, Bool, true, false, if◌then◌else◌, List, [], ◌∷◌, ◌++◌, Option, Some, None, is_none, ◌&&◌}
 use Rattle.go_ast.specs.Tree.{Item, TypeTree, ReceiverTree, ParamTree, ResultTree, no_result, one_result, results, FuncTree}
-use Rattle.types_expr.specs.Types.{PlainType, Defined, Pointer, points}
+use Rattle.types_expr.specs.Types.{PlainType, Defined, Pointer, takes_no_methods}
 use Rattle.types_expr.specs.World.{World}
 use Rattle.types_expr.specs.Judge.{TypeJudged, good_type, no_type_at, named_type, judge_type, under}
 use Rattle.types_stmt.specs.Checked.{FoundSoFar, with_declared, with_found, fault_if, check_items}
@@ -14,7 +14,7 @@ use Rattle.types_stmt.specs.Statements.{check_block}
 
 -- whether a method may have a receiver of type t or `*t`
 unfoldable pub may_receive : World → PlainType → Bool
-may_receive w (Defined s) = if points (w.definition s) then false else true
+may_receive w (Defined s) = if takes_no_methods (w.definition s) then false else true
 may_receive w t = false
 
 -- a type in a receiver at token `place`, none where it is broken: a fault where methods may not have it

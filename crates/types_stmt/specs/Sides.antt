@@ -4,9 +4,9 @@ use Rattle.std.specs.Prelude.{ℕ, ◌==◌, Bool, true, false, ◌&&◌, if◌t
 use Rattle.std.specs.List.{list_all}
 use Rattle.go_ast.specs.Tree.{Item, IdentTree, Named, Underscore, ExprTree, Name, Blank}
 use Rattle.types_expr.specs.Types.{PlainType, BasicType, ValueKind, Typed, Untyped, Nil, Meaning, Value, Results, Broken}
-use Rattle.types_expr.specs.World.{World, Bound, Local, Locals, declared}
+use Rattle.types_expr.specs.World.{World, Bound, Local, Locals, declared, giving}
 use Rattle.types_expr.specs.Places.{place_of, first_token}
-use Rattle.types_expr.specs.Judge.{Judged, MemberUse, ListValue, JudgedList, judge, judge_value, as_value, value_kind, value_before, misfit, means, wrong}
+use Rattle.types_expr.specs.Judge.{Judged, Noted, ListValue, JudgedList, judge, judge_value, as_value, value_kind, value_before, misfit, entering, means, wrong}
 use Rattle.types_expr.specs.Judge.{followed, all_whole}
 use Rattle.types_stmt.specs.Checked.{fault_if}
 
@@ -43,6 +43,11 @@ unfoldable pub rhs : World → Locals → List (Item ExprTree) → JudgedList
 rhs w ls (i ∷ []) = list_followed (judge w ls i.value) (values_of (place_of i.value))
 rhs w ls is = judge_each w ls is
 
+-- The world as the targets of values see it, where these right sides give them. Where there are as many values as right sides, each is that
+-- of an expression of its own. Else they are the results of one call, of which only those of an interface type enter interfaces.
+abbrev pub receiving : {X Y : Type 0} → World → List X → List Y → World
+receiving w sides values = giving (length values == length sides) w
+
 -- A target of a value: a left side, or a result. A new name or `_` takes a value of any type. Any other target wants one that fits its own
 -- type, which is none where it is broken.
 pub data Target : Type 0 where
@@ -76,16 +81,31 @@ all_refused w [] ts = []
 all_refused w (v ∷ vs) [] = []
 all_refused w (v ∷ vs) (t ∷ ts) = refused_at w v.place v.kind t ++ all_refused w vs ts
 
+-- the entry of the value at `place` into the type of its target
+unfoldable pub entered_at : World → ℕ → Option ValueKind → Target → List Noted
+entered_at w place k (Wants (Some t)) = entering w place k t
+entered_at w place k t = []
+
+-- the entries of the values into the types of the targets at their positions
+unfoldable pub all_entered : World → List ListValue → List Target → List Noted
+all_entered w [] ts = []
+all_entered w (v ∷ vs) [] = []
+all_entered w (v ∷ vs) (t ∷ ts) = entered_at w v.place v.kind t ++ all_entered w vs ts
+
+-- the entries of values given to targets; under a wrong count none enters
+unfoldable pub given_enterings : World → List ListValue → List Target → List Noted
+given_enterings w vs ts = if length vs == length ts then all_entered w vs ts else []
+
 -- The faults of values given to targets. A wrong count is a fault at `place`, where no part is broken. Under a wrong count no value is
 -- compared with a target.
 unfoldable pub given_faults : World → ℕ → List ListValue → List Target → List ℕ
 given_faults w place vs ts = if length vs == length ts then all_refused w vs ts else fault_if (all_whole vs && all_unbroken ts) place
 
--- the judgement of left sides: their targets, faults and member uses
+-- the judgement of left sides: their targets, faults and uses of members
 pub record Lefts : Type 0 where
   pub targets : List Target
   pub faults : List ℕ
-  pub uses : List MemberUse
+  pub uses : List Noted
 
 -- the judgement of one left side
 abbrev pub left_side : Target → Judged → Lefts

@@ -4,8 +4,8 @@ use Rattle.go_ast.specs.declared.syntax.BinaryOp.{BinaryOp}
 use Rattle.go_ast.specs.declared.syntax.BinaryOp.TheVariants as binary
 use Rattle.go_ast.specs.declared.syntax.UpdateOp.{UpdateOp}
 use Rattle.go_ast.specs.declared.syntax.UpdateOp.TheVariants as update
-use Rattle.go_ast.specs.Tree.{Item, IdentTree, TypeTree, ExprTree, Chain, LinkTrees, no_link, selector, index, call, SimpleTree, Alone, Step, Update}
-use Rattle.go_ast.specs.Tree.{Assign, Define, LocalTree}
+use Rattle.go_ast.specs.Tree.{Item, IdentTree, TypeTree, ExprTree, Paren, Chain, LinkTrees, no_link, selector, index, call, SimpleTree, Alone, Step}
+use Rattle.go_ast.specs.Tree.{Update, Assign, Define, LocalTree}
 use Rattle.types_expr.specs.Types.{PlainType, ValueKind, Meaning, Function, BuiltinName, Broken}
 use Rattle.types_expr.specs.World.{World, Locals}
 use Rattle.types_expr.specs.Operations.{operate, class_of, is_int, is_bool}
@@ -14,8 +14,9 @@ use Rattle.types_expr.specs.declared.types.Builtin.{Builtin}
 use Rattle.types_expr.specs.declared.types.Builtin.TheVariants as builtin
 use Rattle.types_expr.specs.Judge.{JudgedList, TypeJudged, judge, judge_value, judge_type, value_kind}
 use Rattle.types_stmt.specs.Checked.{FoundSoFar, with_declared, with_found, with_judged}
-use Rattle.types_stmt.specs.Sides.{rhs, Target, Takes, Wants, given_faults, Lefts, judge_operand, assigned, defined, with_inferred, with_locals, defined_names}
-use Rattle.types_stmt.specs.Sides.{all_named, first_of_exprs, first_of_idents}
+use Rattle.types_stmt.specs.Sides.{rhs, Target, Takes, Wants, given_faults, given_enterings, Lefts, judge_operand, assigned, defined, with_inferred}
+use Rattle.types_stmt.specs.Sides.{with_locals, defined_names}
+use Rattle.types_stmt.specs.Sides.{all_named, first_of_exprs, first_of_idents, receiving}
 
 -- Conditions: a value whose underlying type is bool
 
@@ -111,30 +112,41 @@ unfoldable pub is_statement : World → Locals → ExprTree → Bool
 is_statement w ls (Chain e links) = if ends_in_call links then may_be_statement (judge w ls (Chain e (without_last links))).meaning else false
 is_statement w ls e = false
 
+-- the expression without the parentheses around it
+unfoldable pub without_parentheses : ExprTree → ExprTree
+without_parentheses (Paren o e c) = without_parentheses e
+without_parentheses e = e
+
 -- the fault of an expression that may not be a statement (`false`) and means m; none for a broken one
 unfoldable pub statement_faults : ℕ → Bool → Meaning → List ℕ
 statement_faults place true m = []
 statement_faults place false Broken = []
 statement_faults place false m = place ∷ []
 
--- the check of an expression statement
+-- The check of an expression statement. Parentheses around it ask for no value, so the fault stands at the first of them.
+--   (f())   // a fault at the `(`, whatever results f has
 unfoldable pub check_expr_statement : World → FoundSoFar → ExprTree → FoundSoFar
-check_expr_statement w s e = with_judged s (judge w s.locals e) (statement_faults (place_of e) (is_statement w s.locals e) (judge w s.locals e).meaning)
+check_expr_statement w s e = with_judged s (judge w s.locals (without_parentheses e))
+    (statement_faults (place_of e) (is_statement w s.locals e) (judge w s.locals (without_parentheses e)).meaning)
 
 -- Assignments and definitions
 
--- left sides l given the values r of right sides, where the statement changes the locals to `locals`; a wrong count is a fault at `place`
+-- left sides l given the values r of right sides, in the world as they receive them, where the statement changes the locals to `locals`; a
+-- wrong count is a fault at `place`
 abbrev pub with_given : World → FoundSoFar → ℕ → Locals → Lefts → JudgedList → FoundSoFar
-with_given w s place locals l r = with_declared s locals (l.faults ++ (r.faults ++ given_faults w place r.values l.targets)) (l.uses ++ r.uses)
+with_given w s place locals l r =
+    with_declared s locals (l.faults ++ (r.faults ++ given_faults w place r.values l.targets)) (l.uses ++ (r.uses ++ given_enterings w r.values l.targets))
 
 -- the check of `xs = ys`
 unfoldable pub check_assign : World → FoundSoFar → List (Item ExprTree) → List (Item ExprTree) → FoundSoFar
-check_assign w s xs ys = with_given w s (first_of_exprs xs) s.locals (assigned w s.locals xs) (rhs w s.locals ys)
+check_assign w s xs ys =
+    with_given (receiving w ys (rhs w s.locals ys).values) s (first_of_exprs xs) s.locals (assigned w s.locals xs) (rhs w s.locals ys)
 
 -- the check of `xs := ys`
 unfoldable pub check_define : World → FoundSoFar → List (Item ExprTree) → List (Item ExprTree) → FoundSoFar
 check_define w s xs ys =
-    with_given w s (first_of_exprs xs) (with_inferred s.locals (defined_names w xs) (rhs w s.locals ys).values) (defined w s.locals xs) (rhs w s.locals ys)
+    with_given (receiving w ys (rhs w s.locals ys).values) s (first_of_exprs xs)
+    (with_inferred s.locals (defined_names w xs) (rhs w s.locals ys).values) (defined w s.locals xs) (rhs w s.locals ys)
 
 -- the check of a simple statement
 unfoldable pub check_simple : World → FoundSoFar → SimpleTree → FoundSoFar
@@ -171,14 +183,15 @@ written_locals ls names t = with_locals ls (all_named names) (map (λ i. t) name
 -- the check of a local declaration with a written type, with or without values
 unfoldable pub check_typed_local : World → FoundSoFar → List (Item IdentTree) → TypeJudged → Option (ℕ × List (Item ExprTree)) → FoundSoFar
 check_typed_local w s names t None = with_declared s (written_locals s.locals names t.type_of) t.faults []
-check_typed_local w s names t (Some v) = with_given w s (first_of_idents names) (written_locals s.locals names t.type_of) (written_targets names t)
-    (rhs w s.locals v.1)
+check_typed_local w s names t (Some v) = with_given (receiving w v.1 (rhs w s.locals v.1).values) s (first_of_idents names)
+    (written_locals s.locals names t.type_of) (written_targets names t) (rhs w s.locals v.1)
 
 -- The check of a local declaration without a written type. It has values: the grammar has no declaration without both.
 unfoldable pub check_untyped_local : World → FoundSoFar → List (Item IdentTree) → Option (ℕ × List (Item ExprTree)) → FoundSoFar
 check_untyped_local w s names None = with_declared s (with_locals s.locals (all_named names) []) [] []
 check_untyped_local w s names (Some v) =
-    with_given w s (first_of_idents names) (with_inferred s.locals (all_named names) (rhs w s.locals v.1).values) (name_targets names Takes) (rhs w s.locals v.1)
+    with_given (receiving w v.1 (rhs w s.locals v.1).values) s (first_of_idents names)
+    (with_inferred s.locals (all_named names) (rhs w s.locals v.1).values) (name_targets names Takes) (rhs w s.locals v.1)
 
 -- the check of a local declaration, with or without a written type
 abbrev pub check_local_of : World → FoundSoFar → List (Item IdentTree) → Option TypeTree → Option (ℕ × List (Item ExprTree)) → FoundSoFar

@@ -7,7 +7,7 @@ use Rattle.go_ast.specs.Tree.{else_block}
 use Rattle.types_expr.specs.World.{World}
 use Rattle.types_expr.specs.Judge.{ListValue, JudgedList, all_whole}
 use Rattle.types_stmt.specs.Checked.{FoundSoFar, with_found, fault_if, check_group}
-use Rattle.types_stmt.specs.Sides.{Target, rhs, all_refused}
+use Rattle.types_stmt.specs.Sides.{Target, rhs, all_refused, given_enterings, receiving}
 use Rattle.types_stmt.specs.Simple.{check_simple, check_optional_simple, check_condition, check_optional_condition, check_local}
 
 -- The faults of the values of a `return`, given to the function's results. A wrong count is a fault at `place`, also where a result is
@@ -15,13 +15,13 @@ use Rattle.types_stmt.specs.Simple.{check_simple, check_optional_simple, check_c
 unfoldable pub returned : World → ℕ → List ListValue → List Target → List ℕ
 returned w place vs ts = if length vs == length ts then all_refused w vs ts else fault_if (all_whole vs) place
 
--- the check of a `return` whose values are judged as r
+-- the check of a `return` whose values are judged as r, in the world as the results receive them
 abbrev pub returning : World → FoundSoFar → ℕ → List Target → JudgedList → FoundSoFar
-returning w s place results r = with_found s (r.faults ++ returned w place r.values results) r.uses
+returning w s place results r = with_found s (r.faults ++ returned w place r.values results) (r.uses ++ given_enterings w r.values results)
 
 -- the check of a `return` at token `place`
 unfoldable pub check_return : World → FoundSoFar → ℕ → List Target → List (Item ExprTree) → FoundSoFar
-check_return w s place results es = returning w s place results (rhs w s.locals es)
+check_return w s place results es = returning (receiving w es (rhs w s.locals es).values) s place results (rhs w s.locals es)
 
 -- the check of the statement before the condition of an `if`, if there is one
 abbrev pub check_init : World → FoundSoFar → Option InitTree → FoundSoFar

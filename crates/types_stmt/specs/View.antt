@@ -6,17 +6,18 @@ use Rattle.types_expr.specs.WorldView.{name_in, token_spelling}
 use Rattle.types_expr.specs.declared.found.FoundInFile.{FoundInFile}
 use Rattle.types_expr.specs.World.{Locals}
 use Rattle.types_expr.specs.View.{type_of}
-use Rattle.types_expr.specs.Found.{use_of, locals_of}
+use Rattle.types_expr.specs.Found.{noted_of, locals_of}
 use Rattle.types_stmt.specs.declared.sides.Target.{Target}
 use Rattle.types_stmt.specs.declared.sides.Target.TheVariants as target
 use Rattle.types_stmt.specs.declared.checked.CheckedBody.{CheckedBody}
+use Rattle.types_expr.specs.Judge as judge
 use Rattle.types_stmt.specs.Checked as pure
 use Rattle.types_stmt.specs.Sides as sides
 use Rattle.types_stmt.specs.Headers.{ResultsJudged}
 
 -- the plain value of some locals and of what was found
 abbrev pub checked_with : Locals → FoundInFile → pure.FoundSoFar
-checked_with ls f = record { locals = ls; faults = f.faults.items; uses = map use_of f.uses.items }
+checked_with ls f = record { locals = ls; faults = f.faults.items; uses = map noted_of f.uses.items }
 
 -- the plain value of a `CheckedBody`
 abbrev pub checked_of : CheckedBody → pure.FoundSoFar
@@ -30,7 +31,7 @@ target_of (target.Wants t) = sides.Wants (option_map type_of t)
 pub record AddsLefts (l : sides.Lefts) (old new : FoundInFile) (ts : List sides.Target) : Type 0 where
   pub targets : ts ≡ l.targets
   pub faults : new.faults.items ≡ old.faults.items ++ l.faults
-  pub uses : map use_of new.uses.items ≡ map use_of old.uses.items ++ l.uses
+  pub uses : map noted_of new.uses.items ≡ map noted_of old.uses.items ++ l.uses
 
 -- A call appended the faults of the results j, and returned them as targets.
 pub record AddsResults (j : ResultsJudged) (old new : FoundInFile) (ts : List sides.Target) : Type 0 where
@@ -42,6 +43,11 @@ pub record AddsResults (j : ResultsJudged) (old new : FoundInFile) (ts : List si
 pub record AddsFaultsAt (places : List ℕ) (old new : FoundInFile) : Type 0 where
   pub faults : new.faults.items ≡ old.faults.items ++ places
   pub uses : new.uses.items ≡ old.uses.items
+
+-- A call appended faults at `places` and these entries.
+pub record AddsGiven (places : List ℕ) (enterings : List judge.Noted) (old new : FoundInFile) : Type 0 where
+  pub faults : new.faults.items ≡ old.faults.items ++ places
+  pub uses : map noted_of new.uses.items ≡ map noted_of old.uses.items ++ enterings
 
 -- whether the name at a token is `init`
 abbrev pub is_init_in : World → ℕ → Bool

@@ -7,7 +7,7 @@ ghost use Rattle.types_expr.specs.Judge.{judge};
 ghost use Rattle.types_expr.specs.Places.{place_of_links};
 ghost use Rattle.types_expr.specs.WorldView.{world_of};
 ghost use Rattle.types_expr.specs.Found.{locals_of, meaning_of, AddsJudged};
-ghost use Rattle.types_stmt.specs.Simple.{check_expr_statement, ends_in_call, is_statement, may_be_statement, statement_faults};
+ghost use Rattle.types_stmt.specs.Simple.{without_parentheses, check_expr_statement, ends_in_call, is_statement, may_be_statement, statement_faults};
 ghost use Rattle.types_stmt.specs.View.{checked_of, AddsFaultsAt};
 
 use crate::checked::CheckedBody;
@@ -119,15 +119,15 @@ fn judge_chain<'w>(
     }
 }
 
-/// Returns the meaning of an expression, and whether it may be a statement.
-#[tactic(auto, unfolding(go_ast::specs::View::expr_view, crate::specs::Simple::is_statement))]
+/// Returns the meaning of an expression without the parentheses around it, and whether the expression may be a statement.
+#[tactic(auto, unfolding(go_ast::specs::View::expr_view, crate::specs::Simple::is_statement, crate::specs::Simple::without_parentheses))]
 fn judge_expr_statement<'w>(
     alloc: Global,
     scope: LocalScope<'w>,
     expr: &Expr,
     found: &mut FoundInFile,
 ) -> Result<Alone<'w>, AllocError>
-    ensures found { IfOk result (λ a. AddsJudged (judge (world_of scope.entry.world.now) (locals_of scope.entry.locals.now) (expr_view expr.now)) found.old found.new (meaning_of a.meaning)) }
+    ensures found { IfOk result (λ a. AddsJudged (judge (world_of scope.entry.world.now) (locals_of scope.entry.locals.now) (without_parentheses (expr_view expr.now))) found.old found.new (meaning_of a.meaning)) }
     ensures stands { IfOk result (λ a. a.stands ≡ is_statement (world_of scope.entry.world.now) (locals_of scope.entry.locals.now) (expr_view expr.now)) }
 {
     match expr {
@@ -135,6 +135,13 @@ fn judge_expr_statement<'w>(
         Expr::NamedChain { name, links } => {
             let first = Expr::Name(*name);
             judge_chain(alloc, scope, &first, links, found)
+        }
+        Expr::Paren { inner, .. } => {
+            let alone = judge_expr_statement(alloc, scope, inner, found)?;
+            Ok(Alone {
+                meaning: alone.meaning,
+                stands: false,
+            })
         }
         _ => {
             let meaning = judge(alloc, scope, expr, found)?;

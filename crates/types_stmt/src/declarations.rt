@@ -7,8 +7,8 @@ ghost use Rattle.types_expr.specs.WorldView.{world_of};
 ghost use Rattle.types_expr.specs.Found.{list_value};
 ghost use Rattle.types_stmt.specs.Sides.{Wants};
 ghost use Rattle.types_stmt.specs.Checked.{check_group};
-ghost use Rattle.types_stmt.specs.Declarations.{literal_value, first_name, literal_faults, global_faults, field_faults, body_faults, check_global, check_type};
-ghost use Rattle.types_stmt.specs.View.{checked_of, target_of, AddsFaultsAt};
+ghost use Rattle.types_stmt.specs.Declarations.{literal_value, first_name, literal_faults, literal_enterings, global_faults, global_enterings, field_faults, body_faults, check_global, check_type};
+ghost use Rattle.types_stmt.specs.View.{checked_of, target_of, AddsFaultsAt, AddsGiven};
 
 use crate::checked::CheckedBody;
 use crate::locals::copied;
@@ -75,7 +75,7 @@ fn first_name(names: &[Item<u32>]) -> usize
 }
 
 /// Notes each literal that does not fit the type of the variables, or a wrong count of them at the first name.
-#[tactic(auto, unfolding(crate::specs::Declarations::literal_faults))]
+#[tactic(auto, unfolding(crate::specs::Declarations::literal_faults, crate::specs::Declarations::literal_enterings))]
 fn note_value_faults(
     alloc: Global,
     world: &World<'_>,
@@ -84,7 +84,8 @@ fn note_value_faults(
     literals: &[Item<BasicLit>],
     found: &mut FoundInFile,
 ) -> Result<(), AllocError>
-    ensures { OnOk result (AddsFaultsAt (literal_faults (world_of world.now) (list_view same_index names.now) (option_map type_of own.now) (list_view basic_view literals.now)) found.old found.new) }
+    ensures { OnOk result (AddsGiven (literal_faults (world_of world.now) (list_view same_index names.now) (option_map type_of own.now) (list_view basic_view literals.now))
+        (literal_enterings (world_of world.now) (list_view same_index names.now) (option_map type_of own.now) (list_view basic_view literals.now)) found.old found.new) }
 {
     if literals.len() != names.len() {
         found.faults.push(first_name(names))?;
@@ -92,17 +93,17 @@ fn note_value_faults(
     }
     let values = literal_values(alloc, literals)?;
     let targets = global_targets(alloc, names, own)?;
-    refuse_all(world, &values, &targets, found)
+    refuse_all(alloc, world, true, &values, &targets, found)
 }
 
-/// Notes the faults of a declaration of package-level variables of one type.
+/// Notes the faults of a declaration of package-level variables of one type, and the entries of their values.
 fn note_global_faults(
     alloc: Global,
     world: &World<'_>,
     spec: &VarSpec,
     found: &mut FoundInFile,
 ) -> Result<(), AllocError>
-    ensures { OnOk result (AddsFaultsAt (global_faults (world_of world.now) (global_view spec.now)) found.old found.new) }
+    ensures { OnOk result (AddsGiven (global_faults (world_of world.now) (global_view spec.now)) (global_enterings (world_of world.now) (global_view spec.now)) found.old found.new) }
 {
     let own = found.judge_type(alloc, world, &spec.var_type)?;
     match &spec.values {

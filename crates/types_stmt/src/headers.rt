@@ -18,13 +18,14 @@ use types_expr::found::FoundInFile;
 use types_expr::types::GoType;
 use types_expr::world::World;
 
-/// Whether a method may have a receiver of this type or of pointers to it: it is a definition whose underlying type is no pointer.
+/// Whether a method may have a receiver of this type or of pointers to it: it is a definition whose underlying type is neither a
+/// pointer nor an interface.
 #[tactic(auto, unfolding(crate::specs::Headers::may_receive, types_expr::specs::View::type_of, types_expr::specs::WorldView::shape_of))]
 fn may_receive(world: &World<'_>, own: &GoType) -> bool
     ensures { result ≡ may_receive (world_of world.now) (type_of own.now) }
 {
     match own {
-        GoType::Defined(_) => !world.underlying(own).is_pointer(),
+        GoType::Defined(_) => !world.underlying(own).takes_no_methods(),
         _ => false,
     }
 }

@@ -1,5 +1,5 @@
 //! The two sides of assignments and local declarations: values and their targets.
-ghost use Rattle.std.specs.Prelude.{◌≡◌, ◌∷◌, [], IfOk, OnOk, map, option_map};
+ghost use Rattle.std.specs.Prelude.{◌≡◌, ◌==◌, length, ◌∷◌, [], IfOk, OnOk, map, option_map};
 ghost use Rattle.std.specs.List.{list_all};
 ghost use Rattle.go_ast.specs.View.{expr_view, exprs_view};
 ghost use Rattle.types_expr.specs.Judge.{judge, as_value};
@@ -7,10 +7,11 @@ ghost use Rattle.types_expr.specs.Places.{place_of};
 ghost use Rattle.types_expr.specs.View.{type_of, kind_of};
 ghost use Rattle.types_expr.specs.WorldView.{world_of};
 ghost use Rattle.types_expr.specs.Found.{locals_of, meaning_of, list_value, AddsJudged, AddsJudgedList};
-ghost use Rattle.types_stmt.specs.Sides.{results_at, one_value, values_of, list_followed, judge_each, rhs, all_unbroken, is_unbroken, nil_refused, refused_at, all_refused, given_faults, assignable, judge_operand, own_type, assigned_one, assigned, no_name, defined_one, defined};
+ghost use Rattle.types_expr.specs.World.{giving};
+ghost use Rattle.types_stmt.specs.Sides.{receiving, results_at, one_value, values_of, list_followed, judge_each, rhs, all_unbroken, is_unbroken, nil_refused, refused_at, entered_at, all_refused, all_entered, given_faults, given_enterings, assignable, judge_operand, own_type, assigned_one, assigned, no_name, defined_one, defined};
 ghost use Rattle.types_stmt.specs.Checked.{fault_if};
 ghost use Rattle.types_stmt.specs.Statements.{returned};
-ghost use Rattle.types_stmt.specs.View.{target_of, AddsLefts, AddsFaultsAt};
+ghost use Rattle.types_stmt.specs.View.{target_of, AddsLefts, AddsFaultsAt, AddsGiven};
 
 use crate::locals::declares;
 use go_ast::tree::{Expr, ExprItem};
@@ -124,20 +125,23 @@ fn all_unbroken(targets: &[Target]) -> bool
     each_unbroken(targets)
 }
 
-/// Notes a fault where the target refuses the value.
-#[tactic(auto, unfolding(crate::specs::View::target_of, crate::specs::Sides::refused_at, types_expr::specs::View::kind_of))]
+/// Notes a fault where the target refuses the value, or its entry into the target's type. `own` is false for one of several results of a call.
+#[tactic(auto, unfolding(crate::specs::View::target_of, crate::specs::Sides::refused_at, crate::specs::Sides::entered_at, types_expr::specs::View::kind_of))]
 fn refuse(
+    alloc: Global,
     world: &World<'_>,
+    own: bool,
     value: &ListValue,
     target: &Target,
     found: &mut FoundInFile,
 ) -> Result<(), AllocError>
-    ensures { OnOk result (AddsFaultsAt (refused_at (world_of world.now) value.now.place (option_map kind_of value.now.kind) (target_of target.now)) found.old found.new) }
+    ensures { OnOk result (AddsGiven (refused_at (giving own (world_of world.now)) value.now.place (option_map kind_of value.now.kind) (target_of target.now))
+        (entered_at (giving own (world_of world.now)) value.now.place (option_map kind_of value.now.kind) (target_of target.now)) found.old found.new) }
 {
     match target {
         Target::Wants(None) => Ok(()),
-        Target::Wants(Some(own)) => {
-            found.misfit(world, value, own)?;
+        Target::Wants(Some(wanted)) => {
+            found.misfit_given(alloc, world, own, value, wanted)?;
             Ok(())
         }
         Target::Takes => refuse_nil(value, found),
@@ -147,7 +151,7 @@ fn refuse(
 /// Notes a fault where the value is nil, which has no type of its own.
 #[tactic(auto, unfolding(crate::specs::Sides::nil_refused, types_expr::specs::View::kind_of))]
 fn refuse_nil(value: &ListValue, found: &mut FoundInFile) -> Result<(), AllocError>
-    ensures { OnOk result (AddsFaultsAt (nil_refused value.now.place (option_map kind_of value.now.kind)) found.old found.new) }
+    ensures { OnOk result (AddsGiven (nil_refused value.now.place (option_map kind_of value.now.kind)) [] found.old found.new) }
 {
     if matches!(value.kind, Some(ValueKind::Nil)) {
         found.faults.push(value.place)?;
@@ -155,18 +159,21 @@ fn refuse_nil(value: &ListValue, found: &mut FoundInFile) -> Result<(), AllocErr
     Ok(())
 }
 
-/// Notes each value that the target at its position refuses.
+/// Notes each value that the target at its position refuses, and each that enters its type. `own` is false for several results of a call.
 pub(crate) fn refuse_all(
+    alloc: Global,
     world: &World<'_>,
+    own: bool,
     values: &[ListValue],
     targets: &[Target],
     found: &mut FoundInFile,
 ) -> Result<(), AllocError>
-    ensures { OnOk result (AddsFaultsAt (all_refused (world_of world.now) (map list_value values.now) (map target_of targets.now)) found.old found.new) }
+    ensures { OnOk result (AddsGiven (all_refused (giving own (world_of world.now)) (map list_value values.now) (map target_of targets.now))
+        (all_entered (giving own (world_of world.now)) (map list_value values.now) (map target_of targets.now)) found.old found.new) }
 {
     let mut i = 0;
     'each: while i < values.len() && i < targets.len() {
-        refuse(world, &values[i], &targets[i], found)?;
+        refuse(alloc, world, own, &values[i], &targets[i], found)?;
         i += 1;
     }
     Ok(())
@@ -182,22 +189,33 @@ pub(crate) fn note_if(test: bool, place: usize, found: &mut FoundInFile) -> Resu
     Ok(())
 }
 
-/// Notes the values that their targets refuse, or a wrong count of values at `place`.
-#[tactic(auto, unfolding(crate::specs::Sides::given_faults))]
+/// Whether each of the values is that of a right side of its own.
+fn are_own(sides: &[ExprItem], values: &[ListValue]) -> bool
+    ensures { result ≡ (length (map list_value values.now) == length (exprs_view sides.now)) }
+{
+    values.len() == sides.len()
+}
+
+/// Notes the values of right sides that their targets refuse, or a wrong count of values at `place`.
+#[tactic(auto, unfolding(crate::specs::Sides::given_faults, crate::specs::Sides::given_enterings))]
 pub(crate) fn given_faults(
+    alloc: Global,
     world: &World<'_>,
     place: usize,
+    sides: &[ExprItem],
     values: &[ListValue],
     targets: &[Target],
     found: &mut FoundInFile,
 ) -> Result<(), AllocError>
-    ensures { OnOk result (AddsFaultsAt (given_faults (world_of world.now) place (map list_value values.now) (map target_of targets.now)) found.old found.new) }
+    ensures { OnOk result (AddsGiven (given_faults (receiving (world_of world.now) (exprs_view sides.now) (map list_value values.now)) place (map list_value values.now) (map target_of targets.now))
+        (given_enterings (receiving (world_of world.now) (exprs_view sides.now) (map list_value values.now)) (map list_value values.now) (map target_of targets.now)) found.old found.new) }
 {
     if values.len() == targets.len() {
-        return refuse_all(world, values, targets, found);
+        return refuse_all(alloc, world, are_own(sides, values), values, targets, found);
     }
     let whole = all_whole(values) && all_unbroken(targets);
-    note_if(whole, place, found)
+    note_if(whole, place, found)?;
+    Ok(())
 }
 
 /// Returns `meaning` where it is addressable or broken. Any other operand that is assigned is a fault.
@@ -341,19 +359,23 @@ pub(crate) fn defined(
     Ok(targets)
 }
 
-/// Notes the returned values that the results refuse, or a wrong count of values at `place`.
-#[tactic(auto, unfolding(crate::specs::Statements::returned))]
+/// Notes the values of returned expressions that the results refuse, or a wrong count of values at `place`.
+#[tactic(auto, unfolding(crate::specs::Statements::returned, crate::specs::Sides::given_enterings))]
 pub(crate) fn returned(
+    alloc: Global,
     world: &World<'_>,
     place: usize,
+    sides: &[ExprItem],
     values: &[ListValue],
     results: &[Target],
     found: &mut FoundInFile,
 ) -> Result<(), AllocError>
-    ensures { OnOk result (AddsFaultsAt (returned (world_of world.now) place (map list_value values.now) (map target_of results.now)) found.old found.new) }
+    ensures { OnOk result (AddsGiven (returned (receiving (world_of world.now) (exprs_view sides.now) (map list_value values.now)) place (map list_value values.now) (map target_of results.now))
+        (given_enterings (receiving (world_of world.now) (exprs_view sides.now) (map list_value values.now)) (map list_value values.now) (map target_of results.now)) found.old found.new) }
 {
     if values.len() == results.len() {
-        return refuse_all(world, values, results, found);
+        return refuse_all(alloc, world, are_own(sides, values), values, results, found);
     }
-    note_if(all_whole(values), place, found)
+    note_if(all_whole(values), place, found)?;
+    Ok(())
 }

@@ -174,7 +174,15 @@ impl CheckedBody {
         let place = first_of_exprs(left);
         let targets = assigned(alloc, scope, left, &mut self.found)?;
         let values = rhs(alloc, scope, right, &mut self.found)?;
-        given_faults(world, place, &values, &targets, &mut self.found)
+        given_faults(
+            alloc,
+            world,
+            place,
+            right,
+            &values,
+            &targets,
+            &mut self.found,
+        )
     }
 
     /// Checks `:=`.
@@ -195,7 +203,15 @@ impl CheckedBody {
         let names = defined_names(alloc, world, left)?;
         let targets = defined(alloc, scope, left, &mut self.found)?;
         let values = rhs(alloc, scope, right, &mut self.found)?;
-        given_faults(world, place, &values, &targets, &mut self.found)?;
+        given_faults(
+            alloc,
+            world,
+            place,
+            right,
+            &values,
+            &targets,
+            &mut self.found,
+        )?;
         declare_inferred(alloc, &mut self.locals, &names, &values)
     }
 
@@ -244,7 +260,15 @@ impl CheckedBody {
                 let place = first_of_idents(names);
                 let targets = written_targets(alloc, names, &own)?;
                 let given = rhs(alloc, scope, &values.values, &mut self.found)?;
-                given_faults(world, place, &given, &targets, &mut self.found)?;
+                given_faults(
+                    alloc,
+                    world,
+                    place,
+                    &values.values,
+                    &given,
+                    &targets,
+                    &mut self.found,
+                )?;
                 declare_written(alloc, &mut self.locals, names, &own)
             }
         }
@@ -271,7 +295,15 @@ impl CheckedBody {
         let place = first_of_idents(idents);
         let targets = name_targets(alloc, idents)?;
         let given = rhs(alloc, scope, &values.values, &mut self.found)?;
-        given_faults(world, place, &given, &targets, &mut self.found)?;
+        given_faults(
+            alloc,
+            world,
+            place,
+            &values.values,
+            &given,
+            &targets,
+            &mut self.found,
+        )?;
         declare_inferred(alloc, &mut self.locals, &names, &given)
     }
 

@@ -34,7 +34,15 @@ impl CheckedBody {
             locals: &self.locals,
         };
         let given = rhs(alloc, scope, values, &mut self.found)?;
-        returned(world, place, &given, results, &mut self.found)
+        returned(
+            alloc,
+            world,
+            place,
+            values,
+            &given,
+            results,
+            &mut self.found,
+        )
     }
 
     /// Checks a simple statement, if there is one.

@@ -9,6 +9,7 @@ use Rattle.base_lemmas.proofs.Elements.{nothing_in}
 use Rattle.base_files.specs.Workspace.{Workspace}
 use Rattle.base_files.specs.Packages.{package_paths}
 use Rattle.types_expr.specs.declared.found.MemberUse.{MemberUse}
+use Rattle.types_expr.specs.declared.found.Entering.{Entering}
 use Rattle.workspace_graph.proofs.ByPath.{number}
 use Rattle.types_declared.specs.ExportTablesView.{name_in, export_data_in, export_data_of, HasSameEntry}
 use Rattle.types_expr.specs.declared.exports.ExportData.{ExportData as FoundExportData}
@@ -20,7 +21,7 @@ use Rattle.workspace_check.specs.declared.finding.Finding.{Finding}
 use Rattle.workspace_check.specs.declared.judging.JudgedPackage.{JudgedPackage}
 use Rattle.workspace_check.specs.Verdicts.{BuildsOn, Verdicts, IsFaultBy, HasExportData, IsVerdictBy}
 use Rattle.workspace_check.specs.FaultLists.{AreListedFaults}
-use Rattle.workspace_check.specs.KnownFindings.{is_unknown, verdicts_by, AreNamedEntries, AreUsesOf, AreQualifiedOf, IsFinding}
+use Rattle.workspace_check.specs.KnownFindings.{is_unknown, verdicts_by, AreNamedEntries, AreUsesOf, AreEnteringsOf, AreQualifiedOf, IsFinding}
 use Rattle.workspace_check.specs.Steps.{IsBuildOrder, IsJudged, AddsOptional, LearnsFinding}
 use Rattle.workspace_check.proofs.Alike.{KnowsAlike, alike_back, package_as, fault_as}
 use Rattle.workspace_check.proofs.Closed.{to_package}
@@ -62,13 +63,17 @@ verdict_found w known p faults (Some i) all more fresh listed found s =
 
 pub learns_by : (w : Workspace) (p : List ℕ) (all more : ExportTable) (j : JudgedPackage) (f : Finding) → name_in all p ≡ None → AreNamedEntries all →
     IsJudged w (verdicts_by all) p j → AddsOptional all more p j.export_data →
-    f.path ≡ p → f.faults ≡ j.faults → f.members ≡ j.members → f.qualified ≡ j.qualified → LearnsFinding w p f all more
-learns_by w p all more j f fresh whole h may path faults members qualified = record {
+    f.path ≡ p → f.faults ≡ j.faults → f.members ≡ j.members → f.enterings ≡ j.enterings → f.qualified ≡ j.qualified →
+    LearnsFinding w p f all more
+learns_by w p all more j f fresh whole h may path faults members enterings qualified = record {
   is_finding = record {
     has_path = path;
     listed = subst (λ (v : Vec FileFault). AreListedFaults (IsFaultBy w (verdicts_by all) p) v.items) (sym faults) h.listed;
     members = λ e.
         subst (λ (v : Vec (Vec MemberUse)). AreUsesOf w (verdicts_by all) p v.items) (sym members) (h.uses (sym (ap (λ (v : Vec FileFault). v.items) faults) ∙ e));
+    enterings = λ e.
+        subst (λ (v : Vec (Vec Entering)). AreEnteringsOf w (verdicts_by all) p v.items) (sym enterings)
+        (h.enterings (sym (ap (λ (v : Vec FileFault). v.items) faults) ∙ e));
     qualified = λ e.
         subst (λ (v : Vec Qualified). AreQualifiedOf w (verdicts_by all) p v.items) (sym qualified)
         (h.qualified (sym (ap (λ (v : Vec FileFault). v.items) faults) ∙ e));
@@ -88,6 +93,8 @@ finding_as w p a b same f h = record {
     each = λ x. (λ c. fault_as w p a b same x ((h.listed.each x).0 c), λ is. (h.listed.each x).1 (fault_as w p b a (alike_back w p a b same) x is));
   };
   members = λ e. (let u = h.members e in record { checked = u.checked; is_package = package_as w p a b same u.checked u.is_package; are_uses = u.are_uses });
+  enterings = λ e. (let u = h.enterings e in record
+      { checked = u.checked; is_package = package_as w p a b same u.checked u.is_package; are_enterings = u.are_enterings });
   qualified = λ e. (let q = h.qualified e in record
       { checked = q.checked; is_package = package_as w p a b same q.checked q.is_package; are_qualified = q.are_qualified });
 }

@@ -19,7 +19,8 @@ use Rattle.types_declared.specs.Package.{Package, ExportData}
 use Rattle.types_check.specs.Exports.{IsExportData}
 use Rattle.types_declared.specs.ExportTablesView.{export_data_of}
 use Rattle.types_expr.specs.declared.found.MemberUse.{MemberUse}
-use Rattle.types_info.specs.MemberUses.{AreMemberUses, uses_in}
+use Rattle.types_expr.specs.declared.found.Entering.{Entering}
+use Rattle.types_info.specs.MemberUses.{AreEnterings, AreMemberUses, enterings_in, uses_in}
 use Rattle.types_info.specs.PackageOf.{IsPackageOf}
 use Rattle.types_info.specs.declared.lists.Qualified.{Qualified}
 use Rattle.types_info.specs.QualifiedIdentifiers.{AreQualified}
@@ -135,6 +136,7 @@ module _ (w : Workspace) (known : Verdicts) (p : List ℕ) (own : Contains (pack
         has_export_data = subst (λ o. MatchOption o (j.faults.items ≡ [] → ⊥) (λ i. (j.faults.items ≡ []) × HasExportData w known p (export_data_of p i)))
             (sym (same ∙ gone)) filled;
         uses = λ e. absurd (filled e);
+        enterings = λ e. absurd (filled e);
         qualified = λ e. absurd (filled e);
       }
 
@@ -166,10 +168,10 @@ module _ (w : Workspace) (known : Verdicts) (p : List ℕ) (own : Contains (pack
         (from m.0, record { checked = c; is_package = is_checked c h; is_export_data = subst (λ q. IsExportData c (export_data_of q i)) path m.1 })
 
     pub judged_inside : (c : Package) (x : Checked) (j : JudgedPackage) → HasNoFault Outer → IsPackageOf p files name_of export_data_at c →
-        IsFindingBy (IsLaterFault c) c x → j.export_data ≡ x.export_data → j.members ≡ x.members → j.qualified ≡ x.qualified →
-        IsStrictlySortedBy fault_cmp j.faults.items →
+        IsFindingBy (IsLaterFault c) c x → j.export_data ≡ x.export_data → j.members ≡ x.members → j.enterings ≡ x.enterings →
+        j.qualified ≡ x.qualified → IsStrictlySortedBy fault_cmp j.faults.items →
         ((y : FileFault) → Contains j.faults.items y ↔ IsSomePlacedFault files x.faults.items y) → IsJudged w known p j
-    judged_inside c x j sound h checked same_export_data same_members same_qualified sorted each =
+    judged_inside c x j sound h checked same_export_data same_members same_enterings same_qualified sorted each =
         let to : j.faults.items ≡ [] → x.faults.items ≡ [] = λ e.
         empty_by x.faults.items (λ f k. placed_some x.faults.items j.faults.items each f k (later_in_file c h f (checked.faults.only f k)) e) in
         let from : x.faults.items ≡ [] → j.faults.items ≡ [] = λ e.
@@ -188,6 +190,11 @@ module _ (w : Workspace) (known : Verdicts) (p : List ℕ) (own : Contains (pack
             is_package = is_checked c h;
             are_uses = subst (λ (ms : Vec (Vec MemberUse)). AreMemberUses c (map uses_in ms.items)) (sym same_members) (checked.members (to e));
           };
+          enterings = λ e. record {
+            checked = c;
+            is_package = is_checked c h;
+            are_enterings = subst (λ (es : Vec (Vec Entering)). AreEnterings c (map enterings_in es.items)) (sym same_enterings) (checked.enterings (to e));
+          };
           qualified = λ e. record {
             checked = c;
             is_package = is_checked c h;
@@ -196,9 +203,9 @@ module _ (w : Workspace) (known : Verdicts) (p : List ℕ) (own : Contains (pack
         }
 
     pub judged_by : (x : Checked) (j : JudgedPackage) → IsFindingIn p files state name_of export_data_at x → j.export_data ≡ x.export_data → j.members ≡ x.members →
-        j.qualified ≡ x.qualified → IsStrictlySortedBy fault_cmp j.faults.items →
+        j.enterings ≡ x.enterings → j.qualified ≡ x.qualified → IsStrictlySortedBy fault_cmp j.faults.items →
         ((y : FileFault) → Contains j.faults.items y ↔ IsSomePlacedFault files x.faults.items y) → IsJudged w known p j
-    judged_by x j (outside some lists gone) same_export_data same_members same_qualified sorted each =
+    judged_by x j (outside some lists gone) same_export_data same_members same_enterings same_qualified sorted each =
         judged_outside x j some lists gone same_export_data sorted each
-    judged_by x j (inside {p = c} sound h checked) same_export_data same_members same_qualified sorted each =
-        judged_inside c x j sound h checked same_export_data same_members same_qualified sorted each
+    judged_by x j (inside {p = c} sound h checked) same_export_data same_members same_enterings same_qualified sorted each =
+        judged_inside c x j sound h checked same_export_data same_members same_enterings same_qualified sorted each

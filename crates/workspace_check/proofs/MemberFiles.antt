@@ -3,13 +3,13 @@ use Rattle.std.proofs.Common.{ℕ, suc, ◌≡◌, ◌<◌, List, [], ◌∷◌,
 use Rattle.std.specs.Prelude.{Some, slice_get}
 use Rattle.std.specs.List.{AllByRecursion}
 use Rattle.base_lemmas.proofs.EachElement.{all_append}
-use Rattle.go_ast.specs.Tree.{Item, FieldTree, BodyTree, Other, Struct, Interface, DeclTree, VarDecl, TypeDecl, FuncDecl}
+use Rattle.go_ast.specs.Tree.{Item, FieldTree, MethodTree, BodyTree, Other, Struct, Interface, DeclTree, VarDecl, TypeDecl, FuncDecl}
 use Rattle.go_ast.specs.SourceFile.{SourceFile}
 use Rattle.types_declared.specs.Files.{RankedSource, ranked_files, group_items}
 use Rattle.law_tokens.proofs.Elements.{all_got, all_flat, all_made, all_map, all_numbered}
 use Rattle.types_declared.specs.Package.{Package, PlacedType, PlacedFunction, placed_type, decl_types, decl_functions, types_in, functions_in, package_types}
 use Rattle.types_declared.specs.Package.{package_functions}
-use Rattle.types_declared.specs.Definitions.{PlacedField, body_fields, fields_from, package_fields}
+use Rattle.types_declared.specs.Definitions.{OfType, OfSignature, PlacedField, body_fields, fields_from, package_fields}
 
 -- the files by their ranks
 
@@ -22,10 +22,13 @@ all_ranked files = all_numbered (length files) 0 files (omega arith)
 -- what one declaration declares
 
 abbrev named_field : (rank file : ℕ) → Item FieldTree → Item ℕ → PlacedField
-named_field rank file i name = record { definition = rank; file = file; name = name.value; type_use = i.value.type_use }
+named_field rank file i name = record { definition = rank; file = file; name = name.value; form = OfType i.value.type_use }
 
 abbrev named_fields : (rank file : ℕ) → Item FieldTree → List PlacedField
 named_fields rank file i = map (named_field rank file i) i.value.names
+
+abbrev asked_field : (rank file : ℕ) → Item MethodTree → PlacedField
+asked_field rank file i = record { definition = rank; file = file; name = i.value.name; form = OfSignature i.value.params i.value.result }
 
 module _ (n : ℕ) where
   types_of : (file : ℕ) → file < n → (d : DeclTree) → AllByRecursion (λ (t : PlacedType). t.file < n) (decl_types file d)
@@ -43,7 +46,7 @@ module _ (n : ℕ) where
   fields_of rank file lt (Struct k o fs c) =
       all_made (λ (x : PlacedField). x.file < n) (named_fields rank file)
       (λ i. all_map (λ (x : PlacedField). x.file < n) (named_field rank file i) (λ name. lt) i.value.names) fs
-  fields_of rank file lt (Interface k o ms c) = tt
+  fields_of rank file lt (Interface k o ms c) = all_map (λ (x : PlacedField). x.file < n) (asked_field rank file) (λ i. lt) ms
 
   fields_in : (rank : ℕ) (ds : List PlacedType) → AllByRecursion (λ (t : PlacedType). t.file < n) ds →
       AllByRecursion (λ (x : PlacedField). x.file < n) (fields_from rank ds)

@@ -1,19 +1,15 @@
 -- A package has one verdict at most.
-use Rattle.std.proofs.Common.{ℕ, ◌≡◌, Bool, true, false, List, refl, sym, subst, ◌∙◌}
+use Rattle.std.proofs.Common.{ℕ, ◌≡◌, Bool, true, false, List, sym, subst, ◌∙◌}
 use Rattle.base_files.specs.Workspace.{Workspace}
 use Rattle.types_declared.specs.Package.{Package, ExportData}
 use Rattle.types_check.specs.Exports.{IsExportData}
+use Rattle.types_info.proofs.OneWorld.{same_tests}
 use Rattle.workspace_check.specs.declared.fault.FileFault.{FileFault}
 use Rattle.workspace_check.specs.Verdicts.{Verdict, Verdicts, IsPackageIn, IsFaultBy, HasExportData, IsVerdictBy, IsVerdict, follows, AreVerdictsBelow, AreVerdicts}
 use Rattle.workspace_check.specs.Laws.{IsSameVerdict}
 use Rattle.workspace_check.proofs.Alike.{KnowsAlike, package_as, verdict_as}
 use Rattle.workspace_check.proofs.Closed.{to_package}
 use Rattle.workspace_check.proofs.OnePackage.{one_checked, layout_formed, files_in_order, one_export_data}
-
-same_tests : (s t : Bool) → (s ≡ true → t ≡ true) → (t ≡ true → s ≡ true) → s ≡ t
-same_tests true t f g = sym (f refl)
-same_tests false true f g = g refl
-same_tests false false f g = refl
 
 same_export_data : (w : Workspace) (known : Verdicts) (p : List ℕ) (i j : ExportData) → HasExportData w known p i → HasExportData w known p j → i ≡ j
 same_export_data w known p i j a b =

@@ -110,6 +110,8 @@ module _ (w x : Workspace) (p : List ℕ) (there : StandsAlike w x p) (here : St
     listed = listed_there f.faults.items h.listed;
     members = λ e. (let u = h.members e in record
         { checked = u.checked; is_package = package_there w x p there known u.checked u.is_package; are_uses = u.are_uses });
+    enterings = λ e. (let u = h.enterings e in record
+        { checked = u.checked; is_package = package_there w x p there known u.checked u.is_package; are_enterings = u.are_enterings });
     qualified = λ e. (let q = h.qualified e in record
         { checked = q.checked; is_package = package_there w x p there known q.checked q.is_package; are_qualified = q.are_qualified });
   }

@@ -137,6 +137,7 @@ unread_judged w known p ts fs parsed some j sorted same gone =
       has_export_data = subst (λ o. MatchOption o (j.faults.items ≡ [] → ⊥) (λ i. (j.faults.items ≡ []) × HasExportData w known p (export_data_of p i)))
           (sym gone) filled;
       uses = λ e. absurd (filled e);
+      enterings = λ e. absurd (filled e);
       qualified = λ e. absurd (filled e);
     }
   where

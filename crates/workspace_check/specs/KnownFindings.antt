@@ -3,10 +3,11 @@ use Rattle.std.specs.Prelude.{ℕ, ◌≡◌, Bool, true, false, List, [], Optio
 use Rattle.std.specs.Global.{Vec}
 use Rattle.base_files.specs.Workspace.{Workspace}
 use Rattle.types_expr.specs.declared.found.MemberUse.{MemberUse}
+use Rattle.types_expr.specs.declared.found.Entering.{Entering}
 use Rattle.types_expr.specs.declared.exports.ExportData.{ExportData}
 use Rattle.types_declared.specs.Package.{Package}
 use Rattle.types_declared.specs.ExportTablesView.{name_in, known_name, export_data_in, export_data_known, no_export_data}
-use Rattle.types_info.specs.MemberUses.{AreMemberUses, uses_in}
+use Rattle.types_info.specs.MemberUses.{AreEnterings, AreMemberUses, enterings_in, uses_in}
 use Rattle.types_info.specs.declared.lists.Qualified.{Qualified}
 use Rattle.types_info.specs.QualifiedIdentifiers.{AreQualified}
 use Rattle.types_declared.specs.declared.export_tables.ExportTable.{ExportTable}
@@ -37,17 +38,24 @@ pub record AreUsesOf (w : Workspace) (known : Verdicts) (p : List ℕ) (members 
   pub is_package : IsPackageIn w known p checked
   pub are_uses : AreMemberUses checked (map uses_in members)
 
+-- The entries of values into interfaces in the files of `p`, in one list for each file.
+pub record AreEnteringsOf (w : Workspace) (known : Verdicts) (p : List ℕ) (enterings : List (Vec Entering)) : Type 0 where
+  pub checked : Package
+  pub is_package : IsPackageIn w known p checked
+  pub are_enterings : AreEnterings checked (map enterings_in enterings)
+
 -- The qualified identifiers of `p`.
 pub record AreQualifiedOf (w : Workspace) (known : Verdicts) (p : List ℕ) (qualified : List Qualified) : Type 0 where
   pub checked : Package
   pub is_package : IsPackageIn w known p checked
   pub are_qualified : AreQualified checked qualified
 
--- `f` has the faults of `p`, and if there are none, its uses of members and its qualified identifiers.
+-- `f` has the faults of `p`, and if there are none, its uses of members, its entries and its qualified identifiers.
 pub record IsFinding (w : Workspace) (known : Verdicts) (p : List ℕ) (f : Finding) : Type 0 where
   pub has_path : f.path ≡ p
   pub listed : AreListedFaults (IsFaultBy w known p) f.faults.items
   pub members : f.faults.items ≡ [] → AreUsesOf w known p f.members.items
+  pub enterings : f.faults.items ≡ [] → AreEnteringsOf w known p f.enterings.items
   pub qualified : f.faults.items ≡ [] → AreQualifiedOf w known p f.qualified.items
 
 -- `f` is the finding of `p`, by the right verdicts on the packages that it builds on.

@@ -25,7 +25,7 @@ use Rattle.types_check.specs.Check.{IsFindingIn}
 use Rattle.workspace_check.specs.Faults.{placed, placed_in}
 use Rattle.workspace_check.specs.Verdicts.{Verdicts, BuildsOn, IsFaultBy, HasExportData, IsVerdictBy, IsVerdict, AreStates, AreSeen}
 use Rattle.workspace_check.specs.FaultLists.{AreListedFaults}
-use Rattle.workspace_check.specs.KnownFindings.{verdicts_by, AreNamedEntries, AreUsesOf, AreQualifiedOf, IsFinding, IsFindingOf}
+use Rattle.workspace_check.specs.KnownFindings.{verdicts_by, AreNamedEntries, AreUsesOf, AreEnteringsOf, AreQualifiedOf, IsFinding, IsFindingOf}
 use Rattle.workspace_check.specs.declared.fault.FileFault.{FileFault}
 use Rattle.workspace_check.specs.declared.finding.Finding.{Finding}
 use Rattle.workspace_check.specs.declared.found_package.FoundPackage.{FoundPackage}
@@ -119,11 +119,12 @@ pub record IsStoppedResult (w : Workspace) (known : Verdicts) (p : List ℕ) (c 
   pub faults : HoldsExactly (IsOuterFault state (map source_of files)) c.faults.items
   pub export_data : c.export_data ≡ None
 
--- The faults of `p`, or else its export data, its uses of members and its qualified identifiers.
+-- The faults of `p`, or else its export data, its uses of members, its entries and its qualified identifiers.
 pub record IsJudged (w : Workspace) (known : Verdicts) (p : List ℕ) (j : JudgedPackage) : Type 0 where
   pub listed : AreListedFaults (IsFaultBy w known p) j.faults.items
   pub has_export_data : MatchOption j.export_data (j.faults.items ≡ [] → ⊥) (λ i. (j.faults.items ≡ []) × HasExportData w known p (export_data_of p i))
   pub uses : j.faults.items ≡ [] → AreUsesOf w known p j.members.items
+  pub enterings : j.faults.items ≡ [] → AreEnteringsOf w known p j.enterings.items
   pub qualified : j.faults.items ≡ [] → AreQualifiedOf w known p j.qualified.items
 
 -- The export data of `path` was added, if there is any.

@@ -5,17 +5,19 @@ use crate::fault::FileFault;
 use std::alloc::{AllocError, Global};
 use std::marker::Model;
 use std::sync::Arc;
-use types_expr::found::MemberUse;
+use types_expr::found::{Entering, MemberUse};
 use types_expr::symbol::SharedPath;
 use types_info::Qualified;
 
-/// What checking found in a package: its sorted faults, or else its uses of members and its qualified identifiers. `members` has one list
-/// for each file, by file rank; it and `qualified` count only if there are no faults.
+/// What checking found in a package: its sorted faults, or else its uses of members, its entries of values into interfaces and its
+/// qualified identifiers. `members` and `enterings` have one list for each file, by file rank. They and `qualified` count only if there are
+/// no faults.
 #[derive(Drop)]
 pub struct Finding {
     pub path: SharedPath,
     pub faults: Vec<FileFault>,
     pub members: Vec<Vec<MemberUse>>,
+    pub enterings: Vec<Vec<Entering>>,
     pub qualified: Vec<Qualified>,
 }
 

@@ -66,6 +66,7 @@ pub(crate) fn enter_judged(
         faults,
         export_data,
         members,
+        enterings,
         qualified,
     } = judged;
     add(alloc, all, &path, export_data)?;
@@ -73,6 +74,7 @@ pub(crate) fn enter_judged(
         path,
         faults,
         members,
+        enterings,
         qualified,
     })
 }

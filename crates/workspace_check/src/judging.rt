@@ -1,4 +1,4 @@
-//! Judges one package: finds its faults, or its export data, uses of members and qualified identifiers.
+//! Judges one package: finds its faults, or its export data, uses of members, entries into interfaces and qualified identifiers.
 ghost use Rattle.std.specs.Prelude.{ℕ, ◌≡◌, ◌<◌, List, [], length, Contains, IfOk, IsTrue};
 ghost use Rattle.base_files.specs.Packages.{package_files, package_paths};
 ghost use Rattle.base_files.specs.Workspace.{Workspace};
@@ -15,17 +15,19 @@ use crate::seeing::{imports_faulty, seen_imports, states_by};
 use std::alloc::{AllocError, Global};
 use types_check::{Checked, check};
 use types_declared::{ExportData, ExportTable};
-use types_expr::found::MemberUse;
+use types_expr::found::{Entering, MemberUse};
 use types_expr::symbol::SharedPath;
 use types_info::Qualified;
 use workspace_graph::{Graph, ParsedPackage};
 
-/// The sorted faults of a package, or else its export data, its uses of members (a list for each file), and its qualified identifiers.
+/// The sorted faults of a package, or else its export data, its uses of members, its entries and its qualified identifiers. `members` and
+/// `enterings` have a list for each file.
 #[derive(Drop)]
 pub(crate) struct JudgedPackage {
     pub(crate) faults: Vec<FileFault>,
     pub(crate) export_data: Option<ExportData>,
     pub(crate) members: Vec<Vec<MemberUse>>,
+    pub(crate) enterings: Vec<Vec<Entering>>,
     pub(crate) qualified: Vec<Qualified>,
 }
 
@@ -40,6 +42,7 @@ fn judge_unread(alloc: Global, files: &ParsedPackage) -> Result<JudgedPackage, A
         faults,
         export_data: None,
         members: Vec::new(alloc),
+        enterings: Vec::new(alloc),
         qualified: Vec::new(alloc),
     })
 }
@@ -57,6 +60,7 @@ pub(crate) fn place_checked(
         faults,
         export_data,
         members,
+        enterings,
         qualified,
     } = checked;
     let mut faults = placed_faults(alloc, &files.trees, &faults)?;
@@ -65,6 +69,7 @@ pub(crate) fn place_checked(
         faults,
         export_data,
         members,
+        enterings,
         qualified,
     })
 }

@@ -1,6 +1,6 @@
-//! Checks the packages of a workspace. A finding is what checking found in a package: its faults, or else its uses of members and its
-//! qualified identifiers. A verdict says whether the package has faults, and has its export data if not. A package builds on another one if
-//! it imports that one, directly or indirectly, and is not so imported by it.
+//! Checks the packages of a workspace. A finding is what checking found in a package: its faults, or else its uses of members, its entries
+//! of values into interfaces and its qualified identifiers. A verdict says whether the package has faults, and has its export data if not.
+//! A package builds on another one if it imports that one, directly or indirectly, and is not so imported by it.
 //!
 //! Crates above rely on: `verdicts` returns the finding of each package, which its closure determines, and `faults` lists all faults.
 #![tactic(auto)]

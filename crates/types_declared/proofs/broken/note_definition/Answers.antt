@@ -7,7 +7,7 @@ use Rattle.go_ast.specs.FileView.{body_view}
 use Rattle.types_declared.specs.PackageView.{package_of}
 use Rattle.types_declared.specs.Written.{written_types}
 use Rattle.types_declared.specs.Broken.{AddsLinks, IsTarget, IsTargetOfSome}
-use Rattle.types_declared.proofs.Mentioning.{field_types, adds_as, adds_nothing, no_target, some_one, one_some}
+use Rattle.types_declared.proofs.Mentioning.{field_types, method_list, adds_as, some_one, one_some}
 use Rattle.types_declared.proofs.broken.note_definition.Goals as goal
 
 pub returns-in-Type : goal.returns-in-Type
@@ -37,5 +37,7 @@ unfolding body_view
 returns-in-Interface c =
     let p = package_of c.args.pkg in
     let file = c.args.definition.now.file in
-    adds_nothing c.args.links.now.items c.args.rank (IsTargetOfSome p file (written_types (body_view c.args.definition.now.spec.now.body)))
-    (λ a h. no_target p file a (subst (λ b. IsTargetOfSome p file (written_types (body_view b)) a) c.in-Interface.is h))
+    subst (λ b. OnOk c.note_methods.result (AddsLinks c.args.links.now.items c.note_methods.new.links.items c.args.rank
+    (IsTargetOfSome p file (written_types (body_view b))))) (sym c.in-Interface.is)
+    (subst (λ ms. OnOk c.note_methods.result (AddsLinks c.args.links.now.items c.note_methods.new.links.items c.args.rank
+    (IsTargetOfSome p file (method_list ms)))) c.deref-in-Interface.ensures.value c.note_methods.ensures)

@@ -1,8 +1,9 @@
 -- The answers to the goals of `struct_fields::add_fields`.
 use Rattle.std.proofs.Common.{arith}
+use Rattle.std.proofs.lemmas.Result.{on_ok_weaker}
 use Rattle.types_members.specs.FieldsView.{field_of}
 use Rattle.types_declared.proofs.Appending.{appends_none, appends_as, appends_all, appends_next}
-use Rattle.types_members.proofs.FieldParts.{field_part, struct_from, none_from, none_of_interface}
+use Rattle.types_members.proofs.FieldParts.{field_part, struct_from, none_from, interface_from}
 use Rattle.types_members.proofs.struct_fields.add_fields.Goals as goal
 
 pub returns-in-Type : goal.returns-in-Type
@@ -12,9 +13,10 @@ returns-in-Type c =
 
 pub returns-in-Interface : goal.returns-in-Interface
 returns-in-Interface c =
-    appends_as field_of c.args.found.now.items c.args.found.now.items _ _ (appends_none field_of c.args.found.now.items)
-    (none_of_interface c.args.definition c.args.file c.args.spec.now.body c.in-Interface.at c.in-Interface.«open» c.in-Interface.methods c.in-Interface.close
-    c.in-Interface.is)
+    on_ok_weaker c.add_asked.result
+    (λ h. appends_as field_of c.args.found.now.items c.add_asked.new.found.items _ _ h
+    (interface_from c.args.definition c.args.file c.args.spec.now.body c.in-Interface.at c.in-Interface.«open» c.in-Interface.methods c.in-Interface.close _
+    c.in-Interface.is c.deref.ensures.value)) c.add_asked.ensures
 
 pub loop-item-preserved : goal.loop-item-preserved
 loop-item-preserved c =

@@ -23,8 +23,9 @@ returns-in_ok-own_struct-in-Struct c =
     (list_view field_view c.in-Struct.fields.items)
     (underlying_of c.in_ok-own_struct-in-Struct.field-0) c.requires.definition (ap body_view c.in-Struct.is) c.in_ok-own_struct-in-Struct.ensures
 
-pub returns-in-Interface : goal.returns-in-Interface
+pub returns-in_ok-own_interface-in-Interface : goal.returns-in_ok-own_interface-in-Interface
 unfolding body_view type_spec_view
-returns-in-Interface c =
+returns-in_ok-own_interface-in-Interface c =
     of_interface (package_of c.args.pkg) c.args.rank (type_of c.args.definition.now) c.in-Interface.at c.in-Interface.«open» c.in-Interface.close
-    (list_view method_view c.in-Interface.methods.items) c.requires.definition (ap body_view c.in-Interface.is)
+    (list_view method_view c.in-Interface.methods.items) (underlying_of c.in_ok-own_interface-in-Interface.field-0) c.requires.definition
+    (ap body_view c.in-Interface.is) c.in_ok-own_interface-in-Interface.ensures

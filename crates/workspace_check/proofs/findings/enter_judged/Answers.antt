@@ -8,4 +8,4 @@ pub returns : goal.returns
 returns c = λ w p path whole fresh judged.
     let j = c.args.judged in
     learns_by w p c.args.all.now c.add.new.all j _ fresh whole judged (subst (λ q. AddsOptional c.args.all.now c.add.new.all q j.export_data) path c.in_ok-add.ensures)
-    path refl refl refl
+    path refl refl refl refl

@@ -23,7 +23,7 @@ returns c =
     ) in
     record {
       checked = λ w known p own parsed is.
-          judged_by w known p own is.files is.parsed is.state is.are_states is.name_of is.export_data_of is.are_seen checked _ is.is_found refl refl refl
+          judged_by w known p own is.files is.parsed is.state is.are_states is.name_of is.export_data_of is.are_seen checked _ is.is_found refl refl refl refl
           c.sort.ensures.order (each is.files (one_sources parsed is.parsed));
       stopped = λ w known p own parsed is.
           judged_outside w known p own is.files is.parsed is.state is.are_states checked _ is.some is.faults is.export_data refl
