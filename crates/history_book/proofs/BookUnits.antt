@@ -4,7 +4,7 @@ use mathlib.Core.Logic.{∥∥₁_map}
 use Rattle.base_files.specs.Workspace.{Workspace}
 use Rattle.base_files.specs.declared.limits.Limits.{Limits}
 use Rattle.build_carry.specs.Finished.{Table}
-use Rattle.build_kept.specs.KnownUnits.{AreKnownUnits, IsKnownUnit, value_with_names}
+use Rattle.build_kept.specs.KnownUnits.{AreKnownUnits}
 use Rattle.build_kept.proofs.Names.{value_unchanged}
 use Rattle.build_unit.specs.Units.{IsUnitValue, unit_value}
 use Rattle.history_machine.specs.Current.{AreUnits, UnitsAreCurrent}

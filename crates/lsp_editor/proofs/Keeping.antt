@@ -1,5 +1,5 @@
 -- What is published of documents, one after another, and what is kept of it.
-use Rattle.std.proofs.Common.{ℕ, ◌≡◌, ◌∙◌, ◌<◌, ◌+◌, ◌||◌, zero, suc, Bool, true, false, arith, cond, List, [], ◌∷◌, ◌++◌, Option, Some, None, append_assoc, bytes_eq, get_or, length, map, option_map, string_bytes, take, refl, sym, ap, subst}
+use Rattle.std.proofs.Common.{ℕ, ◌≡◌, ◌∙◌, ◌<◌, ◌+◌, ◌||◌, zero, suc, Bool, true, false, arith, cond, List, [], ◌∷◌, ◌++◌, Option, Some, append_assoc, bytes_eq, get_or, length, map, option_map, string_bytes, take, refl, sym, ap, subst}
 use Rattle.std.proofs.lemmas.Bool.{true≢false}
 use Rattle.std.proofs.lemmas.List.{append-nil, map-append}
 use Rattle.std.proofs.lemmas.Map.Text.{btree_map_updates_text}

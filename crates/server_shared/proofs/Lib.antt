@@ -9,5 +9,4 @@ pub mod TakeLaws
 pub mod WakeLaws
 pub mod WorkLaws
 pub mod SendsFound
-pub mod SendsTrees
 pub mod Sends

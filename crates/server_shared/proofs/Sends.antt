@@ -2,22 +2,10 @@
 use denote.RattleType.{RattleType}
 use denote.Param.Send.{IsSend, IsSync, sendable}
 use Rattle.std.specs.declared.sync.ledger.Ledger.{Ghosts as Ledger}
-use Rattle.std.specs.declared.cmp.Ord as ord
-use Rattle.std.specs.declared.cmp.PartialEq as eq
-use Rattle.std.specs.declared.cmp.PartialOrd as partial
-use Rattle.std.proofs.Crossing.{crosses, frees, send as Global-send, sync as Global-sync}
+use Rattle.std.proofs.Crossing.{crosses, send as Global-send, sync as Global-sync}
 use Rattle.std.proofs.MapsCrossing.{crosses as maps}
-use Rattle.std.proofs.MapsCrossingOver.{BTreeSet-send, BTreeSet-sync}
-use Rattle.std.specs.contracts.collections.BTreeSet as BTreeSet
-use Rattle.std.specs.contracts.alloc.Global as Heap
-use Rattle.std.specs.contracts.prelude.GlobalAllocator.TheImpl.{ghosts}
 use Rattle.std.proofs.sync.ledger.Book.TheSendSync.{the_send as Count-send}
 use Rattle.std.proofs.sync.ledger.Share.TheSendSync.{the_send as Share-send}
-use Rattle.workspace_graph.specs.contracts.package.ParsedPackage.{the_row as folder, the_field as folder_field}
-use Rattle.workspace_graph.specs.contracts.shared_package.PackageParts.{the_row as package_parts}
-use Rattle.workspace_graph.specs.contracts.shared_package.SharedPackage.{the_row as shared_package}
-use Rattle.workspace_graph.specs.contracts.graph.Parts.{the_row as graph_parts}
-use Rattle.workspace_graph.specs.contracts.graph.Graph.{the_row as graph}
 use Rattle.workspace_check.specs.contracts.earlier.EarlierParts.{the_row as earlier_parts}
 use Rattle.workspace_check.specs.contracts.earlier.Earlier.{the_row as earlier}
 use Rattle.workspace_check.specs.contracts.known.Known.{the_row as known}
@@ -52,15 +40,7 @@ use Rattle.server_shared.proofs.seat.Seat.TheSendSync.{the_send as Seat-send}
 use Rattle.server_shared.proofs.SendsFound.{file_fault_sent, file_fault_shared, export_data_sent, export_data_shared, verdict_sent}
 use Rattle.server_shared.proofs.SendsFound.{verdict_shared}
 use Rattle.types_expr.proofs.types.GoType.TheLaws.TheKnot.{crosses as type_crosses}
-use Rattle.server_shared.proofs.SendsTrees.{file_tree_sent, file_tree_shared}
-
--- a set of owned keys at the heap
-module _ (K : RattleType) (o : ord.Ghosts K.Denot) (e : eq.Ghosts K.Denot) (p : partial.Ghosts K.Denot) where
-  set_sent : IsSend K → IsSend (BTreeSet.the_field K Heap.the_row o e p ghosts).row
-  set_sent sent = BTreeSet-send K Heap.the_row o e p ghosts sent Global-send frees
-
-  set_shared : IsSync K → IsSync (BTreeSet.the_field K Heap.the_row o e p ghosts).row
-  set_shared shared = BTreeSet-sync K Heap.the_row o e p ghosts shared Global-sync
+use Rattle.workspace_parsing.proofs.SendsGraph.{graph_sent, graph_shared, set_sent, set_shared}
 
 -- owned values, and what each of the crates below shows of its own types
 ruleset owned = (
@@ -82,43 +62,6 @@ ruleset owned = (
   SharedLinks-send,
   SharedLinks-sync,
 )
-
-pub folder_sent : IsSend folder
-folder_sent = search (owned, file_tree_sent) depth 30 fits 50000
-
-pub folder_shared : IsSync folder
-folder_shared = search (owned, file_tree_shared) depth 30 fits 50000
-
--- A package as a field may be sent and shared. Its row is not compared with the other by `search`, which would take too many steps.
-folder_field_sent : IsSend folder_field.row
-folder_field_sent = search (owned, file_tree_sent) depth 30 fits 50000
-
-folder_field_shared : IsSync folder_field.row
-folder_field_shared = search (owned, file_tree_shared) depth 30 fits 50000
-
-pub package_parts_sent : IsSend package_parts
-package_parts_sent = search (sendable, crosses, maps, set_sent, set_shared, folder_field_sent) depth 30 fits 50000
-
-pub package_parts_shared : IsSync package_parts
-package_parts_shared = search (sendable, crosses, maps, set_sent, set_shared, folder_field_shared) depth 30 fits 50000
-
-pub shared_package_sent : IsSend shared_package
-shared_package_sent = search (owned, package_parts_sent, package_parts_shared) depth 30 fits 50000
-
-pub shared_package_shared : IsSync shared_package
-shared_package_shared = search (owned, package_parts_sent, package_parts_shared) depth 30 fits 50000
-
-pub graph_parts_sent : IsSend graph_parts
-graph_parts_sent = search (owned, shared_package_sent) depth 30 fits 50000
-
-pub graph_parts_shared : IsSync graph_parts
-graph_parts_shared = search (owned, shared_package_shared) depth 30 fits 50000
-
-pub graph_sent : IsSend graph
-graph_sent = search (owned, graph_parts_sent, graph_parts_shared) depth 30 fits 50000
-
-pub graph_shared : IsSync graph
-graph_shared = search (owned, graph_parts_sent, graph_parts_shared) depth 30 fits 50000
 
 -- what is known of packages, and what was known of them in another graph
 

@@ -1,14 +1,17 @@
 -- The findings of packages may be sent to other threads, and shared by them.
 use denote.Param.Send.{IsSend, IsSync, sendable}
+use denote.Param.SendFields.{declared_send, declared_sync}
 use Rattle.std.proofs.Crossing.{crosses}
 use Rattle.std.proofs.MapsCrossing.{crosses as maps}
 use Rattle.types_expr.specs.contracts.types.GoType.{the_row as go_type}
 use Rattle.types_expr.specs.contracts.symbol.Symbol.{the_row as symbol}
 use Rattle.types_expr.specs.contracts.types.Signature.{the_row as signature}
-use Rattle.types_expr.specs.contracts.world.Field.{the_row as field}
+use Rattle.types_expr.specs.contracts.types.WrittenAs.{the_row as written_as}
+use Rattle.types_expr.specs.contracts.world.Field.{the_row as field, the_type as field_type}
 use Rattle.types_expr.specs.contracts.world.Method.{the_row as method}
 use Rattle.types_expr.specs.contracts.world.Definition.{the_row as definition}
 use Rattle.types_expr.specs.contracts.found.MemberUse.{the_row as member_use}
+use Rattle.types_expr.specs.contracts.found.Entering.{the_row as entering}
 use Rattle.types_expr.specs.contracts.exports.Export.{the_row as exported}
 use Rattle.types_expr.specs.contracts.exports.PackageScope.{the_row as scope}
 use Rattle.types_expr.specs.contracts.exports.ExportData.{the_row as export_data}
@@ -47,11 +50,35 @@ signature_sent = search (owned, go_type_sent) depth 30 fits 50000
 pub signature_shared : IsSync signature
 signature_shared = search (owned, go_type_shared) depth 30 fits 50000
 
+pub written_as_sent : IsSend written_as
+written_as_sent = search (owned, type_crosses) depth 30 fits 50000
+
+pub written_as_shared : IsSync written_as
+written_as_shared = search (owned, type_crosses) depth 30 fits 50000
+
 pub field_sent : IsSend field
-field_sent = search (owned, type_crosses) depth 30 fits 50000
+field_sent = declared_send field_type (
+  search (owned, symbol_sent) depth 30 fits 50000,
+  (
+    search owned depth 30 fits 50000,
+    (
+      search (owned, written_as_sent) depth 30 fits 50000,
+      tt,
+    ),
+  ),
+)
 
 pub field_shared : IsSync field
-field_shared = search (owned, type_crosses) depth 30 fits 50000
+field_shared = declared_sync field_type (
+  search (owned, symbol_shared) depth 30 fits 50000,
+  (
+    search owned depth 30 fits 50000,
+    (
+      search (owned, written_as_shared) depth 30 fits 50000,
+      tt,
+    ),
+  ),
+)
 
 pub method_sent : IsSend method
 method_sent = search (owned, signature_sent) depth 30 fits 50000
@@ -70,6 +97,12 @@ member_use_sent = search (owned, type_crosses, symbol_sent) depth 30 fits 50000
 
 pub member_use_shared : IsSync member_use
 member_use_shared = search (owned, type_crosses, symbol_shared) depth 30 fits 50000
+
+pub entering_sent : IsSend entering
+entering_sent = search (owned, type_crosses) depth 30 fits 50000
+
+pub entering_shared : IsSync entering
+entering_shared = search (owned, type_crosses) depth 30 fits 50000
 
 pub exported_sent : IsSend exported
 exported_sent = search (owned, type_crosses, go_type_sent) depth 30 fits 50000
@@ -102,10 +135,10 @@ pub file_fault_shared : IsSync file_fault
 file_fault_shared = FileFault-sync
 
 pub finding_sent : IsSend finding
-finding_sent = search (owned, file_fault_sent, member_use_sent, Qualified-send) depth 30 fits 50000
+finding_sent = search (owned, file_fault_sent, member_use_sent, entering_sent, Qualified-send) depth 30 fits 50000
 
 pub finding_shared : IsSync finding
-finding_shared = search (owned, file_fault_shared, member_use_shared, Qualified-sync) depth 30 fits 50000
+finding_shared = search (owned, file_fault_shared, member_use_shared, entering_shared, Qualified-sync) depth 30 fits 50000
 
 pub shared_finding_sent : IsSend shared_finding
 shared_finding_sent = search (owned, finding_sent, finding_shared) depth 30 fits 50000

@@ -1,6 +1,6 @@
 -- Which events make a package wait. A change, an undo, a redo and a Job that is given back may do so, and a delivery that is refused. No other
 -- event does.
-use Rattle.std.proofs.Common.{◌≡◌, ℕ, ◌+◌, ◌<◌, ◌≤◌, List, [], ◌∷◌, ◌++◌, Option, Some, None, length, get_or, slice_get, refl, sym, ap, subst, ◌∙◌, ⊎_elim, arith}
+use Rattle.std.proofs.Common.{◌≡◌, ℕ, ◌+◌, ◌<◌, ◌≤◌, List, [], ◌∷◌, ◌++◌, Some, None, length, get_or, slice_get, sym, ap, subst, ◌∙◌, ⊎_elim, arith}
 use Rattle.std.proofs.Math.ListN.{set}
 use Rattle.std.specs.List.{Contains, remove}
 use Rattle.std.proofs.lemmas.Bool.{cases_eq}
@@ -20,7 +20,6 @@ use Rattle.build_unit.specs.declared.unit.Unit.{Unit as PackageUnit}
 use Rattle.workspace_graph.proofs.Filled.{set_elsewhere, set_there}
 use Rattle.history_book.specs.WorkLeft.{HasJob}
 use Rattle.history_machine.specs.declared.entry.Entry.{Entry}
-use Rattle.history_machine.specs.declared.entry.EntryKind.{EntryKind}
 use Rattle.history_machine.specs.declared.entry.EntryKind.TheVariants as kind
 use Rattle.history_machine.specs.declared.entry.Reason.TheVariants as reason
 use Rattle.history_machine.specs.declared.entry.Told.{Told}

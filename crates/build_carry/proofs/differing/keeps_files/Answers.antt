@@ -1,5 +1,5 @@
 -- The package at the path decides, if there is one.
-use Rattle.std.proofs.Common.{◌≡◌, Contains, Some, slice_get, sym, ap, subst, ◌∙◌}
+use Rattle.std.proofs.Common.{◌≡◌, Contains, Some, sym, ap, subst, ◌∙◌}
 use Rattle.std.proofs.lemmas.Bool.{false≢true}
 use Rattle.std.proofs.lemmas.Option.{same_Some}
 use Rattle.base_files.specs.Packages.{package_paths}

@@ -1,5 +1,5 @@
 -- The journal is closed: the content counts its entries, and the next one has room for those of the Jobs out.
-use Rattle.std.proofs.Common.{◌≡◌, ℕ, Global, Vec, rules, ◌+◌, ◌^◌, ◌≤◌, ◌<◌, List, [], IsTrue, inl, inr, length, refl, sym, ap, subst, ◌∙◌, vec_capacity, arith}
+use Rattle.std.proofs.Common.{◌≡◌, ℕ, Global, Vec, rules, ◌+◌, ◌^◌, ◌≤◌, ◌<◌, List, [], inl, inr, length, refl, sym, ap, subst, ◌∙◌, vec_capacity, arith}
 use Rattle.std.proofs.lemmas.Bool.{cases_lt, false≢true}
 use Rattle.history_machine.specs.Machine.{Content, Machine, closed, with_journal}
 use Rattle.history_machine.specs.declared.entry.Entry.{Entry}

@@ -1,5 +1,5 @@
 -- One look, or none where the wait is refused. The Jobs in hand are counted on.
-use Rattle.std.proofs.Common.{inl, rules, arith}
+use Rattle.std.proofs.Common.{rules, arith}
 use Rattle.std.proofs.lemmas.Grind.{common_steps}
 use Rattle.server_shared.proofs.CallLaws.{waited_none, waited_once}
 use Rattle.server_shared.proofs.HeldLaws.{held_on}
