@@ -45,6 +45,7 @@ GREAT = {
                                              'number_option(alloc, "chapter", "ENTRIES", 1_000_000).help('},
     "server_words/src/requests.rt": {"Some(_) => Some(Some(number(matches, option, 1_000_000)?)),"},
     "tool_threads/src/task.rt": {"const CHECK_STACK: usize = 8_388_608;"},
+    "workspace_parsing/src/task.rt": {"const PARSE_STACK: usize = 8_388_608;"},
 }
 # the lines on which a product stands: of chunks of 64, of the room of tables of names, of digits, and of lines around a change
 PRODUCTS = {

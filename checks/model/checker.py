@@ -367,7 +367,10 @@ class Checker(Scopes):
             if operand.mode != "broken" and not stands:
                 self.fault(self.place(node), "type")
             return
-        operand = self.expression(node)
+        bare = node
+        while bare.kind == "paren":
+            bare = bare.parts[0]
+        operand = self.expression(bare)
         if operand.mode != "broken":
             self.fault(self.place(node), "type")
 

@@ -321,6 +321,23 @@ def workers_behind_one_change():
     raise AssertionError("never seen")
 
 
+def none_is_left_behind():
+    """While a worker judges a package on which all others build, no other worker has anything to judge. It is woken once the verdict is there:
+    else it sleeps for good, and a server whose worker sleeps never ends."""
+    with Server(2, 1, 1) as server:
+        client, text = server.connect(), a_large_package(b"z")
+        for number, name in enumerate((b"a", b"b", b"c", b"d")):
+            user = b'package %s\n\nimport "z"\n\nfunc G() int {\n\treturn z.F0(1)\n}\n' % name
+            same(client.ask(put(number, "%s/x.go" % name.decode(), user)), (b"ok %d" % (number + 1), b""))
+        for number in range(4, 10):
+            changed = text + b"\nvar v%d int\n" % number
+            same(client.ask(put(number, "z/x.go", changed)), (b"ok %d" % (number + 1), b""))
+            same(client.ask(b"wait\n"), (b"ok %d" % (number + 1), b""))
+        client.end()
+        server.process.wait(10)
+        settles(server)
+
+
 def one_worker_alone():
     """With one worker no Job is taken while another is out. A session that waits meanwhile looks again only where an event may have finished
     what it waits for, so the journal has few looks."""
@@ -479,6 +496,7 @@ CHECKS = (
     alone_settled,
     workers_at_once,
     workers_behind_one_change,
+    none_is_left_behind,
     one_worker_alone,
     all_wake,
     none_missed,

@@ -30,6 +30,7 @@ CHECKS = (
     editors.racing_puts,
     editors.workers_at_once,
     editors.workers_behind_one_change,
+    editors.none_is_left_behind,
     editors.one_worker_alone,
     editors.all_wake,
     editors.none_missed,
