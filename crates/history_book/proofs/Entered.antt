@@ -58,7 +58,7 @@ left_copy current event reply asked out subject edits left t is =
 -- the journal gains the entry of the event and its reply
 pub left_kept : (old : Content) (journal : List Entry) (event : Event) (reply : Reply) (new : Content) (journals : List Entry) (asked : Asked)
     (out : Option Told) (subject : Option ℕ) (edits : Option FileChanges) (left : Option Entry) → AnswersOrLacks old event reply new →
-    ShowsLine journal event reply → MakesEntry old.current.number event reply asked out subject edits → left ≡ entry_left asked out subject edits →
+    ShowsLine old.begun journal event reply → MakesEntry old.current.number event reply asked out subject edits → left ≡ entry_left asked out subject edits →
     journals ≡ with_entry journal left → EntersEvent old journal event reply new journals
 left_kept old journal event reply new journals asked out subject edits left answers shows t is entered = (
   answers,

@@ -4,7 +4,7 @@ use Rattle.base_files.specs.declared.refusal.Refusal.{Refusal}
 use Rattle.base_edits.specs.EditSet.{FileChanges}
 use Rattle.history_book.specs.declared.changing.Changing.{Changing}
 use Rattle.history_book.specs.declared.changing.Changing.TheVariants as changing
-use Rattle.history_machine.specs.declared.entry.Line.{Line}
+use Rattle.history_machine.specs.declared.entry.ShownEntry.{ShownEntry}
 use Rattle.history_machine.specs.declared.event.Event.{Event}
 use Rattle.history_machine.specs.declared.event.Event.TheVariants.{Commit, Undo, Redo, Deliver, GiveBack}
 use Rattle.history_machine.specs.declared.event.Reply.{Reply}
@@ -24,7 +24,7 @@ handing_event (handing.Deliver job built) = Deliver job built
 handing_event (handing.GiveBack job) = GiveBack job
 
 -- the reply that the answer to a log is
-abbrev pub logged : Result (ℕ × Option Line) Refusal → Reply
+abbrev pub logged : Result (ℕ × ShownEntry) Refusal → Reply
 logged (Ok shown) = Logged shown.0 shown.1
 logged (Err refusal) = Refused refusal
 

@@ -1,6 +1,6 @@
 //! The questions that change no state: a look, a log and a Take.
 ghost use Rattle.std.specs.Prelude.{◌≡◌};
-ghost use Rattle.history_machine.specs.Journal.{line_at};
+ghost use Rattle.history_machine.specs.Journal.{shown_at};
 ghost use Rattle.history_book.specs.Questions.{logged};
 ghost use Rattle.history_machine.specs.Step.{looked, taken};
 ghost use Rattle.history_machine.specs.declared.event.Event.TheVariants.{Log, Look, Take};
@@ -9,14 +9,13 @@ use crate::reasons::refusal_told;
 use crate::{Answered, Asked, Content, Question};
 use base_files::Refusal;
 use build_unit::Job;
-use history_machine::{Entry, EntryKind, Line, Told, View};
+use history_machine::{Entry, EntryKind, ShownEntry, Told, View};
 
 /// Asks for a view of the current state.
 #[derive(Clone, Copy)]
 pub struct Looking;
 
-/// Asks for the line of the entry of this number. The answer is the number of the current state, and the line, or `None` past the journal's
-/// end.
+/// Asks for the entry of this number. The answer is the number of the current state, and what is shown of the entry.
 #[derive(Clone, Copy)]
 pub struct Logging(pub u64);
 
@@ -24,13 +23,16 @@ pub struct Logging(pub u64);
 #[derive(Clone, Copy)]
 pub struct Taking;
 
-/// The line of the entry of this number, or `None` past the journal's end.
-fn line_at(journal: &[Entry], number: u64) -> Option<Line>
-    ensures { result ≡ line_at journal.now number }
+/// What is shown of the entry of this number, where the journals that were closed have `begun` entries.
+fn shown_at(begun: u64, journal: &[Entry], number: u64) -> ShownEntry
+    ensures { result ≡ shown_at begun journal.now number }
 {
-    match journal.get(number as usize) {
-        Some(entry) => Some(entry.line),
-        None => None,
+    if number < begun {
+        return ShownEntry::Closed(begun);
+    }
+    match journal.get((number - begun) as usize) {
+        Some(entry) => ShownEntry::OfLine(entry.line),
+        None => ShownEntry::Unwritten,
     }
 }
 
@@ -68,7 +70,7 @@ impl Question for Looking {
 }
 
 impl Question for Logging {
-    type Answer = Result<(u64, Option<Line>), Refusal>;
+    type Answer = Result<(u64, ShownEntry), Refusal>;
 
     ghost event = { λ asked. Log asked.0 };
 
@@ -86,13 +88,13 @@ impl Question for Logging {
         self,
         content: &mut Content,
         journal: &[Entry],
-    ) -> Answered<Result<(u64, Option<Line>), Refusal>> {
+    ) -> Answered<Result<(u64, ShownEntry), Refusal>> {
         let number = content.number();
-        let shown = (number, line_at(journal, self.0));
+        let shown = (number, shown_at(content.begun(), journal, self.0));
         Answered::new(Ok(shown), Some(Told::Done(number)), Some(self.0))
     }
 
-    fn refuse(self, refusal: Refusal) -> Result<(u64, Option<Line>), Refusal> {
+    fn refuse(self, refusal: Refusal) -> Result<(u64, ShownEntry), Refusal> {
         Err(refusal)
     }
 }

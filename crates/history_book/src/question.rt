@@ -56,7 +56,7 @@ pub trait Question {
     fn ask(self, content: &mut Content, journal: &[Entry]) -> Answered<Self::Answer>
         requires { HasNumbersLeft content.old }
         ensures answer { AnswersOrLacks content.old (event self) (reply result.answer) content.new }
-        ensures shows { ShowsLine journal.now (event self) (reply result.answer) }
+        ensures shows { ShowsLine content.old.begun journal.now (event self) (reply result.answer) }
         ensures out { result.out ≡ told_of (reply result.answer) }
         ensures subject { result.subject ≡ subject_after (event_subject (event self)) (reply result.answer) }
         ensures made { result.made ≡ edits_of (event self) (reply result.answer) };

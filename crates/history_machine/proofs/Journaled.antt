@@ -19,7 +19,7 @@ After old event reply new = MatchOption (told_of reply) (new.journal ≡ old.jou
 matches : (o : Option Told) (x : Told) (P : Type 0) (Q : Told → Type 0) → o ≡ Some x → Q x → MatchOption o P Q
 matches o x P Q e q = subst (λ (y : Option Told). MatchOption y P Q) (sym e) q
 
-recorded_after : (old : Machine) (event : Event) (reply : Reply) (new : Machine) → Records old.current.number old.journal event reply new.journal →
+recorded_after : (old : Machine) (event : Event) (reply : Reply) (new : Machine) → Records old.current.number old.begun old.journal event reply new.journal →
     After old event reply new
 recorded_after old event reply new r = matches (told_of reply) r.out (new.journal ≡ old.journal)
     (λ told. new.journal ≡ old.journal ++ entry_of old.current.number event reply told ∷ []) r.tells r.journal

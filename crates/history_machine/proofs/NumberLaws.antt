@@ -71,12 +71,12 @@ numbers_are_new limits settled end before basis number change run committed =
 
 -- the machine is what its states are, with its journal
 one_more : (old : Machine) (event : Event) (reply : Reply) (new : Machine) (c : Content) → content new ≡ c →
-    Records old.current.number old.journal event reply new.journal
+    Records old.current.number old.begun old.journal event reply new.journal
     → AddsEntry old event reply (with_journal c old.journal) new
 one_more old event reply new c is r = (r.out, r.tells, ap (λ (x : Content). with_journal x new.journal) is ∙ ap (λ entries. with_journal c entries) r.journal)
 
 answer_kept : (old : Machine) (event : Event) (reply : Reply) (new : Machine) → Answers (content old) event reply (content new) →
-    Records old.current.number old.journal event reply new.journal → KeepsIfRefused old event reply new
+    Records old.current.number old.begun old.journal event reply new.journal → KeepsIfRefused old event reply new
 answer_kept old Look (Looked view) new a r = tt
 answer_kept old (Log asked) (Logged number line) new a r = tt
 answer_kept old (Commit basis change) (Done number) new a r = tt

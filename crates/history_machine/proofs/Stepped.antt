@@ -47,9 +47,9 @@ matched None x P Q e m = absurd (none-some x e)
 matched (Some y) x P Q e m = subst Q (same_Some y x e) m
 
 records : (old : Content) (journal : List Entry) (event : Event) (reply : Reply) (new : Content) (journals : List Entry) → Answers old event reply new →
-    ShowsLine journal event reply
+    ShowsLine old.begun journal event reply
     → MatchOption (told_of reply) (journals ≡ journal) (λ told. journals ≡ journal ++ entry_of old.current.number event reply told ∷ []) →
-    Records old.current.number journal event reply journals
+    Records old.current.number old.begun journal event reply journals
 records old journal event reply new journals a shows has =
     let out = tells old event reply new a in
     record {

@@ -1,5 +1,5 @@
 -- The journal: the entry of each event and its reply, and the line that a log shows of it.
-use Rattle.std.specs.Prelude.{◌≡◌, ℕ, ◌∷◌, ◌++◌, [], ⊤, List, Option, Some, None, slice_get}
+use Rattle.std.specs.Prelude.{◌≡◌, ℕ, ◌-◌, ◌∷◌, ◌++◌, [], ⊤, List, Option, Some, None, if◌then◌else◌, nat_lt, slice_get}
 use Rattle.std.specs.Option.{option_map}
 use Rattle.base_edits.specs.EditSet.{FileChanges}
 use Rattle.base_files.specs.declared.refusal.Refusal.{Refusal}
@@ -7,7 +7,8 @@ use Rattle.base_files.specs.declared.refusal.Refusal.TheVariants.{Moved, Nothing
 use Rattle.history_machine.specs.declared.entry.Entry.{Entry}
 use Rattle.history_machine.specs.declared.entry.EntryKind.{EntryKind}
 use Rattle.history_machine.specs.declared.entry.EntryKind.TheVariants as kind
-use Rattle.history_machine.specs.declared.entry.Line.{Line}
+use Rattle.history_machine.specs.declared.entry.ShownEntry.{ShownEntry}
+use Rattle.history_machine.specs.declared.entry.ShownEntry.TheVariants.{OfLine, Closed, Unwritten}
 use Rattle.history_machine.specs.declared.entry.Reason.{Reason}
 use Rattle.history_machine.specs.declared.entry.Reason.TheVariants as reason
 use Rattle.history_machine.specs.declared.entry.Told.{Told}
@@ -82,18 +83,24 @@ entry_of current event reply out = record {
   edits = edits_of event reply;
 }
 
--- the line of the entry of this number; none past the journal's end
-abbrev pub line_at : List Entry → ℕ → Option Line
-line_at journal number = option_map (λ entry. entry.line) (slice_get journal number)
+-- what is shown of an entry: its line; nothing where there is none yet
+abbrev pub shown_of : Option Entry → ShownEntry
+shown_of None = Unwritten
+shown_of (Some entry) = OfLine entry.line
 
--- where the event is a log, the reply shows the line that it asks for; the journal is that before the event
-abbrev pub ShowsLine : List Entry → Event → Reply → Type 0
-ShowsLine journal (Log number) (Logged current line) = line ≡ line_at journal number
-ShowsLine journal event reply = ⊤
+-- What is shown of the entry of this number, where the journals that were closed have `begun` entries. Of one of theirs it is shown where the
+-- journal begins.
+abbrev pub shown_at : (begun : ℕ) → List Entry → (number : ℕ) → ShownEntry
+shown_at begun journal number = if nat_lt number begun then Closed begun else shown_of (slice_get journal (number - begun))
 
--- The new journal is the old one and the entry of the event and its reply. The reply to a log shows a line of the old journal.
-pub record Records (current : ℕ) (old : List Entry) (event : Event) (reply : Reply) (new : List Entry) : Type 0 where
+-- where the event is a log, the reply shows the entry that it asks for; the journal is that before the event
+abbrev pub ShowsLine : (begun : ℕ) → List Entry → Event → Reply → Type 0
+ShowsLine begun journal (Log number) (Logged current shown) = shown ≡ shown_at begun journal number
+ShowsLine begun journal event reply = ⊤
+
+-- The new journal is the old one and the entry of the event and its reply. The reply to a log shows an entry of the old journal.
+pub record Records (current begun : ℕ) (old : List Entry) (event : Event) (reply : Reply) (new : List Entry) : Type 0 where
   pub out : Told
   pub tells : told_of reply ≡ Some out
-  pub shows : ShowsLine old event reply
+  pub shows : ShowsLine begun old event reply
   pub journal : new ≡ old ++ entry_of current event reply out ∷ []

@@ -95,7 +95,7 @@ AnswersOrLacks old event reply new = Answers old event reply new
 -- changes.
 abbrev pub EntersEvent : Content → List Entry → Event → Reply → Content → List Entry → Type 0
 EntersEvent old journal event reply new journals =
-    AnswersOrLacks old event reply new × ShowsLine journal event reply
+    AnswersOrLacks old event reply new × ShowsLine old.begun journal event reply
     × MatchOption (told_of reply) (journals ≡ journal) (λ told. journals ≡ journal ++ entry_of old.current.number event reply told ∷ [])
 
 -- From old, the machine may give this reply to the event and become new. The journal has room for the event's entry, and gains it.
@@ -105,7 +105,7 @@ Step old event (Refused Memory) new = ¬ (BringsJob event) × (new ≡ old)
 Step old event (Refused JournalFull) new = ¬ (BringsJob event) × ¬ (HasRoom old event) × (new ≡ old)
 Step old event (Back Memory job unit) new = HandsOver event job unit × MayLackMemory old.out event × (new ≡ old)
 Step old event (Back JournalFull job unit) new = HandsOver event job unit × ¬ (HasRoom old event) × (new ≡ old)
-Step old event reply new = HasRoom old event × Answers (content old) event reply (content new) × Records old.current.number old.journal event reply new.journal
+Step old event reply new = HasRoom old event × Answers (content old) event reply (content new) × Records old.current.number old.begun old.journal event reply new.journal
 
 -- the reply to a look with this answer
 abbrev pub looked : Result View Refusal → Reply

@@ -84,6 +84,17 @@ pub struct Line {
     pub out: Told,
 }
 
+/// What a log shows of the entry of a number.
+#[derive(Clone, Copy, Debug, PartialEq, Eq)]
+pub enum ShownEntry {
+    /// Its line.
+    OfLine(Line),
+    /// Its journal was closed. The current one begins with the entry of this number.
+    Closed(u64),
+    /// There is none yet.
+    Unwritten,
+}
+
 /// The edits of a change, packed. A clone shares them.
 pub struct SharedEdits {
     edits: Arc<PackedSet, Global>,

@@ -1,6 +1,6 @@
 //! The events of a book and the replies to them, as contracts name them. Code uses a question of one kind instead (`Question` of
 //! history_book).
-use crate::entry::Line;
+use crate::entry::ShownEntry;
 use crate::view::View;
 use base_files::Refusal;
 use build_unit::{Built, Job};
@@ -31,8 +31,8 @@ pub enum Event {
 /// built, of a refused event: for want of memory or of room in the journal, or since the Job is not out.
 pub enum Reply {
     Looked(View),
-    /// The number of the current state, and the line of the entry, if there is one.
-    Logged(u64, Option<Line>),
+    /// The number of the current state, and what is shown of the entry.
+    Logged(u64, ShownEntry),
     Done(u64),
     Taken(Job),
     Refused(Refusal),

@@ -15,7 +15,7 @@ mod state;
 mod view;
 mod waiting;
 
-pub use entry::{Entry, EntryKind, Line, Reason, SharedEdits, Told};
+pub use entry::{Entry, EntryKind, Line, Reason, SharedEdits, ShownEntry, Told};
 pub use entry_edits::{EntryEdits, entry_and_copy};
 pub use event::{Event, Reply};
 pub use laws::{

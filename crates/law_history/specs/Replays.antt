@@ -83,7 +83,7 @@ Replays old entry new = HasEffect entry.line.kind entry.line.out old entry new
 -- An answered event makes of the content what its entry tells.
 abbrev pub EntriesTellSteps : Type 0
 EntriesTellSteps = (old new : Content) (event : Event) (reply : Reply) (journal longer : List Entry) → Answers old event reply new →
-    (r : Records old.current.number journal event reply longer) → (entry : Entry) × (longer ≡ journal ++ entry ∷ []) × Replays old entry new
+    (r : Records old.current.number old.begun journal event reply longer) → (entry : Entry) × (longer ≡ journal ++ entry ∷ []) × Replays old entry new
 
 -- A state without its units: for each package, by its number, whether it is finished.
 pub record StateOutline : Type 0 where

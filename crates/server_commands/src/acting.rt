@@ -745,9 +745,9 @@ fn log<D: Desk>(desk: &mut D, number: u64) -> Response
     ensures { Sends D.steps desk.old (Log number) result desk.new }
 {
     match desk.step(Logging(number)) {
-        Ok((current, line)) => Response::Entry {
+        Ok((current, shown)) => Response::Entry {
             number: current,
-            line,
+            shown,
         },
         Err(refusal) => Response::Refused { refusal },
     }

@@ -2,7 +2,7 @@
 ghost use Rattle.std.specs.Prelude.{◌≡◌};
 
 use base_files::{FileText, Refusal};
-use history_machine::Line;
+use history_machine::ShownEntry;
 use history_objects::ComparedObjects;
 use refs_uses::Places;
 use std::marker::Model;
@@ -79,10 +79,10 @@ pub enum Response {
         number: u64,
         objects: ComparedObjects,
     },
-    /// The line of an entry of the journal, or `None` past the journal's end.
+    /// What a log shows of an entry of the journal.
     Entry {
         number: u64,
-        line: Option<Line>,
+        shown: ShownEntry,
     },
     /// The path of the package that was built.
     Built {

@@ -2,6 +2,7 @@
 pub mod Awaits
 pub mod Answers
 pub mod Transcript
+pub mod Sending
 pub mod Conversing
 pub mod Laws
 pub mod Refusals

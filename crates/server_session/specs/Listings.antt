@@ -1,5 +1,5 @@
 -- The text lines of files, places, faults, compared objects, entries of the journal and packages.
-use Rattle.std.specs.Prelude.{ℕ, List, [], ◌∷◌, ◌++◌, length, codes, decimal, Option, Some, None}
+use Rattle.std.specs.Prelude.{ℕ, List, [], ◌∷◌, ◌++◌, length, codes, decimal}
 use Rattle.std.specs.List.{flat_map}
 use Rattle.std.specs.FinMap as map
 use Rattle.base_files.specs.PlaceText.{place_text, fault_line}
@@ -8,6 +8,8 @@ use Rattle.base_files.specs.declared.place.Place.{Place}
 use Rattle.workspace_check.specs.declared.fault.FileFault.{FileFault}
 use Rattle.history_machine.specs.Kinds.{kind_name, reason_refusal}
 use Rattle.history_machine.specs.declared.entry.Line.{Line}
+use Rattle.history_machine.specs.declared.entry.ShownEntry.{ShownEntry}
+use Rattle.history_machine.specs.declared.entry.ShownEntry.TheVariants.{OfLine, Closed, Unwritten}
 use Rattle.history_machine.specs.declared.entry.Told.{Told}
 use Rattle.history_machine.specs.declared.entry.Told.TheVariants.{Done, Refused}
 use Rattle.history_objects.specs.declared.comparing.ComparedObject.{ComparedObject}
@@ -63,7 +65,12 @@ told_number (Refused reason) = code_of (reason_refusal reason)
 abbrev pub entry_line : Line → List ℕ
 entry_line line = kind_name line.kind ++ 32 ∷ [] ++ decimal line.basis ++ 32 ∷ [] ++ told_word line.out ++ decimal (told_number line.out) ++ 10 ∷ []
 
--- the text line of an entry, or nothing without an entry
-abbrev pub entry_text : Option Line → List ℕ
-entry_text None = []
-entry_text (Some line) = entry_line line
+-- the text line that says with which entry the current journal begins
+abbrev pub closed_line : ℕ → List ℕ
+closed_line begun = codes "closed " ++ decimal begun ++ 10 ∷ []
+
+-- the text of what a log shows: the line of the entry, or where the current journal begins, or nothing
+abbrev pub entry_text : ShownEntry → List ℕ
+entry_text (OfLine line) = entry_line line
+entry_text (Closed begun) = closed_line begun
+entry_text Unwritten = []

@@ -1,10 +1,10 @@
 //! The text of an entry of the journal, as a log shows it.
 ghost use Rattle.std.specs.Prelude.{◌≡◌};
-ghost use Rattle.server_session.specs.Listings.{entry_line, entry_text, told_number, told_word};
+ghost use Rattle.server_session.specs.Listings.{closed_line, entry_line, entry_text, told_number, told_word};
 
 use crate::refusal::{LONGEST_BODY, refusal_code};
 use arrayvec::ArrayString;
-use history_machine::{Line, Told};
+use history_machine::{Line, ShownEntry, Told};
 use itoa::Buffer;
 
 /// The word of an outcome: `ok` or `no`, and a space.
@@ -43,12 +43,25 @@ fn entry_line(line: Line) -> ArrayString<LONGEST_BODY>
     text
 }
 
-/// The text line of an entry, or nothing without an entry. It takes no memory.
-pub(crate) fn entry_text(line: Option<Line>) -> ArrayString<LONGEST_BODY>
-    ensures { result.bytes ≡ entry_text line }
+/// The text line that says with which entry the current journal begins.
+fn closed_line(begun: u64) -> ArrayString<LONGEST_BODY>
+    ensures { result.bytes ≡ closed_line begun }
 {
-    match line {
-        Some(line) => entry_line(line),
-        None => ArrayString::new(),
+    let mut digits = Buffer::new();
+    let mut text = ArrayString::new();
+    text.push_str("closed ");
+    text.push_str(digits.format(begun));
+    text.push_str("\n");
+    text
+}
+
+/// The text of what a log shows: the line of the entry, or where the current journal begins, or nothing. It takes no memory.
+pub(crate) fn entry_text(shown: ShownEntry) -> ArrayString<LONGEST_BODY>
+    ensures { result.bytes ≡ entry_text shown }
+{
+    match shown {
+        ShownEntry::OfLine(line) => entry_line(line),
+        ShownEntry::Closed(begun) => closed_line(begun),
+        ShownEntry::Unwritten => ArrayString::new(),
     }
 }

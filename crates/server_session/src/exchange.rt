@@ -1,18 +1,18 @@
 //! A session: reads messages, has them answered, and writes the replies.
-ghost use Rattle.std.specs.Prelude.{◌≡◌, ◌+◌, ◌^◌, ◌≤◌, ◌<◌, IfOk, OnOk, IsTrue};
-ghost use Rattle.server_read.specs.Failures.{CountsFailure, WritesText};
-ghost use Rattle.server_session.specs.Replies.{reply_text};
+ghost use Rattle.std.specs.Prelude.{◌≡◌, ◌+◌, ◌^◌, ◌≤◌, ◌<◌, IfOk};
 ghost use Rattle.server_session.specs.Answers.{AnswersMessage, AnswersOneAtMost, AnswersSome};
 ghost use Rattle.server_session.specs.Awaits.{AwaitsNext, LeavesSent, StepLeavesSent};
+ghost use Rattle.server_session.specs.Sending.{AnswersNext};
 ghost use Rattle.server_session.specs.Transcript.{SessionEnds, CountsFaults, StepEnds};
 
-use crate::written::{WrittenReply, print_reply};
+use crate::outgoing::Outgoing;
+use crate::written::WrittenReply;
 use base_files::{Limits, Refusal};
 use server_commands::{Desk, act};
 use server_read::{
     ByteSource, InputFault, LineBuffer, Message, Next, Sink, WriteFailed, read_message,
 };
-use std::alloc::Global;
+use std::alloc::{AllocError, Global};
 
 /// Why a session ended before its input.
 #[derive(Clone, Copy, Debug, PartialEq, Eq)]
@@ -50,9 +50,19 @@ fn answer<D: Desk>(alloc: Global, desk: &mut D, message: Message<'_>) -> Written
 
 /// What reading uses: the room for a line, and the reads that are left.
 #[derive(Drop)]
-struct Allowance {
+pub struct Allowance {
     line: LineBuffer,
-    reads_left: u64,
+    pub reads_left: u64,
+}
+
+impl Allowance {
+    /// The room for a line, and so many reads.
+    pub fn new(alloc: Global, reads_left: u64) -> Result<Allowance, AllocError>
+        ensures { IfOk result (λ reading. reading.reads_left ≡ reads_left) }
+    {
+        let line = LineBuffer::new(alloc)?;
+        Ok(Allowance { line, reads_left })
+    }
 }
 
 /// Sends everything that was written, since a read may wait for the client, and reads the next message.
@@ -82,14 +92,49 @@ fn await_message<'a, S: ByteSource, T: Sink>(
     }
 }
 
-/// Writes a reply, and sends it if it is the last one.
-fn send_reply<T: Sink>(sink: &mut T, reply: &WrittenReply, is_last: bool) -> Result<(), WriteFailed>
-    ensures written { WritesText (T.contents sink.old) (T.contents sink.new) (reply_text reply.now) result }
-    ensures sent { OnOk result (IsTrue is_last → T.sent sink.new) }
-    ensures counted { CountsFailure (T.failures sink.old) (T.failures sink.new) result }
+/// Sends what was written before, reads the next message and has it answered. The reply is left to be sent. The desk answers one message at
+/// most, whatever is known of the reader and the writer.
+pub fn answer_next<S: ByteSource, T: Sink, D: Desk>(
+    alloc: Global,
+    source: &mut S,
+    sink: &mut T,
+    desk: &mut D,
+    reading: &mut Allowance,
+    limits: &Limits,
+) -> Result<Outgoing, SessionFault>
+    requires reads { S.reads source.old + reading.old.reads_left < 2 ^ 64 }
+    ensures next { AnswersNext D.steps D.waits limits.now (S.remaining source.old) (S.remaining source.new)
+        (T.contents sink.old) (T.contents sink.new) desk.old desk.new result }
+    ensures answers { AnswersOneAtMost D.steps D.waits desk.old desk.new }
+    ensures sent { LeavesSent (T.sent sink.new) result }
+    ensures counted { CountsFaults (S.failures source.old) (S.failures source.new)
+        (T.failures sink.old) (T.failures sink.new) result }
+    ensures turns { IfOk result (λ _. reading.new.reads_left < reading.old.reads_left) }
+    ensures turns_over { result ≡ Err SessionFault.Turns → reading.new.reads_left ≡ 0 }
+    ensures reads { S.reads source.new + reading.new.reads_left ≡ S.reads source.old + reading.old.reads_left }
 {
-    print_reply(sink, reply)?;
-    if is_last { sink.flush() } else { Ok(()) }
+    match await_message(
+        alloc,
+        source,
+        sink,
+        &mut reading.reads_left,
+        &mut reading.line,
+        limits,
+    )? {
+        Next::End => Ok(Outgoing::End),
+        Next::NoRoom => {
+            let reply = WrittenReply::refuse(alloc, Refusal::Memory);
+            Ok(Outgoing::Reply {
+                reply,
+                is_last: false,
+            })
+        }
+        Next::Message(message) => {
+            let is_last = message.is_last();
+            let reply = answer(alloc, desk, message);
+            Ok(Outgoing::Reply { reply, is_last })
+        }
+    }
 }
 
 /// Reads the next message, has it answered, and writes the reply. Returns false where the session ends. The desk answers one message at most,
@@ -113,27 +158,8 @@ fn serve_next<S: ByteSource, T: Sink, D: Desk>(
     ensures turns_over { result ≡ Err SessionFault.Turns → reading.new.reads_left ≡ 0 }
     ensures reads { S.reads source.new + reading.new.reads_left ≡ S.reads source.old + reading.old.reads_left }
 {
-    match await_message(
-        alloc,
-        source,
-        sink,
-        &mut reading.reads_left,
-        &mut reading.line,
-        limits,
-    )? {
-        Next::End => Ok(false),
-        Next::NoRoom => {
-            let refused = WrittenReply::refuse(alloc, Refusal::Memory);
-            print_reply(sink, &refused)?;
-            Ok(true)
-        }
-        Next::Message(message) => {
-            let is_last = message.is_last();
-            let reply = answer(alloc, desk, message);
-            send_reply(sink, &reply, is_last)?;
-            Ok(!is_last)
-        }
-    }
+    let outgoing = answer_next(alloc, source, sink, desk, reading, limits)?;
+    outgoing.send(sink)
 }
 
 /// Serves one session: reads messages to the end, has each answered, and writes the replies. Each reply is sent before the next read, and
@@ -156,13 +182,9 @@ pub fn session<S: ByteSource, T: Sink, D: Desk>(
     ensures few_reads { S.reads source.new ≤ S.reads source.old + limits.reads }
     ensures turns { result ≡ Err SessionFault.Turns → S.reads source.new ≡ S.reads source.old + limits.reads }
 {
-    let line = match LineBuffer::new(alloc) {
-        Ok(line) => line,
+    let mut reading = match Allowance::new(alloc, limits.reads) {
+        Ok(reading) => reading,
         Err(_) => return Err(SessionFault::Memory),
-    };
-    let mut reading = Allowance {
-        line,
-        reads_left: limits.reads,
     };
     while serve_next(alloc, source, sink, desk, &mut reading, &limits)? {}
     Ok(())

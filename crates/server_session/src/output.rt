@@ -124,8 +124,8 @@ pub(crate) fn print_response<T: Sink>(
         | Response::Places { number, .. }
         | Response::Faults { number, .. }
         | Response::Objects { number, .. } => print_parts(sink, *number, made),
-        Response::Entry { number, line } => {
-            print_short(sink, true, *number, entry_text(*line).as_str())
+        Response::Entry { number, shown } => {
+            print_short(sink, true, *number, entry_text(*shown).as_str())
         }
         Response::Built { number, package } => print_line(sink, *number, package.path()),
         Response::Refused { refusal } => print_short(

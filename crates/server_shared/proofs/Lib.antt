@@ -2,7 +2,10 @@
 pub mod GainsLaws
 pub mod HeldLaws
 pub mod CallLaws
-pub mod PairLaws
+pub mod PastLaws
+pub mod GatheredLaws
+pub mod SettlingLaws
+pub mod ShiftLaws
 pub mod ReceiptLaws
 pub mod StepLaws
 pub mod TakeLaws

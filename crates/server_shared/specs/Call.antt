@@ -32,7 +32,7 @@ Calls most old event reply None new = IsTurnedAwayAt most old event reply × (ne
 abbrev pub CallsWith : ℕ → List Receipt → Event → Reply → List Receipt → Type 0
 CallsWith most old event reply new = (index : Option ℕ) × Calls most old event reply index new
 
--- Some book, whose journal has at most `most` entries, has no room for the event's entry. Its content is the replay of its journal.
+-- Some book, whose journal has at most `most` entries, has no room for the event's entry. It is what its events made of the opening state.
 abbrev pub MayFill : ℕ → Event → Type 0
 MayFill most event = (book : Machine) × (book.limits.journal ≡ most) × IsReplayed book × ¬ (HasRoom book event)
 

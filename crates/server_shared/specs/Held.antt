@@ -1,5 +1,5 @@
 -- How many Jobs a seat has in hand, by the receipts of its calls.
-use Rattle.std.specs.Prelude.{ℕ, ◌+◌, ◌-◌, ◌<◌, ⊤, List, [], ◌∷◌}
+use Rattle.std.specs.Prelude.{◌≡◌, ◌⊎◌, ℕ, ◌+◌, ◌-◌, ◌<◌, ⊤, List, [], ◌∷◌, ◌++◌}
 use Rattle.history_machine.specs.declared.entry.EntryKind.{EntryKind}
 use Rattle.history_machine.specs.declared.entry.EntryKind.TheVariants as kind
 use Rattle.history_machine.specs.declared.entry.Reason.TheVariants.{NoJob}
@@ -31,3 +31,12 @@ jobs_in_hand = jobs_on 0
 abbrev pub MayLackRoom : Event → ℕ → Type 0
 MayLackRoom (GiveBack job) jobs = ¬ (0 < jobs)
 MayLackRoom event jobs = ⊤
+
+-- A seat comes to rest: it holds no receipt any more, and had no Job in hand. Or it keeps its receipts.
+abbrev pub IsRested : (old new : List Receipt) → Type 0
+IsRested old new = ((new ≡ []) × (jobs_in_hand old ≡ 0)) ⊎ (new ≡ old)
+
+-- P holds of the receipts that a seat had at first, and of all that it had since: those that it handed in meanwhile, with no Job in hand, and
+-- those that it holds at last.
+abbrev pub WithHandedIn : (List Receipt → List Receipt → Type 0) → (old new : List Receipt) → Type 0
+WithHandedIn P old new = (past : List Receipt) × (jobs_in_hand past ≡ 0) × P old (past ++ new)

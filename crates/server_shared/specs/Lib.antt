@@ -2,6 +2,8 @@
 pub mod Held
 pub mod Call
 pub mod Settled
+pub mod Past
+pub mod Due
 pub mod Reserved
 pub mod Steps
 pub mod SettledBook

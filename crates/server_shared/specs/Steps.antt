@@ -3,15 +3,16 @@ use Rattle.std.specs.Prelude.{◌≡◌, ℕ, length, Option, Some, None}
 use Rattle.history_machine.specs.declared.event.Event.{Event}
 use Rattle.history_machine.specs.declared.event.Reply.{Reply}
 use Rattle.history_machine.specs.JournalSteps.{JournalStep}
-use Rattle.history_machine.specs.Machine.{Machine, content}
-use Rattle.history_machine.specs.Run.{IsReplay}
+use Rattle.history_machine.specs.Chapters.{HasHistory}
+use Rattle.history_machine.specs.Machine.{Machine}
 use Rattle.server_shared.specs.declared.receipt.Receipt.{Receipt}
 
--- the machine's content is the replay of its journal
+-- The machine is what some run over borders makes of the opening state. Where no entries were closed, its content is the replay of its
+-- journal.
 abbrev pub IsReplayed : Machine → Type 0
-IsReplayed m = ∥ IsReplay m.limits m.journal (content m) ∥₁
+IsReplayed m = ∥ HasHistory m ∥₁
 
--- One step of a book, with a receipt of the entry that it adds. The book's content is the replay of its journal. Without a receipt the
+-- One step of a book, with a receipt of the entry that it adds. The book is what its events made of the opening state. Without a receipt the
 -- event is turned away: the journal has no room for its entry, or memory is wanting.
 abbrev pub ReceiptStep : Machine → Event → Reply → Option Receipt → Machine → Type 0
 ReceiptStep old event reply (Some receipt) new = IsReplayed old × (receipt.index ≡ length old.journal) × JournalStep old event reply (Some receipt.entry) new

@@ -1,5 +1,5 @@
 -- The calls of a worker.
-use Rattle.std.specs.Prelude.{◌≡◌, ◌⊎◌, ℕ, zero, suc, ⊤, true, false, Bool, Option, Some, None, Result, IfErr}
+use Rattle.std.specs.Prelude.{◌≡◌, ◌⊎◌, ℕ, zero, suc, ⊤, true, false, Bool, List, Option, Some, None, Result, IfErr}
 use Rattle.base_files.specs.declared.refusal.Refusal.{Refusal}
 use Rattle.base_files.specs.declared.refusal.Refusal.TheVariants.{Memory}
 use Rattle.build_unit.specs.Builds.{IsBuiltOf}
@@ -16,6 +16,8 @@ use Rattle.history_machine.specs.declared.event.Reply.TheVariants.{Taken, Refuse
 use Rattle.history_machine.specs.Machine.{Machine}
 use Rattle.history_machine.specs.Step.{taken}
 use Rattle.server_shared.specs.declared.receipt.Receipt.{Receipt}
+use Rattle.server_shared.specs.Call.{CallsWith}
+use Rattle.server_shared.specs.Held.{WithHandedIn}
 use Rattle.server_shared.specs.Steps.{ReceiptStep}
 use Rattle.server_shared.specs.Waking.{HasWork}
 use Rattle.server_shared.specs.declared.work_turn.WorkTurn.{WorkTurn}
@@ -73,6 +75,18 @@ module _ {C : Type 0} (steps : C → Event → Reply → C → Type 0) where
   abbrev pub TakesTurns : ℕ → C → C → Type 0
   TakesTurns zero old new = new ≡ old
   TakesTurns (suc n) old new = (mid : C) × TakesTurns n old mid × ((turn : WorkTurn) × TakesTurn mid turn new)
+
+-- A worker takes turns at a seat, and nothing else is called there.
+abbrev pub TakesSome : (most : ℕ) → (old new : List Receipt) → Type 0
+TakesSome most old new = (turns : ℕ) × TakesTurns (CallsWith most) turns old new
+
+-- A worker takes turns at a seat, which hands its receipts in now and then.
+abbrev pub WorksOn : (most : ℕ) → (old new : List Receipt) → Type 0
+WorksOn most = WithHandedIn (TakesSome most)
+
+-- Where a worker alone takes turns at a seat with these receipts, all that it then holds is accounted for.
+abbrev pub AccountsForTurns : (List Receipt → Type 0) → (most : ℕ) → List Receipt → Type 0
+AccountsForTurns P most old = (new : List Receipt) → TakesSome most old new → ∥ P new ∥₁
 
 -- whether a worker leaves entries of this kind and outcome: each of its Takes that leaves one handed out a Job
 abbrev pub is_work : EntryKind → Told → Bool

@@ -1,13 +1,15 @@
-//! A book that threads share: its lock, the seats with their receipts, the workers, and the settling.
+//! A book that threads share: its lock, the seats with their receipts, the workers, the chapters, and the settling.
 //!
 //! Crates above rely on: `Locked::step` makes one step of the book, whose entry has the index of the receipt. `Shared::call` makes one such
-//! step, and the seat keeps the receipt. `FreeSeats` has as many seats as `Shared::new` was asked for, and `take` always has one where one
-//! is left. `settle` returns Ok exactly where the receipts of the seats are the entries that the journal gained (`IsSettled`). `worker`
+//! step, and the seat keeps the receipt. `Shared::hand_in` takes the receipts of a seat at rest, and closes a chapter where it is due.
+//! `FreeSeats` has as many seats as `Shared::new` was asked for, and `take` always has one where one is left. `settle` returns Ok exactly where
+//! the receipts that were handed in are the entries of the last chapter. Each chapter before it was settled (`IsSettling`). `worker`
 //! makes only the events of its turns, and in each turn hands in the Job that it took (`TakesTurn`).
 #![tactic(auto)]
 
 mod ahead;
 mod caller;
+mod chapters;
 mod comparing;
 mod free_seats;
 mod gate;
@@ -23,7 +25,7 @@ mod working;
 
 pub use ahead::{Ahead, Crew, NextStep};
 pub use caller::{AtSeat, Caller};
-pub use comparing::{are_counted, merged, seats_apart, seats_in_journal, seats_rise};
+pub use chapters::Closing;
 pub use free_seats::FreeSeats;
 pub use gate::{Gate, OpenGate};
 pub use locked::{Locked, is_news, may_wake, no_wake_is_missed, turn_away};

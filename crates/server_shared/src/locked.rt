@@ -1,5 +1,5 @@
 //! The state under the lock of a shared book.
-ghost use Rattle.std.specs.Prelude.{◌≡◌, ◌+◌, ◌<◌, ◌≤◌, ◌↔◌, length, vec_len, is_some, IfSome, IsOk, IsTrue, MatchOption, None, false, if◌then◌else◌};
+ghost use Rattle.std.specs.Prelude.{◌≡◌, ◌+◌, ◌<◌, ◌↔◌, All, List, length, is_ok, is_some, IfSome, IsTrue, MatchOption, None, false, if◌then◌else◌};
 ghost use Rattle.workspace_check.specs.Found.{KnowsVerdicts};
 ghost use Rattle.history_book.specs.WorkLeft.{HasJob, IsWaitEnd};
 ghost use Rattle.base_files.specs.declared.refusal.Refusal.TheVariants.{Memory};
@@ -8,21 +8,23 @@ ghost use Rattle.history_machine.specs.MayReply.{MayReply};
 ghost use Rattle.history_machine.specs.Step.{refused, taken};
 ghost use Rattle.history_machine.specs.declared.event.Event.TheVariants.{Take};
 ghost use Rattle.history_book.specs.CurrentUnits.{AreKnownIn};
-ghost use Rattle.server_shared.specs.Steps.{IsReplayed, IsReceiptOrNone, ReceiptStep};
+ghost use Rattle.server_shared.specs.Steps.{IsReceiptOrNone, ReceiptStep};
 ghost use Rattle.server_shared.specs.Waking.{CountsNews, HasWork, IsNews, MayWake, NoWakeMissed};
 ghost use Rattle.server_shared.specs.Call.{LooksBuilt};
 ghost use Rattle.server_shared.specs.Working.{TakesJob};
-ghost use Rattle.server_shared.specs.SettledBook.{book_in};
-ghost use Rattle.server_shared.specs.Settled.{IsSettled, receipt_count};
+ghost use Rattle.server_shared.specs.Past.{HasPast, IsHandedIn};
+ghost use Rattle.server_shared.specs.SettledBook.{IsSettling, book_in};
+ghost use Rattle.server_shared.specs.declared.receipt.Receipt.{Receipt as HeldReceipt};
 ghost use Rattle.server_shared.specs.LimitNumbers.{limit_numbers};
 
 use crate::ahead::{Crew, NextStep};
-use crate::comparing::merged;
+use crate::chapters::Closing;
+use crate::comparing::{gathered, is_settled_by};
 use crate::free_seats::FreeSeats;
 use crate::opening::Opening;
 use crate::receipt::Receipt;
 use crate::seat::Seat;
-use crate::settling::{Unsettled, is_settled};
+use crate::settling::Unsettled;
 use base_files::Refusal;
 use build_kept::KnownUnits;
 use build_unit::Job;
@@ -33,22 +35,24 @@ use std::sync::ledger::{self, Share};
 use workspace_check::Known;
 use workspace_graph::Graph;
 
-/// A book, and the count of the entries that it gained since it was shared.
+/// A book, the receipts of its journal that were handed in, and the count of those that the seats hold.
 pub struct Locked<L: Opening> {
     pub book: Book,
     pub count: ledger::Book<L>,
-    /// The length of the journal when the book was shared.
+    /// From which entry on the journal's entries have receipts: those before were made before the book was shared.
     pub from: u64,
     pub is_stopped: bool,
     /// How many events changed the workspace or delivered a Job (`is_news`).
     pub news: u64,
+    pub handed: Vec<Receipt>,
+    pub closing: Closing,
     /// The workers, and what they judge before their Jobs. Only speed rests on it.
     pub(crate) crew: Crew,
-    ghost counted: { length book.journal ≡ from + count.total },
-    ghost from_is: { from ≡ L.from },
+    ghost counted: { length book.journal ≡ from + length handed.items + count.total },
     ghost most_is: { book.limits.journal ≡ L.most },
     ghost limits_are: { limit_numbers book.limits ≡ L.limits },
-    ghost none_closed: { book.begun ≡ 0 },
+    ghost known: { ∥ IsHandedIn L.accounts handed.items ∥₁ },
+    ghost past: { ∥ HasPast L.accounts L.from from book ∥₁ },
 }
 
 /// Makes one step of a book, and returns a copy of the entry that it adds.
@@ -57,18 +61,9 @@ fn step_book<Q: Question>(book: &mut Book, question: Q) -> (Q::Answer, Option<En
     ensures kind { MayReply (Q.event question) (Q.reply result.0) }
     ensures most { book.new.limits.journal ≡ book.old.limits.journal }
     ensures limits { limit_numbers book.new.limits ≡ limit_numbers book.old.limits }
-    ensures begun { book.new.begun ≡ book.old.begun }
+    ensures all_limits { book.new.limits ≡ book.old.limits }
 {
     book.journal_step(question)
-}
-
-/// How many entries the journal of a book has, where none was closed.
-fn entries_now(book: &Book) -> u64
-    requires { book.now.begun ≡ 0 }
-    ensures index { result ≡ length book.now.journal }
-    ensures legal { IsReplayed book.now }
-{
-    book.journal().len() as u64
 }
 
 /// What is known of units, if it is of packages of these files.
@@ -136,7 +131,7 @@ impl<L: Opening> Locked<L> {
         ensures amount { share.new.amount ≡ share.old.amount + (if is_some result.1 then 1 else 0) }
         ensures parts { share.new.parts ≡ share.old.parts }
     {
-        let index = entries_now(&self.book);
+        let index = self.book.journal().len() as u64;
         let Locked {
             book,
             count,
@@ -189,6 +184,11 @@ impl<L: Opening> Locked<L> {
             return false;
         }
         !self.book.has_job()
+    }
+
+    /// Whether a worker at rest is to wait: the workers were not stopped, and a border is near or a Take has no Job.
+    pub fn rests(&self) -> bool {
+        !self.is_stopped && (self.holds_up() || self.is_idle())
     }
 
     /// Takes a Job for a worker. Where it may take none it makes no event, and returns `None`. So a Take is refused only for want of memory.
@@ -323,17 +323,12 @@ impl<L: Opening> Locked<L> {
         self.is_stopped = true;
     }
 
-    /// Ends the sharing, and returns the book. It is settled if its new entries are exactly those of the seats' receipts. It takes no
-    /// memory.
+    /// Ends the sharing, and returns the book. It is settled if its new entries are exactly those of the receipts that were handed in. What the
+    /// seats still hold is handed in first; that alone takes memory.
     pub fn settle(self, free: FreeSeats<L>, seats: Vec<Seat<L>>) -> Result<Book, Unsettled>
-        ensures book { book_in result ≡ self.book }
-        ensures legal { IsReplayed self.book }
-        ensures limits { limit_numbers self.book.limits ≡ L.limits }
-        ensures from { self.from ≡ L.from }
-        ensures exact { IsOk result ↔ IsSettled self.from self.book.journal seats.items }
-        ensures count { length self.book.journal ≡ self.from + self.count.total }
-        ensures bound { receipt_count seats.items ≤ self.count.total }
-        ensures whole { vec_len seats ≡ L.parts → receipt_count seats.items ≡ self.count.total }
+        requires { All (λ (seat : List HeldReceipt). ∥ L.accounts seat ∥₁) seats.items }
+        ensures settled { ∥ IsSettling L.accounts L.from L.parts seats.items (book_in result) (is_ok result) ∥₁ }
+        ensures limits { limit_numbers (book_in result).limits ≡ L.limits }
     {
         let Locked {
             book,
@@ -341,17 +336,17 @@ impl<L: Opening> Locked<L> {
             from,
             is_stopped: _,
             news: _,
+            mut handed,
+            closing: _,
             crew,
         } = self;
         drop(crew);
-        let _entries = entries_now(&book);
-        let settled = is_settled(from, book.journal(), seats.as_slice());
         let FreeSeats { share, left: _ } = free;
-        let mut all = merged(share, seats);
+        let mut all = gathered(share, seats, &mut handed);
         count.audit(&mut all);
         drop(all);
         drop(count);
-        if settled {
+        if is_settled_by(from, &book, &mut handed) {
             Ok(book)
         } else {
             Err(Unsettled { book })

@@ -11,21 +11,24 @@ pub struct Receipt {
     pub entry: Entry,
 }
 
-/// Whether the journal has this entry at the receipt's index.
-fn is_in_journal(receipt: &Receipt, journal: &[Entry]) -> bool
-    ensures { IsTrue result ↔ IsInJournal journal.now receipt.now }
+/// Whether the journal has this entry at the receipt's index, which is `from` at least.
+fn is_in_journal(from: u64, receipt: &Receipt, journal: &[Entry]) -> bool
+    ensures { IsTrue result ↔ IsInJournal from journal.now receipt.now }
 {
+    if receipt.index < from {
+        return false;
+    }
     match journal.get(receipt.index as usize) {
         Some(entry) => entry.same(&receipt.entry),
         None => false,
     }
 }
 
-/// Whether the journal has the entry of each of these receipts, at its index.
-pub(crate) fn all_in_journal(receipts: &[Receipt], journal: &[Entry]) -> bool
-    ensures { IsTrue result ↔ All (IsInJournal journal.now) receipts.now }
+/// Whether the journal has the entry of each of these receipts at its index, from `from` on.
+pub(crate) fn all_in_journal(from: u64, receipts: &[Receipt], journal: &[Entry]) -> bool
+    ensures { IsTrue result ↔ All (IsInJournal from journal.now) receipts.now }
 {
     receipts
         .iter()
-        .all(|receipt| is_in_journal(receipt, journal))
+        .all(|receipt| is_in_journal(from, receipt, journal))
 }

@@ -1,4 +1,4 @@
-//! A seat at a shared book.
+//! A seat at a shared book. Between two messages, or two turns of a worker, it hands its receipts in and holds none.
 ghost use Rattle.std.specs.Prelude.{◌≡◌, ◌+◌, ◌^◌, ◌<◌, ◌≤◌, [], length, vec_len, vec_capacity, IfOk, IsOk, OkIff};
 ghost use Rattle.server_shared.specs.Held.{jobs_left};
 ghost use Rattle.server_shared.specs.Reserved.{IsGiveBack, receipts_needed};
@@ -10,13 +10,15 @@ use std::alloc::{AllocError, Global};
 use std::marker::Model;
 use std::sync::ledger::Share;
 
-/// One thread's right to call a shared book, and the receipts of its calls. Contracts see a seat as its receipts.
+/// One thread's right to call a shared book, and the receipts of its calls that it holds. Contracts see a seat as these receipts.
 #[derive(Drop)]
 pub struct Seat<L: Opening> {
     pub share: Share<L>,
     pub receipts: Vec<Receipt>,
     /// How many Jobs were taken at this seat and not handed in. The seat has room for a receipt of each.
     pub jobs: u64,
+    /// Whether the seat is one of those that could not hand in their receipts when they came to rest.
+    pub is_held_back: bool,
 }
 
 impl<L: Opening> Model for Seat<L> {
@@ -41,6 +43,7 @@ impl<L: Opening> Seat<L> {
             share,
             receipts: Vec::new(alloc),
             jobs: 0,
+            is_held_back: false,
         }
     }
 
@@ -51,18 +54,19 @@ impl<L: Opening> Seat<L> {
         self.receipts.as_slice()
     }
 
-    /// The seat's part of the ledger, which counted its receipts.
-    pub fn into_share(self) -> Share<L>
-        ensures parts { result.parts ≡ 1 }
-        ensures amount { result.amount ≡ length self }
+    /// The seat's part of the ledger, which counted its receipts, and these.
+    pub fn into_parts(self) -> (Share<L>, Vec<Receipt>)
+        ensures parts { result.0.parts ≡ 1 }
+        ensures amount { result.0.amount ≡ length self }
+        ensures receipts { result.1.items ≡ self }
     {
         let Seat {
             share,
             receipts,
             jobs: _,
+            is_held_back: _,
         } = self;
-        drop(receipts);
-        share
+        (share, receipts)
     }
 }
 

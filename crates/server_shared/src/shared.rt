@@ -1,18 +1,20 @@
 //! A book that threads share.
-ghost use Rattle.std.specs.Prelude.{◌≡◌, ◌+◌, ◌<◌, ◌≤◌, ◌↔◌, if◌then◌else◌, length, vec_len, is_some, IfSome, IsOk, MatchOption};
+ghost use Rattle.std.specs.Prelude.{◌≡◌, ◌+◌, ◌<◌, if◌then◌else◌, All, List, length, is_ok, is_some, IfSome, MatchOption};
 ghost use Rattle.workspace_check.specs.Found.{KnowsVerdicts};
 ghost use Rattle.history_machine.specs.MayReply.{MayReply};
 ghost use Rattle.history_machine.specs.Step.{taken};
 ghost use Rattle.history_machine.specs.declared.event.Event.TheVariants.{Take};
 ghost use Rattle.history_book.specs.CurrentUnits.{AreKnownIn};
-ghost use Rattle.server_shared.specs.SettledBook.{book_in};
-ghost use Rattle.server_shared.specs.Steps.{IsReplayed, IsReceiptOrNone};
+ghost use Rattle.server_shared.specs.SettledBook.{IsSettling, book_in};
+ghost use Rattle.server_shared.specs.Steps.{IsReceiptOrNone};
 ghost use Rattle.server_shared.specs.Call.{Calls, CallsWith, LooksBuilt, LooksOnceBuilt};
-ghost use Rattle.server_shared.specs.Settled.{IsSettled, receipt_count};
+ghost use Rattle.server_shared.specs.Held.{IsRested};
+ghost use Rattle.server_shared.specs.declared.receipt.Receipt.{Receipt as HeldReceipt};
 ghost use Rattle.server_shared.specs.Working.{LacksOnly};
 ghost use Rattle.server_shared.specs.LimitNumbers.{limit_numbers};
 
 use crate::ahead::{Ahead, Crew, NextStep};
+use crate::chapters::Closing;
 use crate::free_seats::FreeSeats;
 use crate::locked::{Locked, is_news, may_wake, turn_away};
 use crate::opening::Opening;
@@ -42,13 +44,19 @@ pub struct Shared<L: Opening> {
     built: Condvar,
     /// Where workers wait for verdicts that others find.
     judged: Condvar,
-    pub from: u64,
-    ghost from_is: { from ≡ L.from },
+    /// Where seats at rest wait until a chapter that is due is closed.
+    opened: Condvar,
 }
 
 impl<L: Opening> Shared<L> {
-    /// Shares a book, with `seats` seats, of which none is taken yet.
-    pub fn new(blank: Blank, book: Book, seats: u64) -> (Shared<L>, FreeSeats<L>)
+    /// Shares a book, with `seats` seats, of which none is taken yet. A chapter is closed where the journal has `mark` entries.
+    pub fn new(
+        alloc: Global,
+        blank: Blank,
+        book: Book,
+        seats: u64,
+        mark: u64,
+    ) -> (Shared<L>, FreeSeats<L>)
         requires name { blank.name ≡ L.name }
         requires parts { blank.parts ≡ L.parts }
         requires seats { blank.parts ≡ seats }
@@ -56,7 +64,6 @@ impl<L: Opening> Shared<L> {
         requires open { book.begun ≡ 0 }
         requires most { book.limits.journal ≡ L.most }
         requires limits { limit_numbers book.limits ≡ L.limits }
-        ensures from { result.0.from ≡ length book.journal }
         ensures seats { result.1.left ≡ seats }
     {
         let from = book.journal().len() as u64;
@@ -69,13 +76,15 @@ impl<L: Opening> Shared<L> {
                 from,
                 is_stopped: false,
                 news: 0,
+                handed: Vec::new(alloc),
+                closing: Closing::at(mark),
                 crew: Crew::new(),
             }),
             work: Condvar::new(),
             news: Condvar::new(),
             built: Condvar::new(),
+            opened: Condvar::new(),
             judged: Condvar::new(),
-            from,
         };
         (shared, free)
     }
@@ -94,7 +103,8 @@ impl<L: Opening> Shared<L> {
             Err(error) => return (turn_away(question, error), None),
             Ok(needed) => needed,
         };
-        let (answer, kept) = self.step(rt, &mut seat.share, question);
+        let is_at_rest = seat.receipts.is_empty();
+        let (answer, kept) = self.step(rt, &mut seat.share, question, is_at_rest);
         let Some(receipt) = kept else {
             return (answer, None);
         };
@@ -104,12 +114,14 @@ impl<L: Opening> Shared<L> {
         (answer, Some(index))
     }
 
-    /// Makes one event under the lock, and wakes those whom it concerns.
+    /// Makes one event under the lock, and wakes those whom it concerns. A seat at rest first waits until a chapter that is due is closed. Where
+    /// it could not be closed, for want of memory, the seat may try it again.
     fn step<R: Wait, Q: Question>(
         &self,
         rt: &R,
         share: &mut Share<L>,
         question: Q,
+        is_at_rest: bool,
     ) -> (Q::Answer, Option<Receipt>)
         requires { 0 < share.old.parts }
         ensures step { IsReceiptOrNone L.most (Q.event question) (Q.reply result.0) result.1 }
@@ -117,10 +129,14 @@ impl<L: Opening> Shared<L> {
         ensures amount { share.new.amount ≡ share.old.amount + (if is_some result.1 then 1 else 0) }
         ensures parts { share.new.parts ≡ share.old.parts }
     {
-        let mut locked = self.locked.lock(rt);
+        let mut locked = self.opened.wait_while(rt, self.locked.lock(rt), |locked| {
+            is_at_rest && locked.holds_up()
+        });
+        let closed = locked.close_if_due();
         let (answer, kept) = locked.call(share, question);
         let is_over = locked.book.wait_end().is_some();
         drop(locked);
+        drop(closed);
         if let Some(receipt) = &kept {
             self.wake(&receipt.entry.line, is_over);
         }
@@ -172,7 +188,7 @@ impl<L: Opening> Shared<L> {
     {
         let mut locked = self
             .work
-            .wait_while(rt, self.locked.lock(rt), |locked| locked.is_idle());
+            .wait_while(rt, self.locked.lock(rt), |locked| locked.rests());
         let taken = locked.take_job(share);
         let is_more = locked.has_work();
         drop(locked);
@@ -212,26 +228,55 @@ impl<L: Opening> Shared<L> {
         self.locked.lock(rt).learn_units(units);
     }
 
-    /// Ends the sharing, and returns the book. It is settled if its new entries are exactly those of the seats' receipts. It takes no
-    /// memory.
+    /// Has a seat that comes to rest hand in the receipts that it holds. The last seat that does so closes a chapter that is due. The seat keeps
+    /// its receipts for want of memory, and where it has a Job in hand.
+    pub fn hand_in<R: Wait>(&self, rt: &R, seat: &mut Seat<L>)
+        requires { ∥ L.accounts seat.old ∥₁ }
+        ensures { IsRested seat.old seat.new }
+    {
+        if seat.receipts.is_empty() {
+            return;
+        }
+        let mut locked = self.locked.lock(rt);
+        let was_due = locked.is_due();
+        let is_handed_in = seat.jobs == 0 && locked.hand_in(&mut seat.share, &mut seat.receipts);
+        locked.rest(seat.is_held_back, !is_handed_in);
+        let closed = locked.close_if_due();
+        let is_open = !locked.holds_up();
+        drop(locked);
+        seat.is_held_back = !is_handed_in;
+        if was_due && is_open {
+            self.wake_all();
+        }
+        drop(closed);
+    }
+
+    /// Wakes all who wait, as where a chapter was closed.
+    fn wake_all(&self) {
+        self.opened.notify_all();
+        self.work.notify_all();
+        self.built.notify_all();
+    }
+
+    /// Ends the sharing, and returns the book. It is settled if its new entries are exactly those of the receipts that were handed in. What the
+    /// seats still hold is handed in first; that alone takes memory.
     pub fn settle(self, free: FreeSeats<L>, seats: Vec<Seat<L>>) -> Result<Book, Unsettled>
-        ensures exact { IsOk result ↔ IsSettled self.from (book_in result).journal seats.items }
-        ensures legal { IsReplayed (book_in result) }
+        requires { All (λ (seat : List HeldReceipt). ∥ L.accounts seat ∥₁) seats.items }
+        ensures settled { ∥ IsSettling L.accounts L.from L.parts seats.items (book_in result) (is_ok result) ∥₁ }
         ensures limits { limit_numbers (book_in result).limits ≡ L.limits }
-        ensures bound { self.from + receipt_count seats.items ≤ length (book_in result).journal }
-        ensures whole { vec_len seats ≡ L.parts → length (book_in result).journal ≡ self.from + receipt_count seats.items }
     {
         let Shared {
             locked,
             work,
             news,
             built,
+            opened,
             judged,
-            from: _,
         } = self;
         drop(work);
         drop(news);
         drop(built);
+        drop(opened);
         drop(judged);
         locked.into_inner().settle(free, seats)
     }
@@ -324,7 +369,7 @@ impl<L: Opening> Shared<L> {
         shown
     }
 
-    /// Waits until a wait for all packages ends, and looks at the current state under the same lock.
+    /// Waits until a wait for all packages ends, and no chapter is due. It looks at the current state under the same lock.
     fn look_built<R: Wait>(
         &self,
         rt: &R,
@@ -337,8 +382,10 @@ impl<L: Opening> Shared<L> {
     {
         for _ in rt.forever() {
             let mut locked = self.locked.lock(rt);
-            if let Some(shown) = locked.look_built(share) {
-                return shown;
+            if !locked.holds_up() {
+                if let Some(shown) = locked.look_built(share) {
+                    return shown;
+                }
             }
             drop(self.built.wait(rt, locked));
         }

@@ -1,8 +1,10 @@
 //! The workers, which build packages.
-ghost use Rattle.std.specs.Prelude.{◌≡◌, ℕ, MatchOption};
+ghost use Rattle.std.specs.Prelude.{◌≡◌, ◌++◌, List, [], MatchOption};
 ghost use Rattle.server_shared.specs.Call.{CallsWith, Gains};
+ghost use Rattle.server_shared.specs.Held.{IsRested};
+ghost use Rattle.server_shared.specs.declared.receipt.Receipt.{Receipt as HeldReceipt};
 ghost use Rattle.build_unit.specs.Builds.{IsBuiltOf};
-ghost use Rattle.server_shared.specs.Working.{HandsIn, IsWork, TakesTurn, TakesTurns};
+ghost use Rattle.server_shared.specs.Working.{AccountsForTurns, HandsIn, IsWork, TakesTurn, WorksOn};
 
 use crate::caller::{AtSeat, Caller};
 use crate::gate::Gate;
@@ -16,8 +18,8 @@ use std::alloc::Global;
 use std::sync::Wait;
 
 /// Takes, builds and delivers Jobs until the shared book is stopped. Before a Job it judges packages that the Job needs, which is no event.
-/// Where nothing is to be built it sleeps, and makes no event. Where memory is wanting it takes a few turns more. Then it waits for a change
-/// or a delivery, so that its turns don't fill the journal.
+/// Behind each turn the seat hands its receipts in. Where nothing is to be built it sleeps, and makes no event. Where memory is wanting it takes
+/// a few turns more. Then it waits for a change or a delivery, so that its turns don't fill the journal.
 pub fn worker<L: Opening, R: Wait, G: Gate>(
     rt: &R,
     alloc: Global,
@@ -25,8 +27,11 @@ pub fn worker<L: Opening, R: Wait, G: Gate>(
     seat: &mut Seat<L>,
     gate: &G,
 )
-    ensures works { (turns : ℕ) × TakesTurns (CallsWith L.most) turns seat.old seat.new }
-    ensures gains { Gains IsWork seat.old seat.new }
+    requires fresh { AccountsForTurns L.accounts L.most [] }
+    requires here { AccountsForTurns L.accounts L.most seat.old }
+    ensures here { AccountsForTurns L.accounts L.most seat.new }
+    ensures works { WorksOn L.most seat.old seat.new }
+    ensures gains { (past : List HeldReceipt) × Gains IsWork seat.old (past ++ seat.new) }
 {
     shared.join(rt);
     let mut lacks = 0;
@@ -35,12 +40,30 @@ pub fn worker<L: Opening, R: Wait, G: Gate>(
         let Some(news) = shared.news_unless_stopped(rt) else {
             return;
         };
-        match turn_at_seat(rt, alloc, shared, seat, gate) {
+        match turn_and_rest(rt, alloc, shared, seat, gate) {
             None => return,
             Some(WorkTurn::HandedIn) => lacks = 0,
             Some(WorkTurn::Lacking) => lacks = wait_for_memory(rt, shared, news, lacks),
         }
     }
+}
+
+/// Takes a turn at a seat, which then hands its receipts in. Or finds that no more is to be built.
+fn turn_and_rest<L: Opening, R: Wait, G: Gate>(
+    rt: &R,
+    alloc: Global,
+    shared: &Shared<L>,
+    seat: &mut Seat<L>,
+    gate: &G,
+) -> Option<WorkTurn>
+    requires fresh { AccountsForTurns L.accounts L.most [] }
+    requires here { AccountsForTurns L.accounts L.most seat.old }
+    ensures here { AccountsForTurns L.accounts L.most seat.new }
+    ensures turn { MatchOption result (seat.new ≡ seat.old) (λ turn. (mid : List HeldReceipt) × TakesTurn (CallsWith L.most) seat.old turn mid × IsRested mid seat.new) }
+{
+    let turn = turn_at_seat(rt, alloc, shared, seat, gate)?;
+    shared.hand_in(rt, seat);
+    Some(turn)
 }
 
 /// Takes a turn at a seat, or finds that no more is to be built.

@@ -1,6 +1,6 @@
 -- A session at a desk, seen as a session of what the desk shows. The desk D shows an E, and has a name that no step changes. Where each
 -- step and each wait is one of E, so is the whole session.
-use Rattle.std.proofs.Common.{◌≡◌, ℕ, List, [], ◌∷◌, ◌++◌, Option, Some, None, Result, Ok, Err, inl, inr, ap, ◌∙◌, sym, subst}
+use Rattle.std.proofs.Common.{◌≡◌, ℕ, Bool, true, false, List, [], ◌∷◌, ◌++◌, Option, Some, None, Result, Ok, Err, inl, inr, ap, ◌∙◌, sym, subst, ⊎_elim}
 use Rattle.base_files.specs.declared.refusal.Refusal.{Refusal}
 use Rattle.base_files.specs.declared.limits.Limits.{Limits}
 use Rattle.build_unit.specs.declared.built.Built.{Built}
@@ -23,9 +23,12 @@ use Rattle.server_commands.specs.Act.{Acts, ActsOn, Commits, AfterLook, Sends}
 use Rattle.server_commands.specs.Work.{Works, AfterTake, AfterDelivery, Builds, Delivers, GivesBack}
 use Rattle.server_session.specs.declared.exchange.SessionFault.{SessionFault}
 use Rattle.server_session.specs.declared.exchange.SessionFault.TheVariants.{Memory, Read, Write, Turns}
+use Rattle.server_session.specs.Answers.{AnswersMessage, AnswersAll, AnswersOneAtMost, AnswersSome}
 use Rattle.server_session.specs.Conversing.{Converses}
-use Rattle.server_session.specs.Answers.{AnswersMessage, AnswersAll, AnswersSome}
-use Rattle.server_session.specs.Transcript.{Exchange, BreaksOff, CutsOff, SessionEnds}
+use Rattle.server_session.specs.Sending.{AnswersNext}
+use Rattle.server_session.specs.declared.outgoing.Outgoing.{Outgoing}
+use Rattle.server_session.specs.declared.outgoing.Outgoing.TheVariants as outgoing
+use Rattle.server_session.specs.Transcript.{Exchange, BreaksOff, CutsOff, SessionEnds, StepEnds}
 
 module _ {D E : Type 0} (steps : D → Event → Reply → D → Type 0) (waits : WaitLaw D) (shown : E → Event → Reply → E → Type 0) (awaited : WaitLaw E)
     (name : D → ℕ) (show : D → E)
@@ -144,6 +147,14 @@ module _ {D E : Type 0} (steps : D → Event → Reply → D → Type 0) (waits 
       let k = all_answered old new h.0 h.1 h.2 in
       (h.0, h.1, subst (λ (b : E). AnswersAll shown awaited (show old) h.0 h.1 b) (sym (is k.0)) k.1)
 
+  -- one message is answered
+  message_lifted : (old new : D) (first last : E) → first ≡ show old → (name new ≡ name old → last ≡ show new) → (message : Message) (reply : Response) →
+      AnswersMessage steps waits old message reply new → AnswersMessage shown awaited first message reply last
+  message_lifted old new first last from is message reply a =
+      let k = answered old new message reply a in
+      subst (λ (x : E). AnswersMessage shown awaited x message reply last) (sym from)
+      (subst (λ (y : E). AnswersMessage shown awaited (show old) message reply y) (sym (is k.0)) k.1)
+
   module _ (limits : Limits) where
     exchanged : (input rest : List ℕ) (old new : D) (text : List ℕ) → Exchange steps waits limits input rest old new text
         → Lifts old new (λ a b. Exchange shown awaited limits input rest a b text)
@@ -176,6 +187,14 @@ module _ {D E : Type 0} (steps : D → Event → Reply → D → Type 0) (waits 
       | inr k ↦ let l = broken input rest old new text k in (l.0, inr l.1)
     ]
 
+    -- at most one message is answered
+    pub one_lifted : (old new : D) (first last : E) → first ≡ show old → (name new ≡ name old → last ≡ show new) → AnswersOneAtMost steps waits old new →
+        AnswersOneAtMost shown awaited first last
+    one_lifted old new first last from is answers = ⊎_elim
+        (λ (e : new ≡ old). let k = same old new e in inl (is k.0 ∙ (k.1 ∙ sym from)))
+        (λ (a : (message : Message) × (reply : Response) × AnswersMessage steps waits old message reply new).
+        inr (a.0, a.1, message_lifted old new first last from is a.0 a.1 a.2)) answers
+
     -- how a session ends, where what is shown at last is that of a desk that kept its name
     ended : (before after held holds : Option (List ℕ)) (old new : D) (last : E) (result : Result (Unit {0}) SessionFault)
         → (name new ≡ name old → last ≡ show new) → SessionEnds steps waits limits before after held holds old new result
@@ -198,7 +217,40 @@ module _ {D E : Type 0} (steps : D → Event → Reply → D → Type 0) (waits 
         let k = cut input h.0 old new h.1 h.2 in
         (h.0, h.1, subst (λ (b : E). CutsOff shown awaited limits input h.0 (show old) b h.1) (sym (is k.0)) k.1, h.3, h.4)
 
-    -- the session is one of what is shown, from what is shown at first to what is shown at last
+    step_shown : (before after held holds : Option (List ℕ)) (old new : D) (last : E) (result : Result Bool SessionFault)
+        → (name new ≡ name old → last ≡ show new) → StepEnds steps waits limits before after held holds old new result
+        → StepEnds shown awaited limits before after held holds (show old) last result
+    step_shown None after held holds old new last (Ok true) is h = h
+    step_shown (Some input) after held holds old new last (Ok true) is h =
+        let k = exchanged input h.0 old new h.1 h.2 in
+        (h.0, h.1, subst (λ (b : E). Exchange shown awaited limits input h.0 (show old) b h.1) (sym (is k.0)) k.1, h.3, h.4)
+    step_shown before after held holds old new last (Ok false) is h = ended before after held holds old new last (Ok tt) is h
+    step_shown before after held holds old new last (Err Memory) is h = absurd h
+    step_shown before after held holds old new last (Err Read) is h = ended before after held holds old new last (Err Read) is h
+    step_shown before after held holds old new last (Err Turns) is h = ended before after held holds old new last (Err Turns) is h
+    step_shown before after held holds old new last (Err Write) is h = ended before after held holds old new last (Err Write) is h
+
+    -- one step of a session
+    pub step_lifted : (before after held holds : Option (List ℕ)) (old new : D) (first last : E) (result : Result Bool SessionFault)
+        → first ≡ show old → (name new ≡ name old → last ≡ show new) → StepEnds steps waits limits before after held holds old new result
+        → StepEnds shown awaited limits before after held holds first last result
+    step_lifted before after held holds old new first last result from is s =
+        subst (λ (a : E). StepEnds shown awaited limits before after held holds a last result) (sym from)
+        (step_shown before after held holds old new last result is s)
+
+    -- the first part of a step
+    pub next_lifted : (before after held holds : Option (List ℕ)) (old new : D) (first last : E) (result : Result Outgoing SessionFault)
+        → first ≡ show old → (name new ≡ name old → last ≡ show new) → AnswersNext steps waits limits before after held holds old new result
+        → AnswersNext shown awaited limits before after held holds first last result
+    next_lifted before after held holds old new first last (Ok outgoing.End) from is s =
+        step_lifted before after held holds old new first last (Ok false) from is s
+    next_lifted None after held holds old new first last (Ok (outgoing.Reply reply behind)) from is s = s
+    next_lifted (Some input) after held holds old new first last (Ok (outgoing.Reply reply behind)) from is s =
+        let m = s.1 in (s.0, (m.0, m.1, m.2, message_lifted old new first last from is m.0 reply m.3, m.4, m.5))
+    next_lifted before after held holds old new first last (Err fault) from is s =
+        step_lifted before after held holds old new first last (Err fault) from is s
+
+    -- a session
     pub conversed : (before held holds : Option (List ℕ)) (old new : D) (result : Result (Unit {0}) SessionFault)
         → Converses steps waits limits before held holds old new result
         → (first last : E) → first ≡ show old → (name new ≡ name old → last ≡ show new)

@@ -1,43 +1,38 @@
 -- What is known of the seats that threads return.
 use mathlib.Core.Logic.{∥∥₁_map}
-use Rattle.std.proofs.Common.{◌≡◌, ◌+◌, ℕ, zero, suc, List, [], ◌∷◌, ◌++◌, append_assoc, length, length-append, sym, ap, subst, ◌∙◌}
+use Rattle.std.proofs.Common.{◌≡◌, ◌+◌, ℕ, List, [], ◌∷◌, ◌++◌, All, append_assoc, inl, inr, length, length-append, refl, sym, ap, subst, ◌∙◌}
 use Rattle.std.proofs.lemmas.List.{length_push}
 use Rattle.std.proofs.lemmas.List.Elements.{All-push}
 use Rattle.server_shared.specs.declared.receipt.Receipt.{Receipt}
-use Rattle.server_shared.specs.Call.{CallsWith}
-use Rattle.server_shared.specs.Working.{TakesTurns}
-use Rattle.server_socket.specs.Session.{HoldsSessions}
-use Rattle.server_socket.specs.Returned.{Adds, AreReturned, HasServed, HasWorked}
+use Rattle.server_shared.specs.Held.{WithHandedIn}
+use Rattle.server_shared.specs.Working.{AccountsForTurns, TakesSome, WorksOn}
+use Rattle.server_shared.proofs.ShiftLaws.{works_more, works_none}
+use Rattle.server_socket.specs.Session.{AccountsForMessages, AnswersAtSeat, HoldsSome}
+use Rattle.server_socket.specs.Returned.{Adds, AreReturned, HasServed, HasWorked, IsCalled}
+use Rattle.server_socket.proofs.SessionLaws.{some_more}
 
 module _ (most : ℕ) where
   -- nothing was called yet
   pub served_none : (seat : List Receipt) → seat ≡ [] → ∥ HasServed most seat ∥₁
-  served_none seat none = ∣ (0, none) ∣₁
+  served_none seat none = ∣ ([], refl, (0, none)) ∣₁
 
   pub worked_none : (seat : List Receipt) → seat ≡ [] → ∥ HasWorked most seat ∥₁
-  worked_none seat none = ∣ (0, none) ∣₁
-
-  sessions_more : (m n : ℕ) (old mid new : List Receipt) → HoldsSessions most m old mid → HoldsSessions most n mid new →
-      (sessions : ℕ) × HoldsSessions most sessions old new
-  sessions_more m zero old mid new held h = (m, subst (λ (x : List Receipt). HoldsSessions most m old x) (sym h) held)
-  sessions_more m (suc n) old mid new held h =
-      let more = sessions_more m n old mid h.0 held h.1 in
-      (suc more.0, (h.0, more.1, h.2))
+  worked_none seat none = ∣ works_none most seat none ∣₁
 
   -- sessions are held at a seat at which sessions alone were held
-  pub served_more : (old new : List Receipt) → ∥ HasServed most old ∥₁ → (sessions : ℕ) × HoldsSessions most sessions old new → ∥ HasServed most new ∥₁
-  served_more old new was held = ∥∥₁_map was (λ (h : HasServed most old). sessions_more h.0 held.0 [] old new h.1 held.1)
-
-  turns_more : (m n : ℕ) (old mid new : List Receipt) → TakesTurns (CallsWith most) m old mid → TakesTurns (CallsWith most) n mid new →
-      (turns : ℕ) × TakesTurns (CallsWith most) turns old new
-  turns_more m zero old mid new taken h = (m, subst (λ (x : List Receipt). TakesTurns (CallsWith most) m old x) (sym h) taken)
-  turns_more m (suc n) old mid new taken h =
-      let more = turns_more m n old mid h.0 taken h.1 in
-      (suc more.0, (h.0, more.1, h.2))
+  pub served_more : (old new : List Receipt) → ∥ HasServed most old ∥₁ → WithHandedIn (HoldsSome most) old new → ∥ HasServed most new ∥₁
+  served_more old new was held = ∥∥₁_map was (λ (h : HasServed most old). some_more most [] old new h held)
 
   -- a worker takes turns at a seat at which a worker alone took turns
-  pub worked_more : (old new : List Receipt) → ∥ HasWorked most old ∥₁ → (turns : ℕ) × TakesTurns (CallsWith most) turns old new → ∥ HasWorked most new ∥₁
-  worked_more old new was taken = ∥∥₁_map was (λ (h : HasWorked most old). turns_more h.0 taken.0 [] old new h.1 taken.1)
+  pub worked_more : (old new : List Receipt) → ∥ HasWorked most old ∥₁ → WorksOn most old new → ∥ HasWorked most new ∥₁
+  worked_more old new was taken = ∥∥₁_map was (λ (h : HasWorked most old). works_more most [] old new h taken)
+
+  -- what a seat hands in
+  pub messages_called : AccountsForMessages (IsCalled most) most []
+  messages_called new answered = ∣ inr answered ∣₁
+
+  pub turns_called : AccountsForTurns (IsCalled most) most []
+  turns_called new taken = ∣ inl taken ∣₁
 
 module _ (P : List Receipt → Type 0) where
   -- one seat more
@@ -57,6 +52,13 @@ module _ (P : List Receipt → Type 0) where
       subst (λ (x : List (List Receipt)). Adds P (length (ys ++ y ∷ [])) old x) (sym e)
       (subst (λ (n : ℕ). Adds P n old (mid ++ seat ∷ [])) (sym (length_push ys y)) (adds_more (length ys) old mid seat h p))
 
+  -- one seat more that is accounted for
+  pub all_pushed : (old new : List (List Receipt)) (seat : List Receipt) → new ≡ old ++ seat ∷ [] → All (λ (receipts : List Receipt). ∥ P receipts ∥₁) old →
+      ∥ P seat ∥₁ → All (λ (receipts : List Receipt). ∥ P receipts ∥₁) new
+  all_pushed old new seat e all p =
+      subst (λ (x : List (List Receipt)). All (λ (receipts : List Receipt). ∥ P receipts ∥₁) x) (sym e)
+      (All-push (λ (receipts : List Receipt). ∥ P receipts ∥₁) old seat all p)
+
 -- the seats of workers, and those of threads of sessions behind them
 pub returned : (most workers sessions : ℕ) (all some : List (List Receipt)) → Adds (HasWorked most) workers [] some → Adds (HasServed most) sessions some all →
     AreReturned most workers sessions all
@@ -69,9 +71,3 @@ returned most workers sessions all some work serve = record {
   worked = work.3;
   served = serve.3;
 }
-
--- how many seats there are
-pub count_returned : (most workers sessions : ℕ) (seats : List (List Receipt)) → AreReturned most workers sessions seats → length seats ≡ workers + sessions
-count_returned most workers sessions seats r =
-    ap length r.all ∙ length-append r.at_work r.in_sessions ∙ ap (λ (n : ℕ). n + length r.in_sessions) r.worker_count
-    ∙ ap (λ (n : ℕ). workers + n) r.session_count

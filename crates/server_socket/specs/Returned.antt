@@ -1,17 +1,22 @@
--- The seats that the threads of a server return.
-use Rattle.std.specs.Prelude.{◌≡◌, ℕ, List, [], ◌++◌, All, length}
+-- The seats that the threads of a server return, and what they handed in.
+use Rattle.std.specs.Prelude.{◌≡◌, ◌⊎◌, ℕ, List, [], ◌++◌, All, length}
 use Rattle.server_shared.specs.declared.receipt.Receipt.{Receipt}
-use Rattle.server_shared.specs.Call.{CallsWith}
-use Rattle.server_shared.specs.Working.{TakesTurns}
-use Rattle.server_socket.specs.Session.{HoldsSessions}
+use Rattle.server_shared.specs.Held.{WithHandedIn}
+use Rattle.server_shared.specs.Working.{TakesSome, WorksOn}
+use Rattle.server_socket.specs.Session.{AnswersAtSeat, HoldsSome}
 
 -- Sessions were held at the seat, one after another, and nothing else was called there.
 abbrev pub HasServed : (most : ℕ) → List Receipt → Type 0
-HasServed most receipts = (sessions : ℕ) × HoldsSessions most sessions [] receipts
+HasServed most = WithHandedIn (HoldsSome most) []
 
 -- A worker took turns at the seat, and nothing else was called there.
 abbrev pub HasWorked : (most : ℕ) → List Receipt → Type 0
-HasWorked most receipts = (turns : ℕ) × TakesTurns (CallsWith most) turns [] receipts
+HasWorked most = WorksOn most []
+
+-- The receipts are those of turns that a worker took at one seat, or those of messages of sessions that were answered at one. Nothing else was
+-- called there, and no seat has receipts of both.
+abbrev pub IsCalled : (most : ℕ) → List Receipt → Type 0
+IsCalled most receipts = TakesSome most [] receipts ⊎ AnswersAtSeat most [] receipts
 
 -- So many seats are added behind the others, and P holds of the receipts of each.
 abbrev pub Adds : (List Receipt → Type 0) → (count : ℕ) → (old new : List (List Receipt)) → Type 0

@@ -1,9 +1,12 @@
 //! Runs the server, from making its socket to settling its book.
-ghost use Rattle.std.specs.Prelude.{◌≡◌, ◌≢◌, ◌+◌, ◌≤◌, [], IfErr, IfOk, IsErr, IsOk, IsTrue, OnOk, length, vec_capacity, vec_len};
+ghost use Rattle.std.specs.Prelude.{◌≡◌, ◌≢◌, ◌+◌, ◌≤◌, All, List, [], IfErr, IfOk, IsErr, IsOk, IsTrue, OnOk, length, vec_capacity, vec_len};
 ghost use Rattle.server_shared.specs.LimitNumbers.{full_limits};
 ghost use Rattle.server_shared.specs.SettledBook.{book_in};
-ghost use Rattle.server_socket.specs.Returned.{AreReturned};
-ghost use Rattle.server_socket.specs.Served.{Serves, Settles};
+ghost use Rattle.server_shared.specs.Working.{AccountsForTurns};
+ghost use Rattle.server_shared.specs.declared.receipt.Receipt.{Receipt};
+ghost use Rattle.server_socket.specs.Returned.{AreReturned, IsCalled};
+ghost use Rattle.server_socket.specs.Session.{AccountsForMessages};
+ghost use Rattle.server_socket.specs.Served.{Serves, Settles, mark_said};
 
 use crate::fault::ServeFault;
 use crate::held_path::{HeldPath, hold};
@@ -35,13 +38,27 @@ fn threads_of(words: &ServeOptions<'_>) -> u64
     u64::from(words.workers) + u64::from(words.sessions)
 }
 
+/// How many entries a chapter of the journal has, where the words don't say it.
+const MARK: u64 = 900_000;
+
+/// The length of the journal at which a chapter is closed.
+fn mark_of(words: &ServeOptions<'_>) -> u64
+    ensures { result ≡ mark_said words.now.chapter }
+{
+    match words.chapter {
+        Some(entries) => u64::from(entries),
+        None => MARK,
+    }
+}
+
 /// Takes seats of the shared book for workers.
 fn worker_seats<L: Opening>(
     alloc: Global,
     free: &mut FreeSeats<L>,
     count: u32,
 ) -> Result<Vec<WorkerSeat<L>>, AllocError>
-    requires { count ≤ free.old.left }
+    requires seats { count ≤ free.old.left }
+    requires turns { AccountsForTurns L.accounts L.most [] }
     ensures all { IfOk result (λ seats. vec_len seats ≡ count) }
     ensures left { OnOk result (free.new.left + count ≡ free.old.left) }
 {
@@ -59,7 +76,8 @@ fn session_seats<L: Opening>(
     free: &mut FreeSeats<L>,
     count: u32,
 ) -> Result<Vec<SessionSeat<L>>, AllocError>
-    requires { count ≤ free.old.left }
+    requires seats { count ≤ free.old.left }
+    requires messages { AccountsForMessages L.accounts L.most [] }
     ensures all { IfOk result (λ seats. vec_len seats ≡ count) }
     ensures left { OnOk result (free.new.left + count ≡ free.old.left) }
 {
@@ -77,7 +95,9 @@ fn seats_of<L: Opening>(
     free: &mut FreeSeats<L>,
     words: &ServeOptions<'_>,
 ) -> Result<Seats<L>, AllocError>
-    requires { words.now.workers + words.now.sessions ≤ free.old.left }
+    requires seats { words.now.workers + words.now.sessions ≤ free.old.left }
+    requires messages { AccountsForMessages L.accounts L.most [] }
+    requires turns { AccountsForTurns L.accounts L.most [] }
     ensures workers { IfOk result (λ seats. vec_len seats.workers ≡ words.now.workers) }
     ensures sessions { IfOk result (λ seats. vec_len seats.sessions ≡ words.now.sessions) }
 {
@@ -86,16 +106,16 @@ fn seats_of<L: Opening>(
     Ok(Seats { workers, sessions })
 }
 
-/// Closes a book after settling, and returns the length of its journal if it was settled.
+/// Closes a book after settling. If it was settled, returns how many entries all its journals have.
 fn length_of(settled: Result<Book, Unsettled>) -> Result<u64, ServeFault>
-    ensures ok { IfOk result (λ entries. IsOk settled × (entries ≡ length (book_in settled).journal)) }
+    ensures ok { IfOk result (λ entries. IsOk settled × (entries ≡ (book_in settled).begun + length (book_in settled).journal)) }
     ensures err { IfErr result (λ fault. IsErr settled × (fault ≡ ServeFault.Unsettled)) }
 {
     match settled {
         Ok(book) => {
-            let length = book.journal().len() as u64;
-            let _entries = book.close();
-            Ok(length)
+            let entries = book.begun() + book.journal().len() as u64;
+            let _last = book.close();
+            Ok(entries)
         }
         Err(Unsettled { book }) => {
             let _entries = book.close();
@@ -104,14 +124,15 @@ fn length_of(settled: Result<Book, Unsettled>) -> Result<u64, ServeFault>
     }
 }
 
-/// Settles the shared book with these seats, and returns the length of its journal.
+/// Settles the shared book with these seats, and returns how many entries all its journals have.
 fn settle<L: Opening>(
     shared: Shared<L>,
     free: FreeSeats<L>,
     seats: Vec<Seat<L>>,
 ) -> Result<u64, ServeFault>
-    requires { shared.from ≡ 0 }
-    ensures { Settles L.parts L.limits seats.items result }
+    requires from { L.from ≡ 0 }
+    requires known { All (λ (seat : List Receipt). ∥ L.accounts seat ∥₁) seats.items }
+    ensures { Settles L.accounts L.parts L.limits seats.items result }
 {
     length_of(shared.settle(free, seats))
 }
@@ -134,6 +155,7 @@ fn all_seats<L: Opening>(
     requires none { list.items ≡ [] }
     requires room { words.now.workers + words.now.sessions ≤ vec_capacity list }
     ensures all { IfOk result (λ all. AreReturned L.most words.now.workers words.now.sessions all.items) }
+    ensures known { IfOk result (λ all. All (λ (seat : List Receipt). ∥ L.accounts seat ∥₁) all.items) }
     ensures err { IfErr result (λ fault. fault ≢ ServeFault.Unsettled) }
 {
     let are_made = are_all(&seats, words);
@@ -166,8 +188,11 @@ fn serve_over<L: Opening + Send + Sync, R: Threads + Wait + Clock + Sync, G: Gat
     words: &ServeOptions<'_>,
     running: Running<'_, G>,
 ) -> Result<Vec<Seat<L>>, ServeFault>
-    requires { words.now.workers + words.now.sessions ≤ free.old.left }
+    requires seats { words.now.workers + words.now.sessions ≤ free.old.left }
+    requires messages { AccountsForMessages L.accounts L.most [] }
+    requires turns { AccountsForTurns L.accounts L.most [] }
     ensures all { IfOk result (λ all. AreReturned L.most words.now.workers words.now.sessions all.items) }
+    ensures known { IfOk result (λ all. All (λ (seat : List Receipt). ∥ L.accounts seat ∥₁) all.items) }
     ensures err { IfErr result (λ fault. fault ≢ ServeFault.Unsettled) }
 {
     let seats = seats_of(alloc, free, words)?;
@@ -191,10 +216,14 @@ fn serve_in<L: Opening + Send + Sync, R: Threads + Wait + Clock + Sync, G: Gate 
     requires from { L.from ≡ 0 }
     requires most { L.most ≡ 1000000 }
     requires limits { L.limits ≡ full_limits }
+    requires messages { AccountsForMessages L.accounts L.most [] }
+    requires turns { AccountsForTurns L.accounts L.most [] }
+    requires told { (receipts : List Receipt) → L.accounts receipts → IsCalled 1000000 receipts }
     ensures { Serves words.now.workers words.now.sessions result }
 {
     let book = Book::new(alloc, Limits::FULL)?;
-    let (shared, mut free) = Shared::<L>::new(blank, book, threads_of(words));
+    let seats = threads_of(words);
+    let (shared, mut free) = Shared::<L>::new(alloc, blank, book, seats, mark_of(words));
     let running = Running { gate, turns };
     match serve_over(rt, alloc, &shared, &mut free, words, running) {
         Ok(seats) => settle(shared, free, seats),
@@ -225,7 +254,7 @@ fn listen_alone<R: Net + Files<File = File>>(
     }
 }
 
-/// Tells on standard error that a server ended, and how many entries its journal had.
+/// Tells on standard error that a server ended, and how many entries its journals had.
 fn tell_end(rt: &impl Eprint, served: &Result<u64, ServeFault>) {
     if let Ok(entries) = served {
         let _ = eprintln!(rt; "gorefd: ended, {entries} entries");
@@ -250,7 +279,7 @@ fn serve_held<
     served
 }
 
-/// Serves sessions on a socket, and returns the length of the journal at the end. It ends once `stop_after` connections have ended, or where
+/// Serves sessions on a socket, and returns how many entries all journals have at the end. It ends once `stop_after` connections have ended, or where
 /// `gorefd stop` asks for its end. Its path is held meanwhile, and at the end the socket is taken away. It tells its start and its end on
 /// standard error. The gate hears of each worker's progress.
 pub fn serve<

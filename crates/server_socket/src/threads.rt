@@ -1,6 +1,7 @@
 //! The threads of a server. Each owns its seat, and returns it at its end.
-ghost use Rattle.std.specs.Prelude.{◌≡◌, ◌+◌, ◌≤◌, ℕ, IsOk, MatchResult, vec_capacity, vec_len};
-ghost use Rattle.server_socket.specs.Session.{HoldsSession, HoldsSessions};
+ghost use Rattle.std.specs.Prelude.{◌≡◌, ◌+◌, ◌≤◌, [], IsOk, MatchResult, vec_capacity, vec_len};
+ghost use Rattle.server_shared.specs.Held.{WithHandedIn};
+ghost use Rattle.server_socket.specs.Session.{AccountsForMessages, HoldsSession, HoldsSome};
 
 use crate::held_seats::{SessionSeat, WorkerSeat};
 use crate::returned::Seats;
@@ -34,7 +35,10 @@ fn serve_connection<L: Opening, R: Wait>(
     seat: &mut Seat<L>,
     stream: &UnixStream,
 ) -> io::Result<Result<(), SessionFault>>
-    ensures { MatchResult result (λ _. HoldsSession L.most seat.old seat.new) (λ _. seat.new ≡ seat.old) }
+    requires fresh { AccountsForMessages L.accounts L.most [] }
+    requires here { AccountsForMessages L.accounts L.most seat.old }
+    ensures here { AccountsForMessages L.accounts L.most seat.new }
+    ensures held { MatchResult result (λ _. WithHandedIn (HoldsSession L.most) seat.old seat.new) (λ _. seat.new ≡ seat.old) }
 {
     let input = BufReader::new(alloc, stream)?;
     let output = BufWriter::new(alloc, stream)?;
@@ -51,7 +55,10 @@ fn take_turns<L: Opening, R: Wait + Clock>(
     seat: &mut Seat<L>,
     turns: &Turns,
 )
-    ensures { (sessions : ℕ) × HoldsSessions L.most sessions seat.old seat.new }
+    requires fresh { AccountsForMessages L.accounts L.most [] }
+    requires here { AccountsForMessages L.accounts L.most seat.old }
+    ensures here { AccountsForMessages L.accounts L.most seat.new }
+    ensures held { WithHandedIn (HoldsSome L.most) seat.old seat.new }
 {
     for _ in rt.forever() {
         match turns.next(rt) {

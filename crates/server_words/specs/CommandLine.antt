@@ -25,14 +25,15 @@ number_rule name most = record (option_rule name) { parser = Some (parser.Signed
 abbrev pub run_app : App
 run_app = new_app (codes "run")
 
--- the subcommand `serve`, with its five options
+-- the subcommand `serve`, with its six options
 abbrev pub serve_app : App
-serve_app = with_rule (with_rule (with_rule (with_rule (with_rule (new_app (codes "serve"))
+serve_app = with_rule (with_rule (with_rule (with_rule (with_rule (with_rule (new_app (codes "serve"))
     socket_rule)
     (required_rule (number_rule (codes "workers") 16)))
     (required_rule (number_rule (codes "sessions") 32)))
     (number_rule (codes "stop-after") 1000000))
-    (number_rule (codes "idle") 1000000)
+    (number_rule (codes "idle") 1000000))
+    (number_rule (codes "chapter") 900000)
 
 -- the subcommand `stop`, with its option
 abbrev pub stop_app : App

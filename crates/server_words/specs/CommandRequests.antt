@@ -35,6 +35,7 @@ pub record AreServeOptions (rows : List Row) (words : ServeOptions) : Type 0 whe
   pub sessions : IsOptionNumber (codes "sessions") 32 rows words.sessions
   pub stop_after : IsOptional (codes "stop-after") rows words.stop_after
   pub idle : IsOptional (codes "idle") rows words.idle
+  pub chapter : IsOptional (codes "chapter") rows words.chapter
 
 -- the options of `serve`, or none where one is missing or out of its range
 abbrev pub FindsServe : List Row → Option ServeOptions → Type 0

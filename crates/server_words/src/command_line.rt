@@ -98,6 +98,16 @@ fn idle<'a>(alloc: Global) -> Arg<'a>
     )
 }
 
+/// The option `--chapter ENTRIES`.
+fn chapter<'a>(alloc: Global) -> Arg<'a>
+    ensures rule { rule_of result ≡ number_rule (codes "chapter") 900000 }
+    ensures local { result.global ≡ false }
+{
+    number_option(alloc, "chapter", "ENTRIES", 900_000).help(
+        "Closes the journal when it has so many entries, 1 to 900000; else 900000",
+    )
+}
+
 /// The subcommand `run`.
 fn run_command<'a>(alloc: Global) -> Command<'a>
     ensures app { app_of result ≡ run_app }
@@ -118,7 +128,8 @@ fn serve_command<'a>(alloc: Global) -> Result<Command<'a>, AllocError>
     let with_workers = with_socket.arg(workers(alloc))?;
     let with_sessions = with_workers.arg(sessions(alloc))?;
     let with_end = with_sessions.arg(stop_after(alloc))?;
-    with_end.arg(idle(alloc))
+    let with_idle = with_end.arg(idle(alloc))?;
+    with_idle.arg(chapter(alloc))
 }
 
 /// The subcommand `stop`, with its option.

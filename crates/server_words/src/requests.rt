@@ -11,6 +11,7 @@ use clap::ArgMatches;
 
 /// The options of `serve`: the path of the socket, and how many threads build packages and how many serve connections. `stop_after` is the
 /// number of connections after which to end, if there is one. `idle` is for how many seconds a client may send nothing, if that is limited.
+/// `chapter` is how many entries a chapter of the journal has, if that is said.
 #[derive(Clone, Copy)]
 pub struct ServeOptions<'a> {
     pub socket: &'a str,
@@ -18,6 +19,7 @@ pub struct ServeOptions<'a> {
     pub sessions: u32,
     pub stop_after: Option<u32>,
     pub idle: Option<u32>,
+    pub chapter: Option<u32>,
 }
 
 /// The option of `stop`: the path of the socket.
@@ -79,12 +81,14 @@ fn serve_words<'a>(matches: &ArgMatches<'a>) -> Option<ServeOptions<'a>>
     let sessions = number(matches, "sessions", 32)?;
     let stop_after = optional_number(matches, "stop-after")?;
     let idle = optional_number(matches, "idle")?;
+    let chapter = optional_number(matches, "chapter")?;
     Some(ServeOptions {
         socket,
         workers,
         sessions,
         stop_after,
         idle,
+        chapter,
     })
 }
 

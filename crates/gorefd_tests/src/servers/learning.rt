@@ -1,6 +1,7 @@
 //! Tests that what is found of packages at one seat is known at the others: verdicts, and units behind a rename. It changes no answer, so no
 //! stored session shows it.
-ghost use Rattle.std.specs.Prelude.{◌≡◌};
+ghost use Rattle.std.specs.Prelude.{◌≡◌, List};
+ghost use Rattle.server_shared.specs.declared.receipt.Receipt.{Receipt};
 ghost use Rattle.server_shared.specs.LimitNumbers.{full_limits};
 
 use crate::assertion::{file, holds};
@@ -77,7 +78,9 @@ fn converses<L: Opening, R: Wait + Abort>(
     seat: &mut Seat<L>,
     sent: &str,
     told: &str,
-) {
+)
+    requires { (receipts : List Receipt) → ∥ L.accounts receipts ∥₁ }
+{
     let output: Vec<u8> = Vec::new(alloc);
     let connection = Connection {
         input: sent.as_bytes(),
@@ -106,7 +109,9 @@ fn known_there<L: Opening, R: Wait + Abort>(
     shared: &Shared<L>,
     one: &mut Seat<L>,
     other: &mut Seat<L>,
-) -> KnownThere {
+) -> KnownThere
+    requires { (receipts : List Receipt) → ∥ L.accounts receipts ∥₁ }
+{
     put(rt, alloc, shared, one);
     let before = is_known(rt, shared, other);
     find_at(rt, alloc, shared, one);
@@ -138,9 +143,10 @@ fn known_around<L: Opening, R: Wait + Abort>(rt: &R, alloc: Global, blank: Blank
     requires from { L.from ≡ 0 }
     requires most { L.most ≡ 1000000 }
     requires limits { L.limits ≡ full_limits }
+    requires accounts { (receipts : List Receipt) → ∥ L.accounts receipts ∥₁ }
 {
     let book = Book::new(alloc, Limits::FULL).expect(rt, "memory");
-    let (shared, mut free) = Shared::<L>::new(blank, book, 2);
+    let (shared, mut free) = Shared::<L>::new(alloc, blank, book, 2, 1_000);
     let mut one = free.take(alloc);
     let mut other = free.take(alloc);
     let known = known_there(rt, alloc, &shared, &mut one, &mut other);

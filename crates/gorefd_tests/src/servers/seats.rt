@@ -1,5 +1,6 @@
 //! Tests the settling of a shared book.
-ghost use Rattle.std.specs.Prelude.{◌≡◌};
+ghost use Rattle.std.specs.Prelude.{◌≡◌, List};
+ghost use Rattle.server_shared.specs.declared.receipt.Receipt.{Receipt};
 ghost use Rattle.server_shared.specs.LimitNumbers.{full_limits};
 
 use crate::assertion::holds;
@@ -36,9 +37,10 @@ fn settled<L: Opening, R: Wait>(
     requires from { L.from ≡ 0 }
     requires most { L.most ≡ 1000000 }
     requires limits { L.limits ≡ full_limits }
+    requires accounts { (receipts : List Receipt) → ∥ L.accounts receipts ∥₁ }
 {
     let book = Book::new(alloc, Limits::FULL)?;
-    let (shared, mut free) = Shared::<L>::new(blank, book, 2);
+    let (shared, mut free) = Shared::<L>::new(alloc, blank, book, 2, 1_000);
     let mut seats = Vec::new(alloc);
     let mut one = free.take(alloc);
     let mut other = free.take(alloc);

@@ -24,7 +24,7 @@ returns-clause-keeps g c =
     (sym c.enter.ensures.answer)
     (left_kept old c.args.journal.now.items event (g.Q.Question.reply asked.answer) c.ask-answered.new.content c.enter.new.journal.items c.args.asked asked.out
     asked.subject asked.made c.enter.result.1 c.ask-answered.ensures.answer
-    (subst (λ (j : List Entry). ShowsLine j event (g.Q.Question.reply asked.answer)) c.as_slice.ensures.value c.ask-answered.ensures.shows)
+    (subst (λ (j : List Entry). ShowsLine old.begun j event (g.Q.Question.reply asked.answer)) c.as_slice.ensures.value c.ask-answered.ensures.shows)
     (record {
       kind_is = c.requires.kind;
       basis_is = c.requires.basis;

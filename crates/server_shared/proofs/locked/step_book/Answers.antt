@@ -2,7 +2,6 @@
 use Rattle.std.proofs.Common.{ap}
 use Rattle.base_files.specs.declared.limits.Limits.{Limits}
 use Rattle.server_shared.specs.LimitNumbers.{limit_numbers}
-use Rattle.history_machine.proofs.Reaching.{step_begun}
 use Rattle.history_machine.proofs.Replies.{may_reply}
 use Rattle.server_shared.proofs.StepLaws.{keeps_limits}
 use Rattle.server_shared.proofs.locked.step_book.Goals as goal
@@ -23,7 +22,7 @@ returns-clause-limits g c =
     (keeps_limits c.args.book.now (g.Q.Question.event c.args.question) (g.Q.Question.reply c.journal_step.result.0) c.journal_step.new.self
     c.journal_step.ensures.0)
 
-pub returns-clause-begun : goal.returns-clause-begun
-returns-clause-begun g c =
-    step_begun c.args.book.now (g.Q.Question.event c.args.question) (g.Q.Question.reply c.journal_step.result.0) c.journal_step.new.self
+pub returns-clause-all_limits : goal.returns-clause-all_limits
+returns-clause-all_limits g c =
+    keeps_limits c.args.book.now (g.Q.Question.event c.args.question) (g.Q.Question.reply c.journal_step.result.0) c.journal_step.new.self
     c.journal_step.ensures.0

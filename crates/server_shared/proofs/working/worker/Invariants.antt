@@ -1,8 +1,10 @@
--- So many turns were taken.
-use Rattle.std.proofs.Common.{ℕ}
-use Rattle.server_shared.specs.Call.{CallsWith}
-use Rattle.server_shared.specs.Working.{TakesTurns}
+-- So many turns were taken, whose receipts were handed in or are still held. They are accounted for.
+use Rattle.server_shared.specs.Working.{AccountsForTurns}
+use Rattle.server_shared.proofs.ShiftLaws.{HaveTurned}
 use Rattle.server_shared.proofs.working.worker.Given as goal
 
 abbrev pub invariant-loop : goal.invariant-loop
-invariant-loop g l = (turns : ℕ) × TakesTurns (CallsWith g.L.Opening.most) turns l.fn.seat l.seat
+invariant-loop g l = record {
+  here : AccountsForTurns g.L.Opening.accounts g.L.Opening.most l.seat;
+  turned : HaveTurned g.L.Opening.most l.fn.seat l.seat;
+}

@@ -2,13 +2,16 @@
 use Rattle.std.proofs.Common.{◌≡◌, ◌+◌, ℕ, ◌∙◌, arith}
 use Rattle.std.proofs.lemmas.List.{length_push}
 use Rattle.server_socket.specs.Returned.{HasServed}
-use Rattle.server_socket.proofs.ReturnedLaws.{adds_pushed}
+use Rattle.server_socket.proofs.ReturnedLaws.{adds_pushed, all_pushed}
+use Rattle.server_socket.proofs.SessionLaws.{accounted}
 use Rattle.server_socket.proofs.returned.add_sessions.Goals as goal
 
 pub loop-held-preserved : goal.loop-held-preserved
 loop-held-preserved g c = record {
   added = adds_pushed (HasServed g.L.Opening.most) c.loop-held.yielded c.in-Some.held c.args.all.now.items c.loop-held.all.items c.push_reserved.new.self.items
       c.in-Some.held.seat c.push_reserved.ensures.items c.loop-held.invariant.added c.in-Some.held.served;
+  known = all_pushed g.L.Opening.accounts c.loop-held.all.items c.push_reserved.new.self.items c.in-Some.held.seat c.push_reserved.ensures.items
+      c.loop-held.invariant.known (accounted g.L.Opening.accounts g.L.Opening.most c.in-Some.held.seat c.in-Some.held.here);
   len = one_more _ _ _ _ _ c.push_reserved.ensures.len c.loop-held.invariant.len (length_push c.loop-held.yielded c.in-Some.held);
   room = c.push_reserved.ensures.capacity ∙ c.loop-held.invariant.room;
 }

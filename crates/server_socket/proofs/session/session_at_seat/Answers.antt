@@ -1,21 +1,12 @@
--- The session at the desk, as it is seen at the seat that the desk holds.
-use Rattle.std.proofs.Common.{rules, refl}
-use Rattle.server_socket.specs.SeatStep.{CallsAtSeat}
-use Rattle.server_socket.specs.SeatWait.{WaitsUntilBuilt}
-use Rattle.server_socket.proofs.Lifts.{conversed}
+-- The bytes of the reader and the writer are those that the source and the sink have.
 use Rattle.server_socket.proofs.session.session_at_seat.Goals as goal
 
 pub returns-clause-converses : goal.returns-clause-converses
-returns-clause-converses g c = conversed _ _ (CallsAtSeat g.L.Opening.most) (WaitsUntilBuilt g.L.Opening.most) (λ d. d.seat.ghost_name) (λ d. d.seat.now) (λ old asked reply new h. h) (λ old told new h. h)
-    c.args.limits (g.I.Read.remaining c.args.connection.input) (g.O.Write.contents c.args.connection.output) _
-    (record { rt = c.args.rt; shared = c.args.shared; seat = record { ref_ptr = c.args.seat.ref_ptr; ghost_name = _; now = c.args.seat.now } })
-    c.converse.new.desk _ c.converse.ensures _ _ refl (search rules)
+returns-clause-converses g c =
+    let s = rw (c.new-source.ensures.bytes, c.new-sink.ensures.bytes, ← c.into_inner.ensures.bytes) at c.exchange_at_seat-ended.ensures.session in
+    (s.0, s.1, (g.I.Read.remaining c.exchange_at_seat-ended.new.source.reader, s.2.0, s.2.1))
 
 pub returns-clause-holds : goal.returns-clause-holds
-returns-clause-holds g c = (
-  g.I.Read.remaining c.args.connection.input,
-  g.O.Write.contents c.args.connection.output,
-  g.O.Write.contents c.converse.result.1,
-  c.converse.result.0,
-  returns-clause-converses g c,
-)
+returns-clause-holds g c =
+    let s = returns-clause-converses g c in
+    (s.0, s.1, (_, _, _, _, s.2))

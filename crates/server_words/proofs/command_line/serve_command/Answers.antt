@@ -13,7 +13,8 @@ returns-clause-app c =
     let second = with_option _ _ _ _ _ c.in_ok-with_workers.ensures first c.workers.ensures.rule c.workers.ensures.local in
     let third = with_option _ _ _ _ _ c.in_ok-with_sessions.ensures second c.sessions.ensures.rule c.sessions.ensures.local in
     let fourth = with_option _ _ _ _ _ c.in_ok-with_end.ensures third c.stop_after.ensures.rule c.stop_after.ensures.local in
-    with_last _ _ _ _ _ c.arg-5.ensures fourth c.idle.ensures.rule c.idle.ensures.local
+    let fifth = with_option _ _ _ _ _ c.in_ok-with_idle.ensures fourth c.idle.ensures.rule c.idle.ensures.local in
+    with_last _ _ _ _ _ c.arg-6.ensures fifth c.chapter.ensures.rule c.chapter.ensures.local
 
 pub returns-clause-local : goal.returns-clause-local
 returns-clause-local c =
@@ -22,4 +23,5 @@ returns-clause-local c =
     let second = stays_local _ _ _ c.in_ok-with_workers.ensures first c.workers.ensures.local in
     let third = stays_local _ _ _ c.in_ok-with_sessions.ensures second c.sessions.ensures.local in
     let fourth = stays_local _ _ _ c.in_ok-with_end.ensures third c.stop_after.ensures.local in
-    last_local _ _ _ c.arg-5.ensures fourth c.idle.ensures.local
+    let fifth = stays_local _ _ _ c.in_ok-with_idle.ensures fourth c.idle.ensures.local in
+    last_local _ _ _ c.arg-6.ensures fifth c.chapter.ensures.local

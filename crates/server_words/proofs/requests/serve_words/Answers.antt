@@ -22,4 +22,5 @@ returns c = record {
   sessions = c.in_ok-sessions.ensures;
   stop_after = c.in_ok-stop_after.ensures;
   idle = c.in_ok-idle.ensures;
+  chapter = c.in_ok-chapter.ensures;
 }

@@ -1,6 +1,5 @@
 -- Each package is finished, and a look shows it; or none can be built any more.
 use Rattle.std.proofs.Common.{refl}
-use Rattle.history_machine.proofs.Reaching.{replay_whole}
 use Rattle.server_shared.proofs.CallLaws.{looked_built, stuck_lacks}
 use Rattle.server_shared.proofs.locked.Locked.look_built.Goals as goal
 
@@ -15,5 +14,5 @@ returns-in-Some-Ok-clause-looked g c =
 pub returns-in-Some-Err-clause-looked : goal.returns-in-Some-Err-clause-looked
 returns-in-Some-Err-clause-looked g c =
     stuck_lacks g.L.Opening.most c.args.self.now.book c.in-Some-Err.refusal c.args.self.now.most_is
-    (replay_whole c.args.self.now.book c.args.self.now.none_closed c.wait_end.ensures.reached)
+    c.wait_end.ensures.reached
     (rw c.in-Some-Err.field-0-is at (rw c.in-Some-Err.is at c.wait_end.ensures.end))

@@ -1,0 +1,19 @@
+-- The book closed no journal yet, and no receipt was handed in.
+use mathlib.Core.Logic.{∥∥₁_map}
+use Rattle.std.proofs.Common.{ℕ, List, length, ap, subst, sym}
+use Rattle.history_machine.specs.Chapters.{HasHistory}
+use Rattle.server_shared.specs.Past.{HasPast, IsHandedIn}
+use Rattle.server_shared.specs.declared.receipt.Receipt.{Receipt}
+use Rattle.server_shared.proofs.PastLaws.{handed_none, past_opened}
+use Rattle.server_shared.proofs.shared.Shared.new.Goals as goal
+
+pub invariant_of-new-clause-past : goal.invariant_of-new-clause-past
+invariant_of-new-clause-past g c =
+    let book = c.args.book in
+    subst (λ (n : ℕ). ∥ HasPast g.L.Opening.accounts g.L.Opening.from n book ∥₁) (sym (ap length c.journal.ensures.journal))
+    (subst (λ (n : ℕ). ∥ HasPast g.L.Opening.accounts n (length book.journal) book ∥₁) c.requires.from
+    (∥∥₁_map c.journal.ensures.reached (λ (is : HasHistory book). past_opened g.L.Opening.accounts book c.requires.open is)))
+
+pub invariant_of-new-clause-known : goal.invariant_of-new-clause-known
+invariant_of-new-clause-known g c =
+    subst (λ (xs : List Receipt). ∥ IsHandedIn g.L.Opening.accounts xs ∥₁) (sym c.new.ensures.items) ∣ handed_none g.L.Opening.accounts ∣₁
