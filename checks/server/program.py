@@ -5,7 +5,7 @@ limits at their full size, and a server with clients and workers on threads. che
 checks, which need more of a machine or take longer.
 """
 
-from checks.server import connections, editors, entries, late, limits, serve, statuses, streams, tools
+from checks.server import chapters, connections, editors, entries, late, limits, serve, statuses, streams, tools
 
 CHECKS = (
     statuses.bad_words,
@@ -39,6 +39,7 @@ CHECKS = (
     editors.settled_length,
     editors.alone_settled,
     *entries.CHECKS,
+    *chapters.CHECKS,
     *late.CHECKS,
     connections.cut_while_sending,
     connections.cut_while_reading,

@@ -7,7 +7,7 @@ where one fails. The answers are those of the protocol, by hand or by the model.
 minute fails.
 """
 
-from checks.server import connections, editors, entries, late, limits, statuses, story, streams, tools
+from checks.server import chapters, connections, editors, entries, late, limits, statuses, story, streams, tools
 from checks.server.server import check_program
 
 CHECKS = (
@@ -15,6 +15,7 @@ CHECKS = (
     + limits.CHECKS
     + editors.CHECKS
     + entries.CHECKS
+    + chapters.CHECKS
     + late.CHECKS
     + connections.CHECKS
     + streams.CHECKS

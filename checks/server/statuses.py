@@ -50,12 +50,13 @@ SERVE_HELP = """Serves sessions to those who connect to a Unix socket, and build
 Usage: gorefd serve [OPTIONS] --socket <PATH> --workers <N> --sessions <M>
 
 Options:
-      --socket <PATH>   The path of the server's socket
-      --workers <N>     How many threads build packages, 1 to 16
-      --sessions <M>    How many threads serve connections, 1 to 32
-      --stop-after <K>  Ends after K connections, 1 to 1000000; else it does not end
-      --idle <SECONDS>  Ends a session whose client sends or reads nothing for so long, 1 to 1000000
-  -h, --help            Print help
+      --socket <PATH>      The path of the server's socket
+      --workers <N>        How many threads build packages, 1 to 16
+      --sessions <M>       How many threads serve connections, 1 to 32
+      --stop-after <K>     Ends after K connections, 1 to 1000000; else it does not end
+      --idle <SECONDS>     Ends a session whose client sends or reads nothing for so long, 1 to 1000000
+      --chapter <ENTRIES>  Closes the journal when it has so many entries, 1 to 900000; else 900000
+  -h, --help               Print help
 """
 GOOD = serve_words("s")
 
