@@ -60,7 +60,7 @@ the_new t n s u = record {
 
 pub made_is : (t : ℕ → ℕ) (n : IsRenumbering t) (s u : Source) → ((x : Symbol) → u.world.definition x ≡ s.world.definition x) →
     ((y : PlainType) (x : Symbol) → u.world.implements y x ≡ s.world.implements y x) → ((x : Symbol) → u.function x ≡ s.function x) → ((x : Symbol) →
-        u.position x ≡ s.position x) → made (the_new t n s u) ≡ u
+    u.position x ≡ s.position x) → made (the_new t n s u) ≡ u
 made_is t n s u definition implements function position = λ i. record {
   world = record {
     bound = u.world.bound;
