@@ -2,9 +2,9 @@
 
 import socket
 
-from checks.server.editors import a_large_package
+from checks.server.editors import a_large_package, changes
 from checks.server.entries import BUILD, COMMAND, WAIT, puts_and_waits
-from checks.server.server import A, Server, put, retried, same, settles, together
+from checks.server.server import A, Server, put, same, settles, together
 
 
 def texts(turns):
@@ -90,18 +90,11 @@ def unread_replies_hold_up_none():
         settles(server)
 
 
-def many_at_once():
+def many_over_borders():
     """Sessions that change packages of their own beside one another, while workers build, over many borders: all is settled."""
-
-    def edits(client, name):
-        number = client.number()
-        for turn in range(60):
-            text = b"package %s\n\nvar V%d int\n" % (name, turn)
-            number, _ = retried(client, b"put %%d %s/x.go %d" % (name, len(text)), number, text)
-
     with Server(4, 6, 6, more=("--chapter", "50")) as server:
         clients = [server.connect() for _ in range(6)]
-        together(*(lambda c=c, n=n: edits(c, n) for c, n in zip(clients, (b"a", b"b", b"c", b"d", b"e"))))
+        together(*(lambda c=c, n=n: list(changes(c, n, 60)) for c, n in zip(clients, (b"a", b"b", b"c", b"d", b"e"))))
         same(clients[-1].ask(b"wait\n")[0][:3], b"ok ")
         begun = first_open(clients[-1])
         same(begun > 200, True)
@@ -110,4 +103,4 @@ def many_at_once():
         same(settles(server) > begun, True)
 
 
-CHECKS = (as_many_entries, undo_over_borders, logs_over_borders, idle_clients_hold_up_none, unread_replies_hold_up_none, many_at_once)
+CHECKS = (as_many_entries, undo_over_borders, logs_over_borders, idle_clients_hold_up_none, unread_replies_hold_up_none, many_over_borders)

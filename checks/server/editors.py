@@ -419,14 +419,20 @@ def others_sleep():
         settles(server)
 
 
+def changes(client, name, turns):
+    """Puts a package of one file so many times, each with another variable, and yields the turn behind each put."""
+    number = client.number()
+    for turn in range(turns):
+        text = b"package %s\n\nvar V%d int\n" % (name, turn)
+        number, _ = retried(client, b"put %%d %s/x.go %d" % (name, len(text)), number, text)
+        yield turn
+
+
 def builds_meanwhile():
     """Sessions change files while workers build; each `wait` answers a state all of whose packages have an object."""
 
     def edits(client, name):
-        number = client.number()
-        for i in range(15):
-            text = b"package %s\n\nvar V%d int\n" % (name, i)
-            number, _ = retried(client, b"put %%d %s/x.go %d" % (name, len(text)), number, text)
+        for i in changes(client, name, 15):
             head, _ = client.ask(b"wait\n")
             same(head[:3], b"ok ")
             head, told = client.ask(b"object %s\n" % name)
