@@ -67,12 +67,15 @@ abbrev first_source : Source
 first_source = record {
   world = record { bound = first_bound; member = λ n t. None; definition = λ s. Struct s; implements = λ t s. false };
   before = λ n. None;
+  entered = λ n. None;
   global = λ n. if n == 4 || n == 16 then Some (here (codes "x")) else (if n == 8 then Some (here (codes "F")) else None);
+  asks = λ n. None;
   truth = λ n. false;
   number = λ n. None;
   text = λ n. None;
   function = λ s. None;
   position = λ s. None;
+  asked = λ s. None;
 }
 
 abbrev first_tree : tree.FileTree
@@ -114,12 +117,15 @@ abbrev second_source : Source
 second_source = record {
   world = record { bound = second_bound; member = λ n t. None; definition = λ s. Struct s; implements = λ t s. false };
   before = λ n. None;
+  entered = λ n. None;
   global = λ n. None;
+  asks = λ n. None;
   truth = λ n. false;
   number = λ n. if n == 12 then Some 0 else (if n == 16 then Some 1 else None);
   text = λ n. None;
   function = λ s. None;
   position = λ s. None;
+  asked = λ s. None;
 }
 
 abbrev second_for : StatementTree
@@ -208,6 +214,8 @@ forms = record {
   world = record { bound = form_bound; member = λ n t. form_member n; definition = λ s. Struct s; implements = λ t s. false };
   before = λ n. if n == 41 || (n == 43 || n == 45) then Some (Pointer (Defined struct_t)) else
       (if n == 40 || (n == 42 || (n == 44 || n == 46)) then Some (Defined struct_t) else None);
+  entered = λ n. None;
+  asks = λ n. None;
   global = λ n. if n == 13 then Some (here (codes "v")) else
       (if n == 20 then Some (here (codes "f")) else (if n == 23 then Some (record { path = codes "b"; name = codes "X" }) else None));
   truth = λ n. n == 14;
@@ -215,6 +223,7 @@ forms = record {
   text = λ n. Some (codes "hi");
   function = λ s. if s.rank == 6 then Some (Method (here (codes "T")) (codes "m")) else Some (Method (here (codes "T")) (codes "q"));
   position = λ s. Some 1;
+  asked = λ s. None;
 }
 
 abbrev form_slots : List ℕ

@@ -1,5 +1,5 @@
 -- The code of expressions stays within its function.
-use Rattle.std.proofs.Common.{ℕ, suc, ◌<◌, List, [], ◌∷◌, ◌++◌, length, Bool, true, false, Option, Some, None, arith}
+use Rattle.std.proofs.Common.{ℕ, suc, ◌<◌, ◌==◌, List, [], ◌∷◌, ◌++◌, length, Bool, true, false, if◌then◌else◌, Option, Some, None, arith}
 use Rattle.go_ast.specs.declared.syntax.BinaryOp.{BinaryOp}
 use Rattle.go_ast.specs.declared.syntax.BinaryOp.TheVariants as op
 use Rattle.go_ast.specs.declared.syntax.PrefixOp.{PrefixOp}
@@ -8,7 +8,8 @@ use Rattle.go_ast.specs.Tree.{ExprTree, Number, Text, Name, Blank, Composite, Pa
 use Rattle.go_ast.specs.Tree.{LinkTrees, no_link, selector, index, call, ArgumentTrees, no_argument, argument, LiteralTree, literal, ElementTrees}
 use Rattle.go_ast.specs.Tree.{no_element, element}
 use Rattle.types_expr.specs.Types.{PlainType, ValueKind, Typed, Untyped, Meaning, Value, TypeName, Function, BuiltinName, Package, Results, Broken, is_struct}
-use Rattle.types_expr.specs.Types.{is_pointer, points}
+use Rattle.types_expr.specs.Places.{place_of}
+use Rattle.types_expr.specs.Types.{AFieldOf, AMethodOf, is_pointer, points}
 use Rattle.types_expr.specs.Types.{Nil as NilKind}
 use Rattle.types_expr.specs.World.{Bound, Means, BrokenVariable, BrokenFunction, BrokenType, Member, AField, AMethod, ABrokenMethod, underlying}
 use Rattle.types_expr.specs.World.{Local as LocalName}
@@ -18,11 +19,12 @@ use Rattle.build_object.specs.Lines.{Duplicate, Pop, JumpUnless, JumpIf, Local, 
 use Rattle.build_object.specs.Lines as line
 use Rattle.build_object.specs.Source.{Source}
 use Rattle.build_object.specs.Numbering.{slot_of}
-use Rattle.build_object.specs.Operands.{CodeOperand, Mode, Values, Called, Converts, Predeclared, Qualifies, value_name, named_meaning, bound_name}
+use Rattle.build_object.specs.Operands.{CodeOperand, Mode, Values, Called, CalledAsked, Converts, Predeclared, Qualifies, value_name, named_meaning}
+use Rattle.build_object.specs.Operands.{bound_name}
 use Rattle.build_object.specs.Operands.{name_operand, prefixed, operated, field_operand, receiver_lines, member_operand, typed_selector, selected_by, selected}
-use Rattle.build_object.specs.Operands.{indexed, calling, called}
+use Rattle.build_object.specs.Operands.{indexed, calling, called, value_count}
 use Rattle.build_object.specs.Expressions.{argument_count, element_count, key_position, literal_code, typed_literal, operand_of, operations, linked}
-use Rattle.build_object.specs.Expressions.{argument_lines, literal_lines, keyed_lines, bare_lines}
+use Rattle.build_object.specs.Expressions.{argument_lines, literal_lines, keyed_lines, bare_lines, enter_line}
 use Rattle.build_object.specs.Fitting.{FitsAt}
 use Rattle.build_object.proofs.FittingParts.{count, Stays, none_stays, stays_joined, is_count, known_stays, is_slot, slot_stays}
 
@@ -109,7 +111,8 @@ receiver_stays k o false false h = h.0
 member_sound : (k : ℕ) (s : Source) (o : CodeOperand) (t : PlainType) (m : Option Member) → IsSound k o → IsSound k (member_operand s o t m)
 unfolding member_operand
 member_sound k s o t None h = (h.0, h.0)
-member_sound k s o t (Some (AField f own)) h = field_sound k o (points (underlying s.world t)) (s.position f) h
+member_sound k s o t (Some (AField f (AFieldOf own))) h = field_sound k o (points (underlying s.world t)) (s.position f) h
+member_sound k s o t (Some (AField f (AMethodOf signature))) h = (h.0, h.0)
 member_sound k s o t (Some (AMethod m on_pointer signature)) h =
     (receiver_stays k o (is_pointer t) on_pointer h, receiver_stays k o (is_pointer t) on_pointer h)
 member_sound k s o t (Some (ABrokenMethod m)) h = (h.0, h.0)
@@ -128,6 +131,7 @@ selected_sound s slots n o Qualifies h = (
 )
 selected_sound s slots n o (Values m) h = typed_sound (length slots) s n o (s.before n) h
 selected_sound s slots n o (Called received f m) h = typed_sound (length slots) s n o (s.before n) h
+selected_sound s slots n o (CalledAsked f m) h = typed_sound (length slots) s n o (s.before n) h
 selected_sound s slots n o Converts h = typed_sound (length slots) s n o (s.before n) h
 selected_sound s slots n o (Predeclared b) h = typed_sound (length slots) s n o (s.before n) h
 
@@ -142,6 +146,7 @@ indexed_sound k o i h f = (
 calling_stays : (k n : ℕ) (mode : Mode) → Stays k (calling n mode)
 unfolding calling
 calling_stays k n (Called received f results) = λ a b. (tt, tt)
+calling_stays k n (CalledAsked f results) = λ a b. (tt, tt)
 calling_stays k n (Predeclared builtin) = λ a b. (tt, tt)
 calling_stays k n Converts = none_stays k
 calling_stays k n (Values m) = none_stays k
@@ -167,6 +172,13 @@ typed_stays k s None keyed bare n f g = none_stays k
 typed_stays k s (Some t) keyed bare n f g = of_type_stays k (is_struct (underlying s.world t)) t keyed bare n f g
 
 -- Trees
+
+enter_if : (k : ℕ) (one : Bool) (t : Option PlainType) → Stays k (if one then line_if_known line.Enter t else [])
+enter_if k true t = known_stays k line.Enter (λ t a b. (tt, tt)) t
+enter_if k false t = none_stays k
+
+pub enter_stays : (k : ℕ) (s : Source) (o : CodeOperand) (e : ExprTree) → Stays k (enter_line s o e)
+enter_stays k s o e = enter_if k (value_count o.mode == 1) (s.entered (place_of e))
 
 mutual
   unfolding operand_of operations linked argument_lines literal_lines keyed_lines bare_lines
@@ -214,8 +226,10 @@ mutual
 
   arguments_stay : (s : Source) (slots : List ℕ) (xs : ArgumentTrees) → Stays (length slots) (argument_lines s slots xs)
   arguments_stay s slots no_argument = none_stays (length slots)
-  arguments_stay s slots (argument e c rest) = stays_joined (length slots) (operand_of s slots e).value (argument_lines s slots rest)
-      (expr_sound s slots e).0 (arguments_stay s slots rest)
+  arguments_stay s slots (argument e c rest) = stays_joined (length slots) ((operand_of s slots e).value ++ enter_line s (operand_of s slots e) e) (argument_lines s slots rest)
+      (stays_joined (length slots) (operand_of s slots e).value (enter_line s (operand_of s slots e) e) (expr_sound s slots e).0
+      (enter_stays (length slots) s (operand_of s slots e) e))
+      (arguments_stay s slots rest)
 
   literal_stays : (s : Source) (slots : List ℕ) (l : LiteralTree) → Stays (length slots) (literal_lines s slots l)
   literal_stays s slots (literal t o es c) =
@@ -225,11 +239,15 @@ mutual
   keyed_stay : (s : Source) (slots : List ℕ) (es : ElementTrees) → Stays (length slots) (keyed_lines s slots es)
   keyed_stay s slots no_element = none_stays (length slots)
   keyed_stay s slots (element key e c rest) =
-      stays_joined (length slots) (operand_of s slots e).value (line_if_known With (key_position s key) ++ keyed_lines s slots rest) (expr_sound s slots e).0
+      stays_joined (length slots) ((operand_of s slots e).value ++ enter_line s (operand_of s slots e) e) (line_if_known With (key_position s key) ++ keyed_lines s slots rest)
+      (stays_joined (length slots) (operand_of s slots e).value (enter_line s (operand_of s slots e) e) (expr_sound s slots e).0
+      (enter_stays (length slots) s (operand_of s slots e) e))
       (stays_joined (length slots) (line_if_known With (key_position s key)) (keyed_lines s slots rest)
       (known_stays (length slots) With (λ n a b. (tt, tt)) (key_position s key)) (keyed_stay s slots rest))
 
   bare_stay : (s : Source) (slots : List ℕ) (es : ElementTrees) → Stays (length slots) (bare_lines s slots es)
   bare_stay s slots no_element = none_stays (length slots)
-  bare_stay s slots (element key e c rest) = stays_joined (length slots) (operand_of s slots e).value (bare_lines s slots rest) (expr_sound s slots e).0
+  bare_stay s slots (element key e c rest) = stays_joined (length slots) ((operand_of s slots e).value ++ enter_line s (operand_of s slots e) e) (bare_lines s slots rest)
+      (stays_joined (length slots) (operand_of s slots e).value (enter_line s (operand_of s slots e) e) (expr_sound s slots e).0
+      (enter_stays (length slots) s (operand_of s slots e) e))
       (bare_stay s slots rest)

@@ -60,7 +60,7 @@ by_fits : (s : Source) (names : List FunctionName) (d : DeclTree) → AreFitting
 unfolding declared_by
 by_fits s names (VarDecl p g c) =
     each (global_variables s) (λ v. variables_fit s (judge_type s.world v.type_use).type_of v.names (initials_of s (literals_of v.values))) (group_items g)
-by_fits s names (TypeDecl p g c) = each (declared_type s) (λ t. type_fits (s.global t.name) (definition_of s.world t.body)) (group_items g)
+by_fits s names (TypeDecl p g c) = each (declared_type s) (λ t. type_fits (s.global t.name) (definition_of s.world s.asks t.body)) (group_items g)
 by_fits s names (FuncDecl p f c) = named_fits s names f
 
 in_fits : (s : Source) (names : List FunctionName) (ds : List DeclTree) → AreFitting (declared_in s names ds)

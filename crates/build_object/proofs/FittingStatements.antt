@@ -19,7 +19,7 @@ use Rattle.build_object.specs.Lines as line
 use Rattle.build_object.specs.Source.{Source}
 use Rattle.build_object.specs.Numbering.{slot_of}
 use Rattle.build_object.specs.Slots.{slots_of}
-use Rattle.build_object.specs.Expressions.{value_lines, address_lines, values_left}
+use Rattle.build_object.specs.Expressions.{operand_of, value_lines, given_lines, enter_line, address_lines, values_left}
 use Rattle.build_object.specs.Statements.{lines_of_values, from_last, set_name, set_bound, set_left, target_lines, targets_of, update_lines, step_op, simple_lines}
 use Rattle.build_object.specs.Statements.{optional_lines, init_lines, zeros, first_values, local_lines, Exits, further, no_exits, block_exits, branched}
 use Rattle.build_object.specs.Statements.{for_init, for_condition, for_post, loop_condition, body_exits, with_jump_back, loop_lines, statement_lines, block_lines}
@@ -28,12 +28,14 @@ use Rattle.build_object.specs.Objects.{function_of}
 use Rattle.build_object.specs.Fitting.{HasFittingCode}
 use Rattle.build_object.proofs.FittingParts.{count, after, is_count, is_after, Within, Before, Stays, fits_at, joined, before_joined, stays_before, none_stays}
 use Rattle.build_object.proofs.FittingParts.{stays_joined, each_stays, known_stays, is_slot, slot_stays}
-use Rattle.build_object.proofs.FittingExpressions.{expr_sound}
+use Rattle.build_object.proofs.FittingExpressions.{expr_sound, enter_stays}
 
 -- Values, and what takes them
 
 values_stay : (s : Source) (slots : List ℕ) (es : List (Item ExprTree)) → Stays (length slots) (lines_of_values s slots es)
-values_stay s slots es = each_stays (length slots) (λ i. value_lines s slots i.value) (λ i. (expr_sound s slots i.value).0) es
+values_stay s slots es = each_stays (length slots) (λ i. given_lines s slots i.value)
+    (λ i. stays_joined (length slots) (value_lines s slots i.value) (enter_line s (operand_of s slots i.value) i.value) (expr_sound s slots i.value).0
+    (enter_stays (length slots) s (operand_of s slots i.value) i.value)) es
 
 last_stays : {X : Type 0} (k : ℕ) (f : X → List CodeLine) → ((x : X) → Stays k (f x)) → (xs : List (Item X)) → Stays k (from_last f xs)
 unfolding from_last

@@ -8,11 +8,12 @@ use Rattle.go_ast.specs.declared.tree.Link.TheVariants as link
 use Rattle.go_ast.specs.Tree.{no_link}
 use Rattle.go_ast.specs.View.{link_view}
 use Rattle.types_expr.specs.Lists.{links_in}
-use Rattle.types_expr.specs.Types.{PlainType}
+use Rattle.types_expr.specs.Types.{PlainType, AFieldOf, AMethodOf}
 use Rattle.types_expr.specs.World.{Member, AField, AMethod, ABrokenMethod}
 use Rattle.build_object.specs.Lines.{FunctionName}
 use Rattle.build_object.specs.Source.{Source}
-use Rattle.build_object.specs.Operands.{Mode, Values, Called, Converts, Predeclared, Qualifies, CodeOperand, qualifies, unqualified, function_mode}
+use Rattle.build_object.specs.Operands.{Mode, Values, Called, CalledAsked, asked_mode, Converts}
+use Rattle.build_object.specs.Operands.{Predeclared, Qualifies, CodeOperand, qualifies, unqualified, function_mode}
 use Rattle.build_object.specs.Operands.{field_operand, member_operand, typed_selector, selected_by, calling, left_by_call}
 use Rattle.build_object.specs.Expressions.{linked, one_link}
 use Rattle.build_object.specs.Making.{before_link}
@@ -21,6 +22,7 @@ pub qualifies_before : (s : Mode) → qualifies (before_link s) ≡ qualifies s
 unfolding before_link
 qualifies_before (Values n) = refl
 qualifies_before (Called r f n) = refl
+qualifies_before (CalledAsked f n) = refl
 qualifies_before Converts = refl
 qualifies_before (Predeclared b) = refl
 qualifies_before Qualifies = refl
@@ -29,6 +31,7 @@ pub calling_before : (n : ℕ) (s : Mode) → calling n (before_link s) ≡ call
 unfolding before_link calling
 calling_before n (Values k) = refl
 calling_before n (Called r f k) = refl
+calling_before n (CalledAsked f k) = refl
 calling_before n Converts = refl
 calling_before n (Predeclared b) = refl
 calling_before n Qualifies = refl
@@ -37,6 +40,7 @@ pub left_before : (s : Mode) → left_by_call (before_link s) ≡ left_by_call s
 unfolding before_link left_by_call
 left_before (Values k) = refl
 left_before (Called r f k) = refl
+left_before (CalledAsked f k) = refl
 left_before Converts = refl
 left_before (Predeclared b) = refl
 left_before Qualifies = refl
@@ -55,6 +59,7 @@ same_left a b e = sym (left_before a) ∙ (ap left_by_call e ∙ left_before b)
 unqualified_never : (s : Mode) → qualifies (unqualified s) ≡ false
 unqualified_never (Values n) = refl
 unqualified_never (Called r f n) = refl
+unqualified_never (CalledAsked f n) = refl
 unqualified_never Converts = refl
 unqualified_never (Predeclared b) = refl
 unqualified_never Qualifies = refl
@@ -67,10 +72,15 @@ field_never : (o : CodeOperand) (through : Bool) (i : Option ℕ) → qualifies 
 field_never o true i = refl
 field_never o false i = refl
 
+asked_never : (name : Option FunctionName) (n : ℕ) → qualifies (asked_mode name n) ≡ false
+asked_never None n = refl
+asked_never (Some f) n = refl
+
 member_never : (s : Source) (o : CodeOperand) (t : PlainType) (m : Option Member) → qualifies (member_operand s o t m).mode ≡ false
 unfolding member_operand
 member_never s o t None = refl
-member_never s o t (Some (AField f own)) = field_never o _ _
+member_never s o t (Some (AField f (AFieldOf own))) = field_never o _ _
+member_never s o t (Some (AField f (AMethodOf signature))) = asked_never (s.asked f) _
 member_never s o t (Some (AMethod m on_pointer signature)) = function_never (s.function m) true _
 member_never s o t (Some (ABrokenMethod m)) = refl
 
@@ -84,6 +94,7 @@ unfolding selected_by
 selected_never s slots n o Qualifies = unqualified_never _
 selected_never s slots n o (Values k) = typed_never s n o _
 selected_never s slots n o (Called r f k) = typed_never s n o _
+selected_never s slots n o (CalledAsked f k) = typed_never s n o _
 selected_never s slots n o Converts = typed_never s n o _
 selected_never s slots n o (Predeclared b) = typed_never s n o _
 

@@ -1,6 +1,6 @@
 -- A package has one object at most, and one text.
 use Rattle.std.proofs.Common.{ℕ, suc, ◌≡◌, ◌<◌, List, [], ◌∷◌, length, map, refl, sym, ap, subst, ◌∙◌, arith}
-use Rattle.std.specs.Prelude.{Option, Some, None, slice_get}
+use Rattle.std.specs.Prelude.{Bool, Option, Some, None, slice_get}
 use Rattle.std.proofs.Math.Path.{ap₂, fun_ext}
 use Rattle.std.proofs.lemmas.Bool.Decides.{same_from_decides}
 use Rattle.std.proofs.lemmas.Option.{slice_get_within}
@@ -10,6 +10,10 @@ use Rattle.go_ast.specs.SourceFile.{SourceFile}
 use Rattle.go_scope.specs.Table.{LiesAt}
 use Rattle.go_scope.specs.WellFormed.{WellFormed}
 use Rattle.types_declared.specs.Files.{HasLiteral, package_name}
+use Rattle.types_expr.specs.declared.symbol.Symbol.{Symbol}
+use Rattle.types_expr.specs.Judge.{enterings_of, members_of}
+use Rattle.types_expr.specs.Types.{PlainType}
+use Rattle.types_expr.specs.World.{World}
 use Rattle.types_stmt.specs.Declarations.{check_file}
 use Rattle.types_declared.specs.Package.{Package, spelled}
 use Rattle.types_declared.specs.Written.{BindsToken, DeclaresImport}
@@ -20,15 +24,15 @@ use Rattle.types_info.proofs.MeaningLists.{slice_get_some}
 use Rattle.types_declared.proofs.Naming.{one_binding, one_import_path}
 use Rattle.types_info.proofs.OneMeaning.{lexical}
 use Rattle.types_info.proofs.OneWorld.{has_one_world}
-use Rattle.build_object.specs.Lines.{GlobalName}
+use Rattle.build_object.specs.Lines.{GlobalName, FunctionName}
 use Rattle.build_object.specs.Source.{Source}
 use Rattle.build_object.specs.Names.{function_names, type_name}
 use Rattle.build_object.specs.Objects.{Object, object_of}
 use Rattle.build_object.specs.ObjectText.{object_text}
-use Rattle.build_object.specs.Sources.{type_before, HasQualifier, IsGlobalAt, DenotesGlobal, IsTextAt, IsSourceOf, AreImports, IsObjectOf, IsObjectText}
+use Rattle.build_object.specs.Sources.{type_before, type_entered, HasQualifier, IsGlobalAt, DenotesGlobal}
+use Rattle.build_object.specs.Sources.{IsTextAt, IsSourceOf, AreImports, IsObjectOf, IsObjectText}
 use Rattle.build_object.specs.Sources as source
 use Rattle.workspace_graph.proofs.SortedLists.{one_sorted}
-use Rattle.types_expr.specs.Judge.{members_of}
 
 -- the declaration of a package's block that a name is bound to
 
@@ -70,106 +74,55 @@ one_text_at f token (Some x) (Some y) a b = ap Some (one_value f token x y a b)
 
 -- what the code of a file is made of
 
+-- the source with these parts
+abbrev made_of : World → (ℕ → Option PlainType) → (ℕ → Option PlainType) → (ℕ → Option GlobalName) → (ℕ → Option FunctionName) → (ℕ → Bool) →
+    (ℕ → Option ℕ) → (ℕ → Option (List ℕ)) → (Symbol → Option FunctionName) → (Symbol → Option ℕ) → (Symbol → Option FunctionName) → Source
+made_of w before entered global asks truth number text function position asked = record {
+  world = w;
+  before = before;
+  entered = entered;
+  global = global;
+  asks = asks;
+  truth = truth;
+  number = number;
+  text = text;
+  function = function;
+  position = position;
+  asked = asked;
+}
+
+same_source : (s t : Source) → s.world ≡ t.world → s.before ≡ t.before → s.entered ≡ t.entered → s.global ≡ t.global → s.asks ≡ t.asks → s.truth ≡ t.truth →
+    s.number ≡ t.number → s.text ≡ t.text → s.function ≡ t.function → s.position ≡ t.position → s.asked ≡ t.asked → s ≡ t
+same_source s t world before entered global asks truth number text function position asked =
+    ap (λ x. made_of x s.before s.entered s.global s.asks s.truth s.number s.text s.function s.position s.asked) world
+    ∙ (ap (λ x. made_of t.world x s.entered s.global s.asks s.truth s.number s.text s.function s.position s.asked) before
+    ∙ (ap (λ x. made_of t.world t.before x s.global s.asks s.truth s.number s.text s.function s.position s.asked) entered
+    ∙ (ap (λ x. made_of t.world t.before t.entered x s.asks s.truth s.number s.text s.function s.position s.asked) global
+    ∙ (ap (λ x. made_of t.world t.before t.entered t.global x s.truth s.number s.text s.function s.position s.asked) asks
+    ∙ (ap (λ x. made_of t.world t.before t.entered t.global t.asks x s.number s.text s.function s.position s.asked) truth
+    ∙ (ap (λ x. made_of t.world t.before t.entered t.global t.asks t.truth x s.text s.function s.position s.asked) number
+    ∙ (ap (λ x. made_of t.world t.before t.entered t.global t.asks t.truth t.number x s.function s.position s.asked) text
+    ∙ (ap (λ x. made_of t.world t.before t.entered t.global t.asks t.truth t.number t.text x s.position s.asked) function
+    ∙ (ap (λ x. made_of t.world t.before t.entered t.global t.asks t.truth t.number t.text t.function x s.asked) position
+    ∙ ap (λ x. made_of t.world t.before t.entered t.global t.asks t.truth t.number t.text t.function t.position x) asked)))))))))
+
 pub one_source : (p : Package) → WellFormed p.layout → TokensRise p.files →
     (files_of : List ℕ → List SourceFile) (file : ℕ) (f : SourceFile) (s t : Source) → IsSourceOf p files_of file f s → IsSourceOf p files_of file f t → s ≡ t
 one_source p formed rising files_of file f s t a b =
     let world = has_one_world p formed rising file f s.world t.world a.world b.world in
     let before : s.before ≡ t.before = fun_ext (λ token. a.before token ∙
     (ap (λ w. type_before (members_of (check_file w (is_init f) f.tree).uses) token) world ∙ sym (b.before token))) in
+    let entered : s.entered ≡ t.entered = fun_ext (λ token. a.entered token ∙
+    (ap (λ w. type_entered (enterings_of (check_file w (is_init f) f.tree).uses) token) world ∙ sym (b.entered token))) in
     let global : s.global ≡ t.global = fun_ext (λ token. one_global p formed file token (s.global token) (t.global token) (a.global token) (b.global token)) in
+    let asks : s.asks ≡ t.asks = fun_ext (λ token. a.asks token ∙ sym (b.asks token)) in
     let truth : s.truth ≡ t.truth = fun_ext (λ token. same_from_decides (s.truth token) (t.truth token) (a.truth token) (b.truth token)) in
     let number : s.number ≡ t.number = fun_ext (λ token. a.number token ∙ sym (b.number token)) in
     let text : s.text ≡ t.text = fun_ext (λ token. one_text_at f token (s.text token) (t.text token) (a.text token) (b.text token)) in
     let function : s.function ≡ t.function = fun_ext (λ symbol. a.function symbol ∙ sym (b.function symbol)) in
     let position : s.position ≡ t.position = fun_ext (λ symbol. a.position symbol ∙ sym (b.position symbol)) in
-    ap (λ x. record {
-      world = x;
-      before = s.before;
-      global = s.global;
-      truth = s.truth;
-      number = s.number;
-      text = s.text;
-      function = s.function;
-      position =
-          s.position;
-    }) world
-    ∙ (ap (λ x. record {
-      world = t.world;
-      before = x;
-      global = s.global;
-      truth = s.truth;
-      number = s.number;
-      text = s.text;
-      function =
-          s.function;
-      position = s.position;
-    }) before
-    ∙ (ap (λ x. record {
-      world = t.world;
-      before = t.before;
-      global = x;
-      truth = s.truth;
-      number = s.number;
-      text = s.text;
-      function =
-          s.function;
-      position = s.position;
-    }) global
-    ∙ (ap (λ x. record {
-      world = t.world;
-      before = t.before;
-      global = t.global;
-      truth = x;
-      number = s.number;
-      text = s.text;
-      function =
-          s.function;
-      position = s.position;
-    }) truth
-    ∙ (ap (λ x. record {
-      world = t.world;
-      before = t.before;
-      global = t.global;
-      truth = t.truth;
-      number = x;
-      text = s.text;
-      function =
-          s.function;
-      position = s.position;
-    }) number
-    ∙ (ap (λ x. record {
-      world = t.world;
-      before = t.before;
-      global = t.global;
-      truth = t.truth;
-      number = t.number;
-      text = x;
-      function =
-          s.function;
-      position = s.position;
-    }) text
-    ∙ (ap (λ x. record {
-      world = t.world;
-      before = t.before;
-      global = t.global;
-      truth = t.truth;
-      number = t.number;
-      text = t.text;
-      function = x;
-      position =
-          s.position;
-    }) function
-    ∙ ap (λ x. record {
-      world = t.world;
-      before = t.before;
-      global = t.global;
-      truth = t.truth;
-      number = t.number;
-      text = t.text;
-      function =
-          t.function;
-      position = x;
-    }) position))))))
+    let asked : s.asked ≡ t.asked = fun_ext (λ symbol. a.asked symbol ∙ sym (b.asked symbol)) in
+    same_source s t world before entered global asks truth number text function position asked
 
 -- Two lists of one length with equal items are equal.
 

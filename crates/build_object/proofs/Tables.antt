@@ -48,3 +48,9 @@ all_got Q d n xs past h t = elim (cases_lt t n) [
 pub map_next : {X Y : Type 0} (f : X → Y) (xs : List X) (i : ℕ) (x : X) → i < length xs → x ≡ get_or xs i x →
     map f (take (i + 1) xs) ≡ map f (take i xs) ++ (f x ∷ [])
 map_next f xs i x lt is = ap (map f) (take_more xs i x lt ∙ ap (λ y. take i xs ++ (y ∷ [])) (sym is)) ∙ map-append f (take i xs) (x ∷ [])
+
+-- what is made of the item at i is pushed behind what is made of those before it
+pub map_pushed : {X Y : Type 0} (f : X → Y) (xs : List X) (i : ℕ) (d : X) (old new : List Y) → new ≡ old ++ (f (get_or xs i d) ∷ []) →
+    old ≡ map f (take i xs) → i < length xs → new ≡ map f (take (i + 1) xs)
+map_pushed f xs i d old new e h lt =
+    e ∙ (ap (λ z. z ++ (f (get_or xs i d) ∷ [])) h ∙ sym (ap (map f) (take_more xs i d lt) ∙ map-append f (take i xs) (get_or xs i d ∷ [])))

@@ -20,7 +20,7 @@ use Rattle.build_object.specs.Source.{Source}
 use Rattle.build_object.specs.Operands as ops
 use Rattle.build_object.specs.Operands.{plain, mode_alone, Values, name_operand, prefixed, operated, selected, indexed, called, settled, grouped}
 use Rattle.build_object.specs.Expressions.{operand_of, operations, linked, one_link, argument_count, element_count, argument_lines, literal_lines, keyed_lines}
-use Rattle.build_object.specs.Expressions.{bare_lines, typed_literal, key_position, value_lines}
+use Rattle.build_object.specs.Expressions.{bare_lines, typed_literal, key_position, value_lines, given_lines}
 
 pub number_here : (s : Source) (slots : List ℕ) {e : Expr} (p : ℕ) → e ≡ expr.Number p →
     operand_of s slots (expr_view e) ≡ plain (line_if_known line.Integer (s.number p))
@@ -148,7 +148,7 @@ unfolding operations operands_in
 operations_end s slots a = refl
 
 pub arguments_step : (s : Source) (slots : List ℕ) (a : ExprItem) (rest : List ExprItem) →
-    argument_lines s slots (arguments_in (a ∷ rest)) ≡ value_lines s slots (expr_view a.value) ++ argument_lines s slots (arguments_in rest)
+    argument_lines s slots (arguments_in (a ∷ rest)) ≡ given_lines s slots (expr_view a.value) ++ argument_lines s slots (arguments_in rest)
 unfolding argument_lines arguments_in
 arguments_step s slots a rest = refl
 
@@ -157,7 +157,7 @@ unfolding argument_lines arguments_in
 arguments_end s slots = refl
 
 pub keyed_step : (s : Source) (slots : List ℕ) (x : Element) (rest : List Element) →
-    keyed_lines s slots (elements_in (x ∷ rest)) ≡ value_lines s slots (expr_view x.value) ++
+    keyed_lines s slots (elements_in (x ∷ rest)) ≡ given_lines s slots (expr_view x.value) ++
     (line_if_known With (key_position s (key_view x.key)) ++ keyed_lines s slots (elements_in rest))
 unfolding keyed_lines elements_in
 keyed_step s slots x rest = refl
@@ -167,7 +167,7 @@ unfolding keyed_lines elements_in
 keyed_end s slots = refl
 
 pub bare_step : (s : Source) (slots : List ℕ) (x : Element) (rest : List Element) →
-    bare_lines s slots (elements_in (x ∷ rest)) ≡ value_lines s slots (expr_view x.value) ++ bare_lines s slots (elements_in rest)
+    bare_lines s slots (elements_in (x ∷ rest)) ≡ given_lines s slots (expr_view x.value) ++ bare_lines s slots (elements_in rest)
 unfolding bare_lines elements_in
 bare_step s slots x rest = refl
 

@@ -1,7 +1,7 @@
 -- What is found by going over the parts of a list, one after another.
 use Rattle.std.proofs.Common.{true, false, if◌then◌else◌, ℕ, zero, suc, ◌≡◌, ◌+◌, ◌<◌, ◌≤◌, ◌∷◌, ◌++◌, [], List, length, take, map, get_or, refl, ap}
 use Rattle.std.proofs.Common.{sym, ◌∙◌, ◌-◌, arith, length-append}
-use Rattle.std.specs.Prelude.{None, Some, option_map, slice_get}
+use Rattle.std.specs.Prelude.{None, Option, Some, option_map, slice_get}
 use Rattle.std.specs.List.{flat_map, enumerate_from}
 use Rattle.std.proofs.lemmas.List.{take_more, take_all}
 use Rattle.std.proofs.lemmas.Grind.{flat_map-append}
@@ -19,11 +19,12 @@ use Rattle.go_ast.specs.Tree.{DeclTree, VarDecl, TypeDecl, FuncDecl, Item, Field
 use Rattle.go_ast.specs.SourceFile.{FileParts, SourceFile, source_of}
 use Rattle.types_declared.specs.Files.{group_items}
 use Rattle.types_declared.specs.Package.{PlacedFunction, decl_types, placed_type, types_in}
-use Rattle.build_object.specs.Lines.{Initializer}
-use Rattle.build_object.specs.Names.{field_positions, function_behind, function_called, functions_behind, is_initializer, initializers_among}
+use Rattle.build_object.specs.Lines.{FunctionName, Initializer}
+use Rattle.build_object.specs.Names.{all_asked_names, asked_names_in, field_positions, function_behind}
+use Rattle.build_object.specs.Names.{function_called, functions_behind, is_initializer, initializers_among}
 use Rattle.build_object.specs.Names.{initializers_with, names_of_fields, positions_from, type_positions}
 use Rattle.build_object.proofs.NameParts.{positions_length}
-use Rattle.build_object.specs.RankLookup.{decl_positions, file_positions}
+use Rattle.build_object.specs.RankLookup.{decl_asked, decl_positions, file_asked, file_positions}
 
 -- Two lists, one behind the other
 
@@ -202,3 +203,51 @@ unranked k (f ∷ fs) =
 
 pub positions_of_files : (fs : List FileParts) → field_positions (map source_of fs) ≡ flat_map (λ t. file_positions (source_of t)) fs
 positions_of_files fs = unranked 0 (map source_of fs) ∙ flat_map-map file_positions source_of fs
+
+-- The names of the methods that interfaces ask for
+
+module _ {X Y Z : Type 0} (view : X → Y) (f : Y → Z) where
+  abbrev mapped : List (items.Item X) → List Z
+  mapped xs = map (λ (i : Item Y). f i.value) (list_view view xs)
+
+  mapped_size : (xs : List (items.Item X)) → length (mapped xs) ≡ length xs
+  mapped_size xs = length-map (list_view view xs) (λ (i : Item Y). f i.value) ∙ length-map xs (item_view view)
+
+  pub mapped_here : (xs : List (items.Item X)) (n : ℕ) (x : items.Item X) → n < length xs → x ≡ get_or xs n x →
+      slice_get (mapped xs) n ≡ Some (f (view x.value))
+  mapped_here [] n x lt is = absurd (omega (arith, lt))
+  mapped_here (z ∷ zs) zero x lt is = ap (λ (y : items.Item X). Some (f (view y.value))) (sym is)
+  mapped_here (z ∷ zs) (suc n) x lt is = mapped_here zs n x (omega (arith, lt)) is
+
+  pub mapped_behind : (xs : List (items.Item X)) (rank : ℕ) → length xs ≤ rank → rank ≡ length (mapped xs) + (rank - length xs)
+  mapped_behind xs rank all = let size = mapped_size xs in omega (arith, all, size)
+
+-- a field has none
+module _ {X : Type 0} where
+  abbrev no_names : List X → List (Option FunctionName)
+  no_names xs = map (λ (x : X). None) xs
+
+  pub no_name_here : (begin : ℕ) (xs : List X) (n k : ℕ) → slice_get (positions_from begin xs) n ≡ Some k → slice_get (no_names xs) n ≡ Some None
+  no_name_here begin [] n k at = absurd (let lt : n < 0 = slice_get_within [] n k at in omega (arith, lt))
+  no_name_here begin (x ∷ xs) zero k at = refl
+  no_name_here begin (x ∷ xs) (suc n) k at = no_name_here (suc begin) xs n k at
+
+  pub no_name_behind : (begin : ℕ) (xs : List X) (rank rest : ℕ) → rank ≡ length (positions_from begin xs) + rest → rank ≡ length (no_names xs) + rest
+  no_name_behind begin xs rank rest e =
+      let size : length (positions_from begin xs) ≡ length xs = positions_length begin xs in
+      let same : length (no_names xs) ≡ length xs = length-map xs (λ (x : X). None) in
+      omega (arith, e, size, same)
+
+asked_of_decl : (path : List ℕ) (files : List SourceFile) (file : ℕ) (d : DeclTree) →
+    flat_map (asked_names_in path files) (decl_types file d) ≡ decl_asked path files file d
+asked_of_decl path files file (VarDecl p g s) = refl
+asked_of_decl path files file (TypeDecl p g s) = flat_map-map (asked_names_in path files) (placed_type file) (group_items g)
+asked_of_decl path files file (FuncDecl p f s) = refl
+
+pub asked_of_files : (path : List ℕ) (files : List SourceFile) →
+    all_asked_names path files ≡ flat_map (file_asked path files) (enumerate_from 0 files)
+asked_of_files path files =
+    in_each (asked_names_in path files) types_in (enumerate_from 0 files)
+    ∙ alike (λ e. flat_map (asked_names_in path files) (types_in e)) (file_asked path files) (enumerate_from 0 files)
+    (λ e. in_each (asked_names_in path files) (decl_types e.0) e.1.tree.decls
+    ∙ alike (λ d. flat_map (asked_names_in path files) (decl_types e.0 d)) (decl_asked path files e.0) e.1.tree.decls (asked_of_decl path files e.0))

@@ -14,10 +14,11 @@ use Rattle.go_ast.specs.Tree.{FileTree}
 use Rattle.go_ast.specs.SourceFile.{SourceFile, FileParts, source_of}
 use Rattle.workspace_graph.specs.ImportPaths.{bytes_of_paths, ListsPaths, AnyImports}
 use Rattle.types_declared.specs.Files.{package_name}
+use Rattle.types_expr.specs.declared.found.Entering.{Entering}
 use Rattle.types_expr.specs.declared.found.MemberUse.{MemberUse}
-use Rattle.types_expr.specs.Found.{use_of}
+use Rattle.types_expr.specs.Found.{plain_entering, use_of}
 use Rattle.types_declared.specs.Package.{Package}
-use Rattle.types_info.specs.MemberUses.{AreUsesIn, AreMemberUses, uses_in}
+use Rattle.types_info.specs.MemberUses.{AreEnterings, AreEnteringsIn, AreFileListsBelow, AreUsesIn, AreMemberUses, enterings_in, uses_in}
 use Rattle.types_info.proofs.MeaningLists.{slice_get_some}
 use Rattle.types_declared.proofs.DeclaredPaths.{get_before, get_last}
 use Rattle.build_object.specs.declared.instructions.FunctionName as program
@@ -28,7 +29,7 @@ use Rattle.build_object.specs.Names.{function_names}
 use Rattle.build_object.specs.Source.{Source}
 use Rattle.build_object.specs.Sources.{AreImports, IsSourceOf, IsObjectText}
 use Rattle.build_object.specs.Objects.{Object, ObjectDeclaration, declared_from, declared_in, names_behind_all, object_of}
-use Rattle.build_object.specs.ObjectSteps.{names_behind_files, uses_of_file, PrintsFiles, PrintsHead}
+use Rattle.build_object.specs.ObjectSteps.{names_behind_files, list_of_file, PrintsFiles, PrintsHead}
 use Rattle.build_object.specs.ObjectText.{declaration_text, first_line, import_line}
 use Rattle.build_object.specs.ObjectView.{HaveNames, PrintsFile}
 use Rattle.build_object.specs.PackagesView.{type_in}
@@ -67,30 +68,31 @@ after_more (suc n) names (x ∷ ts) t at =
     let e : suc n + 1 ≡ suc (n + 1) = omega arith in
     ap (λ k. names_behind_files names (take k (x ∷ ts))) e ∙ after_more n (names_behind_all names x.decls) ts t at
 
--- the uses of a file
+-- the list of a file
 
-uses_at_file : (members : List (Vec MemberUse)) (file : ℕ) (o : Option (Vec MemberUse)) → slice_get members file ≡ o → file < length members →
-    slice_get (map uses_in members) file ≡ Some (map use_of (uses_of_file o))
-uses_at_file members file None e lt = let x = slice_get_some members file lt in absurd (none-some x.0 (sym e ∙ x.1))
-uses_at_file members file (Some v) e lt = slice_get-map uses_in members file ∙ ap (option_map uses_in) e
+module _ {X Y : Type 0} (view : X → Y) (Is : (file : ℕ) → List Y → Type 0) where
+  list_at_file : (lists : List (Vec X)) (file : ℕ) (o : Option (Vec X)) → slice_get lists file ≡ o → file < length lists →
+      slice_get (map (λ (v : Vec X). map view v.items) lists) file ≡ Some (map view (list_of_file o))
+  list_at_file lists file None e lt = let x = slice_get_some lists file lt in absurd (none-some x.0 (sym e ∙ x.1))
+  list_at_file lists file (Some v) e lt =
+      slice_get-map (λ (v : Vec X). map view v.items) lists file ∙ ap (option_map (λ (v : Vec X). map view v.items)) e
 
-uses_are : (p : Package) (members : List (Vec MemberUse)) (file : ℕ) (f : SourceFile) → AreMemberUses p (map uses_in members) →
-    slice_get p.files file ≡ Some f →
-    AreUsesIn p file (map use_of (uses_of_file (slice_get members file)))
-uses_are p members file f are at =
-    let within : file < length p.files = slice_get_within p.files file f at in
-    let size : length (map uses_in members) ≡ length p.files = are.all in
-    are.each file _ (uses_at_file members file (slice_get members file) refl (let h = length-map members uses_in in omega arith))
+  list_is : (n : ℕ) (lists : List (Vec X)) (file : ℕ) → AreFileListsBelow Is n (map (λ (v : Vec X). map view v.items) lists) → file < n →
+      Is file (map view (list_of_file (slice_get lists file)))
+  list_is n lists file are within =
+      let size : length (map (λ (v : Vec X). map view v.items) lists) ≡ n = are.all in
+      are.each file _ (list_at_file lists file (slice_get lists file) refl
+      (let h = length-map lists (λ (v : Vec X). map view v.items) in omega arith))
 
 -- no file yet, and one more
 
-pub no_files : (p : Package) (members : List (Vec MemberUse)) (packages : ObjectNames) (names : List program.FunctionName) (text : List ℕ) →
-    PrintsFiles p 0 members packages names 0 text text
+pub no_files : (p : Package) (members : List (Vec MemberUse)) (enterings : List (Vec Entering)) (packages : ObjectNames) (names : List program.FunctionName)
+    (text : List ℕ) → PrintsFiles p 0 members enterings packages names 0 text text
 unfolding declared_from names_behind_files
-no_files p members packages names text = record {
+no_files p members enterings packages names text = record {
   sources = [];
   all = refl;
-  made_of = λ files_of have are file f s at none. absurd (none-some s none);
+  made_of = λ files_of have are enter file f s at none. absurd (none-some s none);
   text = sym (append-nil text);
   others_are = refl;
   within = omega arith;
@@ -99,11 +101,12 @@ no_files p members packages names text = record {
 tree_at : (files : List SourceFile) (n : ℕ) (f : SourceFile) → slice_get files n ≡ Some f → slice_get (map (λ (g : SourceFile). g.tree) files) n ≡ Some f.tree
 tree_at files n f at = slice_get-map (λ (g : SourceFile). g.tree) files n ∙ ap (option_map (λ (g : SourceFile). g.tree)) at
 
-pub one_file_more : (p : Package) (n : ℕ) (members : List (Vec MemberUse)) (packages : ObjectNames) (names : List program.FunctionName) (number others : ℕ)
-    (old mid new : List ℕ) →
-    PrintsFiles p n members packages names number old mid → PrintsFile p n (uses_of_file (slice_get members n)) packages names number others mid new →
-    PrintsFiles p (n + 1) members packages names others old new
-one_file_more p n members packages names number others old mid new h k =
+pub one_file_more : (p : Package) (n : ℕ) (members : List (Vec MemberUse)) (enterings : List (Vec Entering)) (packages : ObjectNames)
+    (names : List program.FunctionName) (number others : ℕ) (old mid new : List ℕ) →
+    PrintsFiles p n members enterings packages names number old mid →
+    PrintsFile p n (list_of_file (slice_get members n)) (list_of_file (slice_get enterings n)) packages names number others mid new →
+    PrintsFiles p (n + 1) members enterings packages names others old new
+one_file_more p n members enterings packages names number others old mid new h k =
     let trees : List FileTree = map (λ (g : SourceFile). g.tree) p.files in
     let at : slice_get trees n ≡ Some k.file_at.tree = tree_at p.files n k.file_at k.in_file in
     let here : slice_get trees (length h.sources) ≡ Some k.file_at.tree = ap (slice_get trees) h.all ∙ at in
@@ -118,7 +121,7 @@ one_file_more p n members packages names number others old mid new h k =
     record {
       sources = h.sources ++ (k.source ∷ []);
       all = length-append h.sources (k.source ∷ []) ∙ ap (λ m. m + 1) h.all;
-      made_of = λ files_of have are file f s in_file at_source. made files_of have are file f s in_file at_source;
+      made_of = λ files_of have are enter file f s in_file at_source. made files_of have are enter file f s in_file at_source;
       text = k.text ∙ (ap (λ z. z ++ flat_map T (declared_in k.source (map function_of (drop number names)) k.file_at.tree.decls)) h.text
           ∙ (append_assoc old (flat_map T (declared_from h.sources N trees))
           (flat_map T (declared_in k.source (map function_of (drop number names)) k.file_at.tree.decls))
@@ -129,10 +132,10 @@ one_file_more p n members packages names number others old mid new h k =
     }
   where
     made : (files_of : List ℕ → List SourceFile) → HaveNames packages files_of → AreMemberUses p (map uses_in members) →
-        (file : ℕ) (f : SourceFile) (s : Source) → slice_get p.files file ≡ Some f →
+        AreEnterings p (map enterings_in enterings) → (file : ℕ) (f : SourceFile) (s : Source) → slice_get p.files file ≡ Some f →
         slice_get (h.sources ++ (k.source ∷ [])) file ≡ Some s → IsSourceOf p files_of file f s
-    made files_of have are file f s in_file at_source = elim (cases_lt file n) [
-      | inl lt ↦ h.made_of files_of have are file f s in_file (sym (get_before h.sources k.source file (subst (λ m. file < m) (sym h.all) lt)) ∙ at_source)
+    made files_of have are enter file f s in_file at_source = elim (cases_lt file n) [
+      | inl lt ↦ h.made_of files_of have are enter file f s in_file (sym (get_before h.sources k.source file (subst (λ m. file < m) (sym h.all) lt)) ∙ at_source)
       | inr ge ↦
           let bound : file < length (h.sources ++ (k.source ∷ [])) = slice_get_within (h.sources ++ (k.source ∷ [])) file s at_source in
           let size : length (h.sources ++ (k.source ∷ [])) ≡ n + 1 = length-append h.sources (k.source ∷ []) ∙ ap (λ m. m + 1) h.all in
@@ -141,7 +144,10 @@ one_file_more p n members packages names number others old mid new h k =
           (ap (slice_get (h.sources ++ (k.source ∷ []))) (h.all ∙ sym same) ∙ at_source)) in
           let mine : slice_get p.files n ≡ Some f = ap (slice_get p.files) (sym same) ∙ in_file in
           let alike : k.file_at ≡ f = same_Some k.file_at f (sym k.in_file ∙ mine) in
-          let found : IsSourceOf p files_of n k.file_at k.source = k.made_of files_of have (uses_are p members n k.file_at are k.in_file) in
+          let within : n < length p.files = slice_get_within p.files n k.file_at k.in_file in
+          let found : IsSourceOf p files_of n k.file_at k.source = k.made_of files_of have
+          (list_is use_of (AreUsesIn p) (length p.files) members n are within)
+          (list_is plain_entering (AreEnteringsIn p) (length p.files) enterings n enter within) in
           subst (λ m. IsSourceOf p files_of m f s) (sym same)
           (subst (λ g. IsSourceOf p files_of n g s) alike (subst (IsSourceOf p files_of n k.file_at) last found))
     ]
@@ -162,12 +168,12 @@ head_put p files keys old mid new are holds sorted first e = record {
 
 -- the whole text
 
-pub whole_text : (p : Package) (members : List (Vec MemberUse)) (packages : ObjectNames) (names : List program.FunctionName) (others : ℕ)
-    (mid new : List ℕ) →
+pub whole_text : (p : Package) (members : List (Vec MemberUse)) (enterings : List (Vec Entering)) (packages : ObjectNames)
+    (names : List program.FunctionName) (others : ℕ) (mid new : List ℕ) →
     map function_of names ≡ function_names p.path p.files →
-    PrintsHead p [] mid → PrintsFiles p (length p.files) members packages names others mid new →
-    (files_of : List ℕ → List SourceFile) → AreMemberUses p (map uses_in members) → HaveNames packages files_of → IsObjectText p files_of new
-whole_text p members packages names others mid new named head h files_of are have =
+    PrintsHead p [] mid → PrintsFiles p (length p.files) members enterings packages names others mid new →
+    (files_of : List ℕ → List SourceFile) → AreMemberUses p (map uses_in members) → AreEnterings p (map enterings_in enterings) → HaveNames packages files_of → IsObjectText p files_of new
+whole_text p members enterings packages names others mid new named head h files_of are enter have =
     let trees : List FileTree = map (λ (g : SourceFile). g.tree) p.files in
     let made : Object = object_of h.sources p.path (package_name p.files) head.imports (function_names p.path p.files) trees in
     record {
@@ -175,7 +181,7 @@ whole_text p members packages names others mid new named head h files_of are hav
       of_package = record {
         sources = h.sources;
         all = h.all;
-        made_of = λ file f s at source. h.made_of files_of have are file f s at source;
+        made_of = λ file f s at source. h.made_of files_of have are enter file f s at source;
         imports = head.imports;
         are_imports = head.are_imports;
         is_object = refl;

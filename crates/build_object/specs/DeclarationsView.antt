@@ -8,6 +8,7 @@ use Rattle.types_expr.specs.View.{type_of}
 use Rattle.types_expr.specs.World.{World}
 use Rattle.build_object.specs.declared.declarations.Initial.{Initial}
 use Rattle.build_object.specs.declared.declarations.Initial.TheVariants as initial
+use Rattle.build_object.specs.declared.declarations.AskedLine.{AskedLine}
 use Rattle.build_object.specs.declared.declarations.DefinitionLine.{DefinitionLine}
 use Rattle.build_object.specs.declared.declarations.DefinitionLine.TheVariants as definition
 use Rattle.build_object.specs.declared.declarations.FunctionSignature.{FunctionSignature}
@@ -21,10 +22,15 @@ unfoldable pub initial_view : Initial → object.Initial
 initial_view (initial.Integer n) = object.IntegerValue n
 initial_view (initial.Text bytes) = object.TextValue bytes.now
 
+-- A method that an interface asks for, as a value of the definitions.
+abbrev pub asked_view : AskedLine → object.ObjectAsked
+asked_view m = record { name = function_of m.name; parameters = map type_of m.parameters.items; results = map type_of m.results.items }
+
 -- What a type is defined as, as a value of the definitions.
 unfoldable pub definition_view : DefinitionLine → object.ObjectDefinition
 definition_view (definition.SameAs t) = object.SameAs (type_of t)
 definition_view (definition.Fields ts) = object.Fields (map type_of ts.items)
+definition_view (definition.Asks ms) = object.Asks (map asked_view ms.items)
 
 -- The value of a literal, if there is one.
 abbrev pub literal_value_at : Source → Option (Item BasicLit) → Option object.Initial

@@ -1,12 +1,13 @@
 -- The code of expressions.
-use Rattle.std.specs.Prelude.{ℕ, suc, Bool, true, false, List, [], ◌∷◌, ◌++◌, Option, Some, None}
+use Rattle.std.specs.Prelude.{ℕ, suc, ◌==◌, Bool, true, false, if◌then◌else◌, List, [], ◌∷◌, ◌++◌, Option, Some, None}
 use Rattle.go_ast.specs.Tree.{ExprTree, Number, Text, Name, Blank, Composite, Paren, Prefix, Address, Chain, Binary, OperandTrees, no_operand, operand}
 use Rattle.go_ast.specs.Tree.{LinkTrees, no_link, selector, index, call, ArgumentTrees, no_argument, argument, LiteralTree, literal, ElementTrees}
 use Rattle.go_ast.specs.Tree.{no_element, element}
 use Rattle.types_expr.specs.Types.{PlainType, is_struct}
 use Rattle.types_expr.specs.World.{Member, AField, AMethod, ABrokenMethod, underlying}
 use Rattle.types_expr.specs.Judge.{judge_type}
-use Rattle.build_object.specs.Lines.{CodeLine, Zero, With, MakeSlice, New, line_if_known}
+use Rattle.types_expr.specs.Places.{place_of}
+use Rattle.build_object.specs.Lines.{CodeLine, Zero, With, MakeSlice, New, Enter, line_if_known}
 use Rattle.build_object.specs.Lines as line
 use Rattle.build_object.specs.Source.{Source}
 use Rattle.build_object.specs.Operands.{CodeOperand, plain, mode_alone, Values, name_operand, prefixed, operated, selected, indexed, called, settled, grouped}
@@ -27,7 +28,7 @@ element_count (element k e c rest) = suc (element_count rest)
 -- The position of a field in its struct, if the member is a field.
 abbrev pub field_position : Source → Option Member → Option ℕ
 field_position s None = None
-field_position s (Some (AField f t)) = s.position f
+field_position s (Some (AField f form)) = s.position f
 field_position s (Some (AMethod m on_pointer signature)) = None
 field_position s (Some (ABrokenMethod m)) = None
 
@@ -50,6 +51,10 @@ literal_code false t keyed bare n = bare ++ (MakeSlice n ∷ [])
 unfoldable pub typed_literal : Source → Option PlainType → (keyed bare : List CodeLine) → ℕ → List CodeLine
 typed_literal s None keyed bare n = []
 typed_literal s (Some t) keyed bare n = literal_code (is_struct (underlying s.world t)) t keyed bare n
+
+-- The line behind an expression with this operand, if it leaves one value and that enters an interface.
+abbrev pub enter_line : Source → CodeOperand → ExprTree → List CodeLine
+enter_line s o e = if value_count o.mode == 1 then line_if_known Enter (s.entered (place_of e)) else []
 
 -- The operand of an expression. `slots` are the tokens at which the parameters and locals of the function are declared.
 unfoldable mutual
@@ -80,7 +85,7 @@ unfoldable mutual
   -- The lines that leave the values of arguments, in order.
   pub argument_lines : Source → (slots : List ℕ) → ArgumentTrees → List CodeLine
   argument_lines s slots no_argument = []
-  argument_lines s slots (argument e c rest) = (operand_of s slots e).value ++ argument_lines s slots rest
+  argument_lines s slots (argument e c rest) = ((operand_of s slots e).value ++ enter_line s (operand_of s slots e) e) ++ argument_lines s slots rest
 
   -- The lines of a composite literal.
   pub literal_lines : Source → (slots : List ℕ) → LiteralTree → List CodeLine
@@ -90,16 +95,21 @@ unfoldable mutual
   -- The lines of the elements of a struct's literal: each value is set in its field.
   pub keyed_lines : Source → (slots : List ℕ) → ElementTrees → List CodeLine
   keyed_lines s slots no_element = []
-  keyed_lines s slots (element k e c rest) = (operand_of s slots e).value ++ (line_if_known With (key_position s k) ++ keyed_lines s slots rest)
+  keyed_lines s slots (element k e c rest) =
+      ((operand_of s slots e).value ++ enter_line s (operand_of s slots e) e) ++ (line_if_known With (key_position s k) ++ keyed_lines s slots rest)
 
   -- The lines that leave the values of the elements of a slice's literal.
   pub bare_lines : Source → (slots : List ℕ) → ElementTrees → List CodeLine
   bare_lines s slots no_element = []
-  bare_lines s slots (element k e c rest) = (operand_of s slots e).value ++ bare_lines s slots rest
+  bare_lines s slots (element k e c rest) = ((operand_of s slots e).value ++ enter_line s (operand_of s slots e) e) ++ bare_lines s slots rest
 
 -- The lines that leave the values of an expression.
 abbrev pub value_lines : Source → (slots : List ℕ) → ExprTree → List CodeLine
 value_lines s slots e = (operand_of s slots e).value
+
+-- The lines that leave the values of an expression which is given to something: an argument, an element, a right side or a result.
+abbrev pub given_lines : Source → (slots : List ℕ) → ExprTree → List CodeLine
+given_lines s slots e = value_lines s slots e ++ enter_line s (operand_of s slots e) e
 
 -- The lines that leave the address of an expression's value.
 abbrev pub address_lines : Source → (slots : List ℕ) → ExprTree → List CodeLine

@@ -9,8 +9,8 @@ pub record GlobalName : Type 0 where
   pub path : List ℕ
   pub name : List ℕ
 
--- The name of a function in objects. A method has the name of its receiver's type too. A function `init` has its number among those of its
--- package, from 0.
+-- The name of a function in objects. A method has the name of its receiver's type too, and one that an interface asks for that of the
+-- interface. A function `init` has its number among those of its package, from 0.
 pub data FunctionName : Type 0 where
   Plain : GlobalName → FunctionName
   Method : GlobalName → List ℕ → FunctionName
@@ -40,6 +40,8 @@ pub data CodeLine : Type 0 where
   JumpBack : ℕ → CodeLine
   Call : FunctionName → ℕ → CodeLine
   CallBuiltin : Builtin → ℕ → CodeLine
+  CallAsked : FunctionName → ℕ → CodeLine
+  Enter : PlainType → CodeLine
   Zero : PlainType → CodeLine
   With : ℕ → CodeLine
   MakeSlice : ℕ → CodeLine

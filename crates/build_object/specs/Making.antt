@@ -9,7 +9,7 @@ use Rattle.build_object.specs.declared.operands.OperandMode.TheVariants as mode
 use Rattle.build_object.specs.declared.code.Code.{Code}
 use Rattle.build_object.specs.Lines.{CodeLine, Field, FieldThrough, FieldAddress, Index, IndexAddress, Duplicate, Pop, JumpUnless, JumpIf, line_if_known}
 use Rattle.build_object.specs.LineView.{function_of, lines_in}
-use Rattle.build_object.specs.Operands.{CodeOperand, Values, Called, Converts, Predeclared, Qualifies, qualifies}
+use Rattle.build_object.specs.Operands.{CodeOperand, Values, Called, CalledAsked, Converts, Predeclared, Qualifies, qualifies}
 use Rattle.build_object.specs.Operands as pure
 
 -- The lines of an operand that are wanted: those of its value, or those of its address.
@@ -21,6 +21,7 @@ lines_for wanted.Address o = o.address
 unfoldable pub mode_of : OperandMode → pure.Mode
 mode_of (mode.Values n) = Values n
 mode_of (mode.Called received f results) = Called received (function_of f) results
+mode_of (mode.CalledAsked f results) = CalledAsked (function_of f) results
 mode_of mode.Converts = Converts
 mode_of (mode.Predeclared b) = Predeclared b
 mode_of mode.Qualifies = Qualifies
@@ -29,6 +30,7 @@ mode_of mode.Qualifies = Qualifies
 unfoldable pub before_link : pure.Mode → pure.Mode
 before_link (Values n) = Values 0
 before_link (Called received f results) = Called received f results
+before_link (CalledAsked f results) = CalledAsked f results
 before_link Converts = Converts
 before_link (Predeclared b) = Predeclared b
 before_link Qualifies = Qualifies

@@ -1,8 +1,9 @@
 -- The names of types and functions in objects, and the positions of fields in their structs, by the files of packages.
 use Rattle.std.specs.Prelude.{ℕ, suc, ◌==◌, ◌+◌, Bool, false, if◌then◌else◌, List, [], ◌∷◌, map, Option, Some, None, slice_get}
 use Rattle.std.specs.List.{flat_map}
+use Rattle.std.specs.Option.{option_flatten}
 use Rattle.std.specs.Cmp.Lexicographic.{pointwise}
-use Rattle.go_ast.specs.Tree.{Item, FieldTree, BodyTree, Other, Struct, Interface, ReceiverTree}
+use Rattle.go_ast.specs.Tree.{Item, FieldTree, MethodTree, BodyTree, Other, Struct, Interface, ReceiverTree}
 use Rattle.go_ast.specs.SourceFile.{SourceFile}
 use Rattle.types_declared.specs.Laid.{init_name}
 use Rattle.types_expr.specs.declared.symbol.Symbol.{Symbol}
@@ -94,6 +95,43 @@ type_positions t = body_positions t.spec.body
 abbrev pub field_positions : List SourceFile → List ℕ
 field_positions files = flat_map type_positions (declared_types files)
 
+-- A method that an interface asks for: the token of its name in the file of the interface, and its name in objects.
+pub record MethodAsked : Type 0 where
+  pub place : ℕ
+  pub name : FunctionName
+
+-- The methods that the interface `of` asks for.
+abbrev pub asked_names_of : (of : GlobalName) → List SourceFile → (file : ℕ) → List (Item MethodTree) → List MethodAsked
+asked_names_of of files file ms = map (λ i. record { place = i.value.name; name = Method of (spelled_in files file i.value.name) }) ms
+
+-- The methods that a type definition with this body asks for.
+abbrev pub asked_by_body : (path : List ℕ) → List SourceFile → PlacedType → BodyTree → List MethodAsked
+asked_by_body path files t (Other u) = []
+asked_by_body path files t (Struct k o fs c) = []
+asked_by_body path files t (Interface k o ms c) = asked_names_of (name_of_type path files t) files t.file ms
+
+-- The methods that a type definition asks for, if it stands in the file.
+abbrev pub asked_if : (path : List ℕ) → List SourceFile → (file : ℕ) → PlacedType → List MethodAsked
+asked_if path files file t = if t.file == file then asked_by_body path files t t.spec.body else []
+
+-- The methods that the interfaces of a file ask for.
+abbrev pub asked_in_file : (path : List ℕ) → List SourceFile → (file : ℕ) → List MethodAsked
+asked_in_file path files file = flat_map (asked_if path files file) (declared_types files)
+
+-- For each member that a type definition writes, its name in objects if an interface asks for it.
+abbrev pub asked_names_by : (path : List ℕ) → List SourceFile → PlacedType → BodyTree → List (Option FunctionName)
+asked_names_by path files t (Other u) = []
+asked_names_by path files t (Struct k o fs c) = map (λ i. None) (names_of_fields fs)
+asked_names_by path files t (Interface k o ms c) = map (λ i. Some (Method (name_of_type path files t) (spelled_in files t.file i.value.name))) ms
+
+-- The same for a type definition.
+abbrev pub asked_names_in : (path : List ℕ) → List SourceFile → PlacedType → List (Option FunctionName)
+asked_names_in path files t = asked_names_by path files t t.spec.body
+
+-- The same for all written members of a package, by their ranks.
+abbrev pub all_asked_names : (path : List ℕ) → List SourceFile → List (Option FunctionName)
+all_asked_names path files = flat_map (asked_names_in path files) (declared_types files)
+
 -- Types, functions and fields, by their symbols. `files_of` gives the files of the package at a path.
 
 -- The name of a type definition in objects, by its symbol.
@@ -107,3 +145,7 @@ function_name files_of s = slice_get (function_names s.package (files_of s.packa
 -- The position of a field in its struct, by its symbol.
 abbrev pub position_of_field : (List ℕ → List SourceFile) → Symbol → Option ℕ
 position_of_field files_of s = slice_get (field_positions (files_of s.package)) s.rank
+
+-- The name in objects of a method that an interface asks for, by its symbol.
+abbrev pub name_of_asked : (List ℕ → List SourceFile) → Symbol → Option FunctionName
+name_of_asked files_of s = option_flatten (slice_get (all_asked_names s.package (files_of s.package)) s.rank)

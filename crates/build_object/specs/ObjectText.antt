@@ -1,17 +1,36 @@
 -- The text of an object and of its declarations.
-use Rattle.std.specs.Prelude.{ℕ, List, [], ◌++◌, Option, Some, None, length, codes}
+use Rattle.std.specs.Prelude.{ℕ, List, [], ◌∷◌, ◌++◌, Option, Some, None, length, codes}
 use Rattle.std.specs.List.{flat_map}
 use Rattle.types_expr.specs.declared.symbol.Symbol.{Symbol}
 use Rattle.types_expr.specs.Types.{PlainType}
 use Rattle.build_object.specs.Lines.{GlobalName, FunctionName}
-use Rattle.build_object.specs.Objects.{Object, ObjectDeclaration, TypeOf, Variable, FunctionOf, ObjectDefinition, SameAs, Fields, Initial, IntegerValue, TextValue}
+use Rattle.build_object.specs.Objects.{ObjectAsked, Asks, Object, ObjectDeclaration, TypeOf, Variable, FunctionOf, ObjectDefinition, SameAs, Fields, Initial}
+use Rattle.build_object.specs.Objects.{IntegerValue, TextValue}
 use Rattle.build_object.specs.Text.{global_text, function_text, type_text, types_joined, type_list, bytes_text, with_number, ended, code_text}
 
 -- Declarations
 
+-- The text of the types of parameters and results.
+abbrev pub signature_text : (names : Symbol → Option GlobalName) → (parameters results : List PlainType) → List ℕ
+signature_text names parameters results = codes " " ++ (type_list names parameters ++ (codes " " ++ type_list names results))
+
+-- The text of a method that an interface asks for: its name, and the types of its parameters and results, without spaces.
+abbrev pub asked_text : (names : Symbol → Option GlobalName) → ObjectAsked → List ℕ
+asked_text names m = function_text m.name ++ (type_list names m.parameters ++ type_list names m.results)
+
+-- The text of such a method behind another.
+abbrev pub asked_behind : (names : Symbol → Option GlobalName) → ObjectAsked → List ℕ
+asked_behind names m = codes ";" ++ asked_text names m
+
+-- The text of such methods, with `;` between them.
+abbrev pub asked_joined : (names : Symbol → Option GlobalName) → List ObjectAsked → List ℕ
+asked_joined names [] = []
+asked_joined names (m ∷ ms) = asked_text names m ++ flat_map (asked_behind names) ms
+
 -- The text of what a type is defined as.
 abbrev pub definition_text : (names : Symbol → Option GlobalName) → ObjectDefinition → List ℕ
 definition_text names (SameAs t) = type_text names t
+definition_text names (Asks ms) = codes "interface{" ++ (asked_joined names ms ++ codes "}")
 definition_text names (Fields ts) = codes "struct{" ++ (types_joined names (codes ";") ts ++ codes "}")
 
 -- The text of the first value of a variable, if it has one.
@@ -19,10 +38,6 @@ abbrev pub initial_text : Option Initial → List ℕ
 initial_text None = []
 initial_text (Some (IntegerValue n)) = with_number (codes " ") n
 initial_text (Some (TextValue bytes)) = codes " " ++ bytes_text bytes
-
--- The text of the types of parameters and results.
-abbrev pub signature_text : (names : Symbol → Option GlobalName) → (parameters results : List PlainType) → List ℕ
-signature_text names parameters results = codes " " ++ (type_list names parameters ++ (codes " " ++ type_list names results))
 
 -- The text of the number of slots and the number of lines of a function.
 abbrev pub counts_text : (slots lines : ℕ) → List ℕ

@@ -2,7 +2,7 @@
 use Rattle.std.specs.Prelude.{ℕ, List, [], ◌∷◌, ◌++◌, map, Option, Some, None, length, option_map, option_to_list}
 use Rattle.std.specs.List.{flat_map}
 use Rattle.go_ast.specs.Tree.{Item, TypeTree, BasicTree, Integer, String, GlobalTree, FieldTree, BodyTree, Other, Struct, Interface, TypeSpecTree}
-use Rattle.go_ast.specs.Tree.{ReceiverTree, FuncTree, DeclTree, VarDecl, TypeDecl, FuncDecl, FileTree}
+use Rattle.go_ast.specs.Tree.{MethodTree, ReceiverTree, FuncTree, DeclTree, VarDecl, TypeDecl, FuncDecl, FileTree}
 use Rattle.types_expr.specs.Types.{PlainType}
 use Rattle.types_expr.specs.World.{World}
 use Rattle.types_expr.specs.Judge.{judge_type, named_type}
@@ -14,10 +14,17 @@ use Rattle.build_object.specs.Source.{Source}
 use Rattle.build_object.specs.Slots.{slots_of}
 use Rattle.build_object.specs.Statements.{body_lines}
 
--- What a type is defined as: another type, or a struct with fields of these types.
+-- A method that an interface asks for.
+pub record ObjectAsked : Type 0 where
+  pub name : FunctionName
+  pub parameters : List PlainType
+  pub results : List PlainType
+
+-- What a type is defined as: another type, a struct with fields of these types, or an interface that asks for these methods.
 pub data ObjectDefinition : Type 0 where
   SameAs : PlainType → ObjectDefinition
   Fields : List PlainType → ObjectDefinition
+  Asks : List ObjectAsked → ObjectDefinition
 
 -- The first value of a variable.
 pub data Initial : Type 0 where
@@ -61,11 +68,21 @@ all_written w ts = flat_map (written w) ts
 abbrev pub field_types : World → List (Item FieldTree) → List PlainType
 field_types w fs = flat_map (λ i. flat_map (λ n. written w i.value.type_use) i.value.names) fs
 
--- What a type with this body is defined as, if that is known. An interface is a fault, and no object has one.
-unfoldable pub definition_of : World → BodyTree → Option ObjectDefinition
-definition_of w (Other t) = option_map SameAs (judge_type w t).type_of
-definition_of w (Struct k o fs c) = Some (Fields (field_types w fs))
-definition_of w (Interface k o ms c) = None
+-- What an interface asks for by one method, if its name in objects is known.
+abbrev pub object_asked : World → MethodTree → Option FunctionName → List ObjectAsked
+object_asked w m None = []
+object_asked w m (Some name) =
+    record { name = name; parameters = all_written w (parameter_types m.params); results = all_written w (result_types m.result) } ∷ []
+
+-- The methods that an interface asks for. `asked` gives the name of a method in objects by the token of its name in the interface.
+abbrev pub asked_methods : World → (asked : ℕ → Option FunctionName) → List (Item MethodTree) → List ObjectAsked
+asked_methods w asked ms = flat_map (λ i. object_asked w i.value (asked i.value.name)) ms
+
+-- What a type with this body is defined as, if that is known. `asked` gives the names of methods, as above.
+unfoldable pub definition_of : World → (asked : ℕ → Option FunctionName) → BodyTree → Option ObjectDefinition
+definition_of w asked (Other t) = option_map SameAs (judge_type w t).type_of
+definition_of w asked (Struct k o fs c) = Some (Fields (field_types w fs))
+definition_of w asked (Interface k o ms c) = Some (Asks (asked_methods w asked ms))
 
 -- The declaration of a type, if its name and its definition are known.
 abbrev pub type_declarations : Option GlobalName → Option ObjectDefinition → List ObjectDeclaration
@@ -75,7 +92,7 @@ type_declarations (Some name) (Some definition) = TypeOf name definition ∷ []
 
 -- The declaration of a type definition.
 abbrev pub declared_type : Source → TypeSpecTree → List ObjectDeclaration
-declared_type s t = type_declarations (s.global t.name) (definition_of s.world t.body)
+declared_type s t = type_declarations (s.global t.name) (definition_of s.world s.asks t.body)
 
 -- Variables
 

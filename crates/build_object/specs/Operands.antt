@@ -7,22 +7,25 @@ use Rattle.go_ast.specs.declared.syntax.PrefixOp.TheVariants as prefix
 use Rattle.types_expr.specs.declared.types.Builtin.{Builtin}
 use Rattle.types_expr.specs.declared.types.Builtin.TheVariants as builtin
 use Rattle.types_expr.specs.Types.{PlainType, ValueKind, Typed, Untyped, Meaning, Value, TypeName, Function, BuiltinName, Package, Results, Broken}
-use Rattle.types_expr.specs.Types.{is_pointer, points}
+use Rattle.types_expr.specs.declared.symbol.Symbol.{Symbol}
+use Rattle.types_expr.specs.Types.{WrittenAs, AFieldOf, AMethodOf, is_pointer, points}
 use Rattle.types_expr.specs.Types.{Nil as NilKind}
 use Rattle.types_expr.specs.World.{Bound, Means, BrokenVariable, BrokenFunction, BrokenType, Member, AField, AMethod, ABrokenMethod, underlying}
 use Rattle.types_expr.specs.World.{Local as LocalName}
 use Rattle.build_object.specs.Lines.{GlobalName, FunctionName, Plain, CodeLine, Truth, Nil, Local, Global, Field, FieldThrough, Index, Load, Negate}
 use Rattle.build_object.specs.Lines.{Not, Operate, Duplicate, Pop, JumpUnless, JumpIf, Call, CallBuiltin, LocalAddress, GlobalAddress, FieldAddress}
-use Rattle.build_object.specs.Lines.{IndexAddress, line_if_known}
+use Rattle.build_object.specs.Lines.{IndexAddress, CallAsked, line_if_known}
 use Rattle.build_object.specs.Source.{Source}
 use Rattle.build_object.specs.Numbering.{slot_of}
 
 -- The mode of an operand: what the code around it can do with it. `Values`: it leaves so many values. `Called`: it is a function with so
--- many results, or a method whose receiver is on the stack. `Converts`: it is a type, whose call is a conversion. `Predeclared`: it is a
+-- many results, or a method whose receiver is on the stack. `CalledAsked`: it is a method that an interface asks for, and the value of the
+-- interface is on the stack. `Converts`: it is a type, whose call is a conversion. `Predeclared`: it is a
 -- predeclared function. `Qualifies`: it is the name of a package.
 pub data Mode : Type 0 where
   Values : ℕ → Mode
   Called : (received : Bool) → FunctionName → (results : ℕ) → Mode
+  CalledAsked : FunctionName → (results : ℕ) → Mode
   Converts : Mode
   Predeclared : Builtin → Mode
   Qualifies : Mode
@@ -142,10 +145,24 @@ receiver_lines o false false = o.value
 abbrev pub method_operand : List CodeLine → Option FunctionName → (results : ℕ) → CodeOperand
 method_operand receiver name results = record { value = receiver; address = receiver; mode = function_mode name true results }
 
+-- The mode of a method that an interface asks for, if its name is known.
+abbrev pub asked_mode : Option FunctionName → (results : ℕ) → Mode
+asked_mode None results = Values 0
+asked_mode (Some f) results = CalledAsked f results
+
+-- The operand of such a method of an interface's value.
+abbrev pub asked_operand : CodeOperand → Option FunctionName → (results : ℕ) → CodeOperand
+asked_operand o name results = record { value = o.value; address = o.value; mode = asked_mode name results }
+
+-- The operand of a written member of a value of type t.
+abbrev pub written_operand : Source → CodeOperand → PlainType → Symbol → WrittenAs → CodeOperand
+written_operand s o t f (AFieldOf own) = field_operand o (points (underlying s.world t)) (s.position f)
+written_operand s o t f (AMethodOf signature) = asked_operand o (s.asked f) (length signature.results)
+
 -- The operand of a member of a value of type t.
 unfoldable pub member_operand : Source → CodeOperand → PlainType → Option Member → CodeOperand
 member_operand s o t None = record { value = o.value; address = o.value; mode = Values 0 }
-member_operand s o t (Some (AField f own)) = field_operand o (points (underlying s.world t)) (s.position f)
+member_operand s o t (Some (AField f form)) = written_operand s o t f form
 member_operand s o t (Some (AMethod m on_pointer signature)) =
     method_operand (receiver_lines o (is_pointer t) on_pointer) (s.function m) (length signature.results)
 member_operand s o t (Some (ABrokenMethod m)) = record { value = o.value; address = o.value; mode = Values 0 }
@@ -186,6 +203,7 @@ counted false n = n
 -- The line of a call with n arguments. A conversion has none, and leaves its argument.
 unfoldable pub calling : ℕ → Mode → List CodeLine
 calling n (Called received f results) = Call f (counted received n) ∷ []
+calling n (CalledAsked f results) = CallAsked f (suc n) ∷ []
 calling n (Predeclared b) = CallBuiltin b n ∷ []
 calling n Converts = []
 calling n (Values k) = []
@@ -194,6 +212,7 @@ calling n Qualifies = []
 -- The number of values that a call leaves.
 unfoldable pub left_by_call : Mode → ℕ
 left_by_call (Called received f results) = results
+left_by_call (CalledAsked f results) = results
 left_by_call (Predeclared b) = builtin_results b
 left_by_call Converts = 1
 left_by_call (Values k) = 0

@@ -1,6 +1,7 @@
 -- The names of packages' declarations, as the program looks them up.
 use Rattle.std.specs.Prelude.{ℕ, List, Option, Some, None, map, option_map, slice_get}
 use Rattle.std.specs.FinMap.{find}
+use Rattle.std.specs.Option.{option_flatten}
 use Rattle.base_files.specs.Workspace.{path_cmp}
 use Rattle.go_ast.specs.SourceFile.{SourceFile, source_of}
 use Rattle.types_declared.specs.DeclaredView.{type_of, function_of as placed_function}
@@ -10,7 +11,7 @@ use Rattle.build_object.specs.declared.object_names.NamedPackage.{NamedPackage}
 use Rattle.build_object.specs.declared.object_names.DeclaredTables.{DeclaredTables}
 use Rattle.build_object.specs.declared.object_names.ObjectNames.{ObjectNames}
 use Rattle.build_object.specs.Lines.{GlobalName, FunctionName}
-use Rattle.build_object.specs.Names.{name_of_type, function_names, functions_behind, field_positions}
+use Rattle.build_object.specs.Names.{name_of_type, function_names, functions_behind, field_positions, all_asked_names}
 
 -- The names of the package at a path.
 abbrev pub package_names_in : ObjectNames → List ℕ → Option NamedPackage
@@ -63,3 +64,13 @@ position_at (Some p) t rank = position_of_rank (map source_of p.files.now) t ran
 -- The position of a field in its struct, by its symbol.
 abbrev pub position_in : ObjectNames → Symbol → Option ℕ
 position_in ps s = position_at (package_names_in ps s.package) (tables_in ps s.package) s.rank
+
+-- The name in objects of the method with this rank among written members, in a package with these names. An interface asks for it. It is found
+-- by going over the files.
+abbrev pub asked_of_rank : Option NamedPackage → ℕ → Option FunctionName
+asked_of_rank None rank = None
+asked_of_rank (Some p) rank = option_flatten (slice_get (all_asked_names p.path.now (map source_of p.files.now)) rank)
+
+-- The name in objects of a method that an interface asks for, by its symbol.
+abbrev pub asked_in : ObjectNames → Symbol → Option FunctionName
+asked_in ps s = asked_of_rank (package_names_in ps s.package) s.rank

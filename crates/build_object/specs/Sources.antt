@@ -10,17 +10,17 @@ use Rattle.go_scope.specs.Table.{IsFoundAt}
 use Rattle.types_declared.specs.Files.{HasLiteral, package_name}
 use Rattle.types_expr.specs.declared.symbol.Symbol.{Symbol}
 use Rattle.types_expr.specs.Types.{PlainType}
-use Rattle.types_expr.specs.Judge.{MemberUse, members_of}
+use Rattle.types_expr.specs.Judge.{MemberUse, Entering, members_of, enterings_of}
 use Rattle.types_stmt.specs.Declarations.{check_file}
 use Rattle.workspace_graph.specs.Packages.{ImportsPath}
 use Rattle.types_declared.specs.Package.{Package, spelled}
 use Rattle.types_declared.specs.Written.{BindsToken, IsPredeclared}
 use Rattle.types_declared.specs.Written.{DeclaresImport}
 use Rattle.types_info.specs.Worlds.{IsWorldOf, is_init}
-use Rattle.build_object.specs.Lines.{GlobalName}
+use Rattle.build_object.specs.Lines.{GlobalName, FunctionName}
 use Rattle.build_object.specs.Source.{Source}
 use Rattle.build_object.specs.Literals.{literal_number}
-use Rattle.build_object.specs.Names.{type_name, function_name, function_names, position_of_field}
+use Rattle.build_object.specs.Names.{type_name, function_name, function_names, position_of_field, name_of_asked, asked_in_file, MethodAsked}
 use Rattle.build_object.specs.Objects.{Object, object_of}
 use Rattle.build_object.specs.ObjectText.{object_text}
 
@@ -28,6 +28,16 @@ use Rattle.build_object.specs.ObjectText.{object_text}
 abbrev pub type_before : List MemberUse → ℕ → Option PlainType
 type_before [] token = None
 type_before (u ∷ us) token = if u.place == token then Some u.before else type_before us token
+
+-- The type of the first value that enters an interface at the token.
+abbrev pub type_entered : List Entering → ℕ → Option PlainType
+type_entered [] token = None
+type_entered (e ∷ es) token = if e.place == token then Some e.own else type_entered es token
+
+-- The name of the first method that is asked for at the token.
+abbrev pub asked_there : List MethodAsked → ℕ → Option FunctionName
+asked_there [] token = None
+asked_there (a ∷ rest) token = if a.place == token then Some a.name else asked_there rest token
 
 -- The name at a token is the selector of a qualified identifier, behind the name of an import of this path.
 pub record HasQualifier (p : Package) (file token : ℕ) (path : List ℕ) : Type 0 where
@@ -66,12 +76,15 @@ IsTextAt source token (Some value) = HasLiteral source token value
 pub record IsSourceOf (p : Package) (files_of : List ℕ → List SourceFile) (file : ℕ) (f : SourceFile) (s : Source) : Type 0 where
   pub world : IsWorldOf p file f s.world
   pub before : (token : ℕ) → s.before token ≡ type_before (members_of (check_file s.world (is_init f) f.tree).uses) token
+  pub entered : (token : ℕ) → s.entered token ≡ type_entered (enterings_of (check_file s.world (is_init f) f.tree).uses) token
   pub global : (token : ℕ) → DenotesGlobal p file token (s.global token)
+  pub asks : (token : ℕ) → s.asks token ≡ asked_there (asked_in_file p.path p.files file) token
   pub truth : (token : ℕ) → (s.truth token ≡ true) ↔ IsTrueAt p file token
   pub number : (token : ℕ) → s.number token ≡ literal_number (spelling_of f token)
   pub text : (token : ℕ) → IsTextAt f token (s.text token)
   pub function : (symbol : Symbol) → s.function symbol ≡ function_name files_of symbol
   pub position : (symbol : Symbol) → s.position symbol ≡ position_of_field files_of symbol
+  pub asked : (symbol : Symbol) → s.asked symbol ≡ name_of_asked files_of symbol
 
 -- The paths that the files import, each once, sorted by bytes.
 pub record AreImports (files : List SourceFile) (imports : List (List ℕ)) : Type 0 where

@@ -17,13 +17,13 @@ use Rattle.build_object.specs.Lines.{CodeLine, line_if_known, pops}
 use Rattle.build_object.specs.Lines as line
 use Rattle.build_object.specs.Source.{Source}
 use Rattle.build_object.specs.Numbering.{slot_of}
-use Rattle.build_object.specs.Expressions.{value_lines, address_lines, values_left}
+use Rattle.build_object.specs.Expressions.{value_lines, given_lines, address_lines, values_left}
 
 -- Values, and the lines that take them from the last to the first.
 
--- The lines that leave the values of expressions, in order.
+-- The lines that leave the values of expressions, in order, each as its target takes it.
 abbrev pub lines_of_values : Source → (slots : List ℕ) → List (Item ExprTree) → List CodeLine
-lines_of_values s slots es = flat_map (λ i. value_lines s slots i.value) es
+lines_of_values s slots es = flat_map (λ i. given_lines s slots i.value) es
 
 -- The lines for each item of a list, those of the last item first.
 unfoldable pub from_last : {X : Type 0} → (X → List CodeLine) → List (Item X) → List CodeLine

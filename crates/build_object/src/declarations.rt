@@ -1,8 +1,8 @@
 //! Prints the declarations of files.
-ghost use Rattle.std.specs.Prelude.{◌≡◌, ◌≤◌, ◌++◌, [], Some, drop, length, map, option_map, slice_get, IfOk, OnOk};
+ghost use Rattle.std.specs.Prelude.{◌≡◌, ◌≤◌, ◌++◌, ◌∷◌, [], Some, drop, length, map, option_map, slice_get, IfOk, OnOk};
 ghost use Rattle.std.specs.List.{flat_map};
 ghost use Rattle.go_ast.specs.View.{list_view, option_view, group_view};
-ghost use Rattle.go_ast.specs.FileView.{same_index, basic_view, body_view, decl_view, field_view, func_view, global_view, type_spec_view, var_values_view};
+ghost use Rattle.go_ast.specs.FileView.{same_index, basic_view, body_view, decl_view, field_view, func_view, global_view, method_view, type_spec_view, var_values_view};
 ghost use Rattle.types_declared.specs.Files.{group_items};
 ghost use Rattle.types_expr.specs.View.{type_of};
 ghost use Rattle.types_expr.specs.WorldView.{world_of};
@@ -10,26 +10,27 @@ ghost use Rattle.build_object.specs.LineView.{global_of, function_of, lines_in};
 ghost use Rattle.build_object.specs.Slots.{slots_of};
 ghost use Rattle.build_object.specs.SourceView.{source_of};
 ghost use Rattle.build_object.specs.PackagesView.{type_in};
-ghost use Rattle.build_object.specs.Objects.{TypeOf, Variable, FunctionOf, declared_by, declared_function, declared_in, declared_type, global_variables, type_declarations, definition_of, field_types, initials_of, literals_of, names_behind, names_behind_all, others_of, known_variable, variable_declarations, written};
+ghost use Rattle.build_object.specs.Objects.{TypeOf, Variable, FunctionOf, asked_methods, declared_by, declared_function, declared_in, declared_type, global_variables, type_declarations, definition_of, field_types, initials_of, literals_of, names_behind, names_behind_all, object_asked, others_of, known_variable, variable_declarations, written};
 ghost use Rattle.build_object.specs.Objects as object;
 ghost use Rattle.build_object.specs.Text.{code_text, ended};
-ghost use Rattle.build_object.specs.ObjectText.{counts_text, declaration_text, definition_text, header_text, initial_text, signature_text};
-ghost use Rattle.build_object.specs.DeclarationsView.{initial_view, definition_view, literal_value_at, IsSignature};
+ghost use Rattle.build_object.specs.ObjectText.{asked_behind, asked_joined, asked_text, counts_text, declaration_text, definition_text, header_text, initial_text, signature_text};
+ghost use Rattle.build_object.specs.DeclarationsView.{asked_view, initial_view, definition_view, literal_value_at, IsSignature};
 
 use crate::code::Code;
-use crate::functions::{add_written, body, parameters, results};
+use crate::functions::{add_params, add_results, add_written, body, parameters, results};
 use crate::instructions::{FunctionName, GlobalName};
 use crate::packages::ObjectNames;
 use crate::printing::{
-    push_lines, push_numbered, push_type, push_type_list, push_types, push_word, push_word_bytes,
-    push_word_function, push_word_global, push_word_integer, push_word_type,
+    push_enclosed, push_lines, push_numbered, push_type, push_type_list, push_types, push_word,
+    push_word_bytes, push_word_function, push_word_global, push_word_integer, push_word_type,
 };
 use crate::scope::SlotScope;
 use crate::slots::slots;
 use crate::source::Source;
 use crate::types::written_type;
 use go_ast::tree::{
-    BasicLit, Decl, FieldDecl, FuncDecl, Group, Item, TypeBody, TypeSpec, VarSpec, VarValues,
+    BasicLit, Decl, FieldDecl, FuncDecl, Group, Item, MethodSpec, TypeBody, TypeSpec, VarSpec,
+    VarValues,
 };
 use std::alloc::{AllocError, Global};
 use types_expr::types::GoType;
@@ -42,11 +43,20 @@ pub enum Initial<'a> {
     Text(&'a [u8]),
 }
 
-/// What a type is defined as: another type, or a struct with fields of these types.
+/// A method that an interface asks for.
 #[derive(Drop)]
-pub enum DefinitionLine {
+pub struct AskedLine<'a> {
+    pub name: FunctionName<'a>,
+    pub parameters: Vec<GoType>,
+    pub results: Vec<GoType>,
+}
+
+/// What a type is defined as: another type, a struct with fields of these types, or an interface that asks for these methods.
+#[derive(Drop)]
+pub enum DefinitionLine<'a> {
     SameAs(GoType),
     Fields(Vec<GoType>),
+    Asks(Vec<AskedLine<'a>>),
 }
 
 /// The header of a function, without its number of lines.
@@ -89,26 +99,126 @@ fn field_types(
     Ok(types)
 }
 
-/// What a type is defined as, if that is known.
-#[tactic(auto, unfolding(go_ast::specs::FileView::body_view, crate::specs::Objects::definition_of, crate::specs::DeclarationsView::definition_view))]
-fn defined_as(
+/// What an interface asks for by a method with this name in objects.
+#[tactic(auto, unfolding(go_ast::specs::FileView::method_view))]
+fn asked_line<'a>(
     alloc: Global,
     world: &World<'_>,
+    name: FunctionName<'a>,
+    method: &MethodSpec,
+) -> Result<AskedLine<'a>, AllocError>
+    ensures { IfOk result (λ line. asked_view line ∷ [] ≡ object_asked (world_of world.now) (method_view method.now) (Some (function_of name.entry))) }
+{
+    let mut parameters = Vec::new(alloc);
+    add_params(alloc, world, &mut parameters, &method.params)?;
+    let mut results = Vec::new(alloc);
+    add_results(alloc, world, &mut results, &method.results)?;
+    Ok(AskedLine {
+        name,
+        parameters,
+        results,
+    })
+}
+
+/// Adds what an interface asks for by a method, if its name in objects is known.
+#[tactic(auto, unfolding(go_ast::specs::FileView::method_view))]
+fn add_asked<'a>(
+    alloc: Global,
+    source: &Source<'a>,
+    lines: &mut Vec<AskedLine<'a>>,
+    method: &MethodSpec,
+) -> Result<(), AllocError>
+    ensures { OnOk result (map asked_view lines.new.items ≡ map asked_view lines.old.items ++ object_asked (world_of source.now.world) (method_view method.now) ((source_of source.now).asks (method_view method.now).name)) }
+{
+    let Some(name) = source.asks(method.name as usize) else {
+        return Ok(());
+    };
+    let line = asked_line(alloc, &source.world, name, method)?;
+    lines.push(line)?;
+    Ok(())
+}
+
+/// The methods that an interface asks for.
+fn asked_lines<'a>(
+    alloc: Global,
+    source: &Source<'a>,
+    methods: &[Item<MethodSpec>],
+) -> Result<Vec<AskedLine<'a>>, AllocError>
+    ensures { IfOk result (λ lines. map asked_view lines.items ≡ asked_methods (world_of source.now.world) (source_of source.now).asks (list_view method_view methods.now)) }
+{
+    let mut lines = Vec::new(alloc);
+    for method in methods {
+        add_asked(alloc, source, &mut lines, &method.value)?;
+    }
+    Ok(lines)
+}
+
+/// What a type is defined as, if that is known.
+#[tactic(auto, unfolding(go_ast::specs::FileView::body_view, crate::specs::Objects::definition_of, crate::specs::DeclarationsView::definition_view))]
+fn defined_as<'a>(
+    alloc: Global,
+    source: &Source<'a>,
     body: &TypeBody,
-) -> Result<Option<DefinitionLine>, AllocError>
-    ensures { IfOk result (λ d. option_map definition_view d ≡ definition_of (world_of world.now) (body_view body.now)) }
+) -> Result<Option<DefinitionLine<'a>>, AllocError>
+    ensures { IfOk result (λ d. option_map definition_view d ≡ definition_of (world_of source.now.world) (source_of source.now).asks (body_view body.now)) }
 {
     match body {
-        TypeBody::Type(written) => match written_type(alloc, world, written)? {
+        TypeBody::Type(written) => match written_type(alloc, &source.world, written)? {
             None => Ok(None),
             Some(own) => Ok(Some(DefinitionLine::SameAs(own))),
         },
         TypeBody::Struct { fields, .. } => {
-            let types = field_types(alloc, world, fields)?;
+            let types = field_types(alloc, &source.world, fields)?;
             Ok(Some(DefinitionLine::Fields(types)))
         }
-        TypeBody::Interface { .. } => Ok(None),
+        TypeBody::Interface { methods, .. } => {
+            let lines = asked_lines(alloc, source, methods)?;
+            Ok(Some(DefinitionLine::Asks(lines)))
+        }
     }
+}
+
+/// Prints a method that an interface asks for.
+fn push_asked(
+    text: &mut Vec<u8>,
+    packages: &ObjectNames<'_>,
+    word: &[u8],
+    line: &AskedLine<'_>,
+) -> Result<(), AllocError>
+    ensures { OnOk result (text.new.items ≡ text.old.items ++ (word.now ++ asked_text (type_in packages.now) (asked_view line.now))) }
+{
+    push_word_function(text, word, line.name)?;
+    push_enclosed(text, packages, &line.parameters)?;
+    push_enclosed(text, packages, &line.results)
+}
+
+/// Prints methods that an interface asks for, each behind a separator.
+fn push_asked_behind(
+    text: &mut Vec<u8>,
+    packages: &ObjectNames<'_>,
+    lines: &[AskedLine<'_>],
+) -> Result<(), AllocError>
+    ensures { OnOk result (text.new.items ≡ text.old.items ++ flat_map (asked_behind (type_in packages.now)) (map asked_view lines.now)) }
+{
+    for line in lines {
+        push_asked(text, packages, b";", line)?;
+    }
+    Ok(())
+}
+
+/// Prints the methods that an interface asks for, with a separator between them.
+fn push_all_asked(
+    text: &mut Vec<u8>,
+    packages: &ObjectNames<'_>,
+    lines: &[AskedLine<'_>],
+) -> Result<(), AllocError>
+    ensures { OnOk result (text.new.items ≡ text.old.items ++ asked_joined (type_in packages.now) (map asked_view lines.now)) }
+{
+    let [first, others @ ..] = lines else {
+        return Ok(());
+    };
+    push_asked(text, packages, b"", first)?;
+    push_asked_behind(text, packages, others)
 }
 
 /// Prints what a type is defined as.
@@ -116,7 +226,7 @@ fn defined_as(
 fn push_definition(
     text: &mut Vec<u8>,
     packages: &ObjectNames<'_>,
-    definition: &DefinitionLine,
+    definition: &DefinitionLine<'_>,
 ) -> Result<(), AllocError>
     ensures { OnOk result (text.new.items ≡ text.old.items ++ definition_text (type_in packages.now) (definition_view definition.now)) }
 {
@@ -125,6 +235,11 @@ fn push_definition(
         DefinitionLine::Fields(types) => {
             push_word(text, b"struct{")?;
             push_types(text, packages, b";", types)?;
+            push_word(text, b"}")
+        }
+        DefinitionLine::Asks(lines) => {
+            push_word(text, b"interface{")?;
+            push_all_asked(text, packages, lines)?;
             push_word(text, b"}")
         }
     }
@@ -136,7 +251,7 @@ fn push_type_line(
     text: &mut Vec<u8>,
     packages: &ObjectNames<'_>,
     name: GlobalName<'_>,
-    definition: &DefinitionLine,
+    definition: &DefinitionLine<'_>,
 ) -> Result<(), AllocError>
     ensures { OnOk result (text.new.items ≡ text.old.items ++ declaration_text (type_in packages.now) (TypeOf (global_of name.entry) (definition_view definition.now))) }
 {
@@ -159,7 +274,7 @@ fn push_type_spec(
     let Some(name) = source.global(spec.name as usize) else {
         return Ok(());
     };
-    match defined_as(alloc, &source.world, &spec.body)? {
+    match defined_as(alloc, source, &spec.body)? {
         None => Ok(()),
         Some(definition) => push_type_line(text, source.packages, name, &definition),
     }

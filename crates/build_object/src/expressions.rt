@@ -8,7 +8,7 @@ ghost use Rattle.build_object.specs.Lines.{Duplicate, Pop};
 ghost use Rattle.build_object.specs.SourceView.{source_of};
 ghost use Rattle.build_object.specs.Operands as operands;
 ghost use Rattle.build_object.specs.Operands.{operated, calling, prefixed, qualifies, value_count};
-ghost use Rattle.build_object.specs.Expressions.{operand_of, operations, linked, one_link, argument_lines, literal_lines, keyed_lines, bare_lines, value_lines};
+ghost use Rattle.build_object.specs.Expressions.{operand_of, operations, linked, one_link, argument_lines, literal_lines, keyed_lines, bare_lines, value_lines, enter_line, given_lines};
 ghost use Rattle.build_object.specs.Making.{index_lines, test_lines, lines_for, mode_of, before_link, AppliesRule, AppliesLines};
 
 use crate::code::Code;
@@ -19,6 +19,7 @@ use crate::types::{is_struct, written_type};
 use go_ast::syntax::{BinaryOp, PrefixOp};
 use go_ast::tree::{CompositeLit, Element, Expr, ExprItem, Link, Operand};
 use std::alloc::{AllocError, Global};
+use types_expr::places::place_of;
 
 /// Whether an operand with this mode is the name of a package, and no link stands between it and the next link.
 fn is_qualifier(head: OperandMode<'_>, links: usize) -> bool
@@ -126,6 +127,10 @@ fn put_call<'a>(mode: OperandMode<'a>, count: usize, code: &mut Code<'a>) -> Res
                 arguments,
             })
         }
+        OperandMode::CalledAsked { function, .. } => code.put(Instruction::CallAsked {
+            function,
+            arguments: count + 1,
+        }),
         OperandMode::Predeclared(builtin) => code.put(Instruction::CallBuiltin {
             builtin,
             arguments: count,
@@ -153,6 +158,21 @@ fn test_line<'a>(op: BinaryOp, passed: usize) -> Instruction<'a>
     match op {
         BinaryOp::Or => Instruction::JumpIf(passed),
         _ => Instruction::JumpUnless(passed),
+    }
+}
+
+impl<'a> SlotScope<'a> {
+    /// Puts the line behind an expression, if it leaves one value and that enters an interface.
+    #[tactic(auto, unfolding(crate::specs::LineView::line_of))]
+    fn put_enter(self, alloc: Global, e: &Expr, code: &mut Code<'a>) -> Result<(), AllocError>
+        ensures { OnOk result (Puts (enter_line (source_of self.entry.source.now) (operand_of (source_of self.entry.source.now) self.entry.slots.now.places.items (expr_view e.now)) (expr_view e.now)) code.old code.new) }
+    {
+        match self.source.entered(place_of(e)) {
+            Some(own) if self.mode(e).values() == 1 => {
+                code.put(Instruction::Enter(own.copy(alloc)?))
+            }
+            _ => Ok(()),
+        }
     }
 }
 
@@ -312,6 +332,20 @@ fn operation<'a>(
     }
 }
 
+/// Puts the lines of an expression that is given to something, for its value.
+#[cycle(expression)]
+fn given<'a>(
+    alloc: Global,
+    scope: SlotScope<'a>,
+    e: &Expr,
+    code: &mut Code<'a>,
+) -> Result<(), AllocError>
+    ensures { OnOk result (Puts (given_lines (source_of scope.entry.source.now) scope.entry.slots.now.places.items (expr_view e.now)) code.old code.new) }
+{
+    scope.put_enter(alloc, e, code)?;
+    operand(alloc, scope, e, Wanted::Value, code)
+}
+
 /// Puts the lines of the arguments of a call, or of other values in order.
 #[cycle(expression)]
 pub fn arguments<'a>(
@@ -323,7 +357,7 @@ pub fn arguments<'a>(
     ensures { OnOk result (Puts (argument_lines (source_of scope.entry.source.now) scope.entry.slots.now.places.items (arguments_in list.now)) code.old code.new) }
 {
     for i in (0..list.len()).rev() {
-        operand(alloc, scope, &list[i].value, Wanted::Value, code)?;
+        given(alloc, scope, &list[i].value, code)?;
     }
     Ok(())
 }
@@ -361,7 +395,7 @@ fn keyed<'a>(
 {
     for i in (0..list.len()).rev() {
         scope.put_key(&list[i].key, code)?;
-        operand(alloc, scope, &list[i].value, Wanted::Value, code)?;
+        given(alloc, scope, &list[i].value, code)?;
     }
     Ok(())
 }
@@ -377,7 +411,7 @@ fn bare<'a>(
     ensures { OnOk result (Puts (bare_lines (source_of scope.entry.source.now) scope.entry.slots.now.places.items (elements_in list.now)) code.old code.new) }
 {
     for i in (0..list.len()).rev() {
-        operand(alloc, scope, &list[i].value, Wanted::Value, code)?;
+        given(alloc, scope, &list[i].value, code)?;
     }
     Ok(())
 }

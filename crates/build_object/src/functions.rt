@@ -129,7 +129,7 @@ fn add_param(
 }
 
 /// Adds the types of all parameters.
-fn add_params(
+pub fn add_params(
     alloc: Global,
     world: &World<'_>,
     types: &mut Vec<GoType>,
@@ -175,7 +175,7 @@ fn add_items(
 
 /// Adds the types of the results.
 #[tactic(auto, unfolding(go_ast::specs::FileView::results_view))]
-fn add_results(
+pub fn add_results(
     alloc: Global,
     world: &World<'_>,
     types: &mut Vec<GoType>,

@@ -9,8 +9,8 @@ pub struct GlobalName<'a> {
     pub name: &'a [u8],
 }
 
-/// The name of a function in objects. A method has the name of its receiver's type too. A function `init` has its number among those of its
-/// package, from 0.
+/// The name of a function in objects. A method has the name of its receiver's type too, and one that an interface asks for that of the
+/// interface. A function `init` has its number among those of its package, from 0.
 #[derive(Clone, Copy)]
 pub enum FunctionName<'a> {
     Plain(GlobalName<'a>),
@@ -55,6 +55,11 @@ pub enum Instruction<'a> {
         builtin: Builtin,
         arguments: usize,
     },
+    CallAsked {
+        function: FunctionName<'a>,
+        arguments: usize,
+    },
+    Enter(GoType),
     Zero(GoType),
     With(usize),
     MakeSlice(usize),

@@ -16,7 +16,7 @@ use crate::operands::{OperandMode, Wanted};
 use crate::scope::SlotScope;
 use go_ast::tree::Key;
 use std::alloc::AllocError;
-use types_expr::types::GoType;
+use types_expr::types::{GoType, WrittenAs};
 use types_expr::world::Member;
 
 /// The line of the field at this position of its struct. `through`: the value before it is a pointer.
@@ -67,7 +67,7 @@ fn put_receiver(
 
 impl<'a> SlotScope<'a> {
     /// Puts the line of a member of a value of type `before`. Returns what is wanted of this value.
-    #[tactic(auto, unfolding(types_expr::specs::WorldView::member_of, crate::specs::Operands::member_operand))]
+    #[tactic(auto, unfolding(types_expr::specs::WorldView::member_of, types_expr::specs::View::form_of, crate::specs::Operands::member_operand))]
     fn put_member(
         self,
         before: &GoType,
@@ -78,15 +78,14 @@ impl<'a> SlotScope<'a> {
         ensures { IfOk result (λ w. AppliesAlways (λ o. member_operand (source_of self.entry.source.now) o (type_of before.now) (Some (member_of member.entry))) want w code.old code.new) }
     {
         match member {
-            Member::Field(field) => {
-                let through = self.source.world.underlying(before).is_pointer();
-                put_field(
-                    self.source.packages.position(&field.symbol),
-                    through,
-                    want,
-                    code,
-                )
-            }
+            Member::Field(field) => match &field.form {
+                WrittenAs::Field(_) => {
+                    let through = self.source.world.underlying(before).is_pointer();
+                    let position = self.source.packages.position(&field.symbol);
+                    put_field(position, through, want, code)
+                }
+                WrittenAs::Method(_) => Ok(Wanted::Value),
+            },
             Member::Method(method) => match &method.signature {
                 None => Ok(Wanted::Value),
                 Some(_) => put_receiver(before.is_pointer(), method.on_pointer, code),
@@ -132,7 +131,7 @@ impl<'a> SlotScope<'a> {
     }
 
     /// The mode of the selector at a token, behind a value.
-    #[tactic(auto, unfolding(types_expr::specs::WorldView::member_of, crate::specs::Operands::typed_selector, crate::specs::Operands::member_operand, crate::specs::Making::mode_of))]
+    #[tactic(auto, unfolding(types_expr::specs::WorldView::member_of, types_expr::specs::View::form_of, crate::specs::Operands::typed_selector, crate::specs::Operands::member_operand, crate::specs::Making::mode_of))]
     fn typed_mode(self, token: usize) -> OperandMode<'a>
         ensures { (o : CodeOperand) → (typed_selector (source_of self.entry.source.now) token o ((source_of self.entry.source.now).before token)).mode ≡ mode_of result }
     {
@@ -141,7 +140,13 @@ impl<'a> SlotScope<'a> {
         };
         match self.source.world.member(token, before) {
             None => OperandMode::Values(0),
-            Some(Member::Field(_)) => OperandMode::Values(1),
+            Some(Member::Field(field)) => match &field.form {
+                WrittenAs::Field(_) => OperandMode::Values(1),
+                WrittenAs::Method(signature) => OperandMode::of_asked(
+                    self.source.packages.asked(&field.symbol),
+                    signature.results.len(),
+                ),
+            },
             Some(Member::Method(method)) => match &method.signature {
                 None => OperandMode::Values(0),
                 Some(signature) => OperandMode::of_function(

@@ -5,12 +5,15 @@ ghost use Rattle.go_ast.specs.View.{list_view};
 ghost use Rattle.go_ast.specs.FileView.{body_view, field_view, method_view};
 ghost use Rattle.go_ast.specs.SourceFile.{source_of};
 ghost use Rattle.types_declared.specs.DeclaredView.{type_of, function_of as placed_function};
+ghost use Rattle.build_object.specs.Lines.{Method};
 ghost use Rattle.build_object.specs.LineView.{global_of, function_of};
-ghost use Rattle.build_object.specs.Names.{body_positions, function_behind, function_called, functions_behind, initializers_among, initializers_with, is_initializer, names_of_fields, positions_from, spelled_in, name_of_type, type_positions};
+ghost use Rattle.build_object.specs.SourceView.{asked_of};
+ghost use Rattle.build_object.specs.Names.{asked_by_body, asked_if, asked_names_of, body_positions, function_behind, function_called, functions_behind, initializers_among, initializers_with, is_initializer, names_of_fields, positions_from, spelled_in, name_of_type, type_positions};
 ghost use Rattle.build_object.specs.NamesView.{AreTablesOf};
 
 use crate::instructions::{FunctionName, GlobalName};
 use crate::packages::DeclaredTables;
+use crate::source::NamedMethod;
 use go_ast::FileTree;
 use go_ast::tree::{FieldDecl, Item, MethodSpec, TypeBody};
 use std::alloc::{AllocError, Global};
@@ -191,6 +194,93 @@ fn field_positions(alloc: Global, types: &[TypeDef<'_>]) -> Result<Vec<usize>, A
         add_body(&mut positions, &own.spec.body)?;
     }
     Ok(positions)
+}
+
+/// The name in objects of a method that the interface `of` of a file asks for.
+#[tactic(auto, unfolding(crate::specs::LineView::function_of))]
+pub(crate) fn asked_name<'a>(
+    files: &'a [FileTree],
+    of: GlobalName<'a>,
+    file: usize,
+    method: &MethodSpec,
+) -> FunctionName<'a>
+    ensures { function_of result ≡ Method (global_of of.entry) (spelled_in (map source_of files.now) file method.now.name) }
+{
+    FunctionName::Method {
+        receiver: of,
+        name: spelling(files, file, method.name as usize),
+    }
+}
+
+/// Adds the methods that the interface `of` of a file asks for.
+fn add_asked_names<'a>(
+    asked: &mut Vec<NamedMethod<'a>>,
+    files: &'a [FileTree],
+    of: GlobalName<'a>,
+    file: usize,
+    methods: &[Item<MethodSpec>],
+) -> Result<(), AllocError>
+    ensures { OnOk result (map asked_of asked.new.items ≡ map asked_of asked.old.items ++ asked_names_of (global_of of.entry) (map source_of files.now) file (list_view method_view methods.now)) }
+{
+    for method in methods {
+        let name = asked_name(files, of, file, &method.value);
+        let place = method.value.name as usize;
+        asked.push(NamedMethod { place, name })?;
+    }
+    Ok(())
+}
+
+/// Adds the methods that a type definition asks for.
+#[tactic(auto, unfolding(go_ast::specs::FileView::body_view, go_ast::specs::FileView::type_spec_view))]
+fn add_asked_by<'a>(
+    asked: &mut Vec<NamedMethod<'a>>,
+    path: &'a [u8],
+    files: &'a [FileTree],
+    own: TypeDef<'_>,
+) -> Result<(), AllocError>
+    ensures { OnOk result (map asked_of asked.new.items ≡ map asked_of asked.old.items ++ asked_by_body path.now (map source_of files.now) (type_of own.entry) (type_of own.entry).spec.body) }
+{
+    match &own.spec.body {
+        TypeBody::Type(_) | TypeBody::Struct { .. } => Ok(()),
+        TypeBody::Interface { methods, .. } => {
+            let of = name_of_type(path, files, own);
+            add_asked_names(asked, files, of, own.file, methods)
+        }
+    }
+}
+
+/// Adds the methods that a type definition asks for, if it stands in the file.
+fn add_asked_if<'a>(
+    asked: &mut Vec<NamedMethod<'a>>,
+    path: &'a [u8],
+    files: &'a [FileTree],
+    file: usize,
+    own: TypeDef<'_>,
+) -> Result<(), AllocError>
+    ensures { OnOk result (map asked_of asked.new.items ≡ map asked_of asked.old.items ++ asked_if path.now (map source_of files.now) file (type_of own.entry)) }
+{
+    if own.file == file {
+        add_asked_by(asked, path, files, own)
+    } else {
+        Ok(())
+    }
+}
+
+/// The methods that the interfaces of a file ask for.
+pub fn asked_in_file<'a>(
+    alloc: Global,
+    path: &'a [u8],
+    files: &'a [FileTree],
+    types: &[TypeDef<'_>],
+    file: usize,
+) -> Result<Vec<NamedMethod<'a>>, AllocError>
+    ensures { IfOk result (λ asked. map asked_of asked.items ≡ flat_map (asked_if path.now (map source_of files.now) file) (map type_of types.now)) }
+{
+    let mut asked = Vec::new(alloc);
+    for own in types {
+        add_asked_if(&mut asked, path, files, file, *own)?;
+    }
+    Ok(asked)
 }
 
 impl<'a> DeclaredTables<'a> {

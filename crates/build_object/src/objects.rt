@@ -9,7 +9,7 @@ ghost use Rattle.types_info.specs.MeaningsView.{AreMeanings};
 ghost use Rattle.types_info.specs.PackageOf.{package_in};
 ghost use Rattle.types_info.specs.Worlds.{IsWorldOf};
 ghost use Rattle.types_declared.specs.ExportTablesView.{name_in as known_name, export_data_in};
-ghost use Rattle.types_info.specs.MemberUses.{AreMemberUses, uses_in};
+ghost use Rattle.types_info.specs.MemberUses.{AreEnterings, AreMemberUses, enterings_in, uses_in};
 ghost use Rattle.types_info.specs.NamesView.{AreNames};
 ghost use Rattle.types_declared.specs.Package.{spelled};
 ghost use Rattle.types_declared.specs.PackageView.{package_of, IsIndexOf};
@@ -18,7 +18,7 @@ ghost use Rattle.build_object.specs.LineView.{function_of};
 ghost use Rattle.build_object.specs.Names.{function_names};
 ghost use Rattle.build_object.specs.Objects.{Object};
 ghost use Rattle.build_object.specs.ObjectText.{first_line};
-ghost use Rattle.build_object.specs.ObjectSteps.{uses_of_file, PrintsHead, PrintsFiles};
+ghost use Rattle.build_object.specs.ObjectSteps.{list_of_file, PrintsHead, PrintsFiles};
 ghost use Rattle.build_object.specs.ObjectView.{AreObjectDefinitions, HaveNames, IsObjectTextOf, OwnDefinitionsOf, PrintsFile};
 ghost use Rattle.build_object.specs.Sources.{IsObjectText};
 
@@ -34,20 +34,21 @@ use go_scope::declare::declare;
 use go_scope::table::ScopeTable;
 use std::alloc::{AllocError, Global};
 use types_declared::{ExportTable, Index, Package, broken_definitions, lay_names};
-use types_expr::found::MemberUse;
+use types_expr::found::{Entering, MemberUse};
 use types_expr::symbol::SharedPath;
 use types_expr::world::{Bound, Definition, Name, World};
 use types_info::{MeaningTable, file_names, has_one_world, meanings_of};
 use workspace_graph::import_paths::import_paths;
 
 /// A package without faults: its path, and its files in the order of their paths. `definitions` are its type definitions as other packages
-/// see them. `members` are the uses of members that checking found in each file.
+/// see them. `members` are the uses of members that checking found in each file, and `enterings` the values that enter interfaces.
 #[derive(Clone, Copy)]
 pub struct Faultless<'a> {
     pub path: &'a SharedPath,
     pub files: &'a [FileTree],
     pub definitions: &'a [Definition],
     pub members: &'a [Vec<MemberUse>],
+    pub enterings: &'a [Vec<Entering>],
 }
 
 /// A file, and how many functions of its package stand in the files before it.
@@ -95,7 +96,7 @@ fn push_judged<'w>(
     requires one { HasOneWorld (package_of origin.unit) }
     requires in_range { turn.file < length origin.unit.files.now }
     requires within { turn.number ≤ length origin.names.now }
-    ensures { IfOk result (λ others. PrintsFile (package_of origin.entry.unit) turn.file (uses_of_file (slice_get origin.entry.members.now turn.file)) origin.entry.packages.now origin.entry.names.now turn.number others text.old.items text.new.items) }
+    ensures { IfOk result (λ others. PrintsFile (package_of origin.entry.unit) turn.file (list_of_file (slice_get origin.entry.members.now turn.file)) (list_of_file (slice_get origin.entry.enterings.now turn.file)) origin.entry.packages.now origin.entry.names.now turn.number others text.old.items text.new.items) }
 {
     let judged_by = own_world(origin.unit, spelled, bounds, origin.definitions, turn.file);
     let made_of = source(alloc, origin, judged_by, turn.file)?;
@@ -125,7 +126,7 @@ fn push_file(
     requires one { HasOneWorld (package_of origin.unit) }
     requires in_range { turn.file < length origin.unit.files.now }
     requires within { turn.number ≤ length origin.names.now }
-    ensures puts { IfOk result (λ others. PrintsFile (package_of origin.entry.unit) turn.file (uses_of_file (slice_get origin.entry.members.now turn.file)) origin.entry.packages.now origin.entry.names.now turn.number others text.old.items text.new.items) }
+    ensures puts { IfOk result (λ others. PrintsFile (package_of origin.entry.unit) turn.file (list_of_file (slice_get origin.entry.members.now turn.file)) (list_of_file (slice_get origin.entry.enterings.now turn.file)) origin.entry.packages.now origin.entry.names.now turn.number others text.old.items text.new.items) }
     ensures bounds { OnOk result (AreMeanings (package_of origin.entry.unit) bounds.new.list.items bounds.new.of.items) }
 {
     let spelled = file_names(alloc, origin.unit, origin.index, bounds, turn.file)?;
@@ -143,7 +144,7 @@ fn push_files(
     requires bounds { AreMeanings (package_of origin.unit) bounds.old.list.items bounds.old.of.items }
     requires definitions { AreObjectDefinitions (package_of origin.unit) origin.definitions.now }
     requires one { HasOneWorld (package_of origin.unit) }
-    ensures { IfOk result (λ others. PrintsFiles (package_of origin.entry.unit) (length origin.entry.unit.files.now) origin.entry.members.now origin.entry.packages.now origin.entry.names.now others text.old.items text.new.items) }
+    ensures { IfOk result (λ others. PrintsFiles (package_of origin.entry.unit) (length origin.entry.unit.files.now) origin.entry.members.now origin.entry.enterings.now origin.entry.packages.now origin.entry.names.now others text.old.items text.new.items) }
 {
     let mut others = 0;
     for file in 0..origin.unit.files.len() {
@@ -195,7 +196,7 @@ fn meant_text(
     requires definitions { AreObjectDefinitions (package_of origin.unit) origin.definitions.now }
     requires one { HasOneWorld (package_of origin.unit) }
     requires names { map function_of origin.names.now ≡ function_names origin.unit.path.now (map source_of origin.unit.files.now) }
-    ensures { IfOk result (λ text. (files_of : List ℕ → List SourceFile) → AreMemberUses (package_of origin.entry.unit) (map uses_in origin.entry.members.now) → HaveNames origin.entry.packages.now files_of → IsObjectText (package_of origin.entry.unit) files_of text.items) }
+    ensures { IfOk result (λ text. (files_of : List ℕ → List SourceFile) → AreMemberUses (package_of origin.entry.unit) (map uses_in origin.entry.members.now) → AreEnterings (package_of origin.entry.unit) (map enterings_in origin.entry.enterings.now) → HaveNames origin.entry.packages.now files_of → IsObjectText (package_of origin.entry.unit) files_of text.items) }
 {
     let mut text = Vec::new(alloc);
     push_head(alloc, origin.unit, &mut text)?;
@@ -230,7 +231,7 @@ pub fn checked_object<'a>(
     requires index { IsIndexOf (package_of unit) index.now }
     requires bounds { AreMeanings (package_of unit) bounds.old.list.items bounds.old.of.items }
     requires definitions { AreObjectDefinitions (package_of unit) given.definitions.now }
-    ensures { IfOk result (λ text. (files_of : List ℕ → List SourceFile) → AreMemberUses (package_of unit.entry) (map uses_in given.entry.members.now) → HaveNames packages.now files_of → IsObjectText (package_of unit.entry) files_of text.items) }
+    ensures { IfOk result (λ text. (files_of : List ℕ → List SourceFile) → AreMemberUses (package_of unit.entry) (map uses_in given.entry.members.now) → AreEnterings (package_of unit.entry) (map enterings_in given.entry.enterings.now) → HaveNames packages.now files_of → IsObjectText (package_of unit.entry) files_of text.items) }
 {
     has_one_world(unit);
     let names = function_names(
@@ -244,6 +245,7 @@ pub fn checked_object<'a>(
         index,
         definitions: given.definitions,
         members: given.members,
+        enterings: given.enterings,
         packages,
         names: names.as_slice(),
     };
@@ -273,7 +275,7 @@ fn laid_text(
 ) -> Result<Vec<u8>, AllocError>
     requires { AreObjectDefinitions (package_in given.path.now (map source_of given.files.now) table.now (export_data_in export_table.now)) given.definitions.now }
     ensures { IfOk result (λ text. (files_of : List ℕ → List SourceFile) → AreMemberUses (package_in given.entry.path.now (map source_of given.entry.files.now) table.now (export_data_in export_table.now)) (map uses_in given.entry.members.now) →
-        HaveNames packages.now files_of → IsObjectText (package_in given.entry.path.now (map source_of given.entry.files.now) table.now (export_data_in export_table.now)) files_of text.items) }
+        AreEnterings (package_in given.entry.path.now (map source_of given.entry.files.now) table.now (export_data_in export_table.now)) (map enterings_in given.entry.enterings.now) → HaveNames packages.now files_of → IsObjectText (package_in given.entry.path.now (map source_of given.entry.files.now) table.now (export_data_in export_table.now)) files_of text.items) }
 {
     let unit = Package {
         path: given.path,
@@ -295,7 +297,7 @@ pub fn object(
     packages: &ObjectNames<'_>,
 ) -> Result<Vec<u8>, AllocError>
     requires { OwnDefinitionsOf given.path.now given.files.now (known_name export_table.now) (export_data_in export_table.now) given.definitions.now }
-    ensures { IfOk result (λ text. IsObjectTextOf given.entry.path.now given.entry.files.now (known_name export_table.now) (export_data_in export_table.now) (map uses_in given.entry.members.now) packages.now text.items) }
+    ensures { IfOk result (λ text. IsObjectTextOf given.entry.path.now given.entry.files.now (known_name export_table.now) (export_data_in export_table.now) (map uses_in given.entry.members.now) (map enterings_in given.entry.enterings.now) packages.now text.items) }
 {
     let table = laid(alloc, given.files, export_table)?;
     laid_text(alloc, given, &table, export_table, packages)

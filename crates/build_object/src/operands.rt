@@ -1,6 +1,6 @@
 //! The modes of operands: what an expression is to the code around it.
 ghost use Rattle.std.specs.Prelude.{◌≡◌, option_map};
-ghost use Rattle.build_object.specs.Operands.{qualifies, left_by_call, unqualified, value_count, function_mode};
+ghost use Rattle.build_object.specs.Operands.{qualifies, left_by_call, unqualified, value_count, function_mode, asked_mode};
 ghost use Rattle.build_object.specs.LineView.{function_of};
 ghost use Rattle.build_object.specs.Making.{mode_of};
 
@@ -15,13 +15,17 @@ pub enum Wanted {
 }
 
 /// The mode of an operand. `Values`: it leaves so many values. `Called`: it is a function with so many results, or a method whose receiver
-/// is on the stack. `Converts`: it is a type, whose call is a conversion. `Predeclared`: it is a predeclared function. `Qualifies`: it is
-/// the name of a package.
+/// is on the stack. `CalledAsked`: it is a method that an interface asks for, and the value of the interface is on the stack. `Converts`: it
+/// is a type, whose call is a conversion. `Predeclared`: it is a predeclared function. `Qualifies`: it is the name of a package.
 #[derive(Clone, Copy)]
 pub enum OperandMode<'a> {
     Values(usize),
     Called {
         received: bool,
+        function: FunctionName<'a>,
+        results: usize,
+    },
+    CalledAsked {
         function: FunctionName<'a>,
         results: usize,
     },
@@ -50,6 +54,17 @@ impl<'a> OperandMode<'a> {
         }
     }
 
+    /// The mode of a method that an interface asks for, if its name is known.
+    #[tactic(auto, unfolding(crate::specs::Making::mode_of))]
+    pub fn of_asked(name: Option<FunctionName<'a>>, results: usize) -> OperandMode<'a>
+        ensures { mode_of result ≡ asked_mode (option_map function_of name.entry) results }
+    {
+        match name {
+            None => OperandMode::Values(0),
+            Some(function) => OperandMode::CalledAsked { function, results },
+        }
+    }
+
     /// Whether the operand is the name of a package.
     #[tactic(auto, unfolding(crate::specs::Making::mode_of))]
     pub fn qualifies(self) -> bool
@@ -75,7 +90,8 @@ impl<'a> OperandMode<'a> {
         ensures { result ≡ left_by_call (mode_of self.entry) }
     {
         match self {
-            OperandMode::Called { results, .. } => results,
+            OperandMode::Called { results, .. } | OperandMode::CalledAsked { results, .. } =>
+                results,
             OperandMode::Predeclared(Builtin::Append | Builtin::Len) | OperandMode::Converts => 1,
             OperandMode::Predeclared(Builtin::Panic | Builtin::Print | Builtin::Println) => 0,
             OperandMode::Values(_) | OperandMode::Qualifies => 0,

@@ -5,7 +5,7 @@ ghost use Rattle.go_ast.specs.SourceFile.{source_of};
 ghost use Rattle.types_declared.specs.DeclaredView.{type_of, function_of as placed_function};
 ghost use Rattle.build_object.specs.LineView.{global_of, function_of};
 ghost use Rattle.build_object.specs.Names.{function_names, functions_behind};
-ghost use Rattle.build_object.specs.PackagesView.{type_of_rank, type_in, function_of_rank, function_in, position_of_rank, position_in};
+ghost use Rattle.build_object.specs.PackagesView.{type_of_rank, type_in, function_of_rank, function_in, position_of_rank, position_in, asked_in};
 
 use crate::instructions::{FunctionName, GlobalName};
 use crate::names::{function_called, initializers, is_initializer, name_of_type};
@@ -125,6 +125,17 @@ impl<'a> ObjectNames<'a> {
         match self.names.get(path) {
             None => None,
             Some(names) => function_named(names, self.tables.get(path), symbol.rank),
+        }
+    }
+
+    /// The name in objects of a method that an interface asks for.
+    pub(crate) fn asked(&self, symbol: &Symbol) -> Option<FunctionName<'a>>
+        ensures { option_map function_of result ≡ asked_in self.now symbol.now }
+    {
+        let path = symbol.package.path();
+        match self.names.get(path) {
+            None => None,
+            Some(names) => walks::asked_at(names.path, names.files, symbol.rank),
         }
     }
 

@@ -160,6 +160,19 @@ pub fn push_types(
     push_types_behind(text, packages, separator, others)
 }
 
+/// Adds the types of parameters or results in parentheses.
+pub fn push_enclosed(
+    text: &mut Vec<u8>,
+    packages: &ObjectNames<'_>,
+    types: &[GoType],
+) -> Result<(), AllocError>
+    ensures { OnOk result (text.new.items ≡ text.old.items ++ type_list (type_in packages.now) (map type_of types.now)) }
+{
+    push_word(text, b"(")?;
+    push_types(text, packages, b",", types)?;
+    push_word(text, b")")
+}
+
 /// Adds a space, and the types of parameters or results in parentheses.
 pub fn push_type_list(
     text: &mut Vec<u8>,
@@ -266,6 +279,18 @@ fn push_call(
     push_numbered(text, b" ", arguments)
 }
 
+/// Adds the words of a call of a method that an interface asks for.
+fn push_asked_call(
+    text: &mut Vec<u8>,
+    function: FunctionName<'_>,
+    arguments: usize,
+) -> Result<(), AllocError>
+    ensures { OnOk result (text.new.items ≡ text.old.items ++ (codes "icall " ++ (function_text (function_of function.entry) ++ with_number (codes " ") arguments))) }
+{
+    push_word_function(text, b"icall ", function)?;
+    push_numbered(text, b" ", arguments)
+}
+
 /// Adds the words of a call of a predeclared function.
 fn push_builtin(text: &mut Vec<u8>, builtin: Builtin, arguments: usize) -> Result<(), AllocError>
     ensures { OnOk result (text.new.items ≡ text.old.items ++ (codes "builtin " ++ (builtin_name builtin ++ with_number (codes " ") arguments))) }
@@ -319,6 +344,11 @@ fn push_line_words(
         Instruction::CallBuiltin { builtin, arguments } => {
             push_builtin(text, *builtin, *arguments)
         }
+        Instruction::CallAsked {
+            function,
+            arguments,
+        } => push_asked_call(text, *function, *arguments),
+        Instruction::Enter(own) => push_word_type(text, packages, b"iface ", own),
         Instruction::Zero(own) => push_word_type(text, packages, b"zero ", own),
         Instruction::With(position) => push_numbered(text, b"with ", *position),
         Instruction::MakeSlice(count) => push_numbered(text, b"slice ", *count),

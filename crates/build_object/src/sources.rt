@@ -5,19 +5,20 @@ ghost use Rattle.types_declared.specs.PackageView.{package_of, IsIndexOf};
 ghost use Rattle.types_declared.specs.Written.{BindsToken, IsPredeclared};
 ghost use Rattle.types_declared.specs.Written.{DeclaresImport};
 ghost use Rattle.build_object.specs.LineView.{global_of};
-ghost use Rattle.build_object.specs.ObjectSteps.{uses_of_file};
+ghost use Rattle.build_object.specs.ObjectSteps.{list_of_file};
 ghost use Rattle.build_object.specs.Sources.{HasQualifier, DenotesGlobal};
 ghost use Rattle.build_object.specs.TablesView.{AreNameMarks, AreTexts, IsMarkAt, IsTabledSource};
 
 use crate::instructions::GlobalName;
+use crate::names::asked_in_file;
 use crate::numbered::NumberedPlaces;
 use crate::origin::Origin;
-use crate::source::{Mark, Source};
+use crate::source::{Mark, NamedMethod, Source};
 use go_ast::FileTree;
 use go_scope::model::Block;
 use std::alloc::{AllocError, Global};
 use types_declared::{Index, Package};
-use types_expr::found::MemberUse;
+use types_expr::found::{Entering, MemberUse};
 use types_expr::world::World;
 use types_info::is_name_after_dot;
 
@@ -38,6 +39,28 @@ fn used(alloc: Global, uses: &[MemberUse]) -> Result<NumberedPlaces, AllocError>
 {
     let mut places = Vec::new(alloc);
     for next in uses {
+        places.push(next.place)?;
+    }
+    NumberedPlaces::of(alloc, places)
+}
+
+/// The tokens at which values enter interfaces.
+fn entered(alloc: Global, enterings: &[Entering]) -> Result<NumberedPlaces, AllocError>
+    ensures { IfOk result (λ entered. entered.places.items ≡ map (λ e. e.place) enterings.now) }
+{
+    let mut places = Vec::new(alloc);
+    for next in enterings {
+        places.push(next.place)?;
+    }
+    NumberedPlaces::of(alloc, places)
+}
+
+/// The tokens of the names of methods that interfaces ask for.
+fn asked_at(alloc: Global, asked: &[NamedMethod<'_>]) -> Result<NumberedPlaces, AllocError>
+    ensures { IfOk result (λ at. at.places.items ≡ map (λ a. a.place) asked.now) }
+{
+    let mut places = Vec::new(alloc);
+    for next in asked {
         places.push(next.place)?;
     }
     NumberedPlaces::of(alloc, places)
@@ -164,13 +187,13 @@ fn marks<'a>(
     Ok(marks)
 }
 
-/// The uses of members of a file.
-fn uses_at(members: &[Vec<MemberUse>], file: usize) -> &[MemberUse]
-    ensures { result.now ≡ uses_of_file (slice_get members.now file) }
+/// The list of a file, and none where it is unknown.
+fn list_at<T>(lists: &[Vec<T>], file: usize) -> &[T]
+    ensures { result.now ≡ list_of_file (slice_get lists.now file) }
 {
-    match members.get(file) {
+    match lists.get(file) {
         None => &[],
-        Some(uses) => uses,
+        Some(list) => list,
     }
 }
 
@@ -183,17 +206,27 @@ pub fn source<'a>(
 ) -> Result<Source<'a>, AllocError>
     requires index { IsIndexOf (package_of origin.unit) origin.index.now }
     requires in_range { file < length origin.unit.files.now }
-    ensures { IfOk result (λ s. IsTabledSource (package_of origin.entry.unit) file world.entry (uses_of_file (slice_get origin.entry.members.now file)) origin.entry.packages.now s) }
+    ensures { IfOk result (λ s. IsTabledSource (package_of origin.entry.unit) file world.entry (list_of_file (slice_get origin.entry.members.now file)) (list_of_file (slice_get origin.entry.enterings.now file)) origin.entry.packages.now s) }
 {
-    let uses = uses_at(origin.members, file);
-    let files = origin.unit.files;
-    let marks = marks(alloc, origin.unit, origin.index, file)?;
+    let uses = list_at(origin.members, file);
+    let enterings = list_at(origin.enterings, file);
+    let unit = origin.unit;
+    let files = unit.files;
+    let types = origin.index.declared.types.as_slice();
+    let asked = asked_in_file(alloc, unit.path.path(), files, types, file)?;
+    let asked_at = asked_at(alloc, &asked)?;
+    let marks = marks(alloc, unit, origin.index, file)?;
     let texts = texts(alloc, &files[file])?;
     let used = used(alloc, uses)?;
+    let entered = entered(alloc, enterings)?;
     Ok(Source {
         world,
         uses,
         used,
+        enterings,
+        entered,
+        asked,
+        asked_at,
         marks,
         texts,
         packages: origin.packages,

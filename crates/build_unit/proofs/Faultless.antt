@@ -1,7 +1,6 @@
 -- What follows where a package has no fault: it is checked as one package, others see of it what is known, and it compiles to the
 -- object that is printed.
 use Rattle.std.proofs.Common.{ℕ, ◌≡◌, inl, inr, List, [], map, sym, ap, subst, ◌∙◌}
-use Rattle.std.specs.Global.{Vec}
 use Rattle.std.specs.Prelude.{Option, slice_get}
 use Rattle.std.proofs.lemmas.Bool.{cases_Bool}
 use Rattle.base_lemmas.proofs.Elements.{nothing_in}
@@ -10,7 +9,6 @@ use Rattle.base_files.specs.Packages.{package_files}
 use Rattle.go_ast.specs.SourceFile.{FileParts}
 use Rattle.workspace_graph.specs.FaultyFiles.{FaultyParts}
 use Rattle.workspace_graph.specs.Parsed.{AreParsed}
-use Rattle.types_expr.specs.declared.found.MemberUse.{MemberUse}
 use Rattle.types_expr.specs.declared.world.Definition.{Definition}
 use Rattle.types_expr.specs.WorldView.{definition_or_none, definitions_listed, ranked}
 use Rattle.types_info.specs.PackageOf.{IsPackageOf}
@@ -19,7 +17,7 @@ use Rattle.types_declared.specs.declared.export_tables.ExportTable.{ExportTable}
 use Rattle.types_declared.specs.Definitions.{IsDefinition}
 use Rattle.types_check.specs.Exports.{IsExportData}
 use Rattle.types_declared.specs.ExportTablesView.{export_data_known}
-use Rattle.types_info.specs.MemberUses.{AreMemberUses, uses_in}
+use Rattle.types_info.specs.MemberUses.{AreEnterings, AreMemberUses, enterings_in, uses_in}
 use Rattle.types_declared.specs.Package.{Package, ExportData, symbol_in}
 use Rattle.workspace_check.specs.FaultLists.{AreListedFaults}
 use Rattle.workspace_check.specs.Steps.{SeesExactly}
@@ -43,14 +41,14 @@ own_definitions p known list i same = record {
   beyond = λ rank past. ap (λ (o : Option Definition). definition_or_none (symbol_in p rank) o) (same rank) ∙ i.beyond rank past;
 }
 
-module _ (w : Workspace) (p : List ℕ) (known : Verdicts) (one : Option FoundExportData) (members : List (Vec MemberUse))
-    (found : IsFaultlessPackage w known one p members) where
+module _ (w : Workspace) (p : List ℕ) (known : Verdicts) (one : Option FoundExportData) (f : Finding)
+    (found : IsFaultlessPackage w known one p f) where
   -- what others see of it
   own : HasExportData w known p (export_data_known p one)
   own =
       let verdict : IsVerdictBy w known p (verdict_from p one) = verdict_by w p known (verdict_from p one) found.below found.verdict in
       verdict.has_export_data (elim (cases_Bool (verdict_from p one).faulty) [
-        | inl e ↦ (let f = verdict.has_faults.0 e in absurd (nothing_in f.0 ((found.listed.each f.0).1 f.1)))
+        | inl e ↦ (let x = verdict.has_faults.0 e in absurd (nothing_in x.0 ((found.listed.each x.0).1 x.1)))
         | inr e ↦ e
       ])
 
@@ -92,12 +90,16 @@ module _ (w : Workspace) (p : List ℕ) (known : Verdicts) (one : Option FoundEx
         own_definitions c one list (subst (λ (q : List ℕ). IsExportData c (export_data_known q one)) (sym path) (seen_as c is)) same
 
     pub compiled_by : (packages : ObjectNames) (text : List ℕ) → HaveNamesBelow w p packages →
-        IsObjectTextOf p trees name_of export_data_of (map uses_in members) packages text → IsCompiled w p (export_data_known p one) text
+        IsObjectTextOf p trees name_of export_data_of (map uses_in f.members.items) (map enterings_in f.enterings.items) packages text →
+        IsCompiled w p (export_data_known p one) text
     compiled_by packages text names made =
         let c = made.0 in
         let is : IsPackageIn w known p c = package_by c made.1 in
         let same : found.uses.checked ≡ c = one_checked w known p found.uses.checked c found.uses.is_package is in
-        let uses : AreMemberUses c (map uses_in members) = subst (λ d. AreMemberUses d (map uses_in members)) same found.uses.are_uses in
+        let uses : AreMemberUses c (map uses_in f.members.items) = subst (λ d. AreMemberUses d (map uses_in f.members.items)) same found.uses.are_uses in
+        let entered : found.enterings.checked ≡ c = one_checked w known p found.enterings.checked c found.enterings.is_package is in
+        let enterings : AreEnterings c (map enterings_in f.enterings.items) =
+        subst (λ d. AreEnterings d (map enterings_in f.enterings.items)) entered found.enterings.are_enterings in
         record {
           known = known;
           right = found.below;
@@ -107,13 +109,13 @@ module _ (w : Workspace) (p : List ℕ) (known : Verdicts) (one : Option FoundEx
           export_data = seen_as c made.1;
           files_of = names.files_of;
           are_files = names.are_files;
-          is_object = made.2 names.files_of uses names.have_names;
+          is_object = made.2 names.files_of uses enterings names.have_names;
         }
 
 -- by what was found in p before, and by the verdicts on those that it builds on, where nothing else is known
 pub seen_faultless : (w : Workspace) (p : List ℕ) (seen : ExportTable) (own : Option FoundExportData) (f : Finding) →
     AreVerdictsBelow w p (verdicts_by seen) → SeesExactly w p seen →
-    IsVerdict w p (verdict_from p own) → IsFindingOf w p f → f.faults.items ≡ [] → IsFaultlessBySeen w seen own p f.members.items
+    IsVerdict w p (verdict_from p own) → IsFindingOf w p f → f.faults.items ≡ [] → IsFaultlessBySeen w seen own p f
 seen_faultless w p seen one f below told right g empty =
     let known = verdicts_by seen in
     let is : IsFinding w known p f = finding_as w p g.known known (right_alike w p g.known known g.right below) f g.finding in
@@ -124,6 +126,7 @@ seen_faultless w p seen one f below told right g empty =
         verdict = right;
         listed = subst (λ l. AreListedFaults (IsFaultBy w known p) l) empty is.listed;
         uses = is.members empty;
+        enterings = is.enterings empty;
       };
       are_seen = told;
     }

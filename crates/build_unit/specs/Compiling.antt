@@ -1,13 +1,11 @@
 -- The steps from a package to its unit: what checking found, and the text of the object.
 use Rattle.std.specs.Prelude.{ℕ, ◌≡◌, List, [], Option, None, Some, slice_get}
-use Rattle.std.specs.Global.{Vec}
 use Rattle.std.specs.List.Sorted.{IsStrictlyIncreasing}
 use Rattle.base_files.specs.Packages.{package_paths}
 use Rattle.base_files.specs.Workspace.{Workspace}
 use Rattle.go_ast.specs.SourceFile.{SourceFile}
 use Rattle.workspace_graph.specs.Graphs.{ListsPackages}
 use Rattle.workspace_graph.specs.Packages.{IsInClosure}
-use Rattle.types_expr.specs.declared.found.MemberUse.{MemberUse}
 use Rattle.types_expr.specs.declared.world.Definition.{Definition}
 use Rattle.types_declared.specs.Package.{Package}
 use Rattle.types_expr.specs.declared.exports.ExportData.{ExportData}
@@ -16,7 +14,8 @@ use Rattle.types_declared.specs.ExportTablesView.{export_data_in, export_data_kn
 use Rattle.workspace_check.specs.declared.fault.FileFault.{FileFault}
 use Rattle.workspace_check.specs.FaultLists.{AreListedFaults}
 use Rattle.workspace_check.specs.Found.{AreVerdictsOf, KnowsVerdicts}
-use Rattle.workspace_check.specs.KnownFindings.{verdict_from, AreUsesOf}
+use Rattle.workspace_check.specs.declared.finding.Finding.{Finding}
+use Rattle.workspace_check.specs.KnownFindings.{verdict_from, AreEnteringsOf, AreUsesOf}
 use Rattle.workspace_check.specs.Verdicts.{Verdicts, AreSeen, IsFaultBy, IsPackageIn, IsVerdict, AreVerdictsBelow}
 use Rattle.build_object.specs.declared.packages.ObjectNames.{ObjectNames}
 use Rattle.build_object.specs.ObjectView.{HaveNames}
@@ -41,18 +40,19 @@ pub record HaveNamesBelow (w : Workspace) (p : List ℕ) (packages : ObjectNames
   pub have_names : HaveNames packages files_of
 
 -- The package p has no fault. `known` are the verdicts on the packages that it builds on. `own` is its export data as far as known.
--- `members` are the uses of members in its files.
-pub record IsFaultlessPackage (w : Workspace) (known : Verdicts) (own : Option ExportData) (p : List ℕ) (members : List (Vec MemberUse)) : Type 0 where
+-- `found` has the uses of members in its files, and the entries of values into interfaces.
+pub record IsFaultlessPackage (w : Workspace) (known : Verdicts) (own : Option ExportData) (p : List ℕ) (found : Finding) : Type 0 where
   pub below : AreVerdictsBelow w p known
   pub verdict : IsVerdict w p (verdict_from p own)
   pub listed : AreListedFaults (IsFaultBy w known p) []
-  pub uses : AreUsesOf w known p members
+  pub uses : AreUsesOf w known p found.members.items
+  pub enterings : AreEnteringsOf w known p found.enterings.items
 
 -- The package p has no fault, by some verdicts on the packages that it builds on. `seen` has exactly the export data that p sees of other
--- packages. `own` is the export data of p as far as known. `members` are the uses of members in its files.
-pub record IsFaultlessBySeen (w : Workspace) (seen : ExportTable) (own : Option ExportData) (p : List ℕ) (members : List (Vec MemberUse)) : Type 0 where
+-- packages. `own` is the export data of p as far as known. `found` has the uses of members in its files, and the entries.
+pub record IsFaultlessBySeen (w : Workspace) (seen : ExportTable) (own : Option ExportData) (p : List ℕ) (found : Finding) : Type 0 where
   pub known : Verdicts
-  pub faultless : IsFaultlessPackage w known own p members
+  pub faultless : IsFaultlessPackage w known own p found
   pub are_seen : AreSeen w known p (name_in seen) (export_data_in seen)
 
 -- `one` has the export data `known` under `path`, and knows nothing of any other path.

@@ -8,7 +8,7 @@ ghost use Rattle.types_declared.specs.declared.states.ImportState.{ImportState};
 ghost use Rattle.types_declared.specs.ExportTablesView.{export_data_in, name_in};
 ghost use Rattle.types_declared.specs.PackageView.{package_of, IsIndexOf};
 ghost use Rattle.types_info.specs.MeaningsView.{AreMeanings};
-ghost use Rattle.types_info.specs.MemberUses.{AreMemberUses, uses_in};
+ghost use Rattle.types_info.specs.MemberUses.{AreEnterings, AreMemberUses, enterings_in, uses_in};
 ghost use Rattle.types_check.specs.Check.{IsFindingBy, IsFindingIn, IsSoundTable, IsLaterFault, IsTableFound, AreMeaningsFound};
 ghost use Rattle.workspace_check.specs.Steps.{IsCheckResult, IsGathered, SeesExactly, IsProgress};
 ghost use Rattle.workspace_check.specs.KnownFindings.{verdicts_by, AreNamedEntries};
@@ -62,13 +62,14 @@ fn printed<'a>(
     requires index { IsIndexOf (package_of unit) index.now }
     requires bounds { AreMeanings (package_of unit) bounds.old.list.items bounds.old.of.items }
     requires definitions { AreObjectDefinitions (package_of unit) (found_definitions checked.now.export_data) }
-    ensures { IfOk result (λ text. (files_of : List ℕ → List SourceFile) → AreMemberUses (package_of unit.entry) (map uses_in checked.now.members.items) → HaveNames packages.now files_of → IsObjectText (package_of unit.entry) files_of text) }
+    ensures { IfOk result (λ text. (files_of : List ℕ → List SourceFile) → AreMemberUses (package_of unit.entry) (map uses_in checked.now.members.items) → AreEnterings (package_of unit.entry) (map enterings_in checked.now.enterings.items) → HaveNames packages.now files_of → IsObjectText (package_of unit.entry) files_of text) }
 {
     let given = Faultless {
         path: unit.path,
         files: unit.files,
         definitions: found_definitions(&checked.export_data),
         members: checked.members.as_slice(),
+        enterings: checked.enterings.as_slice(),
     };
     let text = checked_object(alloc, unit, index, bounds, given, packages)?;
     FileText::new(alloc, text)

@@ -16,7 +16,6 @@ use crate::unit::{Compiled, Unit};
 use base_files::FileText;
 use std::alloc::{AllocError, Global};
 use types_declared::{ExportTable, KnownExportData};
-use types_expr::found::MemberUse;
 use types_expr::symbol::SharedPath;
 use workspace_check::{FileFault, Finding, FoundPackage, Known, KnownVerdict, Progress, seen};
 use workspace_graph::Graph;
@@ -61,16 +60,16 @@ fn faultless_unit(
     at: PackageAt<'_>,
     path: &SharedPath,
     all: &ExportTable,
-    members: &[Vec<MemberUse>],
+    found: &Finding,
 ) -> Result<Unit, AllocError>
     requires at { IsPackageToBuild at path.now }
     requires whole { AreNamedEntries all.now }
-    requires found { IsFaultlessPackage at.graph.now (verdicts_by all.now) (known_at all.now.definitions path.now) path.now members.now }
+    requires found { IsFaultlessPackage at.graph.now (verdicts_by all.now) (known_at all.now.definitions path.now) path.now found.now }
     ensures { IfOk result (IsUnitOf at.entry.graph.now path.now) }
 {
     let export_table = seen(alloc, at.graph, at.number, all)?;
     let own = all.definitions().export_data(path.path());
-    let object = object_of(alloc, at, path, &export_table, own, members)?;
+    let object = object_of(alloc, at, path, &export_table, own, found)?;
     done_unit(alloc, path, all, object)
 }
 
@@ -131,7 +130,7 @@ fn unit_by(
     }
     match text {
         Some(object) => done_unit(alloc, path, all, object),
-        None => faultless_unit(alloc, at, path, all, &finding.members),
+        None => faultless_unit(alloc, at, path, all, finding),
     }
 }
 

@@ -13,10 +13,9 @@ use base_files::FileText;
 use build_object::objects::{Faultless, object};
 use std::alloc::{AllocError, Global};
 use types_declared::{ExportData, ExportTable};
-use types_expr::found::MemberUse;
 use types_expr::symbol::SharedPath;
 use types_expr::world::Definition;
-use workspace_check::{KnownVerdict, Progress};
+use workspace_check::{Finding, KnownVerdict, Progress};
 
 /// The type definitions of export data, by their ranks, and none where there is no export data.
 fn definitions_of(own: Option<&ExportData>) -> &[Definition]
@@ -28,18 +27,18 @@ fn definitions_of(own: Option<&ExportData>) -> &[Definition]
     }
 }
 
-/// Prints the object of a package without faults. `seen` has exactly what it sees of other packages, and `own` is its own export data as
-/// far as known.
+/// Prints the object of a package without faults, by what checking found. `seen` has exactly what it sees of other packages, and `own` is its
+/// own export data as far as known.
 pub(crate) fn object_of(
     alloc: Global,
     at: PackageAt<'_>,
     path: &SharedPath,
     seen: &ExportTable,
     own: Option<&ExportData>,
-    members: &[Vec<MemberUse>],
+    found: &Finding,
 ) -> Result<FileText, AllocError>
     requires at { IsPackageToBuild at path.now }
-    requires found { IsFaultlessBySeen at.graph.now seen.now (option_copied own) path.now members.now }
+    requires found { IsFaultlessBySeen at.graph.now seen.now (option_copied own) path.now found.now }
     ensures { IfOk result (λ text. IsCompiled at.entry.graph.now path.now (export_data_known path.now (option_copied own.entry)) text) }
 {
     let files = at.graph.package(at.number);
@@ -50,7 +49,8 @@ pub(crate) fn object_of(
         path,
         files: trees,
         definitions,
-        members,
+        members: found.members.as_slice(),
+        enterings: found.enterings.as_slice(),
     };
     let text = object(alloc, given, seen, &packages)?;
     FileText::new(alloc, text)
@@ -76,6 +76,6 @@ pub(crate) fn known_text(
     }
     let seen = progress.export_table();
     let own = verdict.known().get();
-    let text = object_of(alloc, at, path, seen, own, &finding.members)?;
+    let text = object_of(alloc, at, path, seen, own, finding)?;
     Ok(Some(text))
 }

@@ -154,9 +154,9 @@ module _ (w : Workspace) (sound : ListsFaults w []) (known : Verdicts) (right : 
       let xs = map (λ (z : TypeSpecTree). OfType (placed_type file z)) ts ++ rest in
       let lines = flat_map (declared_type s) ts in
       let k = body_known w sound known right p is files_of below file f at v source.world t.body typed.0 in
-      subst (λ z. Lines names (OfType (placed_type file t) ∷ xs) ((type_declarations z (definition_of v t.body) ++ lines) ++ tail))
+      subst (λ z. Lines names (OfType (placed_type file t) ∷ xs) ((type_declarations z (definition_of v s.asks t.body) ++ lines) ++ tail))
       (sym (global_named w sound known right p is files_of file f s source t.name (kept.0.0 refl)))
-      (subst (λ z. Lines names (OfType (placed_type file t) ∷ xs) ((type_declarations (Some (name_in p file t.name)) z ++ lines) ++ tail)) (sym k.is_known)
+      (subst (λ z. Lines names (OfType (placed_type file t) ∷ xs) ((type_declarations (Some (name_in p file t.name)) z ++ lines) ++ tail)) (sym (k.is_known s.asks))
       (type_line k.defines (types_lined ts typed.1 kept.1 names rest tail h)))
 
   -- a declaration

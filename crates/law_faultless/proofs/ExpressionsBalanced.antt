@@ -21,7 +21,7 @@ use Rattle.build_object.specs.Lines as line
 use Rattle.build_object.specs.Source.{Source}
 use Rattle.build_object.specs.Operands.{CodeOperand, Values, plain, prefixed, operated, selected, indexed, called, settled, grouped, value_count}
 use Rattle.build_object.specs.Expressions.{argument_count, element_count, field_position, keyed_in, key_position, literal_code, typed_literal, operand_of}
-use Rattle.build_object.specs.Expressions.{operations, linked, argument_lines, literal_lines, keyed_lines, bare_lines, value_lines}
+use Rattle.build_object.specs.Expressions.{operations, linked, argument_lines, literal_lines, keyed_lines, bare_lines, value_lines, given_lines}
 use Rattle.law_faultless.specs.Stack.{Arity}
 use Rattle.law_faultless.specs.Questions.{TokenQuestion, OfInteger, OfText, OfName, OfExport, OfMember, Asks, for_integer, for_text, for_name, in_composite, in_paren}
 use Rattle.law_faultless.specs.Questions.{in_prefix, in_address, in_chain, in_links, in_binary, in_operands, LinksAsk, for_member, for_export, behind_selector}
@@ -29,7 +29,7 @@ use Rattle.law_faultless.specs.Questions.{in_index, behind_index, in_arguments, 
 use Rattle.law_faultless.specs.Questions.{in_later_argument, LiteralAsks, in_elements, ElementsAsk, for_key, in_element, in_later_element}
 use Rattle.law_faultless.specs.QuestionAnswers.{IsKnown, IsAnswered, MemberIsKnown}
 use Rattle.law_faultless.proofs.StackParts.{Turns, none_turns, turns_as, turns_joined, turns_over, line_turns, turns_then, known_turns}
-use Rattle.law_faultless.proofs.OperandStack.{IsOneValue, Stands, Settles, plain_value, name_stands, prefixed_value, operated_turns}
+use Rattle.law_faultless.proofs.OperandStack.{IsOneValue, Stands, Settles, given_turns, plain_value, name_stands, prefixed_value, operated_turns}
 use Rattle.law_faultless.proofs.LinksBalanced.{selected_stands, index_stands, called_stands}
 
 -- An operand that leaves what its meaning says leaves it as a whole chain too.
@@ -80,6 +80,11 @@ key_turns arity s slots key t u f e k =
 keyed_more : (arity : FunctionName → Arity) (xs ys zs : List CodeLine) → Turns arity 0 1 xs → Turns arity 2 1 ys → Turns arity 1 1 zs →
     Turns arity 1 1 (xs ++ (ys ++ zs))
 keyed_more arity xs ys zs f g h = turns_joined arity 1 2 1 xs (ys ++ zs) (turns_over arity 1 0 1 xs f) (turns_joined arity 2 1 1 ys zs g h)
+
+-- one value that is given to something
+pub one_given : (arity : FunctionName → Arity) (s : Source) (slots : List ℕ) (e : ExprTree) → IsOneValue arity (operand_of s slots e) →
+    Turns arity 0 1 (given_lines s slots e)
+one_given arity s slots e v = given_turns arity s (operand_of s slots e) e 1 v.mode v.value
 
 -- a literal of a type whose underlying type is known
 struct_turns : (arity : FunctionName → Arity) (s : Source) (x : TypeTree) (t : PlainType) (owner : Symbol) (keyed bare : List CodeLine) (n : ℕ) →
@@ -200,8 +205,8 @@ mutual
   arguments_turn arity w s slots locals no_argument f k = none_turns arity 0
   arguments_turn arity w s slots locals (argument {e} {c} {rest} h more) f k =
       turns_as arity (argument_lines (over w s) slots (tree.argument e c rest)) refl (omega arith)
-      (turns_then arity 1 (argument_count rest) (value_lines (over w s) slots e) (argument_lines (over w s) slots rest)
-      (expression_settles arity w s slots locals h f.1 (λ q a. k q (in_argument a))).value
+      (turns_then arity 1 (argument_count rest) (given_lines (over w s) slots e) (argument_lines (over w s) slots rest)
+      (one_given arity (over w s) slots e (expression_settles arity w s slots locals h f.1 (λ q a. k q (in_argument a))))
       (arguments_turn arity w s slots locals more f.2 (λ q a. k q (in_later_argument a))))
 
   literal_turns : (arity : FunctionName → Arity) (w : World) (s : Source) (slots : List ℕ) (locals : Locals) {l : LiteralTree} {t : PlainType} →
@@ -219,8 +224,8 @@ mutual
       Answers arity (over w s) slots (ElementsAsk w locals t es) → Turns arity 1 1 (keyed_lines (over w s) slots es)
   fields_turn arity w s slots locals no_field f k = none_turns arity 1
   fields_turn arity w s slots locals (field {t} {u} {key = key} {e} {rest = rest} {s = x} m n v fit more) f k =
-      keyed_more arity (value_lines (over w s) slots e) (line_if_known line.With (key_position (over w s) (Some key))) (keyed_lines (over w s) slots rest)
-      (expression_settles arity w s slots locals v f.1 (λ q a. k q (in_element a))).value
+      keyed_more arity (given_lines (over w s) slots e) (line_if_known line.With (key_position (over w s) (Some key))) (keyed_lines (over w s) slots rest)
+      (one_given arity (over w s) slots e (expression_settles arity w s slots locals v f.1 (λ q a. k q (in_element a))))
       (key_turns arity (over w s) slots key t u x m (k (OfMember key.0 t) for_key)) (fields_turn arity w s slots locals more f.2
       (λ q a. k q (in_later_element a)))
 
@@ -230,6 +235,6 @@ mutual
   elements_turn arity w s slots locals t no_element f k = none_turns arity 0
   elements_turn arity w s slots locals t (element {e = e} {c} {rest} v fit more) f k =
       turns_as arity (bare_lines (over w s) slots (tree.element None e c rest)) refl (omega arith)
-      (turns_then arity 1 (element_count rest) (value_lines (over w s) slots e) (bare_lines (over w s) slots rest)
-      (expression_settles arity w s slots locals v f.1 (λ q a. k q (in_element a))).value
+      (turns_then arity 1 (element_count rest) (given_lines (over w s) slots e) (bare_lines (over w s) slots rest)
+      (one_given arity (over w s) slots e (expression_settles arity w s slots locals v f.1 (λ q a. k q (in_element a))))
       (elements_turn arity w s slots locals t more f.2 (λ q a. k q (in_later_element a))))

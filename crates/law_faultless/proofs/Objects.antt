@@ -58,7 +58,7 @@ module _ (P : List CodeLine → Type 0) where
   unfolding declared_by HasGood
   decl_good s names (VarDecl p g c) h = all_made Good (global_variables s) (λ x. variables_good s _ x.names _) (group_items g)
   decl_good s names (TypeDecl p g c) h =
-      all_made Good (declared_type s) (λ (x : TypeSpecTree). defined_good (s.global x.name) (definition_of s.world x.body)) (group_items g)
+      all_made Good (declared_type s) (λ (x : TypeSpecTree). defined_good (s.global x.name) (definition_of s.world s.asks x.body)) (group_items g)
   decl_good s names (FuncDecl p f c) h = function_good s names f (h p f c (inl refl))
 
   decls_good : (s : Source) (names : List FunctionName) (ds : List DeclTree) → HasGood s ds → All (declared_in s names ds)

@@ -1,19 +1,26 @@
 -- What operands leave on the stack, by what they mean.
-use Rattle.std.proofs.Common.{ℕ, suc, ◌≡◌, ◌+◌, ◌-◌, Bool, false, List, [], ◌∷◌, ◌++◌, length, ap, refl, sym, ◌∙◌, subst, arith, Option}
+use Rattle.std.proofs.Common.{ℕ, suc, ◌≡◌, ◌==◌, ◌+◌, ◌-◌, Bool, true, false, if◌then◌else◌, List, [], ◌∷◌, ◌++◌, length, ap, refl, sym, ◌∙◌, subst}
+use Rattle.std.proofs.Common.{arith, Option, Some, None}
+use Rattle.std.proofs.lemmas.Bool.{eqb-true}
+use Rattle.go_ast.specs.Tree.{ExprTree}
 use Rattle.std.specs.Prelude.{⊤}
 use Rattle.go_ast.specs.declared.syntax.BinaryOp.{BinaryOp}
 use Rattle.go_ast.specs.declared.syntax.BinaryOp.TheVariants as op
 use Rattle.go_ast.specs.declared.syntax.PrefixOp.{PrefixOp}
 use Rattle.go_ast.specs.declared.syntax.PrefixOp.TheVariants as prefix
 use Rattle.types_expr.specs.Types.{ValueKind, Typed, Untyped, Nil, Signature, Meaning, Value, TypeName, Function, BuiltinName, Package, Results, Broken}
+use Rattle.types_expr.specs.Places.{place_of}
+use Rattle.types_expr.specs.Types.{PlainType}
 use Rattle.types_expr.specs.World.{Locals}
 use Rattle.law_typing.specs.Names.{IsNotBroken, NameMeans, a_local, a_bound}
-use Rattle.build_object.specs.Lines.{FunctionName, CodeLine}
+use Rattle.build_object.specs.Expressions.{enter_line}
+use Rattle.build_object.specs.Lines.{FunctionName, CodeLine, line_if_known}
 use Rattle.build_object.specs.Lines as line
 use Rattle.build_object.specs.Source.{Source}
 use Rattle.build_object.specs.Numbering.{slot_of}
 use Rattle.build_object.specs.Operands.{CodeOperand, Mode, Values, Called, Converts, Predeclared, Qualifies, plain, mode_alone, local_operand}
 use Rattle.build_object.specs.Operands.{function_mode, plain_function, value_name, named_meaning, bound_name, name_operand, prefixed, operated, counted}
+use Rattle.build_object.specs.Operands.{value_count}
 use Rattle.law_faultless.specs.Stack.{Arity, ChangesHeight, LineObeys}
 use Rattle.law_faultless.specs.QuestionAnswers.{IsKnown, IsNamedWith, plain_arity, MeaningIsKnown, NameIsKnown}
 use Rattle.law_faultless.proofs.StackParts.{is_behind, Turns, none_turns, turns_joined, turns_over, line_turns, known_turns}
@@ -57,6 +64,23 @@ Settles arity o m = ⊤
 -- A value whose lines are those of its address too
 pub plain_value : (arity : FunctionName → Arity) (lines : List CodeLine) → Turns arity 0 1 lines → IsOneValue arity (plain lines)
 plain_value arity lines t = record { mode = refl; value = t; address = t }
+
+-- what is given to something: behind one value may stand its entry into an interface
+
+enter_known : (arity : FunctionName → Arity) (t : Option PlainType) → Turns arity 1 1 (line_if_known line.Enter t)
+enter_known arity None = none_turns arity 1
+enter_known arity (Some t) = line_turns arity (line.Enter t) 1 1 refl refl (λ at i m. m)
+
+enter_if : (arity : FunctionName → Arity) (n : ℕ) (one : Bool) → (one ≡ true → n ≡ 1) → (t : Option PlainType) →
+    Turns arity n n (if one then line_if_known line.Enter t else [])
+enter_if arity n true is t = subst (λ k. Turns arity k k (line_if_known line.Enter t)) (sym (is refl)) (enter_known arity t)
+enter_if arity n false is t = none_turns arity n
+
+pub given_turns : (arity : FunctionName → Arity) (s : Source) (o : CodeOperand) (e : ExprTree) (n : ℕ) → o.mode ≡ Values n → Turns arity 0 n o.value →
+    Turns arity 0 n (o.value ++ enter_line s o e)
+given_turns arity s o e n mode value = turns_joined arity 0 n n o.value (enter_line s o e) value
+    (subst (λ m. Turns arity n n (if value_count m == 1 then line_if_known line.Enter (s.entered (place_of e)) else [])) (sym mode)
+    (enter_if arity n (n == 1) (eqb-true n 1) (s.entered (place_of e))))
 
 -- Names
 

@@ -109,16 +109,16 @@ module _ (w : Workspace) (sound : ListsFaults w []) (known : Verdicts) (right : 
   -- what a type is defined as
   pub record IsKnownAs (b : BodyTree) : Type 0 where
     pub definition : ObjectDefinition
-    pub is_known : definition_of v b ≡ Some definition
+    pub is_known : (asks : ℕ → Option FunctionName) → definition_of v asks b ≡ Some definition
     pub defines : IsDefinedAs p files_of file b definition
 
   pub body_known : (b : BodyTree) → BodyIsTyped v b → IsKnownAs b
   unfolding definition_of
   body_known _ (another_type {x} {t} i) =
-      record { definition = SameAs t; is_known = ap (option_map SameAs) (found_type v x t i); defines = printed x t i }
+      record { definition = SameAs t; is_known = λ asks. ap (option_map SameAs) (found_type v x t i); defines = printed x t i }
   body_known _ (a_struct {is = fs} h) = record {
     definition = Fields (field_types v fs);
-    is_known = refl;
+    is_known = λ asks. refl;
     defines = subst (λ ts. AreTypesPrinted p files_of file (written_fields fs) ts) (sym (fields_written v fs)) (all_printed (written_fields fs) (fields_typed v h));
   }
 

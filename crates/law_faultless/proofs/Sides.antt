@@ -18,14 +18,15 @@ use Rattle.build_object.specs.Lines.{FunctionName, CodeLine, line_if_known, pops
 use Rattle.build_object.specs.Lines as line
 use Rattle.build_object.specs.Source.{Source}
 use Rattle.build_object.specs.Numbering.{slot_of}
-use Rattle.build_object.specs.Expressions.{value_lines, address_lines}
+use Rattle.build_object.specs.Expressions.{operand_of, given_lines, address_lines}
 use Rattle.build_object.specs.Statements.{lines_of_values, from_last, set_name, set_bound, set_left, target_lines, targets_of, zeros}
 use Rattle.law_faultless.specs.Stack.{Arity}
 use Rattle.law_faultless.specs.Questions.{OfDeclared, OfLeft}
 use Rattle.law_faultless.specs.QuestionAnswers.{IsKnown, IsAnswered}
 use Rattle.law_faultless.specs.StatementAsking.{AnyAsks, this_one, a_later_one, IsLeft, this_left, a_later_left, IsDeclared, this_declared, a_later_declared}
 use Rattle.law_faultless.proofs.StackParts.{Turns, none_turns, turns_as, turns_joined, turns_over, line_turns, turns_then, known_turns}
-use Rattle.law_faultless.proofs.ExpressionsBalanced.{over, Answers, expression_settles}
+use Rattle.law_faultless.proofs.ExpressionsBalanced.{over, Answers, expression_settles, one_given}
+use Rattle.law_faultless.proofs.OperandStack.{given_turns}
 
 -- each of them is a tree of the grammar
 abbrev pub AreExprs : List (Item ExprTree) → Type 0
@@ -52,8 +53,8 @@ each_turns : (arity : FunctionName → Arity) (w : World) (s : Source) (slots : 
     Answers arity (over w s) slots (AnyAsks w locals is) → Turns arity 0 (length ks) (lines_of_values (over w s) slots is)
 each_turns arity w s slots locals no_expression f k = none_turns arity 0
 each_turns arity w s slots locals (also_value {i} {is} {ks = ks} h more) f k =
-    one_before arity (length ks) (value_lines (over w s) slots i.value) (lines_of_values (over w s) slots is)
-    (expression_settles arity w s slots locals h (first_expr i is f) (λ q a. k q (this_one a))).value
+    one_before arity (length ks) (given_lines (over w s) slots i.value) (lines_of_values (over w s) slots is)
+    (one_given arity (over w s) slots i.value (expression_settles arity w s slots locals h (first_expr i is f) (λ q a. k q (this_one a))))
     (each_turns arity w s slots locals more (other_exprs i is f) (λ q a. k q (a_later_one a)))
 
 pub give_turns : (arity : FunctionName → Arity) (w : World) (s : Source) (slots : List ℕ) (locals : Locals) {is : List (Item ExprTree)} {ks : List ValueKind} →
@@ -62,8 +63,9 @@ pub give_turns : (arity : FunctionName → Arity) (w : World) (s : Source) (slot
 give_turns arity w s slots locals (values h) f k = each_turns arity w s slots locals h f k
 give_turns arity w s slots locals (results {i} {ts} h) f k =
     turns_as arity (lines_of_values (over w s) slots (i ∷ [])) refl (sym (length-map ts Typed))
-    (subst (λ z. Turns arity 0 (length ts) z) (sym (append-nil (value_lines (over w s) slots i.value)))
-    (expression_settles arity w s slots locals h (first_expr i [] f) (λ q a. k q (this_one a))).value)
+    (subst (λ z. Turns arity 0 (length ts) z) (sym (append-nil (given_lines (over w s) slots i.value)))
+    (let v = expression_settles arity w s slots locals h (first_expr i [] f) (λ q a. k q (this_one a)) in
+    given_turns arity (over w s) (operand_of (over w s) slots i.value) i.value (length ts) v.is v.value))
 
 -- left sides of `=`
 

@@ -2,8 +2,8 @@
 use Rattle.std.proofs.Common.{ℕ, suc, ◌≡◌, ◌+◌, ◌-◌, List, [], ◌∷◌, ◌++◌, length, ap, refl, sym, ◌∙◌, subst, arith, Option, Some}
 use Rattle.std.specs.Prelude.{⊤}
 use Rattle.build_object.specs.Lines.{FunctionName, CodeLine, Integer, Text, Truth, Nil, Local, Global, Field, FieldThrough, Index, Load, Negate, Not, Operate}
-use Rattle.build_object.specs.Lines.{Duplicate, Pop, JumpUnless, JumpIf, Jump, JumpBack, Call, CallBuiltin, Zero, With, MakeSlice, New, LocalAddress}
-use Rattle.build_object.specs.Lines.{GlobalAddress, FieldAddress, IndexAddress, BlankAddress, Set, Assign, Return, End, line_if_known}
+use Rattle.build_object.specs.Lines.{Duplicate, Pop, JumpUnless, JumpIf, Jump, JumpBack, Call, CallBuiltin, CallAsked, Enter, Zero, With, MakeSlice, New}
+use Rattle.build_object.specs.Lines.{LocalAddress, GlobalAddress, FieldAddress, IndexAddress, BlankAddress, Set, Assign, Return, End, line_if_known}
 use Rattle.build_object.specs.Operands.{builtin_results}
 use Rattle.law_faultless.specs.Stack.{Arity, ChangesHeight, LineObeys, LinesObey}
 
@@ -43,6 +43,8 @@ taken (Jump n) = 0
 taken (JumpBack n) = 0
 taken (Call f n) = n
 taken (CallBuiltin b n) = n
+taken (CallAsked f n) = n
+taken (Enter t) = 1
 taken (Zero t) = 0
 taken (With n) = 2
 taken (MakeSlice n) = n
@@ -79,6 +81,8 @@ put arity (Jump n) = 0
 put arity (JumpBack n) = 0
 put arity (Call f n) = (arity f).results
 put arity (CallBuiltin b n) = builtin_results b
+put arity (CallAsked f n) = (arity f).results
+put arity (Enter t) = 1
 put arity (Zero t) = 1
 put arity (With n) = 1
 put arity (MakeSlice n) = 1

@@ -19,7 +19,7 @@ use Rattle.refs_binding.specs.Uses.{IsCheckedPackage}
 use Rattle.build_object.specs.Lines.{GlobalName, FunctionName}
 use Rattle.build_object.specs.Names.{type_name, function_names}
 use Rattle.build_object.specs.ObjectText.{object_text}
-use Rattle.build_object.specs.Objects.{ObjectDefinition, SameAs, Fields, ObjectDeclaration, TypeOf, Variable, FunctionOf, ObjectFunction, Initial, Object}
+use Rattle.build_object.specs.Objects.{ObjectDefinition, SameAs, Fields, Asks, ObjectDeclaration, TypeOf, Variable, FunctionOf, ObjectFunction, Initial, Object}
 use Rattle.build_object.specs.Sources.{IsObjectOf, IsObjectText}
 use Rattle.build_unit.specs.Units.{AreFilesBelow}
 use Rattle.law_faultless.specs.QuestionAnswers.{IsKnown}
@@ -84,7 +84,9 @@ written_fields fs = flat_map (λ i. map (λ n. i.value.type_use) i.value.names) 
 abbrev pub IsDefinedAs : Package → (files_of : List ℕ → List SourceFile) → (file : ℕ) → BodyTree → ObjectDefinition → Type 0
 IsDefinedAs p files_of file (Other x) (SameAs t) = IsPrinted p files_of file x t
 IsDefinedAs p files_of file (Other x) (Fields ts) = ⊥
+IsDefinedAs p files_of file (Other x) (Asks ms) = ⊥
 IsDefinedAs p files_of file (Struct k o fs c) (SameAs t) = ⊥
+IsDefinedAs p files_of file (Struct k o fs c) (Asks ms) = ⊥
 IsDefinedAs p files_of file (Struct k o fs c) (Fields ts) = AreTypesPrinted p files_of file (written_fields fs) ts
 IsDefinedAs p files_of file (Interface k o ms c) d = ⊥
 

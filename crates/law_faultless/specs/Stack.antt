@@ -1,8 +1,8 @@
 -- The discipline of the stack on which lines of code work: its height at each line.
 use Rattle.std.specs.Prelude.{ℕ, suc, ◌≡◌, ◌≤◌, ◌+◌, ◌-◌, ⊤, List, [], ◌∷◌, length}
 use Rattle.build_object.specs.Lines.{FunctionName, CodeLine, Integer, Text, Truth, Nil, Local, Global, Field, FieldThrough, Index, Load, Negate, Not, Operate}
-use Rattle.build_object.specs.Lines.{Duplicate, Pop, JumpUnless, JumpIf, Jump, JumpBack, Call, CallBuiltin, Zero, With, MakeSlice, New, LocalAddress}
-use Rattle.build_object.specs.Lines.{GlobalAddress, FieldAddress, IndexAddress, BlankAddress, Set, Assign, Return, End}
+use Rattle.build_object.specs.Lines.{Duplicate, Pop, JumpUnless, JumpIf, Jump, JumpBack, Call, CallBuiltin, CallAsked, Enter, Zero, With, MakeSlice, New}
+use Rattle.build_object.specs.Lines.{LocalAddress, GlobalAddress, FieldAddress, IndexAddress, BlankAddress, Set, Assign, Return, End}
 use Rattle.build_object.specs.Operands.{builtin_results}
 
 -- How many values a function takes, its receiver counted, and how many it gives back.
@@ -47,6 +47,8 @@ effect arity (Jump n) = Leads n
 effect arity (JumpBack n) = LeadsBack n
 effect arity (Call f n) = Calls n (arity f)
 effect arity (CallBuiltin b n) = Works n (builtin_results b)
+effect arity (CallAsked f n) = Calls n (arity f)
+effect arity (Enter t) = Works 1 1
 effect arity (Zero t) = Works 0 1
 effect arity (With n) = Works 2 1
 effect arity (MakeSlice n) = Works n 1

@@ -9,9 +9,11 @@ use Rattle.go_ast.specs.declared.syntax.Kind.{Kind}
 use Rattle.go_ast.specs.declared.syntax.Kind.TheVariants as kind
 use Rattle.go_ast.specs.declared.syntax.Token.{Token}
 use Rattle.go_ast.specs.Flatten.{sign, sign_if, tokens_if, all_tokens, list_tokens, group_tokens, name_tokens, ident_tokens, basic_tokens, type_tokens}
-use Rattle.go_ast.specs.Flatten.{value_tokens, global_tokens, field_tokens, body_tokens, type_spec_tokens, receiver_tokens, param_tokens, result_tokens}
+use Rattle.go_ast.specs.Flatten.{value_tokens, global_tokens, field_tokens, method_tokens, body_tokens, type_spec_tokens, receiver_tokens, param_tokens}
+use Rattle.go_ast.specs.Flatten.{result_tokens}
 use Rattle.go_ast.specs.Flatten.{block_tokens, func_tokens, decl_tokens}
-use Rattle.go_ast.specs.Tree.{Item, IdentTree, BasicTree, TypeTree, GlobalTree, FieldTree, BodyTree, TypeSpecTree, ReceiverTree, ParamTree, ResultTree}
+use Rattle.go_ast.specs.Tree.{Item, IdentTree, BasicTree, TypeTree, GlobalTree, FieldTree, BodyTree, MethodTree, TypeSpecTree, ReceiverTree, ParamTree}
+use Rattle.go_ast.specs.Tree.{ResultTree}
 use Rattle.go_ast.specs.Tree.{FuncTree, DeclTree, FileTree}
 use Rattle.go_ast.specs.Tree as tree
 use Rattle.types_declared.specs.MeaningOf.{parameter_types, result_types}
@@ -23,14 +25,14 @@ use Rattle.build_object.specs.Lines.{FunctionName}
 use Rattle.build_object.specs.Source.{Source}
 use Rattle.build_object.specs.Slots.{slots_of}
 use Rattle.build_object.specs.Statements.{body_lines}
-use Rattle.build_object.specs.Objects.{ObjectFunction, FunctionOf, SameAs, Fields, Initial, IntegerValue, TextValue}
+use Rattle.build_object.specs.Objects.{ObjectFunction, FunctionOf, SameAs, Fields, Asks, object_asked, Initial, IntegerValue, TextValue}
 use Rattle.build_object.specs.Objects.{written, all_written, definition_of, type_declarations, declared_type, initial_of, known_variable}
 use Rattle.build_object.specs.Objects.{first_initial, other_initials, literals_of, variable_declarations, initials_of, global_variables}
 use Rattle.build_object.specs.Objects.{receiver_type, function_of, declared_function, declared_by, names_behind, declared_in}
 use Rattle.build_object.specs.Objects.{names_behind_all, declared_from}
 use Rattle.law_faultless.proofs.DeclaringNames.{AllOf, front, back}
 use Rattle.law_rename.specs.Renumbered.{items_by, ident_by, basic_by, type_by, values_by, global_by, field_by, body_by, type_spec_by, receiver_by, param_by}
-use Rattle.law_rename.specs.Renumbered.{result_by, block_by, func_by, decl_by}
+use Rattle.law_rename.specs.Renumbered.{result_by, method_by, block_by, func_by, decl_by}
 use Rattle.law_objects.specs.RenumberedSources.{IsSameAt, IsRenumberedSource, AreRenumberedSources, no_file, one_file, ObjectsRenumber}
 use Rattle.law_objects.proofs.Sources.{NewSource, made, the_new, made_is, Same, type_at, same_written}
 use Rattle.law_objects.proofs.Lists.{own_tokens, other_tokens, same_items, same_values, same_group}
@@ -66,6 +68,35 @@ module _ (m : NewSource) where
   type_written : (x : TypeTree) → AllOf K (type_tokens x) → written w (type_by t x) ≡ written v x
   type_written x h = ap (λ (o : Option PlainType). option_to_list o) (same_written m x h)
 
+  -- the types of parameters and results
+
+  written_for : (x : TypeTree) → AllOf K (type_tokens x) → (ns : List (Item IdentTree)) →
+      all_written w (map (λ (n : Item IdentTree). type_by t x) (items_by t (ident_by t) ns)) ≡ all_written v (map (λ (n : Item IdentTree). x) ns)
+  written_for x h [] = refl
+  written_for x h (n ∷ ns) = ap₂ (λ a b. a ++ b) (type_written x h) (written_for x h ns)
+
+  parameters : (ps : List (Item ParamTree)) → AllOf K (list_tokens kind.Comma param_tokens ps) →
+      all_written w (parameter_types (items_by t (param_by t) ps)) ≡ all_written v (parameter_types ps)
+  unfolding all_tokens param_tokens
+  parameters [] h = refl
+  parameters (p ∷ ps) h =
+      let own = own_tokens K t (param_by t) param_tokens kind.Comma p ps h in
+      let now = map (λ (n : Item IdentTree). type_by t p.value.type_use) (items_by t (ident_by t) p.value.names) in
+      let was = map (λ (n : Item IdentTree). p.value.type_use) p.value.names in
+      flat_map-append (written w) now (parameter_types (items_by t (param_by t) ps))
+      ∙ ap₂ (λ a b. a ++ b)
+      (written_for p.value.type_use (back K (list_tokens kind.Comma ident_tokens p.value.names) (type_tokens p.value.type_use) own) p.value.names)
+      (parameters ps (other_tokens K t (param_by t) param_tokens kind.Comma p ps h))
+      ∙ sym (flat_map-append (written v) was (parameter_types ps))
+
+  results_stay : (r : ResultTree) → AllOf K (result_tokens r) → all_written w (result_types (result_by t r)) ≡ all_written v (result_types r)
+  unfolding result_tokens
+  results_stay tree.no_result h = refl
+  results_stay (tree.one_result x) h = ap (λ z. z ++ []) (type_written x h)
+  results_stay (tree.results o ts c) h =
+      same_values K t (type_by t) type_tokens (written w) (written v) type_written kind.Comma ts
+      (front K (list_tokens kind.Comma type_tokens ts) (sign kind.RightParen c ∷ []) h.1)
+
   -- type definitions
 
   for_each_name : (ys : List PlainType) (ns : List (Item ℕ)) → flat_map (λ (n : Item ℕ). ys) (items_by t t ns) ≡ flat_map (λ (n : Item ℕ). ys) ns
@@ -80,10 +111,27 @@ module _ (m : NewSource) where
       (type_written f.type_use (back K (list_tokens kind.Comma name_tokens f.names) (type_tokens f.type_use) h))
       ∙ for_each_name (written v f.type_use) f.names
 
-  definition : (b : BodyTree) → AllOf K (body_tokens b) → definition_of w (body_by t b) ≡ definition_of v b
+  asked_line : (x : MethodTree) → AllOf K (method_tokens x) → (name : Option FunctionName) → object_asked w (method_by t x) name ≡ object_asked v x name
+  unfolding method_tokens
+  asked_line x h None = refl
+  asked_line x h (Some name) =
+      let params = list_tokens kind.Comma param_tokens x.params in
+      let ends = sign kind.RightParen x.rparen ∷ result_tokens x.result in
+      ap₂ (λ ps rs. record { name = name; parameters = ps; results = rs } ∷ []) (parameters x.params (front K params ends h.1.1))
+      (results_stay x.result (back K params ends h.1.1).1)
+
+  asked_method : (x : MethodTree) → AllOf K (method_tokens x) → object_asked w (method_by t x) (u.asks (t x.name)) ≡ object_asked v x (s.asks x.name)
+  unfolding method_tokens
+  asked_method x h = ap (object_asked w (method_by t x)) h.0.asks ∙ asked_line x h (s.asks x.name)
+
+  definition : (b : BodyTree) → AllOf K (body_tokens b) → definition_of w u.asks (body_by t b) ≡ definition_of v s.asks b
   unfolding definition_of body_tokens
   definition (tree.Other x) h = ap (option_map SameAs) (same_written m x h)
-  definition (tree.Interface k o ms c) h = refl
+  definition (tree.Interface k o ms c) h =
+      ap (λ z. Some (Asks z))
+      (same_items K t (method_by t) method_tokens (λ (x : MethodTree). object_asked w x (u.asks x.name))
+      (λ (x : MethodTree). object_asked v x (s.asks x.name)) asked_method kind.Semicolon ms
+      (front K (list_tokens kind.Semicolon method_tokens ms) (sign kind.RightBrace c ∷ []) h.1.1))
   definition (tree.Struct k o fs c) h =
       ap (λ z. Some (Fields z))
       (same_items K t (field_by t) field_tokens (λ (f : FieldTree). flat_map (λ (n : Item ℕ). written w f.type_use) f.names)
@@ -143,33 +191,6 @@ module _ (m : NewSource) where
       ap (λ (o : Option PlainType). option_to_list o)
       (star_stays (named_type (w.bound (t r.type_name)) (t r.type_name)) (named_type (v.bound r.type_name) r.type_name)
       (type_at m r.type_name own.0.bound) t r.star)
-
-  written_for : (x : TypeTree) → AllOf K (type_tokens x) → (ns : List (Item IdentTree)) →
-      all_written w (map (λ (n : Item IdentTree). type_by t x) (items_by t (ident_by t) ns)) ≡ all_written v (map (λ (n : Item IdentTree). x) ns)
-  written_for x h [] = refl
-  written_for x h (n ∷ ns) = ap₂ (λ a b. a ++ b) (type_written x h) (written_for x h ns)
-
-  parameters : (ps : List (Item ParamTree)) → AllOf K (list_tokens kind.Comma param_tokens ps) →
-      all_written w (parameter_types (items_by t (param_by t) ps)) ≡ all_written v (parameter_types ps)
-  unfolding all_tokens param_tokens
-  parameters [] h = refl
-  parameters (p ∷ ps) h =
-      let own = own_tokens K t (param_by t) param_tokens kind.Comma p ps h in
-      let now = map (λ (n : Item IdentTree). type_by t p.value.type_use) (items_by t (ident_by t) p.value.names) in
-      let was = map (λ (n : Item IdentTree). p.value.type_use) p.value.names in
-      flat_map-append (written w) now (parameter_types (items_by t (param_by t) ps))
-      ∙ ap₂ (λ a b. a ++ b)
-      (written_for p.value.type_use (back K (list_tokens kind.Comma ident_tokens p.value.names) (type_tokens p.value.type_use) own) p.value.names)
-      (parameters ps (other_tokens K t (param_by t) param_tokens kind.Comma p ps h))
-      ∙ sym (flat_map-append (written v) was (parameter_types ps))
-
-  results_stay : (r : ResultTree) → AllOf K (result_tokens r) → all_written w (result_types (result_by t r)) ≡ all_written v (result_types r)
-  unfolding result_tokens
-  results_stay tree.no_result h = refl
-  results_stay (tree.one_result x) h = ap (λ z. z ++ []) (type_written x h)
-  results_stay (tree.results o ts c) h =
-      same_values K t (type_by t) type_tokens (written w) (written v) type_written kind.Comma ts
-      (front K (list_tokens kind.Comma type_tokens ts) (sign kind.RightParen c ∷ []) h.1)
 
   results_counted : (r : ResultTree) → length (result_types (result_by t r)) ≡ length (result_types r)
   results_counted tree.no_result = refl
@@ -234,8 +255,8 @@ declarations m names (d ∷ ds) h =
 of_file : (t : ℕ → ℕ) (ds es : List DeclTree) (s u : Source) → IsRenumberedSource t ds s u → es ≡ map (decl_by t) ds → (names : List FunctionName) →
     declared_in u names es ≡ declared_in s names ds
 of_file t ds es s u is decls names =
-    let new = the_new t is.numbers s u in
-    let same = made_is t is.numbers s u is.definition is.implements is.function is.position in
+    let new = the_new t is.numbers s u is.entered in
+    let same = made_is t is.numbers s u is.entered is.definition is.implements is.function is.position is.asked in
     ap₂ (λ z d. declared_in z names d) (sym same) decls
     ∙ declarations new names ds
     (subst (λ (z : Source). AllByRecursion (λ (token : Token). IsSameAt t s z token.place) (all_tokens decl_tokens ds)) (sym same) is.tokens)

@@ -7,23 +7,24 @@ use Rattle.go_ast.specs.declared.syntax.Kind.TheVariants as kind
 use Rattle.go_ast.specs.Flatten.{sign, sign_if, tokens_if, all_tokens, list_tokens, group_tokens, name_tokens, basic_tokens, type_tokens, value_tokens}
 use Rattle.go_ast.specs.Flatten.{global_tokens, type_spec_tokens, receiver_tokens, param_tokens, result_tokens, block_tokens, func_tokens, decl_tokens}
 use Rattle.go_ast.specs.Flatten.{item_tokens}
-use Rattle.go_ast.specs.Tree.{Item, BasicTree, GlobalTree, TypeSpecTree, FuncTree, DeclTree, FileTree}
+use Rattle.go_ast.specs.Tree.{Item, BasicTree, GlobalTree, BodyTree, MethodTree, TypeSpecTree, FuncTree, DeclTree, FileTree}
 use Rattle.go_ast.specs.Tree as tree
 use Rattle.types_declared.specs.MeaningOf.{result_types}
 use Rattle.types_expr.specs.Types.{PlainType}
+use Rattle.types_expr.specs.World.{World}
 use Rattle.types_expr.specs.Judge.{judge_type}
 use Rattle.build_object.specs.Lines.{GlobalName, FunctionName}
 use Rattle.build_object.specs.Source.{Source}
 use Rattle.build_object.specs.Slots.{slots_of}
 use Rattle.build_object.specs.Statements.{body_lines}
-use Rattle.build_object.specs.Objects.{ObjectFunction, ObjectDeclaration, FunctionOf, ObjectDefinition, Initial, IntegerValue}
+use Rattle.build_object.specs.Objects.{ObjectFunction, ObjectDeclaration, FunctionOf, ObjectDefinition, SameAs, Asks, object_asked, asked_methods, Initial, IntegerValue}
 use Rattle.build_object.specs.Objects.{definition_of, type_declarations, declared_type, initial_of, known_variable, first_initial, other_initials, literals_of}
 use Rattle.build_object.specs.Objects.{variable_declarations, initials_of, global_variables, function_of, declared_function}
 use Rattle.build_object.specs.Objects.{declared_by, others_of, names_behind, declared_in, names_behind_all, declared_from}
 use Rattle.law_faultless.proofs.DeclaringNames.{AllOf, front, back}
 use Rattle.law_changed_types.proofs.Agreement.{Members}
 use Rattle.law_changed_types.proofs.Rules.{same_type}
-use Rattle.law_objects.specs.Replaced.{Replaced, function_by, declaration_by}
+use Rattle.law_objects.specs.Replaced.{Replaced, asked_renamed_by, definition_by, function_by, declaration_by}
 use Rattle.law_objects.proofs.ListsBy.{group_by}
 use Rattle.law_objects.proofs.SlotsStay.{same_definition, same_parameters, same_results, same_slots}
 use Rattle.law_objects.proofs.StatementsBy.{body_with}
@@ -42,10 +43,36 @@ module _ (r : Replaced) where
   both : (xs ys : List ObjectDeclaration) → D xs ++ D ys ≡ D (xs ++ ys)
   both xs ys = sym (map-append (declaration_by r) xs ys)
 
-  type_by : (name : Option GlobalName) (d : Option ObjectDefinition) → type_declarations (option_map r.global name) d ≡ D (type_declarations name d)
+  type_by : (name : Option GlobalName) (d : Option ObjectDefinition) →
+      type_declarations (option_map r.global name) (option_map (definition_by r) d) ≡ D (type_declarations name d)
   type_by None d = refl
   type_by (Some name) None = refl
   type_by (Some name) (Some d) = refl
+
+  -- what types are defined as
+
+  same_as : (t : Option PlainType) → option_map SameAs t ≡ option_map (definition_by r) (option_map SameAs t)
+  same_as None = refl
+  same_as (Some t) = refl
+
+  asked_if_named : (w : World) (m : MethodTree) (name : Option FunctionName) →
+      object_asked w m (option_map r.function name) ≡ map (asked_renamed_by r) (object_asked w m name)
+  asked_if_named w m None = refl
+  asked_if_named w m (Some name) = refl
+
+  all_asked : (w : World) (asks : ℕ → Option FunctionName) (ms : List (Item MethodTree)) →
+      asked_methods w (λ n. option_map r.function (asks n)) ms ≡ map (asked_renamed_by r) (asked_methods w asks ms)
+  all_asked w asks [] = refl
+  all_asked w asks (i ∷ is) =
+      ap₂ (λ a b. a ++ b) (asked_if_named w i.value (asks i.value.name)) (all_asked w asks is)
+      ∙ sym (map-append (asked_renamed_by r) (object_asked w i.value (asks i.value.name)) (asked_methods w asks is))
+
+  defined_by : (w : World) (asks : ℕ → Option FunctionName) (b : BodyTree) →
+      definition_of w (λ n. option_map r.function (asks n)) b ≡ option_map (definition_by r) (definition_of w asks b)
+  unfolding definition_of
+  defined_by w asks (tree.Other t) = same_as (judge_type w t).type_of
+  defined_by w asks (tree.Struct k o fs c) = refl
+  defined_by w asks (tree.Interface k o ms c) = ap (λ z. Some (Asks z)) (all_asked w asks ms)
 
   variable_by : (t : Option PlainType) (name : Option GlobalName) (v : Option Initial) →
       known_variable t (option_map r.global name) v ≡ D (known_variable t name v)
@@ -79,8 +106,8 @@ module _ (r : Replaced) where
 
     type_spec : (t : TypeSpecTree) → AllOf K (type_spec_tokens t) → declared_type now t ≡ D (declared_type s t)
     type_spec t h =
-        ap (type_declarations (option_map r.global (s.global t.name))) (same_definition s.world m t.body)
-        ∙ type_by (s.global t.name) (definition_of s.world t.body)
+        ap (type_declarations (option_map r.global (s.global t.name))) (same_definition s.world m now.asks t.body ∙ defined_by s.world s.asks t.body)
+        ∙ type_by (s.global t.name) (definition_of s.world s.asks t.body)
 
     -- variables
 

@@ -1,5 +1,5 @@
 -- The code of expressions stays where tokens get new numbers.
-use Rattle.std.proofs.Common.{ℕ, suc, ◌≡◌, false, List, [], ◌∷◌, ◌++◌, Option, Some, None, length, map, refl, ap, ◌∙◌}
+use Rattle.std.proofs.Common.{ℕ, suc, ◌≡◌, ◌==◌, false, if◌then◌else◌, List, [], ◌∷◌, ◌++◌, Option, Some, None, length, map, refl, ap, ◌∙◌}
 use Rattle.std.proofs.Math.Path.{ap₂}
 use Rattle.go_ast.specs.declared.syntax.Kind.{Kind}
 use Rattle.go_ast.specs.declared.syntax.Kind.TheVariants as kind
@@ -8,23 +8,27 @@ use Rattle.go_ast.specs.Flatten.{element_tokens}
 use Rattle.go_ast.specs.Tree.{ExprTree, LinkTrees, OperandTrees, ArgumentTrees, LiteralTree, ElementTrees}
 use Rattle.go_ast.specs.Tree as tree
 use Rattle.types_expr.specs.Types.{PlainType, ValueKind, Typed, Untyped, Meaning, Value, TypeName, Function, BuiltinName, Package, Results, Broken}
-use Rattle.types_expr.specs.Types.{Nil as NilKind}
+use Rattle.types_expr.specs.Types.{Nil as NilKind, AFieldOf, AMethodOf}
+use Rattle.types_expr.specs.Places.{place_of}
 use Rattle.types_expr.specs.World.{Bound, Local, Means, BrokenVariable, BrokenFunction, BrokenType, Member, AField, AMethod, ABrokenMethod}
 use Rattle.types_expr.specs.Judge.{judge_type}
 use Rattle.build_object.specs.Lines.{CodeLine, GlobalName, Truth, line_if_known}
 use Rattle.build_object.specs.Lines as line
 use Rattle.build_object.specs.Source.{Source}
-use Rattle.build_object.specs.Operands.{Mode, Values, Called, Converts, Predeclared, Qualifies, CodeOperand, plain, mode_alone, local_operand, global_operand}
+use Rattle.build_object.specs.Operands.{Mode, Values, Called, CalledAsked, Converts, Predeclared, Qualifies, CodeOperand, plain, mode_alone, local_operand}
+use Rattle.build_object.specs.Operands.{global_operand}
 use Rattle.build_object.specs.Operands.{function_mode, plain_function, value_name, named_meaning, bound_name, name_operand, prefixed, operated}
 use Rattle.build_object.specs.Operands.{export_operand, member_operand, typed_selector, selected_by, selected, indexed, called, settled, grouped}
 use Rattle.build_object.specs.Operands.{value_count}
 use Rattle.build_object.specs.Expressions.{argument_count, element_count, field_position, keyed_in, key_position, typed_literal, operand_of, operations}
-use Rattle.build_object.specs.Expressions.{linked, argument_lines, literal_lines, keyed_lines, bare_lines, value_lines, address_lines, values_left}
+use Rattle.build_object.specs.Expressions.{linked, argument_lines, literal_lines, keyed_lines, bare_lines, value_lines, enter_line, given_lines, address_lines}
+use Rattle.build_object.specs.Expressions.{values_left}
 use Rattle.law_faultless.proofs.DeclaringNames.{AllOf, front, back}
 use Rattle.law_rename.specs.Renumbered.{key_by, expr_by, operands_by, links_by, arguments_by, literal_by, elements_by}
 use Rattle.law_changed_types.specs.Renumbering.{renumbered_bound}
 use Rattle.law_objects.specs.RenumberedSources.{IsSameAt}
-use Rattle.law_objects.proofs.Sources.{NewSource, made, Same, same_slot, same_written}
+use Rattle.law_changed_types.proofs.Places.{reports}
+use Rattle.law_objects.proofs.Sources.{NewSource, made, numbers_alone, Same, same_slot, same_written}
 
 module _ (m : NewSource) where
   abbrev t : ℕ → ℕ
@@ -79,7 +83,8 @@ module _ (m : NewSource) where
     member_stays : (o : CodeOperand) (x : PlainType) (y : Option Member) → member_operand u o x y ≡ member_operand s o x y
     unfolding member_operand
     member_stays o x None = refl
-    member_stays o x (Some (AField f own)) = refl
+    member_stays o x (Some (AField f (AFieldOf own))) = refl
+    member_stays o x (Some (AField f (AMethodOf signature))) = refl
     member_stays o x (Some (AMethod f on_pointer signature)) = refl
     member_stays o x (Some (ABrokenMethod f)) = refl
 
@@ -96,6 +101,7 @@ module _ (m : NewSource) where
     selected_stays n h o Qualifies = ap (export_operand o.value) (name_stays n h)
     selected_stays n h o (Values k) = behind_value n h o
     selected_stays n h o (Called b f k) = behind_value n h o
+    selected_stays n h o (CalledAsked f k) = behind_value n h o
     selected_stays n h o Converts = behind_value n h o
     selected_stays n h o (Predeclared b) = behind_value n h o
 
@@ -132,7 +138,21 @@ module _ (m : NewSource) where
     elements_counted tree.no_element = refl
     elements_counted (tree.element k e c rest) = ap suc (elements_counted rest)
 
+    -- entries into interfaces
+
+    enter_stays : (o : CodeOperand) (e : ExprTree) → enter_line u o (expr_by t e) ≡ enter_line s o e
+    enter_stays o e =
+        ap (λ (x : Option PlainType). if value_count o.mode == 1 then line_if_known line.Enter x else [])
+        (ap u.entered (reports (numbers_alone m) e) ∙ m.entered_still (place_of e))
+
     -- expressions
+
+    given_from : (e : ExprTree) → operand_of u slots_now (expr_by t e) ≡ operand_of s slots e →
+        (operand_of u slots_now (expr_by t e)).value ++ enter_line u (operand_of u slots_now (expr_by t e)) (expr_by t e)
+        ≡ (operand_of s slots e).value ++ enter_line s (operand_of s slots e) e
+    given_from e same =
+        ap (λ (z : CodeOperand). z.value ++ enter_line u z (expr_by t e)) same
+        ∙ ap (λ x. (operand_of s slots e).value ++ x) (enter_stays (operand_of s slots e) e)
 
     mutual
       unfolding operand_of expr_tokens expr_by
@@ -180,7 +200,7 @@ module _ (m : NewSource) where
       arguments_stay tree.no_argument h = refl
       arguments_stay (tree.argument e c rest) h =
           let behind = back K (expr_tokens e) (sign_if kind.Comma c ++ argument_tokens rest) h in
-          ap₂ (λ (z : CodeOperand) zs. z.value ++ zs) (operand_stays e (front K (expr_tokens e) (sign_if kind.Comma c ++ argument_tokens rest) h))
+          ap₂ (λ z zs. z ++ zs) (given_from e (operand_stays e (front K (expr_tokens e) (sign_if kind.Comma c ++ argument_tokens rest) h)))
           (arguments_stay rest (back K (sign_if kind.Comma c) (argument_tokens rest) behind))
 
       lines_of_literal : (l : LiteralTree) → AllOf K (literal_tokens l) → literal_lines u slots_now (literal_by t l) ≡ literal_lines s slots l
@@ -199,20 +219,23 @@ module _ (m : NewSource) where
           let others = expr_tokens e ++ (sign_if kind.Comma c ++ element_tokens rest) in
           let behind = back K (key_tokens k) others h in
           let later = back K (sign_if kind.Comma c) (element_tokens rest) (back K (expr_tokens e) (sign_if kind.Comma c ++ element_tokens rest) behind) in
-          ap₂ (λ (z : CodeOperand) x. z.value ++ (line_if_known line.With x ++ keyed_lines u slots_now (elements_by t rest)))
-          (operand_stays e (front K (expr_tokens e) (sign_if kind.Comma c ++ element_tokens rest) behind)) (key_stays k (front K (key_tokens k) others h))
-          ∙ ap (λ z. (operand_of s slots e).value ++ (line_if_known line.With (key_position s k) ++ z)) (keyed_stay rest later)
+          ap₂ (λ z x. z ++ (line_if_known line.With x ++ keyed_lines u slots_now (elements_by t rest)))
+          (given_from e (operand_stays e (front K (expr_tokens e) (sign_if kind.Comma c ++ element_tokens rest) behind))) (key_stays k (front K (key_tokens k) others h))
+          ∙ ap (λ z. ((operand_of s slots e).value ++ enter_line s (operand_of s slots e) e) ++ (line_if_known line.With (key_position s k) ++ z)) (keyed_stay rest later)
 
       bare_stay : (es : ElementTrees) → AllOf K (element_tokens es) → bare_lines u slots_now (elements_by t es) ≡ bare_lines s slots es
       bare_stay tree.no_element h = refl
       bare_stay (tree.element k e c rest) h =
           let behind = back K (key_tokens k) (expr_tokens e ++ (sign_if kind.Comma c ++ element_tokens rest)) h in
           let later = back K (sign_if kind.Comma c) (element_tokens rest) (back K (expr_tokens e) (sign_if kind.Comma c ++ element_tokens rest) behind) in
-          ap₂ (λ (z : CodeOperand) zs. z.value ++ zs)
-          (operand_stays e (front K (expr_tokens e) (sign_if kind.Comma c ++ element_tokens rest) behind)) (bare_stay rest later)
+          ap₂ (λ z zs. z ++ zs)
+          (given_from e (operand_stays e (front K (expr_tokens e) (sign_if kind.Comma c ++ element_tokens rest) behind))) (bare_stay rest later)
 
     pub lines_stay : (e : ExprTree) → AllOf K (expr_tokens e) → value_lines u slots_now (expr_by t e) ≡ value_lines s slots e
     lines_stay e h = ap (λ (z : CodeOperand). z.value) (operand_stays e h)
+
+    pub given_lines_stay : (e : ExprTree) → AllOf K (expr_tokens e) → given_lines u slots_now (expr_by t e) ≡ given_lines s slots e
+    given_lines_stay e h = given_from e (operand_stays e h)
 
     pub address_stays : (e : ExprTree) → AllOf K (expr_tokens e) → address_lines u slots_now (expr_by t e) ≡ address_lines s slots e
     address_stays e h = ap (λ (z : CodeOperand). z.address) (operand_stays e h)

@@ -1,5 +1,5 @@
 -- The code of expressions with other names.
-use Rattle.std.proofs.Common.{ℕ, ◌≡◌, List, [], ◌∷◌, ◌++◌, Option, Some, refl, ap, ◌∙◌}
+use Rattle.std.proofs.Common.{ℕ, ◌≡◌, ◌==◌, Bool, true, false, if◌then◌else◌, List, [], ◌∷◌, ◌++◌, Option, Some, refl, ap, ◌∙◌}
 use Rattle.std.proofs.Math.Path.{ap₂}
 use Rattle.go_ast.specs.declared.syntax.Kind.{Kind}
 use Rattle.go_ast.specs.declared.syntax.Kind.TheVariants as kind
@@ -7,6 +7,7 @@ use Rattle.go_ast.specs.Flatten.{sign, sign_if, type_tokens, key_tokens, expr_to
 use Rattle.go_ast.specs.Flatten.{element_tokens}
 use Rattle.go_ast.specs.Tree.{ExprTree, LinkTrees, OperandTrees, ArgumentTrees, LiteralTree, ElementTrees}
 use Rattle.go_ast.specs.Tree as tree
+use Rattle.types_expr.specs.Places.{place_of}
 use Rattle.types_expr.specs.Types.{PlainType}
 use Rattle.types_expr.specs.Judge.{judge_type}
 use Rattle.build_object.specs.Lines.{CodeLine, line_if_known}
@@ -14,7 +15,7 @@ use Rattle.build_object.specs.Lines as line
 use Rattle.build_object.specs.Source.{Source}
 use Rattle.build_object.specs.Operands.{CodeOperand, plain, prefixed, operated, selected, indexed, called, settled, grouped, value_count}
 use Rattle.build_object.specs.Expressions.{argument_count, element_count, key_position, typed_literal, operand_of, operations, linked, argument_lines}
-use Rattle.build_object.specs.Expressions.{literal_lines, keyed_lines, bare_lines, value_lines, address_lines, values_left}
+use Rattle.build_object.specs.Expressions.{literal_lines, keyed_lines, bare_lines, value_lines, enter_line, given_lines, address_lines, values_left}
 use Rattle.law_faultless.proofs.DeclaringNames.{AllOf, front, back}
 use Rattle.law_changed_types.proofs.Agreement.{Members}
 use Rattle.law_changed_types.proofs.Rules.{same_type}
@@ -33,6 +34,20 @@ module _ (r : Replaced) (uniform : IsUniform r) (s : Source) (m : Members) (numb
 
   abbrev L : List CodeLine → List CodeLine
   L lines = lines_by r lines
+
+  enter_by : (one : Bool) (t : Option PlainType) →
+      (if one then line_if_known line.Enter t else []) ≡ L (if one then line_if_known line.Enter t else [])
+  enter_by true t = known_by r line.Enter (λ x. refl) t
+  enter_by false t = refl
+
+  given_from : (e : ExprTree) → operand_of now slots e ≡ operand_by r (operand_of s slots e) →
+      (operand_of now slots e).value ++ enter_line now (operand_of now slots e) e ≡ L ((operand_of s slots e).value ++ enter_line s (operand_of s slots e) e)
+  given_from e same =
+      let o = operand_of s slots e in
+      ap (λ (z : CodeOperand). z.value ++ enter_line now z e) same
+      ∙ ap (λ x. L o.value ++ x) (ap (λ n. if n == 1 then line_if_known line.Enter (s.entered (place_of e)) else []) (count_by r o.mode)
+      ∙ enter_by (value_count o.mode == 1) (s.entered (place_of e)))
+      ∙ both r o.value (enter_line s o e)
 
   mutual
     unfolding operand_of expr_tokens
@@ -86,9 +101,9 @@ module _ (r : Replaced) (uniform : IsUniform r) (s : Source) (m : Members) (numb
     arguments_with tree.no_argument h = refl
     arguments_with (tree.argument e c rest) h =
         let behind = back K (expr_tokens e) (sign_if kind.Comma c ++ argument_tokens rest) h in
-        ap₂ (λ (z : CodeOperand) zs. z.value ++ zs) (operand_with e (front K (expr_tokens e) (sign_if kind.Comma c ++ argument_tokens rest) h))
+        ap₂ (λ z zs. z ++ zs) (given_from e (operand_with e (front K (expr_tokens e) (sign_if kind.Comma c ++ argument_tokens rest) h)))
         (arguments_with rest (back K (sign_if kind.Comma c) (argument_tokens rest) behind))
-        ∙ both r (operand_of s slots e).value (argument_lines s slots rest)
+        ∙ both r ((operand_of s slots e).value ++ enter_line s (operand_of s slots e) e) (argument_lines s slots rest)
 
     pub literal_with : (l : LiteralTree) → AllOf K (literal_tokens l) → literal_lines now slots l ≡ L (literal_lines s slots l)
     literal_with (tree.literal t o es c) h =
@@ -104,23 +119,27 @@ module _ (r : Replaced) (uniform : IsUniform r) (s : Source) (m : Members) (numb
         let behind = back K (key_tokens k) (expr_tokens e ++ (sign_if kind.Comma c ++ element_tokens rest)) h in
         let later = back K (sign_if kind.Comma c) (element_tokens rest) (back K (expr_tokens e) (sign_if kind.Comma c ++ element_tokens rest) behind) in
         let own = line_if_known line.With (key_position s k) in
-        ap₂ (λ (z : CodeOperand) x. z.value ++ (line_if_known line.With x ++ keyed_lines now slots rest))
-        (operand_with e (front K (expr_tokens e) (sign_if kind.Comma c ++ element_tokens rest) behind)) (key_by r uniform s m numbers agree k)
-        ∙ ap₂ (λ x y. L (operand_of s slots e).value ++ (x ++ y)) (known_by r line.With (λ x. refl) (key_position s k)) (keyed_with rest later)
-        ∙ ap (λ z. L (operand_of s slots e).value ++ z) (both r own (keyed_lines s slots rest))
-        ∙ both r (operand_of s slots e).value (own ++ keyed_lines s slots rest)
+        let value = (operand_of s slots e).value ++ enter_line s (operand_of s slots e) e in
+        ap₂ (λ z x. z ++ (line_if_known line.With x ++ keyed_lines now slots rest))
+        (given_from e (operand_with e (front K (expr_tokens e) (sign_if kind.Comma c ++ element_tokens rest) behind))) (key_by r uniform s m numbers agree k)
+        ∙ ap₂ (λ x y. L value ++ (x ++ y)) (known_by r line.With (λ x. refl) (key_position s k)) (keyed_with rest later)
+        ∙ ap (λ z. L value ++ z) (both r own (keyed_lines s slots rest))
+        ∙ both r value (own ++ keyed_lines s slots rest)
 
     pub bare_with : (es : ElementTrees) → AllOf K (element_tokens es) → bare_lines now slots es ≡ L (bare_lines s slots es)
     bare_with tree.no_element h = refl
     bare_with (tree.element k e c rest) h =
         let behind = back K (key_tokens k) (expr_tokens e ++ (sign_if kind.Comma c ++ element_tokens rest)) h in
         let later = back K (sign_if kind.Comma c) (element_tokens rest) (back K (expr_tokens e) (sign_if kind.Comma c ++ element_tokens rest) behind) in
-        ap₂ (λ (z : CodeOperand) zs. z.value ++ zs)
-        (operand_with e (front K (expr_tokens e) (sign_if kind.Comma c ++ element_tokens rest) behind)) (bare_with rest later)
-        ∙ both r (operand_of s slots e).value (bare_lines s slots rest)
+        ap₂ (λ z zs. z ++ zs)
+        (given_from e (operand_with e (front K (expr_tokens e) (sign_if kind.Comma c ++ element_tokens rest) behind))) (bare_with rest later)
+        ∙ both r ((operand_of s slots e).value ++ enter_line s (operand_of s slots e) e) (bare_lines s slots rest)
 
   pub values_with : (e : ExprTree) → AllOf K (expr_tokens e) → value_lines now slots e ≡ L (value_lines s slots e)
   values_with e h = ap (λ (z : CodeOperand). z.value) (operand_with e h)
+
+  pub given_with : (e : ExprTree) → AllOf K (expr_tokens e) → given_lines now slots e ≡ L (given_lines s slots e)
+  given_with e h = given_from e (operand_with e h)
 
   pub address_with : (e : ExprTree) → AllOf K (expr_tokens e) → address_lines now slots e ≡ L (address_lines s slots e)
   address_with e h = ap (λ (z : CodeOperand). z.address) (operand_with e h)

@@ -147,6 +147,13 @@ module _ (c : NameChange) (is : IsLegibleChange c) (names : Symbol → Option Gl
       (function_text f ++ 32 ∷ decimal n) (function_text (function_of_global by f) ++ 32 ∷ decimal n)
       (turns_joined c.path c.old new (function_text f) (function_text (function_of_global by f)) (turns_function c is f k) 32 refl
       (decimal n) (decimal n) (fixed (decimal n) (plain_decimal n)))
+  turns_line (line.CallAsked f n) k =
+      turns_joined c.path c.old new (codes "icall") (codes "icall") (fixed (codes "icall") refl) 32 refl
+      (function_text f ++ 32 ∷ decimal n) (function_text (function_of_global by f) ++ 32 ∷ decimal n)
+      (turns_joined c.path c.old new (function_text f) (function_text (function_of_global by f)) (turns_function c is f k) 32 refl
+      (decimal n) (decimal n) (fixed (decimal n) (plain_decimal n)))
+  turns_line (line.Enter t) k =
+      turns_joined c.path c.old new (codes "iface") (codes "iface") (fixed (codes "iface") refl) 32 refl (type_text names t) (type_text now t) (turns_type t)
   turns_line (line.CallBuiltin b n) k =
       fixed (codes "builtin " ++ (builtin_name b ++ (codes " " ++ decimal n)))
       (plain_both (codes "builtin ") (builtin_name b ++ (codes " " ++ decimal n)) refl

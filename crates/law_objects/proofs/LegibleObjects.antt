@@ -28,17 +28,18 @@ use Rattle.refs_lookup.proofs.OnePlace.{same_files}
 use Rattle.build_object.specs.Lines.{CodeLine, FunctionName, GlobalName, Initializer, Method, Plain}
 use Rattle.build_object.specs.Lines as line
 use Rattle.build_object.specs.Names.{function_name, function_names, type_name, type_names}
-use Rattle.build_object.specs.Objects.{FunctionOf, Object, ObjectDeclaration, TypeOf, Variable, object_of}
+use Rattle.build_object.specs.Objects.{FunctionOf, Object, ObjectAsked, ObjectDefinition, SameAs, Fields, Asks, ObjectDeclaration, TypeOf, Variable, object_of}
 use Rattle.build_object.specs.Source.{Source}
-use Rattle.build_object.specs.Sources.{AreImports, DenotesGlobal, IsSourceOf}
+use Rattle.build_object.specs.Sources.{AreImports, DenotesGlobal, IsSourceOf, asked_there}
 use Rattle.law_tokens.proofs.Elements.{all_got}
 use Rattle.law_renamed_workspaces.proofs.GoodImports.{imports_are_good}
 use Rattle.law_objects.specs.Objects.{HasObject}
-use Rattle.law_objects.specs.Replaced.{Replaced, declaration_by, line_by, object_by}
+use Rattle.law_objects.specs.Replaced.{Replaced, asked_renamed_by, definition_by, declaration_by, line_by, object_by}
+use Rattle.law_objects.proofs.NothingAsked.{AskNothing, asks_nothing}
 use Rattle.law_objects.specs.SourcesBy.{AreSourcesBy, IsSourceBy, IsUniform, NumbersStay, a_source, no_source, no_tree}
 use Rattle.law_objects.proofs.DeclarationsBy.{object_with}
 use Rattle.law_objects.specs.CarriedUnits.{HasLegibleObjects}
-use Rattle.law_objects.specs.Legible.{AreLegibleNames, IsLegible, IsLegibleDeclaration, IsLegibleFunction}
+use Rattle.law_objects.specs.Legible.{AreLegibleNames, IsLegible, IsLegibleDeclaration, IsLegibleDefinition, IsLegibleFunction}
 use Rattle.law_objects.specs.Legible.{IsLegibleGlobal, IsLegibleLine, IsLegibleObject, is_name_byte}
 use Rattle.law_objects.proofs.LegibleNames.{good_legible}
 use Rattle.law_objects.proofs.PackageNames.{clause_good, functions_legible, global_legible, seen_legible}
@@ -115,14 +116,24 @@ line_is : (l : CodeLine) → IsLegibleLine (line_by kept l)
 line_is (line.Global g) = global_is g
 line_is (line.GlobalAddress g) = global_is g
 line_is (line.Call f n) = function_is f
+line_is (line.CallAsked f n) = function_is f
 line_is _ = tt
 
 lines_are : (ls : List CodeLine) → AllByRecursion IsLegibleLine (map (line_by kept) ls)
 lines_are [] = tt
 lines_are (l ∷ ls) = (line_is l, lines_are ls)
 
+asked_are : (ms : List ObjectAsked) → AllByRecursion (λ m. IsLegibleFunction m.name) (map (asked_renamed_by kept) ms)
+asked_are [] = tt
+asked_are (m ∷ ms) = (function_is m.name, asked_are ms)
+
+definition_is : (d : ObjectDefinition) → IsLegibleDefinition (definition_by kept d)
+definition_is (SameAs t) = tt
+definition_is (Fields ts) = tt
+definition_is (Asks ms) = asked_are ms
+
 declaration_is : (d : ObjectDeclaration) → IsLegibleDeclaration (declaration_by kept d)
-declaration_is (TypeOf name definition) = global_is name
+declaration_is (TypeOf name definition) = (global_is name, definition_is definition)
 declaration_is (Variable name t value) = global_is name
 declaration_is (FunctionOf f) = (function_is f.name, lines_are f.code)
 
@@ -149,17 +160,21 @@ numbers_stay s [] = tt
 numbers_stay s (t ∷ ts) = (λ e. refl, numbers_stay s ts)
 
 source_stays : (s : Source) (t : FileTree) → ((n : ℕ) (g : GlobalName) → s.global n ≡ Some g → IsLegibleGlobal g) →
-    ((f : Symbol) (name : FunctionName) → s.function f ≡ Some name → IsLegibleFunction name) → IsSourceBy kept t s s
-source_stays s t globals functions = record {
+    ((f : Symbol) (name : FunctionName) → s.function f ≡ Some name → IsLegibleFunction name) → ((n : ℕ) → s.asks n ≡ None) →
+    ((f : Symbol) → s.asked f ≡ None) → IsSourceBy kept t s s
+source_stays s t globals functions asks asked = record {
   same = λ i. record {
     world = s.world;
     before = s.before;
+    entered = s.entered;
     global = fun_ext (λ (n : ℕ). sym (maybe_global (s.global n) (globals n))) i;
+    asks = fun_ext (λ (n : ℕ). sym (maybe_function (s.asks n) (λ f e. absurd (none-some f (sym (asks n) ∙ e))))) i;
     truth = s.truth;
     number = s.number;
     text = s.text;
     function = fun_ext (λ (f : Symbol). sym (maybe_function (s.function f) (functions f))) i;
     position = s.position;
+    asked = fun_ext (λ (f : Symbol). sym (maybe_function (s.asked f) (λ name e. absurd (none-some name (sym (asked f) ∙ e))))) i;
   };
   agree = λ n type_of e. refl;
   numbers = numbers_stay s (all_tokens decl_tokens t.decls);
@@ -215,7 +230,8 @@ module _ (w : Workspace) (sound : ListsFaults w []) (known : Verdicts) (right : 
     abbrev is : IsCheckedPackage w known p
     is = has.is_package
 
-    seen : (q : List ℕ) → AllByRecursion IsLegibleGlobal (type_names q (files_of q)) × AllByRecursion IsLegibleFunction (function_names q (files_of q))
+    seen : (q : List ℕ) → AllByRecursion IsLegibleGlobal (type_names q (files_of q)) × (AllByRecursion IsLegibleFunction (function_names q (files_of q))
+        × AskNothing q (files_of q))
     seen q = seen_legible w sound known right paths path q (files_of q) (has.are_files q)
 
     names_are : AreLegibleNames (type_name files_of)
@@ -225,7 +241,9 @@ module _ (w : Workspace) (sound : ListsFaults w []) (known : Verdicts) (right : 
     of_source k f s of =
         source_stays s f.tree
         (λ n g e. global_legible w sound known right paths p is k n g (subst (DenotesGlobal p k n) e (of.global n)))
-        (λ x name e. all_got IsLegibleFunction (function_names x.package (files_of x.package)) x.rank name (seen x.package).1 (sym (of.function x) ∙ e))
+        (λ x name e. all_got IsLegibleFunction (function_names x.package (files_of x.package)) x.rank name (seen x.package).1.0 (sym (of.function x) ∙ e))
+        (λ n. of.asks n ∙ ap (λ ms. asked_there ms n) ((asks_nothing w sound known right p is).by_token k))
+        (λ x. of.asked x ∙ (seen x.package).1.1.by_rank x.rank)
 
     abbrev trees : List FileTree
     trees = map (λ (f : SourceFile). f.tree) p.files

@@ -1,5 +1,5 @@
 -- The text of an object in which one declaration gets a new name.
-use Rattle.std.proofs.Common.{◌≡◌, ◌∙◌, ℕ, true, List, [], ◌∷◌, ◌++◌, Option, Some, None, option_map, length, map, append-nil, refl, sym, ap, subst, codes}
+use Rattle.std.proofs.Common.{◌≡◌, ◌∙◌, ℕ, true, List, [], ◌∷◌, ◌++◌, Option, Some, None, option_map, length, map, append_assoc, append-nil, refl, sym, ap, subst, codes}
 use Rattle.std.proofs.lemmas.List.{length-map}
 use Rattle.std.specs.Fmt.{decimal}
 use Rattle.std.specs.List.{AllByRecursion, flat_map}
@@ -7,14 +7,14 @@ use Rattle.types_expr.specs.declared.symbol.Symbol.{Symbol}
 use Rattle.types_expr.specs.Types.{PlainType}
 use Rattle.build_object.specs.Lines.{GlobalName, CodeLine}
 use Rattle.build_object.specs.Objects.{Object, ObjectDeclaration, TypeOf, Variable, FunctionOf}
-use Rattle.build_object.specs.Objects.{ObjectDefinition, SameAs, Fields, Initial, IntegerValue, TextValue}
+use Rattle.build_object.specs.Objects.{ObjectAsked, ObjectDefinition, SameAs, Fields, Asks, Initial, IntegerValue, TextValue}
 use Rattle.build_object.specs.Objects.{ObjectFunction}
 use Rattle.build_object.specs.Text.{bytes_text, code_text, ended, function_text, global_text, type_list, type_text, types_joined, words_of}
-use Rattle.build_object.specs.ObjectText.{declaration_text, definition_text, first_line, header_text, import_line, initial_text, object_text}
+use Rattle.build_object.specs.ObjectText.{asked_behind, asked_joined, asked_text, declaration_text, definition_text, first_line, header_text, import_line, initial_text, object_text}
 use Rattle.build_names.specs.Words.{NameChange, is_break, symbol_text, words_with}
-use Rattle.law_objects.specs.Replaced.{declaration_by, function_by, line_by, of_global, text_by, Replaced}
+use Rattle.law_objects.specs.Replaced.{asked_renamed_by, definition_by, declaration_by, function_by, line_by, of_global, text_by, Replaced}
 use Rattle.law_objects.specs.Legible.{AreLegibleNames, IsLegible, IsLegibleChange, IsLegibleDeclaration, IsLegibleFunction, IsLegibleLine, IsLegibleObject}
-use Rattle.law_objects.specs.Legible.{LegibleTextsFollow}
+use Rattle.law_objects.specs.Legible.{IsLegibleDefinition, LegibleTextsFollow}
 use Rattle.law_objects.proofs.Turns.{Turns, TurnsLines, legible_plain, line_turns, lines_turn, text_turns, turns_joined, turns_plain}
 use Rattle.law_objects.proofs.Symbols.{turns_function, turns_global}
 use Rattle.law_objects.proofs.LegibleLines.{now, plain_bytes, plain_decimal, turns_line, turns_list, turns_type, turns_types}
@@ -57,9 +57,44 @@ module _ (c : NameChange) (is : IsLegibleChange c) (names : Symbol → Option Gl
   code : (ls : List CodeLine) → AllByRecursion IsLegibleLine ls → L (code_text names ls) (code_text later (map (line_by r) ls))
   code ls all = lines_of IsLegibleLine (line_by r) (λ l. ended (words_of names l)) (λ l. ended (words_of later l)) line ls all
 
-  definition : (d : ObjectDefinition) → T (definition_text names d) (definition_text later d)
-  definition (SameAs t) = turns_type c is names named t
-  definition (Fields ts) =
+  signature : (ps rs : List PlainType) → T (type_list names ps ++ 32 ∷ type_list names rs) (type_list later ps ++ 32 ∷ type_list later rs)
+  signature ps rs =
+      joined (type_list names ps) (type_list later ps) (turns_list c is names named ps) 32 refl (type_list names rs) (type_list later rs)
+      (turns_list c is names named rs)
+
+  asked : (m : ObjectAsked) → IsLegibleFunction m.name → T (asked_text names m) (asked_text later (asked_renamed_by r m))
+  asked m legible =
+      let x = types_joined names (codes ",") m.parameters in
+      let y = types_joined later (codes ",") m.parameters in
+      let u = type_list names m.results in
+      let v = type_list later m.results in
+      joined (function_text m.name) (function_text (r.function m.name)) (turns_function c is m.name legible) 40 refl
+      ((x ++ 41 ∷ []) ++ u) ((y ++ 41 ∷ []) ++ v)
+      (subst (λ l. T l ((y ++ 41 ∷ []) ++ v)) (sym (append_assoc x (41 ∷ []) u)) (subst (T (x ++ 41 ∷ u)) (sym (append_assoc y (41 ∷ []) v))
+      (joined x y (turns_types c is names named 44 refl m.parameters) 41 refl u v (turns_list c is names named m.results))))
+
+  asked_others : (ms : List ObjectAsked) → AllByRecursion (λ m. IsLegibleFunction m.name) ms → (x y : List ℕ) → T x y →
+      T (x ++ flat_map (asked_behind names) ms) (y ++ flat_map (asked_behind later) (map (asked_renamed_by r) ms))
+  asked_others [] all x y first = subst (λ l. T l (y ++ [])) (sym (append-nil x)) (subst (T x) (sym (append-nil y)) first)
+  asked_others (m ∷ ms) all x y first =
+      let whole = asked_others ms all.1 (x ++ 59 ∷ asked_text names m) (y ++ 59 ∷ asked_text later (asked_renamed_by r m))
+      (joined x y first 59 refl (asked_text names m) (asked_text later (asked_renamed_by r m)) (asked m all.0)) in
+      subst (λ l. T l (y ++ flat_map (asked_behind later) (map (asked_renamed_by r) (m ∷ ms))))
+      (append_assoc x (59 ∷ asked_text names m) (flat_map (asked_behind names) ms))
+      (subst (T ((x ++ 59 ∷ asked_text names m) ++ flat_map (asked_behind names) ms))
+      (append_assoc y (59 ∷ asked_text later (asked_renamed_by r m)) (flat_map (asked_behind later) (map (asked_renamed_by r) ms))) whole)
+
+  all_asked : (ms : List ObjectAsked) → AllByRecursion (λ m. IsLegibleFunction m.name) ms → T (asked_joined names ms) (asked_joined later (map (asked_renamed_by r) ms))
+  all_asked [] all = none
+  all_asked (m ∷ ms) all = asked_others ms all.1 (asked_text names m) (asked_text later (asked_renamed_by r m)) (asked m all.0)
+
+  definition : (d : ObjectDefinition) → IsLegibleDefinition d → T (definition_text names d) (definition_text later (definition_by r d))
+  definition (SameAs t) legible = turns_type c is names named t
+  definition (Asks ms) legible =
+      joined (codes "interface") (codes "interface") (turns_plain c.path c.old new (codes "interface") refl) 123 refl (asked_joined names ms ++ 125 ∷ [])
+      (asked_joined later (map (asked_renamed_by r) ms) ++ 125 ∷ [])
+      (joined (asked_joined names ms) (asked_joined later (map (asked_renamed_by r) ms)) (all_asked ms legible) 125 refl [] [] none)
+  definition (Fields ts) legible =
       joined (codes "struct") (codes "struct") (turns_plain c.path c.old new (codes "struct") refl) 123 refl (types_joined names (codes ";") ts ++ 125 ∷ [])
       (types_joined later (codes ";") ts ++ 125 ∷ [])
       (joined (types_joined names (codes ";") ts) (types_joined later (codes ";") ts) (turns_types c is names named 59 refl ts) 125 refl [] [] none)
@@ -73,11 +108,6 @@ module _ (c : NameChange) (is : IsLegibleChange c) (names : Symbol → Option Gl
   valued t (Some (TextValue bytes)) =
       joined (type_text names t) (type_text later t) (turns_type c is names named t) 32 refl (bytes_text bytes) (bytes_text bytes)
       (turns_plain c.path c.old new (bytes_text bytes) (plain_bytes bytes))
-
-  signature : (ps rs : List PlainType) → T (type_list names ps ++ 32 ∷ type_list names rs) (type_list later ps ++ 32 ∷ type_list later rs)
-  signature ps rs =
-      joined (type_list names ps) (type_list later ps) (turns_list c is names named ps) 32 refl (type_list names rs) (type_list later rs)
-      (turns_list c is names named rs)
 
   abbrev sides : (Symbol → Option GlobalName) → ObjectFunction → (lines : ℕ) → List ℕ
   sides n f lines = (type_list n f.parameters ++ 32 ∷ type_list n f.results) ++ 32 ∷ (decimal f.slots ++ 32 ∷ decimal lines)
@@ -97,11 +127,11 @@ module _ (c : NameChange) (is : IsLegibleChange c) (names : Symbol → Option Gl
   unfolding declaration_text
   declaration (TypeOf name d) legible =
       let old_rest = global_text name ++ 32 ∷ definition_text names d in
-      let new_rest = global_text (r.global name) ++ 32 ∷ definition_text later d in
+      let new_rest = global_text (r.global name) ++ 32 ∷ definition_text later (definition_by r d) in
       line_turns c.path c.old new (codes "type" ++ 32 ∷ old_rest) (codes "type" ++ 32 ∷ new_rest)
       (joined (codes "type") (codes "type") (turns_plain c.path c.old new (codes "type") refl) 32 refl old_rest new_rest
-      (joined (global_text name) (global_text (r.global name)) (turns_global c is name legible) 32 refl (definition_text names d) (definition_text later d)
-      (definition d)))
+      (joined (global_text name) (global_text (r.global name)) (turns_global c is name legible.0) 32 refl (definition_text names d)
+      (definition_text later (definition_by r d)) (definition d legible.1)))
   declaration (Variable name t value) legible =
       let old_value = type_text names t ++ initial_text value in
       let new_value = type_text later t ++ initial_text value in

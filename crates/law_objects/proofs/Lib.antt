@@ -33,6 +33,7 @@ pub mod SourceAfter
 pub mod ImportsAfter
 pub mod ObjectsAfter
 pub mod GainedObjectsLaws
+pub mod NothingAsked
 pub mod Turns
 pub mod Symbols
 pub mod LegibleLines

@@ -8,7 +8,7 @@ use Rattle.base_edits.specs.EditSet.{FileChanges, edited}
 use Rattle.base_files.specs.Workspace.{Workspace}
 use Rattle.base_files.specs.declared.fault_kind.FaultKind.TheVariants as kind
 use Rattle.go_ast.specs.SourceFile.{spelling_of}
-use Rattle.go_ast.specs.Tree.{ReceiverTree, FuncDecl}
+use Rattle.go_ast.specs.Tree.{ReceiverTree, FuncDecl, Interface}
 use Rattle.go_scope.specs.declared.model.Block.TheVariants.{Package as PackageBlock}
 use Rattle.go_scope.specs.declared.model.Role.TheVariants.{Declaring, NotLexical}
 use Rattle.go_scope.specs.declared.model.Purpose.TheVariants as purpose
@@ -19,7 +19,9 @@ use Rattle.types_declared.specs.Laid.{init_name}
 use Rattle.types_declared.specs.Package.{Package, PlacedType, PlacedFunction, package_types, package_functions, spelled, spelled_at}
 use Rattle.types_declared.specs.Written.{BindsToken}
 use Rattle.types_info.proofs.DeclKinds.{Holds}
+use Rattle.types_stmt.specs.Declarations.{body_faults}
 use Rattle.types_resolve.specs.Scoping.{fault_at}
+use Rattle.law_faultless.proofs.FieldForms.{type_fine}
 use Rattle.workspace_check.specs.FaultLists.{ListsFaults}
 use Rattle.workspace_check.specs.Verdicts.{Verdicts, AreVerdicts}
 use Rattle.workspace_check.proofs.OnePackage.{layout_formed}
@@ -37,7 +39,7 @@ use Rattle.law_renamed_workspaces.proofs.DeclaredNames.{level_declares}
 use Rattle.law_renamed_workspaces.proofs.Inits.{file_of_tree, same_tree, keep_inits}
 use Rattle.law_objects.specs.Replaced.{Replaced}
 use Rattle.law_objects.proofs.LevelNames.{level_spelled, own_spelled, type_stands, function_stands}
-use Rattle.law_objects.proofs.NamesMoved.{named_at, AreNames, MovesNames}
+use Rattle.law_objects.proofs.NamesMoved.{named_at, AreNames, AskedMoves, MovesNames}
 
 -- Each package-level declaration gets the name that is put in the place of its name.
 abbrev pub LevelsMove : Replaced → Package → Package → Type 0
@@ -117,6 +119,14 @@ module _ (w : Workspace) (before after : Verdicts) (sound : ListsFaults w []) (r
   types : (t : PlacedType) → Holds (package_types p) t → r.global (named_at p.path p t.file t.spec.name) ≡ named_at p.path q t.file t.spec.name
   types t held = let v = type_stands w before p was t held in stood t.file t.spec.name v.0 v.1.0 v.1.1.0 v.1.1.1
 
+  -- an interface is at fault
+  asked : (t : PlacedType) → Holds (package_types p) t → AskedMoves r p.path p.files q.files t
+  unfolding body_faults
+  asked t held k o c ms body i among =
+      let fine = type_fine w sound before right p was t held in
+      let e : body_faults fine.0 (Interface k o ms c) ≡ [] = ap (body_faults fine.0) (sym body) ∙ fine.1 in
+      let never : ⊥ = cc in absurd never
+
   in_file : (f : PlacedFunction) → Holds (package_functions p) f → IsInFile p f
   in_file f held = let k = rank_of (package_functions p) f held in in_file_of p k.0 f k.1
 
@@ -172,4 +182,4 @@ module _ (w : Workspace) (before after : Verdicts) (sound : ListsFaults w []) (r
             ∙ ap (λ z. function_named p.path q.files f.file z (spelled q f.file f.function.name)) (sym e)
 
     pub moves : QualifiedMove r p q → MovesNames r p q
-    moves qualified = record { bound = bound; qualified = qualified; types = types; initial = initial; functions = functions }
+    moves qualified = record { bound = bound; qualified = qualified; types = types; initial = initial; functions = functions; asked = asked }

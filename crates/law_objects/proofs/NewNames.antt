@@ -1,18 +1,24 @@
 -- Objects print the same names of a package, and the positions of its fields stay, where its tokens get new numbers and keep their bytes.
-use Rattle.std.proofs.Common.{ℕ, suc, ◌≡◌, ◌+◌, Bool, if◌then◌else◌, List, [], ◌∷◌, ◌++◌, Option, Some, None, option_map, map, refl, ap, sym, ◌∙◌}
+use Rattle.std.proofs.lemmas.Bool.{eqb-true}
+use Rattle.std.proofs.Common.{ℕ, suc, ◌≡◌, ◌==◌, ◌+◌, Bool, true, false, if◌then◌else◌, List, [], ◌∷◌, ◌++◌, Option, Some, None, option_map, map, refl, ap, sym, ◌∙◌}
 use Rattle.std.specs.List.{flat_map}
 use Rattle.std.proofs.Math.Path.{ap₂}
 use Rattle.std.proofs.lemmas.List.{map-append}
 use Rattle.go_ast.specs.SourceFile.{SourceFile}
-use Rattle.go_ast.specs.Tree.{Item, FieldTree, BodyTree, Other, Struct, Interface, ReceiverTree}
+use Rattle.go_ast.specs.Tree.{Item, FieldTree, MethodTree, BodyTree, Other, Struct, Interface, ReceiverTree}
 use Rattle.types_declared.specs.Package.{PlacedType, PlacedFunction, declared_types, declared_functions}
-use Rattle.build_object.specs.Lines.{Initializer, Method}
+use Rattle.build_object.specs.Lines.{FunctionName, GlobalName, Initializer, Method}
 use Rattle.build_object.specs.Names.{spelled_in, name_of_type, type_names, is_named_init, is_initializer, function_named, function_called}
 use Rattle.build_object.specs.Names.{initializers_with, functions_behind, function_names, positions_from, names_of_fields, body_positions}
-use Rattle.build_object.specs.Names.{type_positions, field_positions}
+use Rattle.build_object.specs.Names.{type_positions, field_positions, MethodAsked, asked_names_of, asked_by_body, asked_if, asked_in_file, asked_names_by}
+use Rattle.build_object.specs.Names.{asked_names_in, all_asked_names}
 use Rattle.law_rename.specs.Renumbered.{items_by, item_by, body_by, field_by, method_by, receiver_by}
 use Rattle.law_changed_types.specs.RenumberedPackage.{AreRenumberedFiles}
 use Rattle.law_changed_types.proofs.RenumberedTypesListed.{new_type, new_function, types_by, functions_by}
+
+-- a field has no name in objects
+abbrev pub no_name : Item ℕ → Option FunctionName
+no_name i = None
 
 module _ (t : ℕ → ℕ → ℕ) (fs gs : List SourceFile) (spelled : (file n : ℕ) → spelled_in gs file (t file n) ≡ spelled_in fs file n) (path : List ℕ) where
   same_types : (ds : List PlacedType) → map (name_of_type path gs) (map (new_type t) ds) ≡ map (name_of_type path fs) ds
@@ -67,7 +73,74 @@ module _ (t : ℕ → ℕ → ℕ) (fs gs : List SourceFile) (spelled : (file n 
   positions_of [] = refl
   positions_of (d ∷ ds) = ap₂ (λ a rest. a ++ rest) (same_body (t d.file) d.spec.body) (positions_of ds)
 
+  -- methods that interfaces ask for
+
+  same_owner : (d : PlacedType) → name_of_type path gs (new_type t d) ≡ name_of_type path fs d
+  same_owner d = ap (λ name. record { path = path; name = name }) (spelled d.file d.spec.name)
+
+  -- by token
+
+  abbrev pub new_asked : (file : ℕ) → MethodAsked → MethodAsked
+  new_asked file a = record { place = t file a.place; name = a.name }
+
+  methods_named : (of : GlobalName) (file : ℕ) (ms : List (Item MethodTree)) →
+      asked_names_of of gs file (items_by (t file) (method_by (t file)) ms) ≡ map (new_asked file) (asked_names_of of fs file ms)
+  methods_named of file [] = refl
+  methods_named of file (m ∷ ms) =
+      ap₂ (λ name rest. record { place = t file m.value.name; name = Method of name } ∷ rest) (spelled file m.value.name) (methods_named of file ms)
+
+  body_asks : (d : PlacedType) (b : BodyTree) →
+      asked_by_body path gs (new_type t d) (body_by (t d.file) b) ≡ map (new_asked d.file) (asked_by_body path fs d b)
+  body_asks d (Other x) = refl
+  body_asks d (Struct k o xs c) = refl
+  body_asks d (Interface k o ms c) =
+      ap (λ of. asked_names_of of gs d.file (items_by (t d.file) (method_by (t d.file)) ms)) (same_owner d)
+      ∙ methods_named (name_of_type path fs d) d.file ms
+
+  asks_if : (b : Bool) (file : ℕ) (d : PlacedType) → (b ≡ true → d.file ≡ file) →
+      (if b then asked_by_body path gs (new_type t d) (body_by (t d.file) d.spec.body) else [])
+      ≡ map (new_asked file) (if b then asked_by_body path fs d d.spec.body else [])
+  asks_if true file d same = body_asks d d.spec.body ∙ ap (λ f. map (new_asked f) (asked_by_body path fs d d.spec.body)) (same refl)
+  asks_if false file d same = refl
+
+  types_ask : (file : ℕ) (ds : List PlacedType) →
+      flat_map (asked_if path gs file) (map (new_type t) ds) ≡ map (new_asked file) (flat_map (asked_if path fs file) ds)
+  types_ask file [] = refl
+  types_ask file (d ∷ ds) =
+      ap₂ (λ a rest. a ++ rest) (asks_if (d.file == file) file d (eqb-true d.file file)) (types_ask file ds)
+      ∙ sym (map-append (new_asked file) (asked_if path fs file d) (flat_map (asked_if path fs file) ds))
+
+  -- by rank
+
+  no_names : (g : ℕ → ℕ) (is : List (Item ℕ)) → map (λ (i : Item ℕ). no_name i) (items_by g g is) ≡ map (λ (i : Item ℕ). no_name i) is
+  no_names g [] = refl
+  no_names g (i ∷ is) = ap (λ rest. None ∷ rest) (no_names g is)
+
+  methods_ranked : (of : GlobalName) (file : ℕ) (ms : List (Item MethodTree)) →
+      map (λ (i : Item MethodTree). Some (Method of (spelled_in gs file i.value.name))) (items_by (t file) (method_by (t file)) ms)
+      ≡ map (λ (i : Item MethodTree). Some (Method of (spelled_in fs file i.value.name))) ms
+  methods_ranked of file [] = refl
+  methods_ranked of file (m ∷ ms) = ap₂ (λ name rest. Some (Method of name) ∷ rest) (spelled file m.value.name) (methods_ranked of file ms)
+
+  body_names : (d : PlacedType) (b : BodyTree) → asked_names_by path gs (new_type t d) (body_by (t d.file) b) ≡ asked_names_by path fs d b
+  body_names d (Other x) = refl
+  body_names d (Struct k o xs c) =
+      ap (λ is. map (λ (i : Item ℕ). no_name i) is) (field_names (t d.file) xs) ∙ no_names (t d.file) (names_of_fields xs)
+  body_names d (Interface k o ms c) =
+      ap (λ of. map (λ (i : Item MethodTree). Some (Method of (spelled_in gs d.file i.value.name))) (items_by (t d.file) (method_by (t d.file)) ms)) (same_owner d)
+      ∙ methods_ranked (name_of_type path fs d) d.file ms
+
+  types_named : (ds : List PlacedType) → flat_map (asked_names_in path gs) (map (new_type t) ds) ≡ flat_map (asked_names_in path fs) ds
+  types_named [] = refl
+  types_named (d ∷ ds) = ap₂ (λ a rest. a ++ rest) (body_names d d.spec.body) (types_named ds)
+
   module _ (are : AreRenumberedFiles t 0 fs gs) where
+    pub asked_kept : (file : ℕ) → asked_in_file path gs file ≡ map (new_asked file) (asked_in_file path fs file)
+    asked_kept file = ap (λ ds. flat_map (asked_if path gs file) ds) (types_by t fs gs are) ∙ types_ask file (declared_types fs)
+
+    pub asked_names_kept : all_asked_names path gs ≡ all_asked_names path fs
+    asked_names_kept = ap (λ ds. flat_map (asked_names_in path gs) ds) (types_by t fs gs are) ∙ types_named (declared_types fs)
+
     pub types_kept : type_names path gs ≡ type_names path fs
     types_kept = ap (λ ds. map (name_of_type path gs) ds) (types_by t fs gs are) ∙ same_types (declared_types fs)
 

@@ -1,5 +1,6 @@
 -- The object of each package is the old one where an import of one package gained the name that it declared already.
 use Rattle.std.proofs.Common.{ℕ, zero, suc, ◌≡◌, ◌+◌, inl, inr, List, [], ◌∷◌, Some, map, length, refl, ap, sym, subst, ◌∙◌, arith}
+use Rattle.std.specs.Option.{option_flatten}
 use Rattle.std.specs.Prelude.{Contains, slice_get}
 use Rattle.std.proofs.Math.Path.{ap₂, fun_ext}
 use Rattle.std.proofs.lemmas.Option.{none-some, same_Some}
@@ -20,7 +21,8 @@ use Rattle.workspace_check.proofs.StandsAlike.{package_there}
 use Rattle.refs_binding.specs.Uses.{IsCheckedPackage}
 use Rattle.refs_binding.proofs.Units.{one_package}
 use Rattle.refs_lookup.proofs.OnePlace.{same_files}
-use Rattle.build_object.specs.Names.{field_positions, function_name, function_names, position_of_field, type_name, type_names}
+use Rattle.build_object.specs.Names.{field_positions, function_name, function_names, position_of_field, type_name, type_names, name_of_asked}
+use Rattle.build_object.specs.Names.{all_asked_names, asked_in_file}
 use Rattle.build_object.specs.Objects.{Object, object_of}
 use Rattle.build_object.specs.ObjectText.{object_text}
 use Rattle.build_object.specs.Source.{Source}
@@ -42,8 +44,8 @@ use Rattle.law_objects.proofs.Declarations.{objects_renumber}
 use Rattle.law_objects.specs.KeptObjects.{GainedNamesKeepObjects}
 use Rattle.law_objects.proofs.ImportsAfter.{imports_after}
 use Rattle.law_objects.proofs.Literals.{name_no_literal}
-use Rattle.law_objects.proofs.NewNames.{functions_kept, positions_kept, types_kept}
-use Rattle.law_objects.proofs.SourceAfter.{is_new, is_renumbered, new}
+use Rattle.law_objects.proofs.NewNames.{functions_kept, positions_kept, types_kept, asked_kept, asked_names_kept}
+use Rattle.law_objects.proofs.SourceAfter.{asked_moved, is_new, is_renumbered, new}
 
 -- the sources of files, one by one
 
@@ -88,6 +90,7 @@ record FilesPrint (path : List ℕ) (files now : List SourceFile) : Type 0 where
   types : type_names path now ≡ type_names path files
   functions : function_names path now ≡ function_names path files
   positions : field_positions now ≡ field_positions files
+  asked : all_asked_names path now ≡ all_asked_names path files
 
 module _ (w x : Workspace) (sound : ListsFaults w []) (sound_now : ListsFaults x []) (known : Verdicts) (right : AreVerdicts w known)
     (right_now : AreVerdicts x known) (number : ℕ) (p q : Package) (h : HasGainedName w x known number p q) where
@@ -119,7 +122,14 @@ module _ (w x : Workspace) (sound : ListsFaults w []) (sound_now : ListsFaults x
         types = types_kept (moved_by i) p.files q.files spelled p.path are;
         functions = functions_kept (moved_by i) p.files q.files spelled p.path are;
         positions = positions_kept (moved_by i) p.files q.files spelled p.path are;
+        asked = asked_names_kept (moved_by i) p.files q.files spelled p.path are;
       }
+
+  own_asks : (k : ℕ) → asked_in_file q.path q.files k ≡ map (asked_moved (moved_by i k)) (asked_in_file p.path p.files k)
+  own_asks k =
+      let spelled = spelled_by_move i p q a.named.file in
+      let are = by_move i at p q a.named.parsed a.named.file in
+      ap (λ r. asked_in_file r q.files k) same_path ∙ asked_kept (moved_by i) p.files q.files spelled p.path are k
 
   -- the files in which the code of a package looks up names
 
@@ -132,7 +142,7 @@ module _ (w x : Workspace) (sound : ListsFaults w []) (sound_now : ListsFaults x
   next_files path o _ (beyond out) = record {
     after = [];
     seen = beyond (λ c. out (closed_by x w (imports_back w x h.imports) path o c));
-    print = record { types = refl; functions = refl; positions = refl };
+    print = record { types = refl; functions = refl; positions = refl; asked = refl };
   }
   next_files path o files (within c of) = elim (cases_bytes o p.path) [
     | inl same ↦
@@ -159,7 +169,7 @@ module _ (w x : Workspace) (sound : ListsFaults w []) (sound_now : ListsFaults x
         parsed = subst (λ es. AreParsed es of.parts of.faulty) (h.others o other) of.parsed;
         are_files = of.are_files;
       });
-      print = record { types = refl; functions = refl; positions = refl };
+      print = record { types = refl; functions = refl; positions = refl; asked = refl };
     }
   ]
 
@@ -190,6 +200,9 @@ module _ (w x : Workspace) (sound : ListsFaults w []) (sound_now : ListsFaults x
     positions_are : (f : Symbol) → position_of_field new_of f ≡ position_of_field files_of f
     positions_are f = ap (λ ns. slice_get ns f.rank) (print f.package).positions
 
+    asked_are : (f : Symbol) → name_of_asked new_of f ≡ name_of_asked files_of f
+    asked_are f = ap (λ ns. option_flatten (slice_get ns f.rank)) (print f.package).asked
+
     same_text : object_text (type_name files_of) o ≡ object_text (type_name new_of) o
     same_text = ap (λ names. object_text names o) (fun_ext (λ (t : Symbol). sym (types_are t)))
 
@@ -199,12 +212,15 @@ module _ (w x : Workspace) (sound : ListsFaults w []) (sound_now : ListsFaults x
     still_source y file f s of = record {
       world = of.world;
       before = of.before;
+      entered = of.entered;
       global = of.global;
+      asks = of.asks;
       truth = of.truth;
       number = of.number;
       text = of.text;
       function = λ symbol. of.function symbol ∙ sym (functions_are symbol);
       position = λ symbol. of.position symbol ∙ sym (positions_are symbol);
+      asked = λ symbol. of.asked symbol ∙ sym (asked_are symbol);
     }
 
     other_text : (has.checked.path ≡ p.path → ⊥) → HasObjectText x known path (object_text (type_name files_of) o)
@@ -244,12 +260,12 @@ module _ (w x : Workspace) (sound : ListsFaults w []) (sound_now : ListsFaults x
           let order = in_order x known p.path q h.is in
           let literal = name_no_literal number p q h.gains in
           let zero_plus : k ≡ 0 + k = omega arith in (
-            new i at p q a order worlds literal k f g is there files_of new_of functions_are positions_are s of v.0 v.1,
+            new i at p q a order worlds literal k f g is there files_of new_of functions_are positions_are asked_are (own_asks k) s of v.0 v.1,
             (
-              is_new i at p q a order worlds literal k f g is there files_of new_of functions_are positions_are s of v.0 v.1,
+              is_new i at p q a order worlds literal k f g is there files_of new_of functions_are positions_are asked_are (own_asks k) s of v.0 v.1,
               subst (λ j. IsRenumberedSource (token i at j) f.tree.decls s
-                  (new i at p q a order worlds literal k f g is there files_of new_of functions_are positions_are s of v.0 v.1)) zero_plus
-                  (is_renumbered i at p q a order worlds literal k f g is there files_of new_of functions_are positions_are s of v.0 v.1),
+                  (new i at p q a order worlds literal k f g is there files_of new_of functions_are positions_are asked_are (own_asks k) s of v.0 v.1)) zero_plus
+                  (is_renumbered i at p q a order worlds literal k f g is there files_of new_of functions_are positions_are asked_are (own_asks k) s of v.0 v.1),
             ),
           )
 

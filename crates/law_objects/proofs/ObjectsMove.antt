@@ -1,7 +1,9 @@
 -- The object of a package after a plain rename is the old one with the names that the rename replaces.
-use Rattle.std.proofs.Common.{ℕ, zero, suc, ◌≡◌, ◌+◌, inl, inr, Bool, true, false, if◌then◌else◌, List, [], ◌∷◌, Some, option_map, map, length}
-use Rattle.std.proofs.Common.{refl, ap, sym, subst, ◌∙◌, arith}
+use Rattle.std.proofs.Common.{ℕ, zero, suc, ◌≡◌, ◌==◌, ◌+◌, inl, inr, Bool, true, false, if◌then◌else◌, List, [], ◌∷◌, ◌++◌, Option, Some, None}
+use Rattle.std.proofs.Common.{option_map, map, length, refl, ap, sym, subst, ◌∙◌, arith}
+use Rattle.std.specs.Option.{option_flatten}
 use Rattle.std.specs.Prelude.{slice_get, Contains}
+use Rattle.std.proofs.lemmas.List.{map-append}
 use Rattle.std.specs.List.{flat_map}
 use Rattle.std.proofs.Math.Path.{ap₂, fun_ext}
 use Rattle.std.proofs.lemmas.Option.{none-some, same_Some, slice_get-map}
@@ -13,7 +15,7 @@ use Rattle.base_edits.specs.RevisionsOfEdits.{revision_of}
 use Rattle.base_files.specs.Packages.{package_files}
 use Rattle.base_files.specs.Workspace.{Workspace}
 use Rattle.go_ast.specs.SourceFile.{SourceFile, FileParts, source_of}
-use Rattle.go_ast.specs.Tree.{FileTree}
+use Rattle.go_ast.specs.Tree.{FileTree, Item, MethodTree, BodyTree, Other, Struct, Interface}
 use Rattle.types_expr.specs.declared.symbol.Symbol.{Symbol}
 use Rattle.types_declared.specs.Files.{package_name}
 use Rattle.types_declared.specs.Package.{Package, PlacedType, PlacedFunction, declared_types, declared_functions}
@@ -32,9 +34,10 @@ use Rattle.refs_binding.specs.declared.declaration.Declaration.{Declaration}
 use Rattle.refs_binding.specs.Uses.{IsCheckedPackage}
 use Rattle.refs_lookup.proofs.OnePlace.{same_files}
 use Rattle.refactor_conflict.specs.Staying.{NoneIsLost}
-use Rattle.build_object.specs.Lines.{FunctionName, Initializer}
+use Rattle.build_object.specs.Lines.{FunctionName, GlobalName, Initializer, Method}
 use Rattle.build_object.specs.Names.{name_of_type, type_names, is_initializer, function_called, initializers_with, functions_behind, function_names}
-use Rattle.build_object.specs.Names.{type_positions, field_positions, type_name, function_name, position_of_field}
+use Rattle.build_object.specs.Names.{type_positions, field_positions, type_name, function_name, position_of_field, asked_names_of, asked_by_body, asked_if}
+use Rattle.build_object.specs.Names.{asked_in_file, asked_names_by, asked_names_in, all_asked_names, name_of_asked, names_of_fields, spelled_in}
 use Rattle.build_object.specs.Objects.{Object, object_of}
 use Rattle.build_object.specs.ObjectText.{object_text}
 use Rattle.build_object.specs.Source.{Source}
@@ -60,7 +63,8 @@ use Rattle.law_renamed_workspaces.proofs.OuterFaults.{name_stays}
 use Rattle.law_objects.specs.Objects.{HasObject, HasObjectText, ReplacesNames}
 use Rattle.law_objects.specs.Replaced.{Replaced, object_by, text_by}
 use Rattle.law_objects.proofs.DeclarationsBy.{object_with}
-use Rattle.law_objects.proofs.NamesMoved.{AreNames, MovesNames}
+use Rattle.law_objects.proofs.NamesMoved.{AreNames, AskedMoves, MovesNames, asked_renamed}
+use Rattle.law_objects.proofs.NewNames.{no_name}
 use Rattle.law_objects.proofs.Sourced.{files_now, files_were, new, is_new, is_by}
 use Rattle.law_objects.specs.SourcesBy.{AreSourcesBy, IsSourceBy, a_source, no_tree}
 
@@ -70,6 +74,69 @@ record FilesMove (r : Replaced) (path : List ℕ) (files now : List SourceFile) 
   types : type_names path now ≡ map r.global (type_names path files)
   functions : function_names path now ≡ map r.function (function_names path files)
   positions : field_positions now ≡ field_positions files
+  asked : all_asked_names path now ≡ map (option_map r.function) (all_asked_names path files)
+
+-- What interfaces ask for.
+
+module _ (r : Replaced) (path : List ℕ) (files now : List SourceFile) where
+  -- by token
+
+  methods_move : (was new : GlobalName) (file : ℕ) (ms : List (Item MethodTree)) →
+      ((i : Item MethodTree) → Holds ms i → r.function (Method was (spelled_in files file i.value.name)) ≡ Method new (spelled_in now file i.value.name)) →
+      asked_names_of new now file ms ≡ map (asked_renamed r) (asked_names_of was files file ms)
+  methods_move was new file [] each = refl
+  methods_move was new file (m ∷ ms) each =
+      ap₂ (λ name rest. record { place = m.value.name; name = name } ∷ rest) (sym (each m (inl refl))) (methods_move was new file ms (λ i h. each i (inr h)))
+
+  body_asks : (t : PlacedType) (b : BodyTree) → t.spec.body ≡ b → AskedMoves r path files now t →
+      asked_by_body path now t b ≡ map (asked_renamed r) (asked_by_body path files t b)
+  body_asks t (Other x) e each = refl
+  body_asks t (Struct k o xs c) e each = refl
+  body_asks t (Interface k o ms c) e each = methods_move (name_of_type path files t) (name_of_type path now t) t.file ms (each k o c ms e)
+
+  asks_if : (one : Bool) (t : PlacedType) → AskedMoves r path files now t →
+      (if one then asked_by_body path now t t.spec.body else []) ≡ map (asked_renamed r) (if one then asked_by_body path files t t.spec.body else [])
+  asks_if true t each = body_asks t t.spec.body refl each
+  asks_if false t each = refl
+
+  types_ask : (file : ℕ) (ts : List PlacedType) → ((t : PlacedType) → Holds ts t → AskedMoves r path files now t) →
+      flat_map (asked_if path now file) ts ≡ map (asked_renamed r) (flat_map (asked_if path files file) ts)
+  types_ask file [] each = refl
+  types_ask file (t ∷ ts) each =
+      ap₂ (λ a rest. a ++ rest) (asks_if (t.file == file) t (each t (inl refl))) (types_ask file ts (λ x h. each x (inr h)))
+      ∙ sym (map-append (asked_renamed r) (asked_if path files file t) (flat_map (asked_if path files file) ts))
+
+  -- by rank
+
+  fields_unnamed : (ns : List (Item ℕ)) → map (λ (i : Item ℕ). no_name i) ns ≡ map (option_map r.function) (map (λ (i : Item ℕ). no_name i) ns)
+  fields_unnamed [] = refl
+  fields_unnamed (n ∷ ns) = ap (λ rest. None ∷ rest) (fields_unnamed ns)
+
+  methods_named : (was new : GlobalName) (file : ℕ) (ms : List (Item MethodTree)) →
+      ((i : Item MethodTree) → Holds ms i → r.function (Method was (spelled_in files file i.value.name)) ≡ Method new (spelled_in now file i.value.name)) →
+      map (λ (i : Item MethodTree). Some (Method new (spelled_in now file i.value.name))) ms
+      ≡ map (option_map r.function) (map (λ (i : Item MethodTree). Some (Method was (spelled_in files file i.value.name))) ms)
+  methods_named was new file [] each = refl
+  methods_named was new file (m ∷ ms) each =
+      ap₂ (λ name rest. Some name ∷ rest) (sym (each m (inl refl))) (methods_named was new file ms (λ i h. each i (inr h)))
+
+  body_names : (t : PlacedType) (b : BodyTree) → t.spec.body ≡ b → AskedMoves r path files now t →
+      asked_names_by path now t b ≡ map (option_map r.function) (asked_names_by path files t b)
+  body_names t (Other x) e each = refl
+  body_names t (Struct k o xs c) e each = fields_unnamed (names_of_fields xs)
+  body_names t (Interface k o ms c) e each = methods_named (name_of_type path files t) (name_of_type path now t) t.file ms (each k o c ms e)
+
+  types_name : (ts : List PlacedType) → ((t : PlacedType) → Holds ts t → AskedMoves r path files now t) →
+      flat_map (asked_names_in path now) ts ≡ map (option_map r.function) (flat_map (asked_names_in path files) ts)
+  types_name [] each = refl
+  types_name (t ∷ ts) each =
+      ap₂ (λ a rest. a ++ rest) (body_names t t.spec.body refl (each t (inl refl))) (types_name ts (λ x h. each x (inr h)))
+      ∙ sym (map-append (option_map r.function) (asked_names_in path files t) (flat_map (asked_names_in path files) ts))
+
+flat_by : {X Y : Type 0} (g : X → Y) (o : Option (Option X)) → option_flatten (option_map (option_map g) o) ≡ option_map g (option_flatten o)
+flat_by g None = refl
+flat_by g (Some None) = refl
+flat_by g (Some (Some x)) = refl
 
 types_move : (r : Replaced) (path : List ℕ) (files now : List SourceFile) (ts : List PlacedType) →
     ((t : PlacedType) → Holds ts t → r.global (name_of_type path files t) ≡ name_of_type path now t) →
@@ -244,7 +311,19 @@ module _ (w : Workspace) (before after : Verdicts) (d : Declaration) (name : Lis
               ap (λ fs. functions_behind p.path q.files 0 fs) (same_functions p.files q.files trees)
               ∙ functions_move r names p.path p.files q.files 0 (declared_functions p.files) m.initial m.functions;
           positions = ap (λ ts. flat_map type_positions ts) (same_types p.files q.files trees);
+          asked =
+              ap (λ ts. flat_map (asked_names_in p.path q.files) ts) (same_types p.files q.files trees)
+              ∙ types_name r p.path p.files q.files (declared_types p.files) m.asked;
         }
+
+    asks_move : (p : Package) (was : IsCheckedPackage w before p) (k : ℕ) →
+        asked_in_file (next p was).path (next p was).files k ≡ map (asked_renamed r) (asked_in_file p.path p.files k)
+    asks_move p was k =
+        let q = next p was in
+        let stays = (is_after p was).relaid in
+        ap (λ z. asked_in_file z q.files k) stays.path
+        ∙ ap (λ ts. flat_map (asked_if p.path q.files k) ts) (same_types p.files q.files stays.trees)
+        ∙ types_ask r p.path p.files q.files k (declared_types p.files) (moves p was).asked
 
     -- the files in which the code of a package looks up names
 
@@ -257,7 +336,7 @@ module _ (w : Workspace) (before after : Verdicts) (d : Declaration) (name : Lis
     next_files path o _ (beyond out) = record {
       now = [];
       seen = beyond (λ c. out (closed_by x w (imports_back w x same) path o c));
-      move = record { types = refl; functions = refl; positions = refl };
+      move = record { types = refl; functions = refl; positions = refl; asked = refl };
     }
     next_files path o files (within c of) =
         let has = to_package w path o c in
@@ -319,6 +398,12 @@ module _ (w : Workspace) (before after : Verdicts) (d : Declaration) (name : Lis
       positions_are : (f : Symbol) → position_of_field new_of f ≡ position_of_field files_of f
       positions_are f = ap (λ ns. slice_get ns f.rank) (move f.package).positions
 
+      asked_are : (f : Symbol) → name_of_asked new_of f ≡ option_map r.function (name_of_asked files_of f)
+      asked_are f =
+          ap (λ ns. option_flatten (slice_get ns f.rank)) (move f.package).asked
+          ∙ ap option_flatten (slice_get-map (option_map r.function) (all_asked_names f.package (files_of f.package)) f.rank)
+          ∙ flat_by r.function (slice_get (all_asked_names f.package (files_of f.package)) f.rank)
+
       worlds : HaveWorlds q
       worlds = have_all_worlds x sound_now after right q here.is
 
@@ -327,10 +412,10 @@ module _ (w : Workspace) (before after : Verdicts) (d : Declaration) (name : Lis
       one_source k f g t at there got =
           let v = worlds k g there in
           let is = has.is_object.made_of k f t at got in (
-            new w before after d name s plain none p q here k f g at there r (moves p was) files_of new_of functions_are positions_are t is v.0 v.1,
+            new w before after d name s plain none p q here k f g at there r (moves p was) files_of new_of functions_are positions_are asked_are (asks_move p was k) t is v.0 v.1,
             (
-              is_new w before after d name s plain none p q here k f g at there r (moves p was) files_of new_of functions_are positions_are t is v.0 v.1,
-              is_by w before after d name s plain none p q here k f g at there r (moves p was) files_of new_of functions_are positions_are t is v.0 v.1,
+              is_new w before after d name s plain none p q here k f g at there r (moves p was) files_of new_of functions_are positions_are asked_are (asks_move p was k) t is v.0 v.1,
+              is_by w before after d name s plain none p q here k f g at there r (moves p was) files_of new_of functions_are positions_are asked_are (asks_move p was k) t is v.0 v.1,
             ),
           )
 

@@ -7,7 +7,7 @@ use Rattle.go_ast.specs.declared.syntax.BinaryOp.TheVariants as op
 use Rattle.go_ast.specs.declared.syntax.PrefixOp.{PrefixOp}
 use Rattle.go_ast.specs.declared.syntax.PrefixOp.TheVariants as prefix
 use Rattle.types_expr.specs.Types.{PlainType, ValueKind, Typed, Untyped, Meaning, Value, TypeName, Function, BuiltinName, Package, Results, Broken, points}
-use Rattle.types_expr.specs.Types.{is_pointer}
+use Rattle.types_expr.specs.Types.{is_pointer, AFieldOf, AMethodOf}
 use Rattle.types_expr.specs.Types.{Nil as NilKind, is_struct}
 use Rattle.types_expr.specs.World.{Bound, Means, BrokenVariable, BrokenFunction, BrokenType, Member, AField, AMethod, ABrokenMethod, underlying}
 use Rattle.types_expr.specs.World.{Local as LocalName}
@@ -15,8 +15,8 @@ use Rattle.build_object.specs.Lines.{GlobalName, FunctionName, Plain, CodeLine, 
 use Rattle.build_object.specs.Lines as line
 use Rattle.build_object.specs.Numbering.{slot_of}
 use Rattle.build_object.specs.Source.{Source}
-use Rattle.build_object.specs.Operands.{Mode, Values, Called, Converts, Predeclared, Qualifies, CodeOperand, plain, variable, mode_alone, local_operand}
-use Rattle.build_object.specs.Operands.{global_operand}
+use Rattle.build_object.specs.Operands.{Mode, Values, Called, CalledAsked, Converts, Predeclared, Qualifies, CodeOperand, plain, variable, mode_alone}
+use Rattle.build_object.specs.Operands.{local_operand, global_operand, asked_mode, asked_operand}
 use Rattle.build_object.specs.Operands.{function_mode, plain_function, value_name, named_meaning, bound_name, name_operand, prefixed, operated, unqualified}
 use Rattle.build_object.specs.Operands.{export_operand, field_operand, receiver_lines, method_operand, member_operand, typed_selector, selected_by, selected}
 use Rattle.build_object.specs.Operands.{indexed, calling, left_by_call, called, value_count, settled}
@@ -27,6 +27,7 @@ use Rattle.law_objects.specs.Replaced.{Replaced, line_by}
 
 abbrev pub mode_by : Replaced → Mode → Mode
 mode_by r (Called received f n) = Called received (r.function f) n
+mode_by r (CalledAsked f n) = CalledAsked (r.function f) n
 mode_by r mode = mode
 
 abbrev pub lines_by : Replaced → List CodeLine → List CodeLine
@@ -105,6 +106,7 @@ module _ (r : Replaced) where
   unqualified_by : (m : Mode) → unqualified (mode_by r m) ≡ mode_by r (unqualified m)
   unqualified_by (Values n) = refl
   unqualified_by (Called b f n) = refl
+  unqualified_by (CalledAsked f n) = refl
   unqualified_by Converts = refl
   unqualified_by (Predeclared b) = refl
   unqualified_by Qualifies = refl
@@ -135,6 +137,15 @@ module _ (r : Replaced) where
   method_by xs ys e name n =
       same_operand (method_operand xs (option_map r.function name) n) (operand_by r (method_operand ys name n)) e e (function_mode_by name true n)
 
+  asked_mode_by : (o : Option FunctionName) (n : ℕ) → asked_mode (option_map r.function o) n ≡ mode_by r (asked_mode o n)
+  asked_mode_by None n = refl
+  asked_mode_by (Some f) n = refl
+
+  asked_operand_by : (o : CodeOperand) (name : Option FunctionName) (n : ℕ) →
+      asked_operand (operand_by r o) (option_map r.function name) n ≡ operand_by r (asked_operand o name n)
+  asked_operand_by o name n =
+      same_operand (asked_operand (operand_by r o) (option_map r.function name) n) (operand_by r (asked_operand o name n)) refl refl (asked_mode_by name n)
+
   -- indexes and calls
 
   pub indexed_by : (o : CodeOperand) (i : List CodeLine) → indexed (operand_by r o) (L i) ≡ operand_by r (indexed o i)
@@ -146,6 +157,7 @@ module _ (r : Replaced) where
   unfolding calling
   calling_by n (Values k) = refl
   calling_by n (Called b f k) = refl
+  calling_by n (CalledAsked f k) = refl
   calling_by n Converts = refl
   calling_by n (Predeclared b) = refl
   calling_by n Qualifies = refl
@@ -154,6 +166,7 @@ module _ (r : Replaced) where
   unfolding left_by_call
   left_by (Values k) = refl
   left_by (Called b f k) = refl
+  left_by (CalledAsked f k) = refl
   left_by Converts = refl
   left_by (Predeclared b) = refl
   left_by Qualifies = refl
@@ -168,6 +181,7 @@ module _ (r : Replaced) where
   pub count_by : (m : Mode) → value_count (mode_by r m) ≡ value_count m
   count_by (Values k) = refl
   count_by (Called b f k) = refl
+  count_by (CalledAsked f k) = refl
   count_by Converts = refl
   count_by (Predeclared b) = refl
   count_by Qualifies = refl
@@ -218,7 +232,8 @@ module _ (r : Replaced) where
     member_by : (o : CodeOperand) (t : PlainType) (x : Option Member) → member_operand now (operand_by r o) t x ≡ operand_by r (member_operand s o t x)
     unfolding member_operand
     member_by o t None = refl
-    member_by o t (Some (AField f own)) = field_by o (points (underlying s.world t)) (s.position f)
+    member_by o t (Some (AField f (AFieldOf own))) = field_by o (points (underlying s.world t)) (s.position f)
+    member_by o t (Some (AField f (AMethodOf signature))) = asked_operand_by o (s.asked f) (length signature.results)
     member_by o t (Some (AMethod f on_pointer signature)) =
         method_by (receiver_lines (operand_by r o) (is_pointer t) on_pointer) (receiver_lines o (is_pointer t) on_pointer)
         (receiver_by o (is_pointer t) on_pointer) (s.function f) (length signature.results)
@@ -236,6 +251,7 @@ module _ (r : Replaced) where
         ap (export_operand (L o.value)) (name_by slots n) ∙ export_by o.value (name_operand s slots n)
     selected_mode_by slots n o (Values k) = typed_by n o (s.before n) refl
     selected_mode_by slots n o (Called b f k) = typed_by n o (s.before n) refl
+    selected_mode_by slots n o (CalledAsked f k) = typed_by n o (s.before n) refl
     selected_mode_by slots n o Converts = typed_by n o (s.before n) refl
     selected_mode_by slots n o (Predeclared b) = typed_by n o (s.before n) refl
 

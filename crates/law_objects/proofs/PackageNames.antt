@@ -49,6 +49,7 @@ use Rattle.law_renamed_workspaces.proofs.OwnNames.{counted, member_is_none}
 use Rattle.law_objects.proofs.LevelNames.{level_identifies, level_spelled, level_stands, own_spelled, type_stands}
 use Rattle.law_objects.proofs.MovesFrom.{rank_of}
 use Rattle.law_objects.proofs.Sourced.{of_decls}
+use Rattle.law_objects.proofs.NothingAsked.{AskNothing, asks_nothing, nothing_asked}
 use Rattle.law_objects.specs.Legible.{IsLegible, IsLegibleFunction, IsLegibleGlobal}
 use Rattle.law_objects.proofs.LegibleNames.{IsGood, good_legible, kind_good, token_good}
 
@@ -217,8 +218,8 @@ module _ (w : Workspace) (sound : ListsFaults w []) (known : Verdicts) (right : 
 
   -- the files in which the code of a package looks up names
   pub seen_legible : (path q : List ℕ) (files : List SourceFile) → AreFilesSeen w path q files →
-      AllByRecursion IsLegibleGlobal (type_names q files) × AllByRecursion IsLegibleFunction (function_names q files)
-  seen_legible path q _ (beyond out) = (tt, tt)
+      AllByRecursion IsLegibleGlobal (type_names q files) × (AllByRecursion IsLegibleFunction (function_names q files) × AskNothing q files)
+  seen_legible path q _ (beyond out) = (tt, (tt, nothing_asked q [] (λ t (held : ⊥). absurd held)))
   seen_legible path q files (within c of) =
       let has = to_package w path q c in
       let o = package_there w sound known right q has in
@@ -229,8 +230,12 @@ module _ (w : Workspace) (sound : ListsFaults w []) (known : Verdicts) (right : 
       let same : o.0.files ≡ files = same_files w known o.0.path o.0 is.is_checked ∙ sym sources ∙ sym of.are_files in (
         subst (λ k. AllByRecursion IsLegibleGlobal (type_names k files)) o.1.1
             (subst (λ fs. AllByRecursion IsLegibleGlobal (type_names o.0.path fs)) same (types_legible o.0 is)),
-        subst (λ k. AllByRecursion IsLegibleFunction (function_names k files)) o.1.1
-            (subst (λ fs. AllByRecursion IsLegibleFunction (function_names o.0.path fs)) same (functions_legible o.0 is)),
+        (
+          subst (λ k. AllByRecursion IsLegibleFunction (function_names k files)) o.1.1
+              (subst (λ fs. AllByRecursion IsLegibleFunction (function_names o.0.path fs)) same (functions_legible o.0 is)),
+          subst (λ k. AskNothing k files) o.1.1
+              (subst (λ fs. AskNothing o.0.path fs) same (asks_nothing w sound known right o.0 is)),
+        ),
       )
 
   -- the name of a package

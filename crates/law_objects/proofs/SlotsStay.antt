@@ -1,11 +1,12 @@
 -- What code asks of worlds beside members is the same in worlds that differ in their members alone: slots and types.
-use Rattle.std.proofs.Common.{◌≡◌, ◌++◌, Option, Some, None, refl, ap}
+use Rattle.std.proofs.Common.{ℕ, ◌≡◌, ◌++◌, Option, Some, None, refl, ap}
 use Rattle.std.proofs.Math.Path.{ap₂}
 use Rattle.go_ast.specs.Tree.{BodyTree, FuncTree, SimpleTree, InitTree, ForTree, StatementTree, BlockTree, StatementTrees, IfTree, ElseTree}
 use Rattle.go_ast.specs.Tree as tree
 use Rattle.types_expr.specs.World.{World}
 use Rattle.types_expr.specs.Judge.{judge_type, imported_type}
 use Rattle.types_stmt.specs.Sides.{defined_name}
+use Rattle.build_object.specs.Lines.{FunctionName}
 use Rattle.build_object.specs.Objects.{definition_of, parameters_of, results_of}
 use Rattle.build_object.specs.Slots.{simple_places, optional_places, init_places, header_places, statement_places, block_places, statements_places}
 use Rattle.build_object.specs.Slots.{if_places, else_places, receiver_places, parameter_places, slots_of}
@@ -15,11 +16,11 @@ module _ (v : World) (m : Members) where
   abbrev x : World
   x = with_members v m
 
-  pub same_definition : (b : BodyTree) → definition_of x b ≡ definition_of v b
+  pub same_definition : (asks : ℕ → Option FunctionName) (b : BodyTree) → definition_of x asks b ≡ definition_of v asks b
   unfolding definition_of judge_type imported_type
-  same_definition (tree.Other t) = refl
-  same_definition (tree.Struct k o fs c) = refl
-  same_definition (tree.Interface k o ms c) = refl
+  same_definition asks (tree.Other t) = refl
+  same_definition asks (tree.Struct k o fs c) = refl
+  same_definition asks (tree.Interface k o ms c) = refl
 
   pub same_parameters : (f : FuncTree) → parameters_of x f ≡ parameters_of v f
   unfolding judge_type imported_type

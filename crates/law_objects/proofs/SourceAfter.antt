@@ -1,5 +1,7 @@
 -- The source of the code of a file, in the package in which an import gained a name: the old one, with new numbers of tokens.
-use Rattle.std.proofs.Common.{ℕ, ◌≡◌, ◌+◌, Bool, true, false, if◌then◌else◌, List, [], ◌∷◌, Option, Some, None, map, refl, ap, sym, subst, ◌∙◌}
+use Rattle.std.proofs.Common.{ℕ, ◌≡◌, ◌+◌, inl, inr, Bool, true, false, if◌then◌else◌, List, [], ◌∷◌, Option, Some, None, map, refl, ap, sym, subst}
+use Rattle.std.proofs.Common.{◌∙◌, arith}
+use Rattle.std.proofs.lemmas.Bool.{cases_lt}
 use Rattle.std.specs.Prelude.{◌↔◌, Contains, slice_get}
 use Rattle.std.proofs.Math.Path.{ap₂, fun_ext}
 use Rattle.std.proofs.lemmas.Option.{same_Some}
@@ -10,7 +12,7 @@ use Rattle.go_scope.specs.WellFormed.{WellFormed}
 use Rattle.types_declared.specs.Files.{HasLiteral}
 use Rattle.types_declared.specs.Package.{Package, spelled, spelled_at}
 use Rattle.types_expr.specs.declared.symbol.Symbol.{Symbol}
-use Rattle.types_expr.specs.Judge.{MemberUse, members_of}
+use Rattle.types_expr.specs.Judge.{MemberUse, Entering, members_of, enterings_of}
 use Rattle.types_expr.specs.Types.{PlainType}
 use Rattle.types_expr.specs.World.{Definition, World, member_by}
 use Rattle.types_stmt.specs.Declarations.{check_file}
@@ -18,17 +20,18 @@ use Rattle.types_info.specs.Uniqueness.{TokensRise}
 use Rattle.types_info.specs.Worlds.{IsWorldOf, is_init}
 use Rattle.types_info.proofs.OneMeaning.{one_name}
 use Rattle.types_info.proofs.OneWorld.{has_one_world, same_implementing}
-use Rattle.build_object.specs.Lines.{GlobalName}
+use Rattle.build_object.specs.Lines.{GlobalName, FunctionName}
 use Rattle.build_object.specs.Literals.{literal_number}
-use Rattle.build_object.specs.Names.{function_name, position_of_field}
+use Rattle.build_object.specs.Names.{function_name, position_of_field, name_of_asked, asked_in_file, MethodAsked}
 use Rattle.build_object.specs.Source.{Source}
-use Rattle.build_object.specs.Sources.{type_before, IsGlobalAt, DenotesGlobal, IsTrueAt, IsTextAt, IsSourceOf}
+use Rattle.build_object.specs.Sources.{type_before, type_entered, asked_there, IsGlobalAt, DenotesGlobal, IsTrueAt, IsTextAt, IsSourceOf}
 use Rattle.law_faultless.specs.Worlds.{HaveWorlds}
 use Rattle.law_tokens.specs.Order.{StandInOrder}
 use Rattle.law_rename.specs.Gained.{Gain, moved_by}
+use Rattle.law_rename.proofs.Bound.{move_rises}
 use Rattle.law_changed_types.proofs.Worlds.{layout_formed, tokens_rise}
 use Rattle.law_objects.proofs.Sourced.{all_weaker}
-use Rattle.law_changed_types.specs.Renumbering.{IsRenumberedCheck, renumbered_bound, renumbered_use}
+use Rattle.law_changed_types.specs.Renumbering.{IsRenumberedCheck, renumbered_bound, renumbered_entering, renumbered_use}
 use Rattle.law_changed_types.specs.RenumberedPackage.{NewNumbers}
 use Rattle.law_changed_types.proofs.RenumberedTypesAlike.{Turned, TurnedIdentifiers}
 use Rattle.law_changed_types.proofs.RenumberedTypesLaws.{found_renumbers, names_renumber}
@@ -45,12 +48,37 @@ use Rattle.law_objects.proofs.Literals.{literals_there, spelled_still}
 use Rattle.law_objects.proofs.OwnNames.{literal_no_global, literal_no_truth, name_no_global, name_no_truth}
 use Rattle.law_objects.proofs.Seen.{IsOwnLiteral, at_seen, declared_apart, each_kept, each_seen, kept_at, kept_value, seen, seen_at}
 use Rattle.types_expr.proofs.NoteLists.{member_noted}
-use Rattle.law_changed_types.proofs.ChangedNotes.{members_renumbered}
+use Rattle.law_changed_types.proofs.ChangedNotes.{members_renumbered, enterings_renumbered}
 
 -- the type before a use, where uses are at new numbers
 uses_before : (t : ℕ → ℕ) → ((a b : ℕ) → t a ≡ t b → a ≡ b) → (us : List MemberUse) (n : ℕ) → type_before (map (renumbered_use t) us) (t n) ≡ type_before us n
 uses_before t apart [] n = refl
 uses_before t apart (u ∷ us) n = ap₂ (λ (b : Bool) (z : Option PlainType). if b then Some u.before else z) (same_equal t apart u.place n) (uses_before t apart us n)
+
+-- the same of entries, and of the methods that interfaces ask for
+entries_at : (t : ℕ → ℕ) → ((a b : ℕ) → t a ≡ t b → a ≡ b) → (es : List Entering) (n : ℕ) →
+    type_entered (map (renumbered_entering t) es) (t n) ≡ type_entered es n
+entries_at t apart [] n = refl
+entries_at t apart (e ∷ es) n = ap₂ (λ (b : Bool) (z : Option PlainType). if b then Some e.own else z) (same_equal t apart e.place n) (entries_at t apart es n)
+
+-- what an interface asks for, with the new number of its token
+abbrev pub asked_moved : (ℕ → ℕ) → MethodAsked → MethodAsked
+asked_moved t a = record { place = t a.place; name = a.name }
+
+asked_at_new : (t : ℕ → ℕ) → ((a b : ℕ) → t a ≡ t b → a ≡ b) → (ms : List MethodAsked) (n : ℕ) →
+    asked_there (map (asked_moved t) ms) (t n) ≡ asked_there ms n
+asked_at_new t apart [] n = refl
+asked_at_new t apart (a ∷ ms) n =
+    ap₂ (λ (b : Bool) (z : Option FunctionName). if b then Some a.name else z) (same_equal t apart a.place n) (asked_at_new t apart ms n)
+
+move_apart : (i : Gain) (f a b : ℕ) → moved_by i f a ≡ moved_by i f b → a ≡ b
+move_apart i f a b e = elim (cases_lt a b) [
+  | inl less ↦ (let r = move_rises i f a b less in absurd (omega (arith, r, e)))
+  | inr other ↦ elim (cases_lt b a) [
+    | inl less ↦ (let r = move_rises i f b a less in absurd (omega (arith, r, e)))
+    | inr also ↦ omega (arith, other, also)
+  ]
+]
 
 -- the sources of the files of the package, before and after
 module _ (i : Gain) (at : ℕ) (p q : Package) (a : IsGainedAt i at p q) (in_order : StandInOrder q.layout q.size) (worlds : HaveWorlds p)
@@ -78,7 +106,9 @@ module _ (i : Gain) (at : ℕ) (p q : Package) (a : IsGainedAt i at p q) (in_ord
   spelled_both k apart = ap (λ o. spelled_at o (t k)) is ∙ spelled_now k apart ∙ sym (ap (λ o. spelled_at o k) was)
 
   module _ (files_of new_of : List ℕ → List SourceFile) (functions : (x : Symbol) → function_name new_of x ≡ function_name files_of x)
-      (positions : (x : Symbol) → position_of_field new_of x ≡ position_of_field files_of x) (old : Source) (of : IsSourceOf p files_of file f old) (v : World)
+      (positions : (x : Symbol) → position_of_field new_of x ≡ position_of_field files_of x)
+      (asked : (x : Symbol) → name_of_asked new_of x ≡ name_of_asked files_of x)
+      (asks : asked_in_file q.path q.files file ≡ map (asked_moved (moved_by i file)) (asked_in_file p.path p.files file)) (old : Source) (of : IsSourceOf p files_of file f old) (v : World)
       (judged : IsWorldOf q file g v) where
     -- the world
 
@@ -137,16 +167,41 @@ module _ (i : Gain) (at : ℕ) (p q : Package) (a : IsGainedAt i at p q) (in_ord
         ∙ uses_before t (renumbers i at file).injective (members_of (check_file old.world (is_init f) f.tree).uses) k
         ∙ sym (of.before k)
 
+    pub entered_now : ℕ → Option PlainType
+    entered_now k = type_entered (enterings_of (check_file v (is_init g) g.tree).uses) k
+
+    entered_still : (k : ℕ) → entered_now (t k) ≡ old.entered k
+    unfolding entered_now
+    entered_still k =
+        ap (λ ns. type_entered (enterings_of ns) (t k)) found.uses
+        ∙ ap (λ es. type_entered es (t k)) (enterings_renumbered t (check_file old.world (is_init f) f.tree).uses)
+        ∙ entries_at t (renumbers i at file).injective (enterings_of (check_file old.world (is_init f) f.tree).uses) k
+        ∙ sym (of.entered k)
+
+    pub asks_now : ℕ → Option FunctionName
+    asks_now k = asked_there (asked_in_file q.path q.files file) k
+
+    asks_still : (k : ℕ) → (Own k → ⊥) → asks_now (t k) ≡ old.asks k
+    unfolding asks_now
+    asks_still k apart =
+        ap (λ n. asked_there (asked_in_file q.path q.files file) n) (sym (tokens_agree i at file k (λ e l. apart (e, l))))
+        ∙ ap (λ ms. asked_there ms (moved_by i file k)) asks
+        ∙ asked_at_new (moved_by i file) (move_apart i file) (asked_in_file p.path p.files file) k
+        ∙ sym (of.asks k)
+
     pub new : Source
     new = record {
       world = v;
       before = before_now;
+      entered = entered_now;
       global = λ k. at_seen i at None old.global file k (seen i at file k);
+      asks = asks_now;
       truth = λ k. at_seen i at false old.truth file k (seen i at file k);
       number = λ k. literal_number (spelling_of g k);
       text = λ k. kept_value i at p q a.named a.literals None old.text file k;
       function = old.function;
       position = old.position;
+      asked = old.asked;
     }
 
     global_back : (k : ℕ) (x : GlobalName) → (Own k → ⊥) → IsGlobalAt q file (t k) x → IsGlobalAt p file k x
@@ -192,16 +247,19 @@ module _ (i : Gain) (at : ℕ) (p q : Package) (a : IsGainedAt i at p q) (in_ord
         (λ here value h. no_literal g (sym (ap (slice_get q.files) here) ∙ is) value h) k
 
     pub is_new : IsSourceOf q new_of file g new
-    unfolding new before_now
+    unfolding new before_now entered_now asks_now
     is_new = record {
       world = judged;
       before = λ k. refl;
+      entered = λ k. refl;
       global = global_is;
+      asks = λ k. refl;
       truth = truth_is;
       number = λ k. refl;
       text = text_is;
       function = λ x. of.function x ∙ sym (functions x);
       position = λ x. of.position x ∙ sym (positions x);
+      asked = λ x. of.asked x ∙ sym (asked x);
     }
 
     -- it is the old one, with the new numbers
@@ -218,6 +276,7 @@ module _ (i : Gain) (at : ℕ) (p q : Package) (a : IsGainedAt i at p q) (in_ord
       member = λ x e. member_now k apart x;
       before = before_still k;
       global = seen_at i at None old.global file k apart;
+      asks = asks_still k apart;
       truth = seen_at i at false old.truth file k apart;
       number = ap literal_number (spelled_now k apart) ∙ sym (of.number k);
       text = text_at k apart;
@@ -231,6 +290,8 @@ module _ (i : Gain) (at : ℕ) (p q : Package) (a : IsGainedAt i at p q) (in_ord
       implements = implements_now;
       function = λ x. refl;
       position = λ x. refl;
+      asked = λ x. refl;
+      entered = entered_still;
       tokens =
           all_weaker (λ (kind : Kind) (k : ℕ). Own k → ⊥) (λ (kind : Kind) (k : ℕ). IsSameAt t old new k) (λ kind k apart. same_at k apart)
           (all_tokens decl_tokens f.tree.decls) (declared_apart i at p q a.named file f was);

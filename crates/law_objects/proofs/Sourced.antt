@@ -25,7 +25,7 @@ use Rattle.go_scope.specs.Bindings.{IsPackageLevel}
 use Rattle.types_expr.specs.Types.{PlainType}
 use Rattle.types_expr.specs.World.{World}
 use Rattle.types_expr.specs.declared.symbol.Symbol.{Symbol}
-use Rattle.types_expr.specs.Judge.{MemberUse, members_of}
+use Rattle.types_expr.specs.Judge.{MemberUse, members_of, enterings_of}
 use Rattle.types_stmt.specs.Declarations.{check_file}
 use Rattle.types_declared.specs.Files.{HasLiteral}
 use Rattle.types_declared.specs.Package.{Package}
@@ -36,11 +36,11 @@ use Rattle.workspace_check.proofs.OnePackage.{one_sources}
 use Rattle.refs_binding.specs.declared.declaration.Declaration.{Declaration}
 use Rattle.refs_lookup.proofs.OnePlace.{same_files}
 use Rattle.refactor_conflict.specs.Staying.{NoneIsLost}
-use Rattle.build_object.specs.Lines.{GlobalName}
+use Rattle.build_object.specs.Lines.{GlobalName, FunctionName}
 use Rattle.build_object.specs.Literals.{literal_number}
-use Rattle.build_object.specs.Names.{function_name, position_of_field}
+use Rattle.build_object.specs.Names.{function_name, position_of_field, name_of_asked, asked_in_file, MethodAsked}
 use Rattle.build_object.specs.Source.{Source}
-use Rattle.build_object.specs.Sources.{type_before, HasQualifier, IsGlobalAt, DenotesGlobal, IsTrueAt, IsTextAt, IsSourceOf}
+use Rattle.build_object.specs.Sources.{type_before, type_entered, asked_there, HasQualifier, IsGlobalAt, DenotesGlobal, IsTrueAt, IsTextAt, IsSourceOf}
 use Rattle.build_object.specs.Sources as source
 use Rattle.law_tokens.specs.Roles.{IsOfKind}
 use Rattle.law_tokens.proofs.OwnPaths.{part_at}
@@ -60,7 +60,7 @@ use Rattle.law_renamed_workspaces.specs.VerdictsStay.{IsPackageAfter}
 use Rattle.law_renamed_workspaces.proofs.Laws.{found}
 use Rattle.law_renamed_workspaces.proofs.OuterFaults.{new_sources}
 use Rattle.law_objects.specs.Replaced.{Replaced}
-use Rattle.law_objects.proofs.NamesMoved.{named_at, MovesNames}
+use Rattle.law_objects.proofs.NamesMoved.{asked_renamed, named_at, MovesNames}
 use Rattle.law_objects.specs.SourcesBy.{IsSourceBy, NumbersStay}
 use Rattle.types_expr.proofs.NoteLists.{noted_member}
 use Rattle.types_stmt.specs.Checked.{FoundSoFar}
@@ -104,6 +104,18 @@ used_before (u ∷ us) token t e =
       | true ↦ λ is k. (u, (first_in u us, (eqb-true u.place token is, same_Some u.before t k)))
       | false ↦ λ fails k. (let later = used_before us token t k in (later.0, (later_in u us later.0 later.1.0, later.1.1)))
     ] refl e
+
+-- the name of the first method that is asked for at a token
+
+by_if : (g : FunctionName → FunctionName) (b : Bool) (x : FunctionName) (o u : Option FunctionName) → option_map g o ≡ u →
+    option_map g (if b then Some x else o) ≡ (if b then Some (g x) else u)
+by_if g true x o u e = refl
+by_if g false x o u e = e
+
+asked_later : (r : Replaced) (ms : List MethodAsked) (n : ℕ) → option_map r.function (asked_there ms n) ≡ asked_there (map (asked_renamed r) ms) n
+asked_later r [] n = refl
+asked_later r (a ∷ ms) n =
+    by_if r.function (a.place == n) a.name (asked_there ms n) (asked_there (map (asked_renamed r) ms) n) (asked_later r ms n)
 
 -- names of package-level declarations
 
@@ -231,6 +243,8 @@ module _ (w : Workspace) (before after : Verdicts) (d : Declaration) (name : Lis
     module _ (r : Replaced) (moves : MovesNames r p q) (files_of new_of : List ℕ → List SourceFile)
         (functions : (symbol : Symbol) → function_name new_of symbol ≡ option_map r.function (function_name files_of symbol))
         (positions : (symbol : Symbol) → position_of_field new_of symbol ≡ position_of_field files_of symbol)
+        (asked : (symbol : Symbol) → name_of_asked new_of symbol ≡ option_map r.function (name_of_asked files_of symbol))
+        (asks : asked_in_file q.path q.files file ≡ map (asked_renamed r) (asked_in_file p.path p.files file))
         (old : Source) (is : IsSourceOf p files_of file f old) (v : World) (judged : IsWorldOf q file g v) where
       abbrev a : Alike p q
       a = of_bound p q here.bound
@@ -242,12 +256,15 @@ module _ (w : Workspace) (before after : Verdicts) (d : Declaration) (name : Lis
       new = record {
         world = v;
         before = old.before;
+        entered = old.entered;
         global = λ n. option_map r.global (old.global n);
+        asks = λ n. option_map r.function (old.asks n);
         truth = old.truth;
         number = λ n. literal_number (spelling_of g n);
         text = old.text;
         function = λ n. option_map r.function (old.function n);
         position = old.position;
+        asked = λ n. option_map r.function (old.asked n);
       }
 
       alike : IsAlike (check_file old.world (is_init f) f.tree).uses old.world v
@@ -265,7 +282,12 @@ module _ (w : Workspace) (before after : Verdicts) (d : Declaration) (name : Lis
         before = λ token. is.before token ∙
             ap (λ c. type_before c token)
             (sym (ap (λ (c : FoundSoFar). members_of c.uses) (found w before after d name s plain none p q here file f g old.world v at there is.world judged)));
+        entered = λ token. is.entered token ∙
+            ap (λ c. type_entered c token)
+            (sym (ap (λ (c : FoundSoFar). enterings_of c.uses) (found w before after d name s plain none p q here file f g old.world v at there is.world judged)));
         global = λ token. global_now token (old.global token) (is.global token);
+        asks = λ token. ap (option_map r.function) (is.asks token) ∙ asked_later r (asked_in_file p.path p.files file) token
+            ∙ ap (λ ms. asked_there ms token) (sym asks);
         truth = λ token. (
           (λ e. true_stays p q a file token ((is.truth token).0 e)),
           (λ h. (is.truth token).1 (true_stays q p (turned p q a) file token h)),
@@ -274,6 +296,7 @@ module _ (w : Workspace) (before after : Verdicts) (d : Declaration) (name : Lis
         text = λ token. text_stays token (old.text token) (is.text token);
         function = λ symbol. ap (option_map r.function) (is.function symbol) ∙ sym (functions symbol);
         position = λ symbol. is.position symbol ∙ sym (positions symbol);
+        asked = λ symbol. ap (option_map r.function) (is.asked symbol) ∙ sym (asked symbol);
       }
 
       agree : (n : ℕ) (t : PlainType) → old.before n ≡ Some t → v.member n t ≡ old.world.member n t
@@ -296,12 +319,15 @@ module _ (w : Workspace) (before after : Verdicts) (d : Declaration) (name : Lis
         same = ap (λ z. record {
           world = z;
           before = old.before;
+          entered = old.entered;
           global = λ n. option_map r.global (old.global n);
+          asks = λ n. option_map r.function (old.asks n);
           truth = old.truth;
           number = numbers;
           text = old.text;
           function = λ n. option_map r.function (old.function n);
           position = old.position;
+          asked = λ n. option_map r.function (old.asked n);
         }) (sym (only_members_differ old.world v alike));
         agree = agree;
         numbers = all_numbers;

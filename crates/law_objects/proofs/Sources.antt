@@ -1,5 +1,5 @@
 -- Sources with new numbers of tokens, as the lemmas take them: the definitions, functions and fields of the new source are the old ones.
-use Rattle.std.proofs.Common.{ℕ, suc, ◌≡◌, ◌==◌, inl, inr, Bool, if◌then◌else◌, List, [], ◌∷◌, Option, Some, option_map, map, refl, sym, ap, ◌∙◌}
+use Rattle.std.proofs.Common.{ℕ, suc, ◌≡◌, ◌==◌, inl, inr, Bool, if◌then◌else◌, List, [], ◌∷◌, Option, Some, None, option_map, map, refl, sym, ap, ◌∙◌}
 use Rattle.std.proofs.Math.Path.{ap₂, fun_ext}
 use Rattle.std.proofs.lemmas.Bool.{cases_eq, eq-eqb, ne_eqb}
 use Rattle.go_ast.specs.declared.syntax.Kind.{Kind}
@@ -10,12 +10,13 @@ use Rattle.types_expr.specs.declared.symbol.Symbol.{Symbol}
 use Rattle.types_expr.specs.Types.{PlainType, Pointer, Slice, Meaning, Value, TypeName, Function, BuiltinName, Package, Results, Broken}
 use Rattle.types_expr.specs.World.{Bound, Local, Means, BrokenVariable, BrokenFunction, BrokenType, Member}
 use Rattle.types_expr.specs.Judge.{judge_type, named_type, named_meaning, imported_type}
-use Rattle.build_object.specs.Lines.{GlobalName}
+use Rattle.build_object.specs.Lines.{GlobalName, FunctionName}
 use Rattle.build_object.specs.Numbering.{slot_from, slot_of}
 use Rattle.build_object.specs.Source.{Source}
 use Rattle.law_faultless.proofs.DeclaringNames.{AllOf}
 use Rattle.law_rename.specs.Renumbered.{type_by}
 use Rattle.law_changed_types.specs.Renumbering.{IsRenumbering, renumbered_bound}
+use Rattle.law_changed_types.proofs.Renumber.{Renumber}
 use Rattle.law_objects.specs.RenumberedSources.{IsSameAt}
 
 -- New numbers, the old source, and what the new source has at tokens.
@@ -26,7 +27,10 @@ pub record NewSource : Type 0 where
   pub bound : ℕ → Bound
   pub member : ℕ → PlainType → Option Member
   pub before : ℕ → Option PlainType
+  pub entered : ℕ → Option PlainType
+  pub entered_still : (n : ℕ) → entered (to n) ≡ old.entered n
   pub global : ℕ → Option GlobalName
+  pub asks : ℕ → Option FunctionName
   pub truth : ℕ → Bool
   pub number : ℕ → Option ℕ
   pub text : ℕ → Option (List ℕ)
@@ -36,32 +40,38 @@ abbrev pub made : NewSource → Source
 made m = record {
   world = record { bound = m.bound; member = m.member; definition = m.old.world.definition; implements = m.old.world.implements };
   before = m.before;
+  entered = m.entered;
   global = m.global;
+  asks = m.asks;
   truth = m.truth;
   number = m.number;
   text = m.text;
   function = m.old.function;
   position = m.old.position;
+  asked = m.old.asked;
 }
 
-abbrev pub the_new : (t : ℕ → ℕ) → IsRenumbering t → (s u : Source) → NewSource
-the_new t n s u = record {
+abbrev pub the_new : (t : ℕ → ℕ) → IsRenumbering t → (s u : Source) → ((n : ℕ) → u.entered (t n) ≡ s.entered n) → NewSource
+the_new t n s u still = record {
   to = t;
   numbers = n;
   old = s;
   bound = u.world.bound;
   member = u.world.member;
   before = u.before;
+  entered = u.entered;
+  entered_still = still;
   global = u.global;
+  asks = u.asks;
   truth = u.truth;
   number = u.number;
   text = u.text;
 }
 
-pub made_is : (t : ℕ → ℕ) (n : IsRenumbering t) (s u : Source) → ((x : Symbol) → u.world.definition x ≡ s.world.definition x) →
+pub made_is : (t : ℕ → ℕ) (n : IsRenumbering t) (s u : Source) (still : (n : ℕ) → u.entered (t n) ≡ s.entered n) → ((x : Symbol) → u.world.definition x ≡ s.world.definition x) →
     ((y : PlainType) (x : Symbol) → u.world.implements y x ≡ s.world.implements y x) → ((x : Symbol) → u.function x ≡ s.function x) → ((x : Symbol) →
-    u.position x ≡ s.position x) → made (the_new t n s u) ≡ u
-made_is t n s u definition implements function position = λ i. record {
+    u.position x ≡ s.position x) → ((x : Symbol) → u.asked x ≡ s.asked x) → made (the_new t n s u still) ≡ u
+made_is t n s u still definition implements function position asked = λ i. record {
   world = record {
     bound = u.world.bound;
     member = u.world.member;
@@ -69,12 +79,27 @@ made_is t n s u definition implements function position = λ i. record {
     implements = sym (fun_ext (λ y. fun_ext (implements y))) i;
   };
   before = u.before;
+  entered = u.entered;
   global = u.global;
+  asks = u.asks;
   truth = u.truth;
   number = u.number;
   text = u.text;
   function = sym (fun_ext function) i;
   position = sym (fun_ext position) i;
+  asked = sym (fun_ext asked) i;
+}
+
+-- the new numbers alone, with worlds in which no name means anything
+abbrev pub numbers_alone : NewSource → Renumber
+numbers_alone m = record {
+  to = m.to;
+  numbers = m.numbers;
+  old = record { bound = λ n. BrokenType; member = λ n t. None; definition = m.old.world.definition; implements = m.old.world.implements };
+  bound = λ n. BrokenType;
+  member = λ n t. None;
+  binds = λ n. refl;
+  has = λ n t. refl;
 }
 
 -- two tokens are one just if their new numbers are

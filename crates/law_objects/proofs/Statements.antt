@@ -18,7 +18,7 @@ use Rattle.types_stmt.specs.Simple.{binary_of}
 use Rattle.build_object.specs.Lines.{CodeLine, line_if_known, pops}
 use Rattle.build_object.specs.Lines as line
 use Rattle.build_object.specs.Source.{Source}
-use Rattle.build_object.specs.Expressions.{value_lines, address_lines}
+use Rattle.build_object.specs.Expressions.{value_lines, given_lines, address_lines}
 use Rattle.build_object.specs.Statements.{lines_of_values, set_name, set_bound, set_left, target_lines, targets_of, update_lines, step_op}
 use Rattle.build_object.specs.Statements.{simple_lines}
 use Rattle.build_object.specs.Statements.{optional_lines, init_lines, zeros, first_values, local_lines, Exits, further, no_exits, block_exits, branched}
@@ -30,7 +30,7 @@ use Rattle.law_rename.specs.Renumbered.{items_by, ident_by, type_by, expr_by, ex
 use Rattle.law_rename.specs.Renumbered.{statements_by, if_by, else_by}
 use Rattle.law_changed_types.specs.Renumbering.{renumbered_bound}
 use Rattle.law_objects.proofs.Sources.{NewSource, made, Same, same_slot, same_written}
-use Rattle.law_objects.proofs.Expressions.{lines_stay, address_stays, count_stays}
+use Rattle.law_objects.proofs.Expressions.{lines_stay, given_lines_stay, address_stays, count_stays}
 use Rattle.law_objects.proofs.Lists.{same_items, same_group, same_last}
 
 module _ (m : NewSource) (slots : List ℕ) where
@@ -52,11 +52,14 @@ module _ (m : NewSource) (slots : List ℕ) where
   value : (e : ExprTree) → AllOf K (expr_tokens e) → value_lines u slots_now (expr_by t e) ≡ value_lines s slots e
   value e h = lines_stay m slots e h
 
+  given : (e : ExprTree) → AllOf K (expr_tokens e) → given_lines u slots_now (expr_by t e) ≡ given_lines s slots e
+  given e h = given_lines_stay m slots e h
+
   address : (e : ExprTree) → AllOf K (expr_tokens e) → address_lines u slots_now (expr_by t e) ≡ address_lines s slots e
   address e h = address_stays m slots e h
 
   values : (es : List (Item ExprTree)) → AllOf K (exprs_tokens es) → lines_of_values u slots_now (exprs_by t es) ≡ lines_of_values s slots es
-  values es h = same_items K t (expr_by t) expr_tokens (λ e. value_lines u slots_now e) (λ e. value_lines s slots e) value kind.Comma es h
+  values es h = same_items K t (expr_by t) expr_tokens (λ e. given_lines u slots_now e) (λ e. given_lines s slots e) given kind.Comma es h
 
   bound_set : (b : Bound) → set_bound slots_now (renumbered_bound t b) ≡ set_bound slots b
   bound_set (Local place) = ap (line_if_known line.Set) (same_slot m slots place)

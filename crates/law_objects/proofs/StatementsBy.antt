@@ -20,7 +20,7 @@ use Rattle.build_object.specs.Lines.{CodeLine, line_if_known, pops}
 use Rattle.build_object.specs.Lines as line
 use Rattle.build_object.specs.Numbering.{slot_of}
 use Rattle.build_object.specs.Source.{Source}
-use Rattle.build_object.specs.Expressions.{value_lines, address_lines, values_left}
+use Rattle.build_object.specs.Expressions.{value_lines, given_lines, address_lines, values_left}
 use Rattle.build_object.specs.Statements.{lines_of_values, from_last, set_name, set_bound, set_left, target_lines, targets_of, update_lines, step_op}
 use Rattle.build_object.specs.Statements.{simple_lines}
 use Rattle.build_object.specs.Statements.{optional_lines, init_lines, zeros, first_values, local_lines, Exits, further, no_exits, block_exits, branched}
@@ -32,7 +32,7 @@ use Rattle.law_changed_types.proofs.Agreement.{Members}
 use Rattle.law_changed_types.proofs.Rules.{same_type}
 use Rattle.law_objects.specs.Replaced.{Replaced, line_by}
 use Rattle.law_objects.proofs.OperandsBy.{lines_by, both, known_by, pops_by}
-use Rattle.law_objects.proofs.ExpressionsBy.{values_with, address_with, count_with}
+use Rattle.law_objects.proofs.ExpressionsBy.{values_with, given_with, address_with, count_with}
 use Rattle.law_objects.proofs.ListsBy.{items_by, group_by, last_by}
 use Rattle.law_objects.specs.SourcesBy.{IsUniform, NumbersStay, source_by}
 
@@ -90,11 +90,14 @@ module _ (r : Replaced) (uniform : IsUniform r) (s : Source) (m : Members) (numb
   value : (e : ExprTree) → AllOf K (expr_tokens e) → value_lines now slots e ≡ L r (value_lines s slots e)
   value e h = values_with r uniform s m numbers agree slots e h
 
+  given : (e : ExprTree) → AllOf K (expr_tokens e) → given_lines now slots e ≡ L r (given_lines s slots e)
+  given e h = given_with r uniform s m numbers agree slots e h
+
   address : (e : ExprTree) → AllOf K (expr_tokens e) → address_lines now slots e ≡ L r (address_lines s slots e)
   address e h = address_with r uniform s m numbers agree slots e h
 
   values : (es : List (Item ExprTree)) → AllOf K (exprs_tokens es) → lines_of_values now slots es ≡ L r (lines_of_values s slots es)
-  values es h = items_by K (line_by r) expr_tokens (λ e. value_lines now slots e) (λ e. value_lines s slots e) value kind.Comma es h
+  values es h = items_by K (line_by r) expr_tokens (λ e. given_lines now slots e) (λ e. given_lines s slots e) given kind.Comma es h
 
   left : (e : ExprTree) → AllOf K (expr_tokens e) → set_left now slots e ≡ L r (set_left s slots e)
   unfolding set_left

@@ -4,7 +4,7 @@ use Rattle.std.specs.List.{AllByRecursion, list_all}
 use Rattle.types_expr.specs.declared.symbol.Symbol.{Symbol}
 use Rattle.build_object.specs.Lines.{GlobalName, FunctionName, Plain, Method, Initializer, CodeLine}
 use Rattle.build_object.specs.Lines as line
-use Rattle.build_object.specs.Objects.{Object, ObjectFunction, ObjectDeclaration, TypeOf, Variable, FunctionOf}
+use Rattle.build_object.specs.Objects.{Object, ObjectFunction, ObjectDefinition, SameAs, Fields, Asks, ObjectDeclaration, TypeOf, Variable, FunctionOf}
 use Rattle.build_object.specs.ObjectText.{object_text}
 use Rattle.build_names.specs.Words.{NameChange, is_break, text_with_name}
 use Rattle.law_objects.specs.Replaced.{of_global, text_by}
@@ -29,10 +29,16 @@ abbrev pub IsLegibleLine : CodeLine → Type 0
 IsLegibleLine (line.Global g) = IsLegibleGlobal g
 IsLegibleLine (line.GlobalAddress g) = IsLegibleGlobal g
 IsLegibleLine (line.Call f n) = IsLegibleFunction f
+IsLegibleLine (line.CallAsked f n) = IsLegibleFunction f
 IsLegibleLine other = ⊤
 
+abbrev pub IsLegibleDefinition : ObjectDefinition → Type 0
+IsLegibleDefinition (SameAs t) = ⊤
+IsLegibleDefinition (Fields ts) = ⊤
+IsLegibleDefinition (Asks ms) = AllByRecursion (λ m. IsLegibleFunction m.name) ms
+
 abbrev pub IsLegibleDeclaration : ObjectDeclaration → Type 0
-IsLegibleDeclaration (TypeOf name definition) = IsLegibleGlobal name
+IsLegibleDeclaration (TypeOf name definition) = IsLegibleGlobal name × IsLegibleDefinition definition
 IsLegibleDeclaration (Variable name t value) = IsLegibleGlobal name
 IsLegibleDeclaration (FunctionOf f) = IsLegibleFunction f.name × AllByRecursion IsLegibleLine f.code
 

@@ -18,6 +18,7 @@ pub record IsSameAt (t : ℕ → ℕ) (s u : Source) (token : ℕ) : Type 0 wher
   pub member : (type_of : PlainType) → s.before token ≡ Some type_of → u.world.member (t token) type_of ≡ s.world.member token type_of
   pub before : u.before (t token) ≡ s.before token
   pub global : u.global (t token) ≡ s.global token
+  pub asks : u.asks (t token) ≡ s.asks token
   pub truth : u.truth (t token) ≡ s.truth token
   pub number : u.number (t token) ≡ s.number token
   pub text : u.text (t token) ≡ s.text token
@@ -29,6 +30,8 @@ pub record IsRenumberedSource (t : ℕ → ℕ) (decls : List DeclTree) (s u : S
   pub implements : (t : PlainType) (x : Symbol) → u.world.implements t x ≡ s.world.implements t x
   pub function : (x : Symbol) → u.function x ≡ s.function x
   pub position : (x : Symbol) → u.position x ≡ s.position x
+  pub asked : (x : Symbol) → u.asked x ≡ s.asked x
+  pub entered : (token : ℕ) → u.entered (t token) ≡ s.entered token
   pub tokens : AllByRecursion (λ (token : Token). IsSameAt t s u token.place) (all_tokens decl_tokens decls)
 
 -- So are the sources of files, one by one. The files declare the same, with the new numbers.

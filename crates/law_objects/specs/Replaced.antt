@@ -4,7 +4,8 @@ use Rattle.std.specs.Cmp.Lexicographic.{pointwise}
 use Rattle.types_expr.specs.declared.symbol.Symbol.{Symbol}
 use Rattle.build_object.specs.Lines.{GlobalName, FunctionName, Plain, Method, Initializer, CodeLine}
 use Rattle.build_object.specs.Lines as line
-use Rattle.build_object.specs.Objects.{Object, ObjectFunction, ObjectDeclaration, TypeOf, Variable, FunctionOf}
+use Rattle.build_object.specs.Objects.{Object, ObjectFunction, ObjectAsked, ObjectDefinition, SameAs, Fields, Asks, ObjectDeclaration, TypeOf, Variable}
+use Rattle.build_object.specs.Objects.{FunctionOf}
 use Rattle.build_object.specs.ObjectText.{object_text}
 
 -- By what the names of package-level declarations, and those of functions and methods, are replaced.
@@ -17,15 +18,26 @@ abbrev pub line_by : Replaced → CodeLine → CodeLine
 line_by r (line.Global g) = line.Global (r.global g)
 line_by r (line.GlobalAddress g) = line.GlobalAddress (r.global g)
 line_by r (line.Call f n) = line.Call (r.function f) n
+line_by r (line.CallAsked f n) = line.CallAsked (r.function f) n
 line_by r other = other
 
 -- A function with these names.
 abbrev pub function_by : Replaced → ObjectFunction → ObjectFunction
 function_by r f = record { name = r.function f.name; parameters = f.parameters; results = f.results; slots = f.slots; code = map (line_by r) f.code }
 
+-- A method that an interface asks for, with these names.
+abbrev pub asked_renamed_by : Replaced → ObjectAsked → ObjectAsked
+asked_renamed_by r m = record { name = r.function m.name; parameters = m.parameters; results = m.results }
+
+-- What a type is defined as, with these names.
+abbrev pub definition_by : Replaced → ObjectDefinition → ObjectDefinition
+definition_by r (SameAs t) = SameAs t
+definition_by r (Fields ts) = Fields ts
+definition_by r (Asks ms) = Asks (map (asked_renamed_by r) ms)
+
 -- A declaration with these names.
 abbrev pub declaration_by : Replaced → ObjectDeclaration → ObjectDeclaration
-declaration_by r (TypeOf name definition) = TypeOf (r.global name) definition
+declaration_by r (TypeOf name definition) = TypeOf (r.global name) (definition_by r definition)
 declaration_by r (Variable name t value) = Variable (r.global name) t value
 declaration_by r (FunctionOf f) = FunctionOf (function_by r f)
 

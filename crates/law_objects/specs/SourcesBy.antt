@@ -17,12 +17,15 @@ abbrev pub source_by : Replaced → Source → (member : ℕ → PlainType → O
 source_by r s member number = record {
   world = record { bound = s.world.bound; member = member; definition = s.world.definition; implements = s.world.implements };
   before = s.before;
+  entered = s.entered;
   global = λ n. option_map r.global (s.global n);
+  asks = λ n. option_map r.function (s.asks n);
   truth = s.truth;
   number = number;
   text = s.text;
   function = λ f. option_map r.function (s.function f);
   position = s.position;
+  asked = λ f. option_map r.function (s.asked f);
 }
 
 -- A function without a receiver has the name of its declaration.

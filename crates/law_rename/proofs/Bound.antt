@@ -24,7 +24,7 @@ use Rattle.law_rename.proofs.Spelling.{from_first, from_suc, from_zero}
 from_rises : (number c d : ℕ) → c < d → from_on number c < from_on number d
 from_rises number c d less = grind (arith, nat_tests)
 
-move_rises : (i : Gain) (f c d : ℕ) → c < d → moved_by i f c < moved_by i f d
+pub move_rises : (i : Gain) (f c d : ℕ) → c < d → moved_by i f c < moved_by i f d
 move_rises i f c d less = by_test (nat_eq f i.rank)
   where
     by_test : (b : Bool) → cond b (from_on i.number c) c < cond b (from_on i.number d) d

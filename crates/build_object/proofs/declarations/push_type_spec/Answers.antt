@@ -6,6 +6,7 @@ use Rattle.std.proofs.lemmas.Result.{on_ok_weaker}
 use Rattle.go_ast.specs.FileView.{body_view, type_spec_view}
 use Rattle.types_expr.specs.WorldView.{world_of}
 use Rattle.build_object.specs.LineView.{global_of}
+use Rattle.build_object.specs.SourceView.{source_of}
 use Rattle.build_object.specs.PackagesView.{type_in}
 use Rattle.build_object.specs.Objects.{TypeOf, type_declarations, definition_of}
 use Rattle.build_object.specs.ObjectText.{declaration_text}
@@ -17,7 +18,7 @@ unfolding type_spec_view
 returns-in_default c =
     sym (append-nil c.args.text.now.items)
     ∙ ap (λ o. c.args.text.now.items ++ flat_map (declaration_text (type_in c.args.source.now.packages.now))
-    (type_declarations o (definition_of (world_of c.args.source.now.world) (body_view c.args.spec.now.body)))) c.in_default.ensures
+    (type_declarations o (definition_of (world_of c.args.source.now.world) (source_of c.args.source.now).asks (body_view c.args.spec.now.body)))) c.in_default.ensures
 
 pub returns-in-None : goal.returns-in-None
 unfolding type_spec_view
@@ -26,7 +27,7 @@ returns-in-None c =
     ∙ (ap (λ d. c.args.text.now.items ++ flat_map (declaration_text (type_in c.args.source.now.packages.now)) (type_declarations (Some (global_of c.in-Some.name)) d))
     (ap (option_map definition_view) (sym c.in-None.is) ∙ c.in_ok-defined_as.ensures)
     ∙ ap (λ o. c.args.text.now.items ++ flat_map (declaration_text (type_in c.args.source.now.packages.now))
-    (type_declarations o (definition_of (world_of c.args.source.now.world) (body_view c.args.spec.now.body)))) c.in-Some.ensures)
+    (type_declarations o (definition_of (world_of c.args.source.now.world) (source_of c.args.source.now).asks (body_view c.args.spec.now.body)))) c.in-Some.ensures)
 
 pub returns-in-Some-2 : goal.returns-in-Some-2
 unfolding type_spec_view
@@ -37,5 +38,5 @@ returns-in-Some-2 c =
     ∙ (ap (λ d. c.args.text.now.items ++ flat_map (declaration_text (type_in c.args.source.now.packages.now)) (type_declarations (Some (global_of c.in-Some.name)) d))
     (ap (option_map definition_view) (sym c.in-Some-2.is) ∙ c.in_ok-defined_as.ensures)
     ∙ ap (λ o. c.args.text.now.items ++ flat_map (declaration_text (type_in c.args.source.now.packages.now))
-    (type_declarations o (definition_of (world_of c.args.source.now.world) (body_view c.args.spec.now.body)))) c.in-Some.ensures)))
+    (type_declarations o (definition_of (world_of c.args.source.now.world) (source_of c.args.source.now).asks (body_view c.args.spec.now.body)))) c.in-Some.ensures)))
     c.push_type_line.ensures

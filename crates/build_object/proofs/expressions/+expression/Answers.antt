@@ -6,7 +6,7 @@ use Rattle.go_ast.specs.declared.tree.CompositeLit.{out-CompositeLit}
 use Rattle.types_expr.specs.View.{type_of}
 use Rattle.build_object.specs.SourceView.{source_of}
 use Rattle.types_expr.specs.Lists.{operands_in, arguments_in, elements_in}
-use Rattle.build_object.specs.Expressions.{operand_of, operations, argument_lines, keyed_lines, bare_lines, key_position, value_lines}
+use Rattle.build_object.specs.Expressions.{operand_of, operations, argument_lines, keyed_lines, bare_lines, key_position, given_lines}
 use Rattle.build_object.specs.Lines.{With, MakeSlice, line_if_known}
 use Rattle.build_object.specs.LineView.{line_of}
 use Rattle.build_object.specs.Making.{lines_for, mode_of, before_link}
@@ -128,15 +128,18 @@ pub chain-returns : goal.chain-returns
 chain-returns t c = over_end (source_of c.args.scope.source.now) c.args.scope.slots.now.places.items c.args.links.now c.loop-i.i c.args.head c.args.want
     c.loop-i.want c.args.code.now c.loop-i.code (omega arith) c.loop-i.invariant
 
+pub given-returns : goal.given-returns
+given-returns t c = on_ok_weaker c.operand.result (λ q. puts_then c.in_ok-put_enter.ensures q) c.operand.ensures
+
 pub arguments-loop-i-init : goal.arguments-loop-i-init
 arguments-loop-i-init t c = puts_as (ap (λ xs. argument_lines (source_of c.args.scope.source.now) c.args.scope.slots.now.places.items (arguments_in xs))
     (back_start c.args.list.now _ (omega arith)) ∙ arguments_end (source_of c.args.scope.source.now) c.args.scope.slots.now.places.items) (puts_none _)
 
 pub arguments-loop-i-preserved : goal.arguments-loop-i-preserved
 arguments-loop-i-preserved t c = back_turn (λ xs. argument_lines (source_of c.args.scope.source.now) c.args.scope.slots.now.places.items (arguments_in xs))
-    (λ x. value_lines (source_of c.args.scope.source.now) c.args.scope.slots.now.places.items (expr_view x.value))
+    (λ x. given_lines (source_of c.args.scope.source.now) c.args.scope.slots.now.places.items (expr_view x.value))
     (λ x xs. arguments_step (source_of c.args.scope.source.now) c.args.scope.slots.now.places.items x xs) c.args.list.now _ _ (omega arith) (omega arith)
-    (ap (get_or c.args.list.now (c.loop-i.i - 1)) c.index-list-i.is) c.loop-i.invariant c.in_ok-operand.ensures
+    (ap (get_or c.args.list.now (c.loop-i.i - 1)) c.index-list-i.is) c.loop-i.invariant c.in_ok-given.ensures
 
 pub arguments-returns : goal.arguments-returns
 arguments-returns t c = puts_as (ap (λ xs. argument_lines (source_of c.args.scope.source.now) c.args.scope.slots.now.places.items (arguments_in xs))
@@ -148,9 +151,9 @@ bare-loop-i-init t c = puts_as (ap (λ xs. bare_lines (source_of c.args.scope.so
 
 pub bare-loop-i-preserved : goal.bare-loop-i-preserved
 bare-loop-i-preserved t c = back_turn (λ xs. bare_lines (source_of c.args.scope.source.now) c.args.scope.slots.now.places.items (elements_in xs))
-    (λ x. value_lines (source_of c.args.scope.source.now) c.args.scope.slots.now.places.items (expr_view x.value))
+    (λ x. given_lines (source_of c.args.scope.source.now) c.args.scope.slots.now.places.items (expr_view x.value))
     (λ x xs. bare_step (source_of c.args.scope.source.now) c.args.scope.slots.now.places.items x xs) c.args.list.now _ _ (omega arith) (omega arith)
-    (ap (get_or c.args.list.now (c.loop-i.i - 1)) c.index-list-i.is) c.loop-i.invariant c.in_ok-operand.ensures
+    (ap (get_or c.args.list.now (c.loop-i.i - 1)) c.index-list-i.is) c.loop-i.invariant c.in_ok-given.ensures
 
 pub bare-returns : goal.bare-returns
 bare-returns t c = puts_as (ap (λ xs. bare_lines (source_of c.args.scope.source.now) c.args.scope.slots.now.places.items (elements_in xs))
@@ -162,16 +165,16 @@ keyed-loop-i-init t c = puts_as (ap (λ xs. keyed_lines (source_of c.args.scope.
 
 pub keyed-loop-i-preserved : goal.keyed-loop-i-preserved
 keyed-loop-i-preserved t c = back_turn (λ xs. keyed_lines (source_of c.args.scope.source.now) c.args.scope.slots.now.places.items (elements_in xs))
-    (λ x. value_lines (source_of c.args.scope.source.now) c.args.scope.slots.now.places.items (expr_view x.value) ++ line_if_known With
+    (λ x. given_lines (source_of c.args.scope.source.now) c.args.scope.slots.now.places.items (expr_view x.value) ++ line_if_known With
     (key_position (source_of c.args.scope.source.now) (key_view x.key)))
     (λ x xs. keyed_step (source_of c.args.scope.source.now) c.args.scope.slots.now.places.items x xs ∙
-    sym (append_assoc (value_lines (source_of c.args.scope.source.now) c.args.scope.slots.now.places.items (expr_view x.value))
+    sym (append_assoc (given_lines (source_of c.args.scope.source.now) c.args.scope.slots.now.places.items (expr_view x.value))
     (line_if_known With (key_position (source_of c.args.scope.source.now) (key_view x.key)))
     (keyed_lines (source_of c.args.scope.source.now) c.args.scope.slots.now.places.items (elements_in xs)))) c.args.list.now _ _ (omega arith)
     (omega arith) (ap (get_or c.args.list.now (c.loop-i.i - 1)) c.index-list-i.is) c.loop-i.invariant
     (puts_then c.in_ok-put_key.ensures
-    (puts_as (ap (λ x. value_lines (source_of c.args.scope.source.now) c.args.scope.slots.now.places.items (expr_view x.value))
-    (same_item c.args.list.now (c.loop-i.i - 1) c.index-list-i.result c.index-list-i-in-loop-i.result (omega arith))) c.in_ok-operand.ensures))
+    (puts_as (ap (λ x. given_lines (source_of c.args.scope.source.now) c.args.scope.slots.now.places.items (expr_view x.value))
+    (same_item c.args.list.now (c.loop-i.i - 1) c.index-list-i.result c.index-list-i-in-loop-i.result (omega arith))) c.in_ok-given.ensures))
 
 pub keyed-returns : goal.keyed-returns
 keyed-returns t c = puts_as (ap (λ xs. keyed_lines (source_of c.args.scope.source.now) c.args.scope.slots.now.places.items (elements_in xs))

@@ -8,7 +8,7 @@ use Rattle.types_declared.proofs.PathParts.{source_at}
 use Rattle.types_declared.specs.PackageView.{package_of}
 use Rattle.build_object.specs.LineView.{function_of}
 use Rattle.build_object.specs.Objects.{declared_in, names_behind_all}
-use Rattle.build_object.specs.ObjectSteps.{uses_of_file}
+use Rattle.build_object.specs.ObjectSteps.{list_of_file}
 use Rattle.build_object.specs.ObjectText.{declaration_text}
 use Rattle.build_object.specs.PackagesView.{type_in}
 use Rattle.build_object.specs.SourceView.{source_of}
@@ -28,7 +28,8 @@ returns c =
       file_at = plain_file x;
       in_file = at;
       source = source_of s;
-      made_of = is_source p c.args.turn.file (plain_file x) c.own_world-judged_by.result (uses_of_file (slice_get c.args.origin.members.now c.args.turn.file))
+      made_of = is_source p c.args.turn.file (plain_file x) c.own_world-judged_by.result (list_of_file (slice_get c.args.origin.members.now c.args.turn.file))
+          (list_of_file (slice_get c.args.origin.enterings.now c.args.turn.file))
           c.args.origin.packages.now s c.requires.one at c.in_ok-made_of.ensures (c.own_world-judged_by.ensures.world (plain_file x) at)
           c.own_world-judged_by.ensures.spelling;
       text = text ∙ (ap (λ ps. c.args.text.now.items ++ flat_map (declaration_text (type_in ps))

@@ -32,6 +32,7 @@ returns c =
           subst (IsPrintedAs c.args.at.graph.now p (package_of c.args.unit)) (same_Some c.in_ok-text.text text is) (record {
             files_of = names.files_of;
             are_files = names.are_files;
-            is_object = c.in_ok-text.ensures names.files_of (c.requires.checked.members kept.faultless) names.have_names;
+            is_object = c.in_ok-text.ensures names.files_of (c.requires.checked.members kept.faultless) (c.requires.checked.enterings kept.faultless)
+                names.have_names;
           }));
     }

@@ -35,7 +35,7 @@ object_of-requires c =
       at = c.requires.at;
       found = record {
         known = known;
-        faultless = subst (λ (k : Option ExportData). IsFaultlessPackage w known k p c.args.members.now) (sym own) c.requires.found;
+        faultless = subst (λ (k : Option ExportData). IsFaultlessPackage w known k p c.args.found.now) (sym own) c.requires.found;
         are_seen = c.in_ok-export_table.ensures.seen p c.requires.at.has_path;
       };
     }

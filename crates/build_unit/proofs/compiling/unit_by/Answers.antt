@@ -25,12 +25,13 @@ faults_alone p list (compiled.Done export_data object) e = absurd (cc)
 
 -- of one that has no faults
 without_faults : (w : Workspace) (p : List ℕ) (all : ExportTable) (f : Finding) → IsFindingWith w p all f → f.faults.items ≡ [] →
-    IsFaultlessPackage w (verdicts_by all) (known_at all.definitions p) p f.members.items
+    IsFaultlessPackage w (verdicts_by all) (known_at all.definitions p) p f
 without_faults w p all f is empty = record {
   below = is.below;
   verdict = is.own;
   listed = subst (λ l. AreListedFaults (IsFaultBy w (verdicts_by all) p) l) empty is.finding.listed;
   uses = is.finding.members empty;
+  enterings = is.finding.enterings empty;
 }
 
 pub copied_unit-requires : goal.copied_unit-requires
@@ -64,8 +65,7 @@ faultless_unit-requires c =
     record {
       at = c.requires.at;
       whole = c.requires.found.whole;
-      found = subst (IsFaultlessPackage w (verdicts_by all) (known_at all.definitions p) p) (sym c.deref-in-None.ensures.value)
-          (without_faults w p all f c.requires.found empty);
+      found = without_faults w p all f c.requires.found empty;
     }
 
 pub returns-in-Some : goal.returns-in-Some
@@ -77,6 +77,6 @@ returns-in-Some c =
     let empty = vec_empty f.faults c.is_empty.result c.is_empty.ensures c.if-not-is_empty.false in
     let object = c.in-Some.object in
     IfOk-weaker c.done_unit.result _ (IsUnitOf w p)
-    (λ unit h. h w (compiled_as w p (verdicts_by all) (known_at all.definitions p) f.members.items (without_faults w p all f c.requires.found empty) object
+    (λ unit h. h w (compiled_as w p (verdicts_by all) (known_at all.definitions p) f (without_faults w p all f c.requires.found empty) object
     (c.requires.text object c.in-Some.is)))
     c.done_unit.ensures

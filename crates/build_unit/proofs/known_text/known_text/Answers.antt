@@ -25,13 +25,11 @@ object_of-requires-clause-found c =
     let below = known_right w p all right.right (right.below p c.requires.at.has_path) in
     let empty = subst (λ (g : Finding). g.faults.items ≡ []) c.finding-finding.ensures
     (vec_empty f.faults c.is_empty.result c.is_empty.ensures c.if-not-is_empty.false) in
-    let base : IsFaultlessBySeen w all.export_table one.known p one.finding.members.items =
+    let base : IsFaultlessBySeen w all.export_table one.known p one.finding =
     seen_faultless w p all.export_table one.known one.finding below c.requires.told c.requires.verdict.right c.requires.verdict.finding empty in
-    let members : IsFaultlessBySeen w all.export_table one.known p f.members.items =
-    subst (λ (g : Finding). IsFaultlessBySeen w all.export_table one.known p g.members.items) (sym c.finding-finding.ensures) base in
-    let listed : IsFaultlessBySeen w all.export_table one.known p c.deref.result.now =
-    subst (IsFaultlessBySeen w all.export_table one.known p) (sym c.deref.ensures.value) members in
+    let listed : IsFaultlessBySeen w all.export_table one.known p f =
+    subst (IsFaultlessBySeen w all.export_table one.known p) (sym c.finding-finding.ensures) base in
     let own = option_copied c.get-own.result in
-    let told : IsFaultlessBySeen w all.export_table own p c.deref.result.now =
-    subst (λ (k : Option ExportData). IsFaultlessBySeen w all.export_table k p c.deref.result.now) (sym (c.get-own.ensures ∙ c.known.ensures)) listed in
-    subst (λ (i : ExportTable). IsFaultlessBySeen w i own p c.deref.result.now) (sym c.export_table-seen.ensures) told
+    let told : IsFaultlessBySeen w all.export_table own p f =
+    subst (λ (k : Option ExportData). IsFaultlessBySeen w all.export_table k p f) (sym (c.get-own.ensures ∙ c.known.ensures)) listed in
+    subst (λ (i : ExportTable). IsFaultlessBySeen w i own p f) (sym c.export_table-seen.ensures) told
