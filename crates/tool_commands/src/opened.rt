@@ -24,8 +24,8 @@ use std::mem;
 use std::rt::Files;
 use std::thread::Threads;
 use tool_disk::{
-    FileOf, FolderWriting, HeldFolder, Loaded, ToolFault, hold, load, recover, refuse_cut_off,
-    write_all,
+    FileOf, FolderWriting, HeldFolder, Loaded, ToolFault, hold, load_and_parse, recover,
+    refuse_cut_off, write_all,
 };
 use tool_plan::CheckedFolder;
 use tool_told::{
@@ -55,7 +55,7 @@ impl Opened {
             files,
             prefix,
             notes: left_out,
-        } = load(rt, root)?;
+        } = load_and_parse(rt, root)?;
         for line in &left_out {
             notes.extend_from_slice(line.as_bytes())?;
         }

@@ -1,4 +1,5 @@
 -- The lemmas of this crate.
 pub mod FolderPackages
+pub mod FolderSizes
 pub mod Notes
 pub mod RunJournals

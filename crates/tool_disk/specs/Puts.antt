@@ -1,5 +1,6 @@
 -- Adding a file to the files of a folder that were read so far.
-use Rattle.std.specs.Prelude.{◌≡◌, ◌==◌, ◌&&◌, ℕ, Bool, List, Result, Ok, Err, not}
+use Rattle.std.specs.Prelude.{◌≡◌, ◌==◌, ◌&&◌, ℕ, Bool, List, Option, Some, None, Result, Ok, Err, length, not}
+use Rattle.std.specs.FinMap as files
 use Rattle.std.specs.Cmp.Lexicographic.{pointwise}
 use Rattle.std.specs.List.{list_any}
 use Rattle.std.specs.Ordering.{eq_by_cmp}
@@ -30,6 +31,15 @@ is_first_in files path = is_go path && not (is_folder_of files (folder path))
 -- The folders of some files are the packages of the workspace.
 abbrev pub AreInPackages : (files : List (List ℕ)) → Workspace → Type 0
 AreInPackages files w = (q : List ℕ) → is_folder_of files q ≡ list_any (eq_by_cmp path_cmp q) (package_paths w)
+
+-- The number of bytes of a text; 0 where there is none.
+abbrev pub bytes_of_text : Option (List ℕ) → ℕ
+bytes_of_text None = 0
+bytes_of_text (Some text) = length text
+
+-- The number of bytes of the file at a path; 0 where there is none.
+abbrev pub bytes_at : Workspace → List ℕ → ℕ
+bytes_at w path = bytes_of_text (files.get w path)
 
 -- The files of a folder as a session holds them: with these limits, before its first change.
 abbrev pub folder_snapshot : Limits → Workspace → Snapshot

@@ -1,4 +1,4 @@
-//! The Go files of a folder, as they are read one after another. None is parsed before all were read.
+//! The Go files of a folder, as they are read one after another. Threads may parse those that were read while others are read.
 ghost use Rattle.std.specs.FinMap as map;
 ghost use Rattle.std.specs.Prelude.{
   ◌≡◌,
@@ -13,14 +13,16 @@ ghost use Rattle.std.specs.Prelude.{
   OnErr,
   OnOk,
   cond,
+  is_some,
   length,
 };
 ghost use Rattle.base_files.specs.Packages.{package_paths};
-ghost use Rattle.workspace_snapshot.specs.Fits.{FilesFit};
+ghost use Rattle.workspace_snapshot.specs.Fits.{FilesFit, total_bytes};
 ghost use Rattle.tool_disk.specs.Puts.{
   AreInPackages,
   AreServerLimits,
   PutsFile,
+  bytes_at,
   folder_snapshot,
   is_first_in,
   is_folder_of,
@@ -29,15 +31,19 @@ ghost use Rattle.tool_disk.specs.Puts.{
 use base_files::{FileText, Files, Limits, Path, Refusal};
 use std::alloc::{AllocError, Global};
 use std::thread::Threads;
-use workspace_parsing::parsed_together;
-use workspace_snapshot::{Snapshot, files_fit, has_text};
+use workspace_parsing::Parsing;
+use workspace_snapshot::{Snapshot, has_text};
 
-/// The files of a folder that were read so far, and a Go file of each package.
+/// The files of a folder that were read so far, how many bytes they have, and a Go file of each package.
 #[derive(Drop)]
 pub struct FolderFiles {
     limits: Limits,
     files: Files,
+    bytes: usize,
     packages: Vec<Path>,
+    parsing: Parsing,
+    ghost fitting: { FilesFit limits files },
+    ghost summed: { bytes ≡ total_bytes files },
     ghost counted: { length packages.items ≡ length (package_paths files) },
     ghost in_packages: { AreInPackages packages.items files },
 }
@@ -49,13 +55,23 @@ fn is_folder_of(files: &[Path], folder: &[u8]) -> bool
     files.iter().any(|path| path.folder() == folder)
 }
 
-/// Notes the first Go file of a package.
-fn note_package(packages: &mut Vec<Path>, path: Path, is_new: bool) -> Result<(), AllocError>
-    ensures ok { OnOk result (packages.new.items ≡ cond is_new (packages.old.items ++ path ∷ []) packages.old.items) }
-    ensures err { OnErr result (packages.new.items ≡ packages.old.items) }
+/// Adds a file, and notes it where its package is new. Where memory is wanting, nothing changes.
+fn add(
+    files: &mut Files,
+    packages: &mut Vec<Path>,
+    path: Path,
+    text: FileText,
+    is_new: bool,
+) -> Result<(), AllocError>
+    ensures files { OnOk result (files.new ≡ map.insert files.old path text) }
+    ensures packages { OnOk result (packages.new.items ≡ cond is_new (packages.old.items ++ path ∷ []) packages.old.items) }
+    ensures same_files { OnErr result (files.new ≡ files.old) }
+    ensures same_packages { OnErr result (packages.new.items ≡ packages.old.items) }
 {
+    packages.reserve(1)?;
+    files.insert(path.clone()?, text)?;
     if is_new {
-        packages.push(path)?;
+        packages.push_reserved(path);
     }
     Ok(())
 }
@@ -69,17 +85,28 @@ impl FolderFiles {
         FolderFiles {
             limits: Limits::FULL,
             files: Files::new(alloc),
+            bytes: 0,
             packages: Vec::new(alloc),
+            parsing: Parsing::new(alloc),
         }
     }
 
-    /// The files with one more.
-    fn with_file(&self, path: &Path, text: FileText) -> Result<Files, AllocError>
-        ensures { IfOk result (λ files. files ≡ map.insert self.now.files path.now text) }
+    /// The number of bytes of the file at a path, or 0 where there is none.
+    fn bytes_at(&self, path: &Path) -> usize
+        ensures { result ≡ bytes_at self.now.files path.now }
     {
-        let mut files = self.files.copy()?;
-        files.insert(path.clone()?, text)?;
-        Ok(files)
+        match self.files.get(path) {
+            None => 0,
+            Some(text) => text.len(),
+        }
+    }
+
+    /// How many bytes a text at a path may have, by the limit on the bytes of all files.
+    fn room_at(&self, path: &Path) -> usize
+        ensures room { result + total_bytes self.now.files ≡ self.now.limits.total_bytes + bytes_at self.now.files path.now }
+        ensures within { result ≤ self.now.limits.total_bytes }
+    {
+        self.limits.total_bytes - self.bytes + self.bytes_at(path)
     }
 
     /// Whether a file is the first Go file of its package.
@@ -89,11 +116,41 @@ impl FolderFiles {
         path.is_go() && !is_folder_of(self.packages.as_slice(), path.folder())
     }
 
-    /// Whether these files keep the limits, of which the last one may have come with a new package.
-    fn fit(&self, files: &Files, is_new: bool) -> bool
-        ensures { IsTrue result ↔ (FilesFit self.now.limits files.now × (length self.now.packages.items + cond is_new 1 0 ≤ self.now.limits.packages)) }
+    /// How many files there are once one stands at a path.
+    fn count_with(&self, path: &Path) -> usize
+        ensures { result ≡ cond (is_some (map.get self.now.files path.now)) (map.len self.now.files) (map.len self.now.files + 1) }
     {
-        files_fit(&self.limits, files)
+        if self.files.get(path).is_some() {
+            self.files.len()
+        } else {
+            self.files.len() + 1
+        }
+    }
+
+    /// Whether the files keep the limits on files once a text stands at a path.
+    fn keep_limits(&self, path: &Path, text: &FileText) -> bool
+        ensures { IsTrue result ↔ FilesFit self.now.limits (map.insert self.now.files path.now text.now) }
+    {
+        let length = text.len();
+        let room = self.room_at(path);
+        let count = self.count_with(path);
+        if length > self.limits.file_bytes {
+            return false;
+        }
+        if length > room {
+            return false;
+        }
+        if count > self.limits.files {
+            return false;
+        }
+        true
+    }
+
+    /// Whether the files keep the limits once a text stands at a path, by which a package may be new.
+    fn fit(&self, path: &Path, text: &FileText, is_new: bool) -> bool
+        ensures { IsTrue result ↔ (FilesFit self.now.limits (map.insert self.now.files path.now text.now) × (length self.now.packages.items + cond is_new 1 0 ≤ self.now.limits.packages)) }
+    {
+        self.keep_limits(path, text)
             && self.packages.len() + usize::from(is_new) <= self.limits.packages
     }
 
@@ -105,14 +162,23 @@ impl FolderFiles {
         if has_text(&self.files, &path, &text) {
             return Err(Refusal::Same);
         }
-        let files = self.with_file(&path, text)?;
         let is_new = self.is_first(&path);
-        if !self.fit(&files, is_new) {
+        if !self.fit(&path, &text, is_new) {
             return Err(Refusal::TooLarge);
         }
-        note_package(&mut self.packages, path, is_new)?;
-        self.files = files;
+        let left = self.room_at(&path) - text.len();
+        self.parsing.take(&path, &text)?;
+        add(&mut self.files, &mut self.packages, path, text, is_new)?;
+        self.bytes = self.limits.total_bytes - left;
         Ok(())
+    }
+
+    /// Has a thread parse files that were read, if there are enough. To be called when all files of their folders were read.
+    pub fn begin_parsing<R: Threads>(&mut self, rt: &R, alloc: Global) -> Result<(), AllocError>
+        ensures files { self.new.files ≡ self.old.files }
+        ensures limits { self.new.limits ≡ self.old.limits }
+    {
+        self.parsing.begin(rt, alloc)
     }
 
     /// The files that were read so far.
@@ -129,10 +195,12 @@ impl FolderFiles {
         let FolderFiles {
             limits,
             files,
+            bytes: _,
             packages,
+            parsing,
         } = self;
         drop(packages);
-        let graph = parsed_together(rt, alloc, &files)?;
+        let graph = parsing.graph(rt, alloc, &files)?;
         drop(files);
         Ok(Snapshot {
             number: 0,

@@ -8,6 +8,7 @@ use std::alloc::Global;
 use std::fs;
 use std::fs::{DirEntry, FileType};
 use std::rt::Files;
+use std::thread::Threads;
 use tool_text::{has_build_line, module_path, names_platform, takes_file, takes_folder};
 
 /// How many folders are looked at, at most.
@@ -239,29 +240,55 @@ fn look<R: Files + AllocGlobal + Clone + Drop>(
     Ok(())
 }
 
+/// Looks at the next folder. Returns whether there was one.
+fn look_at_next<R: Files + AllocGlobal + Clone + Drop>(
+    rt: &R,
+    walk: &mut Walk<'_>,
+) -> Result<bool, ToolFault> {
+    match walk.folders.pop() {
+        None => Ok(false),
+        Some(folder) => {
+            look(rt, walk, folder.as_str())?;
+            Ok(true)
+        }
+    }
+}
+
+/// That a folder has too many folders.
+fn too_many(alloc: Global, walk: &Walk<'_>) -> ToolFault {
+    told(alloc, walk.root, "it has more folders than are looked at")
+}
+
 /// Looks at folders until none is left.
 fn look_at_all<R: Files + AllocGlobal + Clone + Drop>(
     rt: &R,
     walk: &mut Walk<'_>,
 ) -> Result<(), ToolFault> {
     for _ in 0..MOST_FOLDERS {
-        match walk.folders.pop() {
-            None => return Ok(()),
-            Some(folder) => look(rt, walk, folder.as_str())?,
+        if !look_at_next(rt, walk)? {
+            return Ok(());
         }
     }
-    Err(told(
-        rt.alloc(),
-        walk.root,
-        "it has more folders than are looked at",
-    ))
+    Err(too_many(rt.alloc(), walk))
 }
 
-/// Reads the Go files below a folder.
-pub fn load<R: Files + AllocGlobal + Clone + Drop>(
+/// Looks at folders until none is left. Threads parse files that were read meanwhile.
+fn look_and_parse<R: Files + Threads + AllocGlobal + Clone + Drop>(
     rt: &R,
-    root: &str,
-) -> Result<Loaded, ToolFault> {
+    walk: &mut Walk<'_>,
+) -> Result<(), ToolFault> {
+    let alloc = rt.alloc();
+    for _ in 0..MOST_FOLDERS {
+        if !look_at_next(rt, walk)? {
+            return Ok(());
+        }
+        walk.loaded.files.begin_parsing(rt, alloc)?;
+    }
+    Err(too_many(alloc, walk))
+}
+
+/// A walk that begins at a folder.
+fn walk_from<'a, R: Files + AllocGlobal>(rt: &R, root: &'a str) -> Result<Walk<'a>, ToolFault> {
     let alloc = rt.alloc();
     let prefix = prefix_of(rt, root)?;
     let mut loaded = Loaded {
@@ -274,12 +301,15 @@ pub fn load<R: Files + AllocGlobal + Clone + Drop>(
     }
     let mut folders = Vec::new(alloc);
     folders.push(String::new(alloc))?;
-    let mut walk = Walk {
+    Ok(Walk {
         root,
         folders,
         loaded,
-    };
-    look_at_all(rt, &mut walk)?;
+    })
+}
+
+/// What was read in a walk, with the notes in order.
+fn what_was_read(walk: Walk<'_>) -> Result<Loaded, ToolFault> {
     let Walk {
         root: _,
         folders,
@@ -289,4 +319,24 @@ pub fn load<R: Files + AllocGlobal + Clone + Drop>(
     let mut loaded = loaded;
     loaded.notes.sort()?;
     Ok(loaded)
+}
+
+/// Reads the Go files below a folder.
+pub fn load<R: Files + AllocGlobal + Clone + Drop>(
+    rt: &R,
+    root: &str,
+) -> Result<Loaded, ToolFault> {
+    let mut walk = walk_from(rt, root)?;
+    look_at_all(rt, &mut walk)?;
+    what_was_read(walk)
+}
+
+/// Reads the Go files below a folder, and has threads parse them.
+pub fn load_and_parse<R: Files + Threads + AllocGlobal + Clone + Drop>(
+    rt: &R,
+    root: &str,
+) -> Result<Loaded, ToolFault> {
+    let mut walk = walk_from(rt, root)?;
+    look_and_parse(rt, &mut walk)?;
+    what_was_read(walk)
 }

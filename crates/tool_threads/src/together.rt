@@ -1,6 +1,6 @@
-//! Checks the packages of a workspace in several threads: first those that import none, then those that import these alone, and so on. The
-//! order costs only speed: what a package builds on is checked with it where it is not known. A package that no thread has checked is checked
-//! at the end.
+//! Checks the packages of a workspace in several threads. A package is begun as soon as verdicts are known on all that it imports. The order
+//! costs only speed: what a package builds on is checked with it where it is not known. A package that no thread has checked is checked at the
+//! end.
 ghost use Rattle.std.specs.Prelude.{◌≡◌, ◌≤◌, ◌<◌, length, IfOk, IfSome, OnOk};
 ghost use Rattle.std.specs.List.{All};
 ghost use Rattle.base_files.specs.Packages.{package_paths};
@@ -10,52 +10,53 @@ ghost use Rattle.tool_threads.specs.Given.{GiveVerdictsOf};
 use crate::task::{PackageTask, PackageThread};
 use build_carry::take_in_each;
 use std::alloc::{AllocError, Global};
-use std::thread::{Threads, join_promised};
+use std::thread::Threads;
 use workspace_check::{Found, Known, KnownVerdict, SharedKnown, verdicts};
 use workspace_graph::Graph;
 
 /// How many packages are checked at once, at most.
 const AT_ONCE: usize = 32;
 
-/// The height of a package, or 0 where the list ends before.
-fn height_at(heights: &[usize], number: usize) -> usize {
-    match heights.get(number) {
-        Some(height) => *height,
-        None => 0,
-    }
+/// Which packages were begun, and the threads that check them, in the order in which they were begun. A thread leaves the list when its
+/// verdicts are noted.
+#[derive(Drop)]
+struct Begun {
+    marks: Vec<bool>,
+    threads: Vec<PackageThread>,
 }
 
-/// The height of a package above those that it imports; 0 where it imports none.
-fn height_above(graph: &Graph, heights: &[usize], number: usize) -> usize
+/// Whether a verdict is known on each package that a package imports.
+fn is_ready(graph: &Graph, known: &Known, number: usize) -> bool
     requires { number < length (package_paths graph.now) }
 {
-    let mut height = 0;
     for below in graph.imports(number) {
-        height = height.max(height_at(heights, *below).saturating_add(1));
-    }
-    height
-}
-
-/// The height of each package.
-fn heights(alloc: Global, graph: &Graph, order: &[usize]) -> Result<Vec<usize>, AllocError> {
-    let mut heights = vec![in alloc; 0; graph.len()]?;
-    for number in order {
-        if *number < graph.len() && *number < heights.len() {
-            heights[*number] = height_above(graph, &heights, *number);
+        if known.get(*below).is_none() {
+            return false;
         }
     }
-    Ok(heights)
+    true
 }
 
-/// The numbers of the packages of a height.
-fn level(alloc: Global, heights: &[usize], height: usize) -> Result<Vec<usize>, AllocError> {
-    let mut numbers = Vec::new(alloc);
-    for number in 0..heights.len() {
-        if heights[number] == height {
-            numbers.push(number)?;
+/// The packages that are ready and were not begun, at most `room` of them. They are marked as begun.
+fn take_ready(
+    alloc: Global,
+    graph: &Graph,
+    known: &Known,
+    marks: &mut [bool],
+    room: usize,
+) -> Result<Vec<usize>, AllocError> {
+    let mut ready = Vec::new(alloc);
+    for number in 0..graph.len() {
+        if number < marks.len()
+            && ready.len() < room
+            && !marks[number]
+            && is_ready(graph, known, number)
+        {
+            marks[number] = true;
+            ready.push(number)?;
         }
     }
-    Ok(numbers)
+    Ok(ready)
 }
 
 /// What is known so far, to be shared by threads.
@@ -102,21 +103,26 @@ fn begin_each<R: Threads>(
     Ok(threads)
 }
 
-/// The verdicts that are found with each of a few packages, each checked in a thread of its own. Where memory is wanting, threads that were
-/// begun are let go.
-fn verdicts_with_each<R: Threads>(
+/// Has threads check the packages that are ready and were not begun.
+fn begin_ready<R: Threads>(
     rt: &R,
     alloc: Global,
     graph: &Graph,
-    known: &SharedKnown,
-    few: &[usize],
-) -> Result<Vec<Result<Vec<KnownVerdict>, AllocError>>, AllocError>
-    requires { KnowsVerdicts graph.now known.now }
-    ensures { IfOk result (λ parts. All (GiveVerdictsOf graph.now) parts.items) }
+    known: &Known,
+    begun: &mut Begun,
+) -> Result<(), AllocError>
+    requires known { KnowsVerdicts graph.now known.now }
+    requires threads { All (λ thread. thread.promise.graph.value ≡ graph.now) begun.old.threads.items }
+    ensures { OnOk result (All (λ thread. thread.promise.graph.value ≡ graph.now) begun.new.threads.items) }
 {
-    let threads = begin_each(rt, alloc, graph, known, few)?;
-    let parts = join_promised(rt, threads)?;
-    Ok(parts)
+    let room = AT_ONCE.saturating_sub(begun.threads.len());
+    let ready = take_ready(alloc, graph, known, begun.marks.as_mut_slice(), room)?;
+    if ready.is_empty() {
+        return Ok(());
+    }
+    let known = shared(alloc, graph, known)?;
+    let mut threads = begin_each(rt, alloc, graph, &known, ready.as_slice())?;
+    begun.threads.append(&mut threads)
 }
 
 /// Notes the verdicts that were found with a package.
@@ -137,95 +143,49 @@ fn note_part(
     }
 }
 
-/// Notes the verdicts that were found with each of several packages.
-fn note_parts(
+/// Waits for the thread that was begun first, and notes its verdicts.
+fn note_first<R: Threads>(
+    rt: &R,
     graph: &Graph,
-    parts: &[Result<Vec<KnownVerdict>, AllocError>],
+    threads: &mut Vec<PackageThread>,
     known: &mut Known,
 ) -> Result<(), AllocError>
-    requires parts { All (GiveVerdictsOf graph.now) parts.now }
+    requires some { 0 < length threads.old.items }
+    requires threads { All (λ thread. thread.promise.graph.value ≡ graph.now) threads.old.items }
     requires room { length (package_paths graph.now) ≤ length known.old.verdicts.items }
     requires known { KnowsVerdicts graph.now known.old }
+    ensures threads { All (λ thread. thread.promise.graph.value ≡ graph.now) threads.new.items }
     ensures room { OnOk result (length (package_paths graph.now) ≤ length known.new.verdicts.items) }
     ensures known { OnOk result (KnowsVerdicts graph.now known.new) }
 {
-    for part in parts {
-        note_part(graph, part, known)?;
-    }
-    Ok(())
+    let thread = threads.remove(0);
+    let part = thread.join(rt);
+    note_part(graph, &part, known)
 }
 
-/// Checks a few packages, each in a thread of its own, and notes the verdicts that are found.
-fn check_few<R: Threads>(
+/// Checks packages in threads, until none is ready.
+fn check_ready<R: Threads>(
     rt: &R,
     alloc: Global,
     graph: &Graph,
-    few: &[usize],
     known: &mut Known,
 ) -> Result<(), AllocError>
     requires room { length (package_paths graph.now) ≤ length known.old.verdicts.items }
     requires known { KnowsVerdicts graph.now known.old }
-    ensures room { OnOk result (length (package_paths graph.now) ≤ length known.new.verdicts.items) }
-    ensures known { OnOk result (KnowsVerdicts graph.now known.new) }
+    ensures { OnOk result (KnowsVerdicts graph.now known.new) }
 {
-    let before = shared(alloc, graph, known)?;
-    let parts = verdicts_with_each(rt, alloc, graph, &before, few)?;
-    note_parts(graph, parts.as_slice(), known)
-}
-
-/// Checks the packages of a level.
-fn check_level<R: Threads>(
-    rt: &R,
-    alloc: Global,
-    graph: &Graph,
-    level: &[usize],
-    known: &mut Known,
-) -> Result<(), AllocError>
-    requires room { length (package_paths graph.now) ≤ length known.old.verdicts.items }
-    requires known { KnowsVerdicts graph.now known.old }
-    ensures room { OnOk result (length (package_paths graph.now) ≤ length known.new.verdicts.items) }
-    ensures known { OnOk result (KnowsVerdicts graph.now known.new) }
-{
-    for few in level.chunks(AT_ONCE) {
-        check_few(rt, alloc, graph, few, known)?;
-    }
-    Ok(())
-}
-
-/// Checks packages level by level, until a level has none.
-fn check_levels<R: Threads>(
-    rt: &R,
-    alloc: Global,
-    graph: &Graph,
-    heights: &[usize],
-    known: &mut Known,
-) -> Result<(), AllocError>
-    requires room { length (package_paths graph.now) ≤ length known.old.verdicts.items }
-    requires known { KnowsVerdicts graph.now known.old }
-    ensures room { OnOk result (length (package_paths graph.now) ≤ length known.new.verdicts.items) }
-    ensures known { OnOk result (KnowsVerdicts graph.now known.new) }
-{
-    for height in 0..heights.len() {
-        let level = level(alloc, heights, height)?;
-        if level.is_empty() {
+    let mut begun = Begun {
+        marks: vec![in alloc; false; graph.len()]?,
+        threads: Vec::new(alloc),
+    };
+    for _joined in 0..graph.len() {
+        begin_ready(rt, alloc, graph, known, &mut begun)?;
+        if begun.threads.is_empty() {
             return Ok(());
         }
-        check_level(rt, alloc, graph, level.as_slice(), known)?;
+        note_first(rt, graph, &mut begun.threads, known)?;
     }
     Ok(())
-}
-
-/// What is known of a workspace whose packages were checked level by level.
-fn known_by_levels<R: Threads>(rt: &R, alloc: Global, graph: &Graph) -> Result<Known, AllocError>
-    ensures { IfOk result (KnowsVerdicts graph.now) }
-{
-    let nothing = Known::new(alloc);
-    let mut known = nothing.copy(alloc, graph.len())?;
-    if let Some(order) = graph.links().order(alloc)? {
-        let heights = heights(alloc, graph, order.as_slice())?;
-        check_levels(rt, alloc, graph, heights.as_slice(), &mut known)?;
-    }
-    Ok(known)
 }
 
 /// The findings of all packages, which several threads check.
@@ -236,6 +196,8 @@ pub fn verdicts_together<R: Threads>(
 ) -> Result<Found, AllocError>
     ensures { IfOk result (IsFound graph.now) }
 {
-    let known = known_by_levels(rt, alloc, graph)?;
+    let nothing = Known::new(alloc);
+    let mut known = nothing.copy(alloc, graph.len())?;
+    check_ready(rt, alloc, graph, &mut known)?;
     verdicts(alloc, graph, &known)
 }

@@ -3,6 +3,7 @@ pub mod AllPaths
 pub mod Parts
 pub mod PackageFiles
 pub mod JoinedParts
+pub mod Overlaid
 pub mod PutPackages
 pub mod Kept
 pub mod SendsTrees

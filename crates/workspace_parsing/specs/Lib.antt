@@ -1,3 +1,4 @@
 -- The definitions of this crate.
+pub mod Overlaid
 pub mod Promises
 pub mod Shares

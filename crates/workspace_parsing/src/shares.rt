@@ -34,12 +34,19 @@ fn is_between(path: &Path, low: usize, high: usize) -> bool
     low <= share && share < high
 }
 
+/// Sets the text at a path.
+pub(crate) fn set_file(part: &mut Files, path: &Path, text: &FileText) -> Result<(), AllocError>
+    ensures { OnOk result (part.new ≡ map.insert part.old path.now text.now) }
+{
+    part.insert(path.clone()?, text.clone()?)
+}
+
 /// Sets the text at a path, if asked to.
 fn add_if(part: &mut Files, path: &Path, text: &FileText, is_asked: bool) -> Result<(), AllocError>
     ensures { OnOk result (part.new ≡ cond is_asked (map.insert part.old path.now text.now) part.old) }
 {
     if is_asked {
-        part.insert(path.clone()?, text.clone()?)
+        set_file(part, path, text)
     } else {
         Ok(())
     }
