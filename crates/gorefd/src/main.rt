@@ -206,7 +206,7 @@ fn main(rt: HostRuntime) -> ExitCode {
             Ok(entries) => print_settled(&rt, entries),
             Err(fault) => ended(&rt, fault),
         },
-        Ok(Words::Stop(words)) => print_stopped(&rt, stop(&rt, words.socket)),
+        Ok(Words::Stop(words)) => print_stopped(&rt, stop(&rt, words.socket, words.at_once)),
         Ok(Words::Rename(options)) => print_command(&rt, rename(&rt, &options)),
         Ok(Words::Move(options)) => print_command(&rt, move_package(&rt, &options)),
         Ok(Words::Uses(options)) => print_command(&rt, list_uses(&rt, &options)),

@@ -1,3 +1,4 @@
 -- The lemmas of this crate.
 pub mod Based
 pub mod CarriedAlong
+pub mod NumbersLaws

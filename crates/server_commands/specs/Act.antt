@@ -18,7 +18,7 @@ use Rattle.workspace_check.specs.FaultLists.{ListsFaults}
 use Rattle.workspace_check.specs.declared.fault.FileFault.{FileFault}
 use Rattle.server_commands.specs.Queries.{FindsFile, FindsObject}
 use Rattle.server_commands.specs.ObjectChanges.{AnswersObjects}
-use Rattle.server_commands.specs.Wait.{WaitLaw, Waits}
+use Rattle.server_commands.specs.Wait.{TellsNumbers, WaitLaw, Waits}
 use Rattle.server_commands.specs.Work.{Works}
 use Rattle.server_read.specs.Commands.{command_basis}
 use Rattle.server_read.specs.declared.command.Command.{Command}
@@ -124,8 +124,9 @@ module _ {D : Type 0} (steps : D → Event → Reply → D → Type 0) where
   abbrev pub LooksFirst : D → StateCommand → Response → D → Type 0
   LooksFirst old asked answer new = (reply : Reply) × (mid : D) × steps old Look reply mid × AfterLook mid reply asked answer new
 
-  -- One command: it looks first if it is about the current state. A wait is one wait of the desk, and a log one event.
+  -- One command: it looks first if it is about the current state. A wait is one wait of the desk, a log one event, and a status none.
   abbrev pub Acts : WaitLaw D → D → Command → Response → D → Type 0
   Acts waits old (command.OnState asked) answer new = LooksFirst old asked answer new
   Acts waits old command.Wait answer new = Waits waits old answer new
+  Acts waits old command.Status answer new = TellsNumbers waits old answer new
   Acts waits old (command.Log number) answer new = Sends old (Log number) answer new

@@ -2,5 +2,6 @@
 pub mod Queries
 pub mod ObjectChanges
 pub mod Work
+pub mod Numbers
 pub mod Wait
 pub mod Act

@@ -31,7 +31,7 @@ ghost use Rattle.server_commands.specs.Act.{
 };
 ghost use Rattle.history_machine.specs.Machine.{ShowsHistory};
 ghost use Rattle.server_commands.specs.ObjectChanges.{AnswersObjects, NeedsHistory};
-ghost use Rattle.server_commands.specs.Wait.{Waits};
+ghost use Rattle.server_commands.specs.Wait.{TellsNumbers, Waits};
 ghost use Rattle.server_commands.specs.Queries.{FindsFile, FindsObject};
 
 use crate::desk::Desk;
@@ -753,6 +753,16 @@ fn log<D: Desk>(desk: &mut D, number: u64) -> Response
     }
 }
 
+/// Answers what the server tells of itself. No look comes before it.
+fn status<D: Desk>(desk: &D) -> Response
+    ensures { TellsNumbers D.waits desk.now result desk.now }
+{
+    match desk.numbers() {
+        Ok(numbers) => Response::Status { numbers },
+        Err(refusal) => Response::Refused { refusal },
+    }
+}
+
 /// Acts on one command, and answers it.
 pub fn act<D: Desk>(alloc: Global, desk: &mut D, command: Command<'_>) -> Response
     ensures { Acts D.steps D.waits desk.old command.entry result desk.new }
@@ -760,6 +770,7 @@ pub fn act<D: Desk>(alloc: Global, desk: &mut D, command: Command<'_>) -> Respon
     match command {
         Command::OnState(command) => act_on_state(alloc, desk, command),
         Command::Wait => wait(desk),
+        Command::Status => status(desk),
         Command::Log { number } => log(desk, number),
     }
 }

@@ -1,7 +1,6 @@
 //! The desk: it takes the events of commands.
-ghost use Rattle.std.specs.Prelude.{◌≡◌, ℕ, IfOk, Result};
+ghost use Rattle.std.specs.Prelude.{◌≡◌, IfOk};
 ghost use Rattle.base_files.specs.Workspace.{Workspace};
-ghost use Rattle.base_files.specs.declared.refusal.Refusal.{Refusal as WhyRefused};
 ghost use Rattle.build_unit.specs.Builds.{IsBuiltOf};
 ghost use Rattle.build_unit.specs.declared.job.JobRecord.{JobRecord};
 ghost use Rattle.history_machine.specs.Step.{done, looked, taken};
@@ -11,8 +10,10 @@ ghost use Rattle.history_machine.specs.declared.event.Reply.{Reply};
 ghost use Rattle.history_machine.specs.MayReply.{MayReply};
 ghost use Rattle.history_book.specs.CurrentUnits.{AreKnownIn};
 ghost use Rattle.history_book.specs.Handed.{handed};
+ghost use Rattle.server_commands.specs.Wait.{Aside, SaysNumbers, SaysWait};
 ghost use Rattle.workspace_check.specs.Found.{KnowsVerdicts};
 
+use crate::numbers::{ServerNumbers, book_numbers, edit_bytes, kept_behind};
 use base_files::Refusal;
 use build_kept::KnownUnits;
 use build_unit::{Built, Job};
@@ -28,9 +29,8 @@ pub trait Desk {
     /// The steps of an event: the desk before it, the event, its reply, and the desk after it.
     ghost steps: { Self → Event → Reply → Self → Type 0 };
 
-    /// The outcomes of a wait: the desk before it, the outcome, and the desk after it. The outcome is the number of the state whose
-    /// packages are all finished, or a refusal.
-    ghost waits: { Self → Result ℕ WhyRefused → Self → Type 0 };
+    /// What the desk says: the desk before it, how a wait ended or the numbers that it tells, and the desk after it.
+    ghost waits: { Self → Aside → Self → Type 0 };
 
     /// What the desk knows of files that a look or a commit has shown to be current, until the next event. A desk at a shared book knows
     /// nothing of them.
@@ -73,7 +73,11 @@ pub trait Desk {
 
     /// Waits until every package of the current state is finished, and returns that state's number.
     fn wait(&mut self) -> Result<u64, Refusal>
-        ensures { waits self.old result self.new };
+        ensures { waits self.old (SaysWait result) self.new };
+
+    /// What the server tells of itself in numbers. It is no event.
+    fn numbers(&self) -> Result<ServerNumbers, Refusal>
+        ensures { waits self.now (SaysNumbers result) self.now };
 
     /// Keeps the findings of the packages of files that a look has shown or a commit has made. It is no event: it affects how long later
     /// commands take, and the desk stays as it is.
@@ -99,6 +103,8 @@ pub trait Desk {
 #[must_use]
 pub struct Solo {
     book: Book,
+    /// How many bytes the texts have that changes put into files.
+    kept: u64,
 }
 
 impl Model for Solo {
@@ -119,14 +125,14 @@ impl Solo {
     pub fn new(book: Book) -> Solo
         ensures { result ≡ book }
     {
-        Solo { book }
+        Solo { book, kept: 0 }
     }
 
     /// Ends the desk, and returns its book.
     pub fn into_book(self) -> Book
         ensures { result ≡ self }
     {
-        let Solo { book } = self;
+        let Solo { book, kept: _ } = self;
         book
     }
 }
@@ -135,11 +141,11 @@ impl Desk for Solo {
     ghost use Rattle.std.specs.Prelude.{◌≡◌};
     ghost use Rattle.build_unit.specs.Inputs.{AreInputs};
     ghost use Rattle.history_machine.specs.Step.{Step};
-    ghost use Rattle.server_commands.specs.Wait.{RefusesWait};
+    ghost use Rattle.server_commands.specs.Wait.{SoloWaits};
 
     ghost steps = { Step };
 
-    ghost waits = { RefusesWait };
+    ghost waits = { SoloWaits };
 
     // No other desk changes the book, so these are the current files.
     ghost sees = { λ machine files. files ≡ machine.current.files };
@@ -161,7 +167,10 @@ impl Desk for Solo {
 
     /// The basis alone is compared, and no text.
     fn commit(&mut self, basis: u64, change: MadeChange) -> Result<u64, Refusal> {
-        self.book.commit_on_current(basis, change)
+        let bytes = edit_bytes(&change.get().edits);
+        let done = self.book.commit_on_current(basis, change);
+        self.kept = kept_behind(self.kept, bytes, &done);
+        done
     }
 
     fn take(&mut self) -> Result<Job, Refusal> {
@@ -176,6 +185,25 @@ impl Desk for Solo {
     /// Refuses the wait, since no one else builds.
     fn wait(&mut self) -> Result<u64, Refusal> {
         Err(Refusal::BadCommand)
+    }
+
+    /// There is one session, and no worker. No chapter is closed.
+    fn numbers(&self) -> Result<ServerNumbers, Refusal> {
+        let chapter = self.book.begun();
+        let entries = self.book.journal().len() as u64;
+        match self.book.snapshot() {
+            Err(error) => Err(Refusal::from(error)),
+            Ok(snapshot) => {
+                let book = book_numbers(&snapshot, chapter, entries);
+                Ok(ServerNumbers {
+                    sessions: 1,
+                    workers: 0,
+                    due: book.left,
+                    kept: self.kept,
+                    book,
+                })
+            }
+        }
     }
 
     /// They are the current files, so none is compared.

@@ -1,6 +1,7 @@
 //! The answers to commands: data, and no bytes of a reply.
 ghost use Rattle.std.specs.Prelude.{◌≡◌};
 
+use crate::numbers::ServerNumbers;
 use base_files::{FileText, Refusal};
 use history_machine::ShownEntry;
 use history_objects::ComparedObjects;
@@ -83,6 +84,10 @@ pub enum Response {
     Entry {
         number: u64,
         shown: ShownEntry,
+    },
+    /// What the server tells of itself.
+    Status {
+        numbers: ServerNumbers,
     },
     /// The path of the package that was built.
     Built {

@@ -2,7 +2,7 @@
 use Rattle.std.proofs.Common.{◌≡◌, ◌≢◌, ℕ, ◌+◌, ◌*◌, ◌<◌, List, [], ◌∷◌, ◌++◌, Option, None, Some, refl, sym, ap, ◌∙◌, arith, decimal, codes}
 use Rattle.std.specs.List.{AllByRecursion}
 use Rattle.server_read.specs.declared.command.Command.{Command}
-use Rattle.server_read.specs.declared.command.Command.TheVariants.{OnState, Wait, Log}
+use Rattle.server_read.specs.declared.command.Command.TheVariants.{OnState, Wait, Status, Log}
 use Rattle.server_read.specs.declared.command.StateCommand.TheVariants.{Look, Put, Del, Rename, Move, Undo, Redo, Cat, Uses, Faults, Object, Objects, Work}
 use Rattle.server_read.specs.declared.command.StateCommand.TheVariants as state
 use Rattle.server_read.specs.Words.{HasNoSpace, spaced}
@@ -46,6 +46,7 @@ verb_no_space (OnState (Objects basis)) =
     seven 111 98 106 101 99 116 115 (omega arith) (omega arith) (omega arith) (omega arith) (omega arith) (omega arith) (omega arith)
 verb_no_space (OnState Work) = four 119 111 114 107 (omega arith) (omega arith) (omega arith) (omega arith)
 verb_no_space Wait = four 119 97 105 116 (omega arith) (omega arith) (omega arith) (omega arith)
+verb_no_space Status = six 115 116 97 116 117 115 (omega arith) (omega arith) (omega arith) (omega arith) (omega arith) (omega arith)
 verb_no_space (Log number) = three 108 111 103 (omega arith) (omega arith) (omega arith)
 
 args_no_space : (command : Command) → FitsLine command → HaveNoSpace (args_of command)
@@ -64,6 +65,7 @@ args_no_space (OnState (Object path)) h = (h.1, tt)
 args_no_space (OnState (Objects basis)) h = (decimal_word basis h, tt)
 args_no_space (OnState Work) h = tt
 args_no_space Wait h = tt
+args_no_space Status h = tt
 args_no_space (Log number) h = (decimal_word number h, tt)
 
 -- a line has one list of words at most
@@ -148,6 +150,11 @@ only_objects command P e h = absurd (omega (arith, ap weight e))
 pub only_work : (command : Command) (P : Command → Type 0) → verb_of command ≡ codes "work" → P (OnState Work) → P command
 only_work (OnState Work) P e h = h
 only_work command P e h = absurd (omega (arith, ap weight e))
+
+pub only_status : (command : Command) (P : Command → Type 0) → verb_of command ≡ codes "status" → P Status → P command
+only_status Status P e h = h
+only_status (OnState Look) P e h = absurd (omega (arith, ap weight e))
+only_status command P e h = absurd (omega (arith, ap weight e))
 
 pub only_wait : (command : Command) (P : Command → Type 0) → verb_of command ≡ codes "wait" → P Wait → P command
 only_wait Wait P e h = h

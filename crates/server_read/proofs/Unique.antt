@@ -3,7 +3,7 @@ use Rattle.std.proofs.Common.{◌≡◌, ℕ, ◌^◌, ◌≤◌, ◌<◌, List,
 use Rattle.std.proofs.lemmas.Fmt.{decimal_injective}
 use Rattle.base_files.specs.declared.limits.Limits.{Limits}
 use Rattle.server_read.specs.declared.command.Command.{Command}
-use Rattle.server_read.specs.declared.command.Command.TheVariants.{OnState, Wait, Log}
+use Rattle.server_read.specs.declared.command.Command.TheVariants.{OnState, Wait, Status, Log}
 use Rattle.server_read.specs.declared.command.StateCommand.TheVariants.{Look, Put, Del, Rename, Move, Undo, Redo, Cat, Uses, Faults, Object, Objects, Work}
 use Rattle.server_read.specs.declared.command.StateCommand.TheVariants as state
 use Rattle.server_read.specs.declared.message.Message.{Message}
@@ -14,7 +14,7 @@ use Rattle.server_read.specs.Laws.{BeginsOneWay, ReadsOneWay}
 use Rattle.server_read.specs.FirstLine.{first_line, after_line}
 use Rattle.server_read.proofs.Places.{place_word_unique}
 use Rattle.server_read.proofs.LineWords.{same_words, only_put, only_del, only_rename, only_move, only_undo, only_redo, only_cat, only_uses, only_look}
-use Rattle.server_read.proofs.LineWords.{only_list, only_faults, only_object, only_objects, only_work, only_wait, only_log, end_is_none}
+use Rattle.server_read.proofs.LineWords.{only_list, only_faults, only_object, only_objects, only_work, only_wait, only_status, only_log, end_is_none}
 
 -- two lists of words that are equal have equal parts
 head_of_two : (x y : List ℕ) (xs ys : List (List ℕ)) → x ∷ xs ≡ y ∷ ys → x ≡ y
@@ -36,6 +36,7 @@ same_line (OnState state.List) b e = only_list b (Same (OnState state.List)) e (
 same_line (OnState Faults) b e = only_faults b (Same (OnState Faults)) e (λ h k f. refl)
 same_line (OnState Work) b e = only_work b (Same (OnState Work)) e (λ h k f. refl)
 same_line Wait b e = only_wait b (Same Wait) e (λ h k f. refl)
+same_line Status b e = only_status b (Same Status) e (λ h k f. refl)
 same_line (OnState (Object path)) b e = only_object b (Same (OnState (Object path))) e (λ other h k f. ap (λ x. OnState (Object x)) (head_of_two path other [] [] f))
 same_line (Log number) b e = only_log b (Same (Log number)) e (λ other h k f. ap (λ x. Log x) (same_basis number other [] [] h k f))
 same_line (OnState (Undo basis)) b e = only_undo b (Same (OnState (Undo basis))) e (λ other h k f. ap (λ x. OnState (Undo x)) (same_basis basis other [] [] h k f))

@@ -3,7 +3,7 @@ use Rattle.std.specs.Prelude.{◌≡◌, ℕ, ◌^◌, ◌<◌, List, [], ◌∷
 use Rattle.base_files.specs.PlaceText.{place_text}
 use Rattle.server_read.specs.Words.{HasNoSpace, IsArgument, spaced}
 use Rattle.server_read.specs.declared.command.Command.{Command}
-use Rattle.server_read.specs.declared.command.Command.TheVariants.{OnState, Wait, Log}
+use Rattle.server_read.specs.declared.command.Command.TheVariants.{OnState, Wait, Status, Log}
 use Rattle.server_read.specs.declared.command.StateCommand.TheVariants.{Look, Put, Del, Rename, Move, Undo, Redo, Cat, Uses, Faults, Object, Objects, Work}
 use Rattle.server_read.specs.declared.command.StateCommand.TheVariants as state
 
@@ -24,6 +24,7 @@ verb_of (OnState (Object path)) = codes "object"
 verb_of (OnState (Objects basis)) = codes "objects"
 verb_of (OnState Work) = codes "work"
 verb_of Wait = codes "wait"
+verb_of Status = codes "status"
 verb_of (Log number) = codes "log"
 
 -- A place as a word: `path:#offset`. An offset has digits alone, so the last `:#` of the word is between path and offset.
@@ -47,6 +48,7 @@ args_of (OnState (Object path)) = path ∷ []
 args_of (OnState (Objects basis)) = decimal basis ∷ []
 args_of (OnState Work) = []
 args_of Wait = []
+args_of Status = []
 args_of (Log number) = decimal number ∷ []
 
 -- the path has no space, and may be empty; the offset is below 2^32
@@ -70,6 +72,7 @@ FitsLine (OnState (Object path)) = IsArgument path
 FitsLine (OnState (Objects basis)) = basis < 2 ^ 64
 FitsLine (OnState Work) = ⊤
 FitsLine Wait = ⊤
+FitsLine Status = ⊤
 FitsLine (Log number) = number < 2 ^ 64
 
 -- how many bytes the command's line announces

@@ -101,6 +101,8 @@ pub enum Command<'a> {
     OnState(StateCommand<'a>),
     /// Waits until every package of the current state is finished.
     Wait,
+    /// What the server tells of itself.
+    Status,
     /// The line of an entry of the journal, by its number.
     Log { number: u64 },
 }

@@ -197,6 +197,7 @@ fn parse_bare(verb: &str) -> Option<Command<'_>>
         "faults" => Some(Command::OnState(StateCommand::Faults)),
         "work" => Some(Command::OnState(StateCommand::Work)),
         "wait" => Some(Command::Wait),
+        "status" => Some(Command::Status),
         _ => None,
     }
 }

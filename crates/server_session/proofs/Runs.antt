@@ -14,7 +14,7 @@ use Rattle.history_machine.specs.Machine.{Machine}
 use Rattle.history_machine.specs.Step.{Step}
 use Rattle.history_machine.specs.Run.{Run}
 use Rattle.history_machine.proofs.Legal.{Run-append}
-use Rattle.server_commands.specs.Wait.{RefusesWait}
+use Rattle.server_commands.specs.Wait.{RefusesWait, SoloWaits}
 use Rattle.server_read.specs.declared.command.Command.{Command}
 use Rattle.server_read.specs.declared.command.Command.TheVariants as command
 use Rattle.server_read.specs.declared.command.StateCommand.{StateCommand}
@@ -130,15 +130,16 @@ continued old new (Taken job) asked answer h = absurd h.0
 continued old new (Refused refusal) asked answer h = ([], h.1, λ before after n. (h.0, nothing before after n))
 continued old new (Back refusal job unit) asked answer h = absurd h.0
 
-acted : (old new : Machine) (asked : Command) (answer : Response) → Acts Step RefusesWait old asked answer new
+acted : (old new : Machine) (asked : Command) (answer : Response) → Acts Step SoloWaits old asked answer new
     → IsRun old new (λ a b. Acts GainsEvent RefusesWait a asked answer b)
 acted old new (command.Log number) answer h = sent old new (event.Log number) answer h
 acted old new command.Wait answer h = ([], h.1.1, λ before after n. (h.0, (h.1.0, nothing before after n), h.2))
+acted old new command.Status answer h = ([], h.1.1, λ before after n. (h.0, nothing before after n, h.2))
 acted old new (command.OnState asked) answer h =
     let g = led_on old h.1 new event.Look h.0 (λ (a b : Events). AfterLook GainsEvent a h.0 asked answer b) h.2 (continued h.1 new h.0 asked answer h.3) in
     (g.0, g.1, λ before after e. let n = g.2 before after e in (h.0, n.0, n.1, n.2))
 
-answered : (old new : Machine) (message : Message) (reply : Response) → AnswersMessage Step RefusesWait old message reply new
+answered : (old new : Machine) (message : Message) (reply : Response) → AnswersMessage Step SoloWaits old message reply new
     → IsRun old new (λ a b. AnswersMessage GainsEvent RefusesWait a message reply b)
 answered old new (Ask asked) reply h = elim h [
   | inl k ↦ let g = acted old new asked k.0 k.1 in (g.0, g.1, λ before after e. inl (k.0, g.2 before after e, k.2))
@@ -147,7 +148,7 @@ answered old new (Ask asked) reply h = elim h [
 answered old new Unknown reply h = ([], h.1, λ before after n. (h.0, nothing before after n))
 answered old new CutShort reply h = ([], h.1, λ before after n. (h.0, nothing before after n))
 
-all_answered : (old new : Machine) (ms : List Message) (rs : List Response) → AnswersAll Step RefusesWait old ms rs new
+all_answered : (old new : Machine) (ms : List Message) (rs : List Response) → AnswersAll Step SoloWaits old ms rs new
     → IsRun old new (λ a b. AnswersAll GainsEvent RefusesWait a ms rs b)
 all_answered old new [] [] h = ([], h, nothing)
 all_answered old new [] (r ∷ rs) h = absurd h
@@ -169,7 +170,7 @@ exchange_runs limits input rest old new text h =
     let g = all_answered old new h.messages h.replies h.run in
     (g.0, g.1, record { messages = h.messages; replies = h.replies; read = h.read; run = g.2 [] g.0 refl; written = h.written })
 
-broken_runs : (limits : Limits) (input rest : List ℕ) (old new : Machine) (text : List ℕ) → BreaksOff Step RefusesWait limits input rest old new text
+broken_runs : (limits : Limits) (input rest : List ℕ) (old new : Machine) (text : List ℕ) → BreaksOff Step SoloWaits limits input rest old new text
     → (events : Events) × Run old events new × BreaksOff GainsEvent RefusesWait limits input rest [] events text
 broken_runs limits input rest old new text h =
     let g = all_answered old new h.messages (h.earlier ++ h.last ∷ []) h.run in (

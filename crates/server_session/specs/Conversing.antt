@@ -5,7 +5,7 @@ use Rattle.history_machine.specs.declared.event.Event.{Event}
 use Rattle.history_machine.specs.declared.event.Reply.{Reply}
 use Rattle.history_machine.specs.Machine.{Machine, opening}
 use Rattle.history_machine.specs.Step.{Step}
-use Rattle.server_commands.specs.Wait.{WaitLaw, RefusesWait}
+use Rattle.server_commands.specs.Wait.{WaitLaw, SoloWaits}
 use Rattle.server_session.specs.declared.exchange.SessionFault.{SessionFault}
 use Rattle.server_session.specs.Answers.{AnswersSome}
 use Rattle.server_session.specs.Transcript.{SessionEnds}
@@ -19,7 +19,7 @@ Converses steps waits limits before held holds old new result =
 
 -- a session over this book ended with this result, whatever the book became
 abbrev pub EndsOver : Machine → Limits → (before held holds : Option (List ℕ)) → Result (Unit {0}) SessionFault → Type 0
-EndsOver old limits before held holds result = (end : Machine) × Converses Step RefusesWait limits before held holds old end result
+EndsOver old limits before held holds result = (end : Machine) × Converses Step SoloWaits limits before held holds old end result
 
 -- A session over a new book ended with this result. Session and book have the same limits.
 abbrev pub EndsAlone : Limits → (before held holds : Option (List ℕ)) → Result (Unit {0}) SessionFault → Type 0

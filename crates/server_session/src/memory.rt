@@ -1,7 +1,7 @@
 //! A session whose input and output are in memory.
 ghost use Rattle.std.specs.Prelude.{MatchResult};
 ghost use Rattle.history_machine.specs.Step.{Step};
-ghost use Rattle.server_commands.specs.Wait.{RefusesWait};
+ghost use Rattle.server_commands.specs.Wait.{SoloWaits};
 ghost use Rattle.server_session.specs.Transcript.{IsTranscript, EndsEarly};
 
 use crate::conversing::converse;
@@ -18,8 +18,8 @@ pub fn transcript(
     solo: &mut Solo,
     limits: Limits,
 ) -> Result<Vec<u8>, SessionFault>
-    ensures { MatchResult result (λ text. IsTranscript Step RefusesWait limits input.now solo.old solo.new text.items)
-        (λ fault. EndsEarly Step RefusesWait limits input.now solo.old solo.new fault) }
+    ensures { MatchResult result (λ text. IsTranscript Step SoloWaits limits input.now solo.old solo.new text.items)
+        (λ fault. EndsEarly Step SoloWaits limits input.now solo.old solo.new fault) }
 {
     let (ended, text) = converse(alloc, input, Vec::new(alloc), solo, limits);
     match ended {

@@ -2,18 +2,21 @@
 //! `print_response`. If its body takes memory, it is also an arm of `made_body` in written.rt.
 ghost use Rattle.std.specs.Prelude.{◌≡◌, ◌++◌, ◌≤◌, true, length};
 ghost use Rattle.server_session.specs.Listings.{package_line};
-ghost use Rattle.server_session.specs.Replies.{reply_head, made_body, reply_text, steps_line};
+ghost use Rattle.server_session.specs.Replies.{count_line, made_body, reply_head, reply_text, status_lines, steps_line};
 ghost use Rattle.server_read.specs.Failures.{CountsFailure, WritesText};
 
 use crate::entries::entry_text;
 use crate::refusal::{LONGEST_BODY, refusal_body, refusal_code};
 use arrayvec::ArrayString;
 use itoa::Buffer;
-use server_commands::Response;
+use server_commands::{Response, ServerNumbers};
 use server_read::{Sink, WriteFailed};
 
 /// The size of the longest first line, in bytes: a word, two numbers of at most 20 digits, a space and a newline.
 const LONGEST_HEAD: usize = 48;
+
+/// The size of the longest line with a word and a number, in bytes.
+const LONGEST_COUNT: usize = 64;
 
 /// The size of the longest reply that is written in one piece, in bytes.
 const LONGEST_SHORT: usize = 700;
@@ -56,6 +59,35 @@ fn steps_text(undo: usize, redo: usize) -> ArrayString<LONGEST_BODY>
     text.push_str(" redo ");
     text.push_str(digits.format(redo));
     text.push_str("\n");
+    text
+}
+
+/// A line with a word and a number.
+fn count_line(word: &str, number: u64) -> ArrayString<LONGEST_COUNT>
+    requires { length word.now ≤ 20 }
+    ensures { result.bytes ≡ count_line word.now number }
+{
+    let mut digits = Buffer::new();
+    let mut text = ArrayString::new();
+    text.push_str(word);
+    text.push_str(" ");
+    text.push_str(digits.format(number));
+    text.push_str("\n");
+    text
+}
+
+/// The lines with what a server tells of itself.
+fn status_text(numbers: &ServerNumbers) -> ArrayString<LONGEST_BODY>
+    ensures { result.bytes ≡ status_lines numbers.now }
+{
+    let mut text = ArrayString::new();
+    text.push_str(count_line("sessions", numbers.sessions).as_str());
+    text.push_str(count_line("workers", numbers.workers).as_str());
+    text.push_str(count_line("chapter", numbers.book.chapter).as_str());
+    text.push_str(count_line("due", numbers.due).as_str());
+    text.push_str(count_line("left", numbers.book.left).as_str());
+    text.push_str(count_line("bytes", numbers.book.bytes).as_str());
+    text.push_str(count_line("kept", numbers.kept).as_str());
     text
 }
 
@@ -127,6 +159,12 @@ pub(crate) fn print_response<T: Sink>(
         Response::Entry { number, shown } => {
             print_short(sink, true, *number, entry_text(*shown).as_str())
         }
+        Response::Status { numbers } => print_short(
+            sink,
+            true,
+            numbers.book.state,
+            status_text(numbers).as_str(),
+        ),
         Response::Built { number, package } => print_line(sink, *number, package.path()),
         Response::Refused { refusal } => print_short(
             sink,

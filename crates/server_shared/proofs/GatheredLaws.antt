@@ -1,7 +1,6 @@
 -- The receipts that seats still hold, as they are gathered.
-use Rattle.std.proofs.Common.{◌≡◌, ◌+◌, ◌≤◌, ◌⊎◌, ℕ, List, [], ◌∷◌, ◌++◌, All, Some, IfSome, length, option_to_list, refl, sym, ap, subst, ◌∙◌, arith, append-nil, length-append, ⊎_elim}
+use Rattle.std.proofs.Common.{◌≡◌, ◌+◌, ◌≤◌, ◌⊎◌, List, [], ◌∷◌, ◌++◌, length, sym, ap, subst, ◌∙◌, arith, append-nil, length-append, ⊎_elim}
 use mathlib.Core.Logic.{∥∥₁_map₂}
-use Rattle.std.proofs.lemmas.List.Elements.{All-pop}
 use Rattle.std.proofs.lemmas.List.Sums.{sum_by_push}
 use Rattle.server_shared.specs.Past.{IsHandedIn}
 use Rattle.server_shared.specs.Settled.{receipt_count}

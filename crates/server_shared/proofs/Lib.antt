@@ -7,6 +7,7 @@ pub mod GatheredLaws
 pub mod SettlingLaws
 pub mod ShiftLaws
 pub mod ReceiptLaws
+pub mod RoomLaws
 pub mod StepLaws
 pub mod TakeLaws
 pub mod WakeLaws

@@ -1,11 +1,11 @@
 -- The chapters that were closed, as a book goes on and closes one more, and the receipts that were handed in.
-use Rattle.std.proofs.Common.{◌≡◌, ℕ, List, [], ◌∷◌, ◌++◌, Some, None, All, IsPermutation, flat_map, length, map, refl, sym, ap, subst, ◌∙◌}
+use Rattle.std.proofs.Common.{◌≡◌, ℕ, List, [], ◌∷◌, ◌++◌, Some, None, IsPermutation, flat_map, length, map, refl, sym, ap, subst, ◌∙◌}
 use Rattle.std.proofs.Common.{append-nil}
 use Rattle.std.proofs.lemmas.Grind.{flat_map-append}
 use Rattle.std.proofs.lemmas.List.Elements.{All-nil, All-push}
 use Rattle.std.proofs.lemmas.List.Sorted.{IsPermutation-append_left, IsPermutation-refl, IsPermutation-trans}
 use Rattle.base_files.specs.declared.limits.Limits.{Limits}
-use Rattle.history_machine.specs.Chapters.{HasHistory, Occurrence, RunsOver}
+use Rattle.history_machine.specs.Chapters.{HasHistory, RunsOver}
 use Rattle.history_machine.specs.Machine.{Machine, closed, opening}
 use Rattle.history_machine.specs.Step.{Step}
 use Rattle.history_machine.specs.declared.entry.Entry.{Entry}

@@ -9,4 +9,5 @@ pub mod Steps
 pub mod SettledBook
 pub mod Working
 pub mod Waking
+pub mod Standing
 pub mod LimitNumbers

@@ -180,6 +180,11 @@ impl Crew {
         self.workers = self.workers.wrapping_add(1);
     }
 
+    /// How many workers there are.
+    pub(crate) fn workers(&self) -> u64 {
+        self.workers
+    }
+
     /// Whether there is one worker at most, so that no two can judge the same package.
     pub(crate) fn is_alone(&self) -> bool {
         self.workers < 2

@@ -136,6 +136,7 @@ impl<L: Opening> Locked<L> {
             book,
             from,
             handed,
+            kept,
             ..
         } = self;
         if !is_settled_by(*from, book, handed) {
@@ -146,6 +147,7 @@ impl<L: Opening> Locked<L> {
             Ok(entries) => {
                 *from = 0;
                 handed.clear();
+                *kept = 0;
                 Some(entries)
             }
         }

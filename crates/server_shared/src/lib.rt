@@ -4,7 +4,8 @@
 //! step, and the seat keeps the receipt. `Shared::hand_in` takes the receipts of a seat at rest, and closes a chapter where it is due.
 //! `FreeSeats` has as many seats as `Shared::new` was asked for, and `take` always has one where one is left. `settle` returns Ok exactly where
 //! the receipts that were handed in are the entries of the last chapter. Each chapter before it was settled (`IsSettling`). `worker`
-//! makes only the events of its turns, and in each turn hands in the Job that it took (`TakesTurn`).
+//! makes only the events of its turns, and in each turn hands in the Job that it took (`TakesTurn`). `Shared::standing` tells of a book as it is at
+//! one moment (`TellsOfBook`).
 #![tactic(auto)]
 
 mod ahead;
@@ -20,6 +21,7 @@ mod receipt;
 mod seat;
 mod settling;
 mod shared;
+mod standing;
 mod work_turn;
 mod working;
 
@@ -34,5 +36,6 @@ pub use receipt::Receipt;
 pub use seat::{Seat, jobs_after, reserve};
 pub use settling::Unsettled;
 pub use shared::Shared;
+pub use standing::Standing;
 pub use work_turn::WorkTurn;
 pub use working::{turn, worker};

@@ -1,5 +1,6 @@
 //! The state under the lock of a shared book.
-ghost use Rattle.std.specs.Prelude.{◌≡◌, ◌+◌, ◌<◌, ◌↔◌, All, List, length, is_ok, is_some, IfSome, IsTrue, MatchOption, None, false, if◌then◌else◌};
+ghost use Rattle.std.specs.Prelude.{◌≡◌, ◌+◌, ◌-◌, ◌<◌, ◌↔◌, All, List, length, is_ok, is_some, IfErr, IfOk, IfSome, IsTrue, MatchOption, None, false, if◌then◌else◌};
+ghost use Rattle.std.specs.Io.Iter.{u64_saturate};
 ghost use Rattle.workspace_check.specs.Found.{KnowsVerdicts};
 ghost use Rattle.history_book.specs.WorkLeft.{HasJob, IsWaitEnd};
 ghost use Rattle.base_files.specs.declared.refusal.Refusal.TheVariants.{Memory};
@@ -8,9 +9,11 @@ ghost use Rattle.history_machine.specs.MayReply.{MayReply};
 ghost use Rattle.history_machine.specs.Step.{refused, taken};
 ghost use Rattle.history_machine.specs.declared.event.Event.TheVariants.{Take};
 ghost use Rattle.history_book.specs.CurrentUnits.{AreKnownIn};
+ghost use Rattle.server_shared.specs.Reserved.{IsHandingIn};
 ghost use Rattle.server_shared.specs.Steps.{IsReceiptOrNone, ReceiptStep};
 ghost use Rattle.server_shared.specs.Waking.{CountsNews, HasWork, IsNews, MayWake, NoWakeMissed};
 ghost use Rattle.server_shared.specs.Call.{LooksBuilt};
+ghost use Rattle.server_shared.specs.Standing.{TellsOfBook};
 ghost use Rattle.server_shared.specs.Working.{TakesJob};
 ghost use Rattle.server_shared.specs.Past.{HasPast, IsHandedIn};
 ghost use Rattle.server_shared.specs.SettledBook.{IsSettling, book_in};
@@ -25,6 +28,7 @@ use crate::opening::Opening;
 use crate::receipt::Receipt;
 use crate::seat::Seat;
 use crate::settling::Unsettled;
+use crate::standing::Standing;
 use base_files::Refusal;
 use build_kept::KnownUnits;
 use build_unit::Job;
@@ -46,6 +50,10 @@ pub struct Locked<L: Opening> {
     pub news: u64,
     pub handed: Vec<Receipt>,
     pub closing: Closing,
+    /// How many sessions are under way.
+    pub sessions: u64,
+    /// How many bytes the texts have that the changes of the chapter put into files.
+    pub kept: u64,
     /// The workers, and what they judge before their Jobs. Only speed rests on it.
     pub(crate) crew: Crew,
     ghost counted: { length book.journal ≡ from + length handed.items + count.total },
@@ -116,9 +124,35 @@ pub fn is_news(line: &Line) -> bool
     }
 }
 
+/// Whether an event of this kind hands a Job in.
+fn is_handing_in(kind: EntryKind) -> bool
+    ensures { IsTrue result ↔ IsHandingIn kind }
+{
+    match kind {
+        EntryKind::Deliver | EntryKind::GiveBack => true,
+        _ => false,
+    }
+}
+
 impl<L: Opening> Locked<L> {
+    /// Takes memory for the receipts that the seats hold, and for those of one event more and of its Job. So a seat that comes to rest can hand
+    /// its receipts in. For an event that hands a Job in, it was taken before.
+    fn make_room(&mut self, kind: EntryKind) -> Result<(), AllocError>
+        ensures book { self.new.book ≡ self.old.book }
+        ensures stopped { self.new.is_stopped ≡ self.old.is_stopped }
+        ensures news { self.new.news ≡ self.old.news }
+        ensures why { IfErr result (λ _. ¬ (IsHandingIn kind)) }
+    {
+        if is_handing_in(kind) {
+            return Ok(());
+        }
+        let held = self.book.journal().len() - self.handed.len();
+        self.handed
+            .reserve(held.saturating_add(held).saturating_add(2))
+    }
+
     /// Makes one step of the book, and returns a receipt of the entry that it adds. The share counts the entry.
-    pub fn step<Q: Question>(
+    fn make_step<Q: Question>(
         &mut self,
         share: &mut Share<L>,
         question: Q,
@@ -148,6 +182,26 @@ impl<L: Opening> Locked<L> {
                 count.add(share, 1);
                 (answer, Some(Receipt { index, entry }))
             }
+        }
+    }
+
+    /// Does the same, where there is memory for the receipt to be handed in. Else the event is turned away.
+    pub fn step<Q: Question>(
+        &mut self,
+        share: &mut Share<L>,
+        question: Q,
+    ) -> (Q::Answer, Option<Receipt>)
+        requires { 0 < share.old.parts }
+        ensures step { ReceiptStep self.old.book (Q.event question) (Q.reply result.0) result.1 self.new.book }
+        ensures stopped { self.new.is_stopped ≡ self.old.is_stopped }
+        ensures news { MatchOption result.1 (self.new.news ≡ self.old.news) (λ receipt. CountsNews receipt.entry.line self.old.news self.new.news) }
+        ensures kind { MayReply (Q.event question) (Q.reply result.0) }
+        ensures amount { share.new.amount ≡ share.old.amount + (if is_some result.1 then 1 else 0) }
+        ensures parts { share.new.parts ≡ share.old.parts }
+    {
+        match self.make_room(question.kind()) {
+            Ok(()) => self.make_step(share, question),
+            Err(error) => (turn_away(question, error), None),
         }
     }
 
@@ -314,6 +368,53 @@ impl<L: Opening> Locked<L> {
         self.book.learn_units(units);
     }
 
+    /// Counts a session that begins.
+    pub fn begin_session(&mut self)
+        ensures counted { self.new.sessions ≡ u64_saturate (self.old.sessions + 1) }
+        ensures book { self.new.book ≡ self.old.book }
+        ensures stopped { self.new.is_stopped ≡ self.old.is_stopped }
+        ensures news { self.new.news ≡ self.old.news }
+    {
+        self.sessions = self.sessions.saturating_add(1);
+    }
+
+    /// Counts a session that has ended.
+    pub fn end_session(&mut self)
+        ensures counted { self.new.sessions ≡ self.old.sessions - 1 }
+        ensures book { self.new.book ≡ self.old.book }
+        ensures stopped { self.new.is_stopped ≡ self.old.is_stopped }
+        ensures news { self.new.news ≡ self.old.news }
+    {
+        self.sessions = self.sessions.saturating_sub(1);
+    }
+
+    /// Counts the bytes of texts that a change put into files.
+    pub fn keep(&mut self, bytes: u64)
+        ensures kept { self.new.kept ≡ u64_saturate (self.old.kept + bytes) }
+        ensures book { self.new.book ≡ self.old.book }
+        ensures stopped { self.new.is_stopped ≡ self.old.is_stopped }
+        ensures news { self.new.news ≡ self.old.news }
+    {
+        self.kept = self.kept.saturating_add(bytes);
+    }
+
+    /// What the book tells of itself. It is no event.
+    pub fn standing(&self) -> Result<Standing, AllocError>
+        ensures { IfOk result (TellsOfBook L.most) }
+    {
+        let entries = self.book.journal().len() as u64;
+        let snapshot = self.book.snapshot()?;
+        Ok(Standing {
+            snapshot,
+            begun: self.book.begun(),
+            entries,
+            due: self.closing.due.saturating_sub(entries),
+            kept: self.kept,
+            sessions: self.sessions,
+            workers: self.crew.workers(),
+        })
+    }
+
     /// Stops the workers.
     pub fn stop(&mut self)
         ensures stopped { IsTrue self.new.is_stopped }
@@ -338,6 +439,8 @@ impl<L: Opening> Locked<L> {
             news: _,
             mut handed,
             closing: _,
+            sessions: _,
+            kept: _,
             crew,
         } = self;
         drop(crew);

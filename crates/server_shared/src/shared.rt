@@ -1,5 +1,5 @@
 //! A book that threads share.
-ghost use Rattle.std.specs.Prelude.{◌≡◌, ◌+◌, ◌<◌, if◌then◌else◌, All, List, length, is_ok, is_some, IfSome, MatchOption};
+ghost use Rattle.std.specs.Prelude.{◌≡◌, ◌+◌, ◌<◌, if◌then◌else◌, All, List, length, is_ok, is_some, IfOk, IfSome, MatchOption};
 ghost use Rattle.workspace_check.specs.Found.{KnowsVerdicts};
 ghost use Rattle.history_machine.specs.MayReply.{MayReply};
 ghost use Rattle.history_machine.specs.Step.{taken};
@@ -9,6 +9,7 @@ ghost use Rattle.server_shared.specs.SettledBook.{IsSettling, book_in};
 ghost use Rattle.server_shared.specs.Steps.{IsReceiptOrNone};
 ghost use Rattle.server_shared.specs.Call.{Calls, CallsWith, LooksBuilt, LooksOnceBuilt};
 ghost use Rattle.server_shared.specs.Held.{IsRested};
+ghost use Rattle.server_shared.specs.Standing.{TellsOfBook};
 ghost use Rattle.server_shared.specs.declared.receipt.Receipt.{Receipt as HeldReceipt};
 ghost use Rattle.server_shared.specs.Working.{LacksOnly};
 ghost use Rattle.server_shared.specs.LimitNumbers.{limit_numbers};
@@ -21,12 +22,13 @@ use crate::opening::Opening;
 use crate::receipt::Receipt;
 use crate::seat::{Seat, jobs_after, reserve};
 use crate::settling::Unsettled;
+use crate::standing::Standing;
 use base_files::Refusal;
 use build_kept::KnownUnits;
 use build_unit::Job;
 use history_book::{Book, Question};
 use history_machine::{EntryKind, Line, View};
-use std::alloc::Global;
+use std::alloc::{AllocError, Global};
 use std::sync::ledger::{Blank, Share};
 use std::sync::{Condvar, Mutex, Wait};
 use workspace_check::Known;
@@ -78,6 +80,8 @@ impl<L: Opening> Shared<L> {
                 news: 0,
                 handed: Vec::new(alloc),
                 closing: Closing::at(mark),
+                sessions: 0,
+                kept: 0,
                 crew: Crew::new(),
             }),
             work: Condvar::new(),
@@ -226,6 +230,28 @@ impl<L: Opening> Shared<L> {
     /// receipt.
     pub fn learn_units<R: Wait>(&self, rt: &R, units: KnownUnits) {
         self.locked.lock(rt).learn_units(units);
+    }
+
+    /// What the book tells of itself. It is no event, and no seat gains a receipt.
+    pub fn standing<R: Wait>(&self, rt: &R) -> Result<Standing, AllocError>
+        ensures { IfOk result (TellsOfBook L.most) }
+    {
+        self.locked.lock(rt).standing()
+    }
+
+    /// Counts the bytes of texts that a change put into files. The journal keeps them until its chapter is closed.
+    pub fn keep<R: Wait>(&self, rt: &R, bytes: u64) {
+        self.locked.lock(rt).keep(bytes);
+    }
+
+    /// Counts a session that begins.
+    pub fn begin_session<R: Wait>(&self, rt: &R) {
+        self.locked.lock(rt).begin_session();
+    }
+
+    /// Counts a session that has ended.
+    pub fn end_session<R: Wait>(&self, rt: &R) {
+        self.locked.lock(rt).end_session();
     }
 
     /// Has a seat that comes to rest hand in the receipts that it holds. The last seat that does so closes a chapter that is due. The seat keeps

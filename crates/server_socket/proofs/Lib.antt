@@ -4,4 +4,5 @@ pub mod Captures
 pub mod SeatsSent
 mod ServedLaws
 mod SessionLaws
+mod ToldNumbers
 mod ReturnedLaws

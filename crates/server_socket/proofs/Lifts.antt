@@ -18,7 +18,7 @@ use Rattle.server_read.specs.declared.command.StateCommand.TheVariants as state
 use Rattle.server_commands.specs.declared.response.Response.{Response}
 use Rattle.server_read.specs.declared.message.Message.{Message}
 use Rattle.server_read.specs.declared.message.Message.TheVariants.{Ask, Unknown, CutShort}
-use Rattle.server_commands.specs.Wait.{WaitLaw}
+use Rattle.server_commands.specs.Wait.{Aside, SaysNumbers, SaysWait, WaitLaw}
 use Rattle.server_commands.specs.Act.{Acts, ActsOn, Commits, AfterLook, Sends}
 use Rattle.server_commands.specs.Work.{Works, AfterTake, AfterDelivery, Builds, Delivers, GivesBack}
 use Rattle.server_session.specs.declared.exchange.SessionFault.{SessionFault}
@@ -33,7 +33,7 @@ use Rattle.server_session.specs.Transcript.{Exchange, BreaksOff, CutsOff, Sessio
 module _ {D E : Type 0} (steps : D → Event → Reply → D → Type 0) (waits : WaitLaw D) (shown : E → Event → Reply → E → Type 0) (awaited : WaitLaw E)
     (name : D → ℕ) (show : D → E)
     (step : (old : D) (asked : Event) (reply : Reply) (new : D) → steps old asked reply new → (name new ≡ name old) × shown (show old) asked reply (show new))
-    (wait : (old : D) (told : Result ℕ Refusal) (new : D) → waits old told new → (name new ≡ name old) × awaited (show old) told (show new)) where
+    (wait : (old : D) (told : Aside) (new : D) → waits old told new → (name new ≡ name old) × awaited (show old) told (show new)) where
   -- the name stays, and P holds of what is shown
   abbrev Lifts : D → D → (E → E → Type 0) → Type 0
   Lifts old new P = (name new ≡ name old) × P (show old) (show new)
@@ -116,7 +116,8 @@ module _ {D E : Type 0} (steps : D → Event → Reply → D → Type 0) (waits 
   acted : (old new : D) (asked : Command) (answer : Response) → Acts steps waits old asked answer new
       → Lifts old new (λ a b. Acts shown awaited a asked answer b)
   acted old new (command.Log number) answer h = sent old new (event.Log number) answer h
-  acted old new command.Wait answer h = let k = wait old h.0 new h.1 in (k.0, (h.0, k.1, h.2))
+  acted old new command.Wait answer h = let k = wait old (SaysWait h.0) new h.1 in (k.0, (h.0, k.1, h.2))
+  acted old new command.Status answer h = let k = wait old (SaysNumbers h.0) new h.1 in (k.0, (h.0, k.1, h.2))
   acted old new (command.OnState asked) answer h =
       let k = step old event.Look h.0 h.1 h.2 in
       let l = continued h.1 new h.0 asked answer h.3 in

@@ -3,6 +3,7 @@ use Rattle.std.proofs.Common.{◌≡◌, ℕ, zero, suc, List, [], ◌++◌, Opt
 use Rattle.std.specs.Prelude.{MatchResult}
 use Rattle.base_files.specs.declared.limits.Limits.{Limits}
 use Rattle.base_files.specs.declared.refusal.Refusal.{Refusal}
+use Rattle.server_commands.specs.Wait.{Aside, SaysNumbers, SaysWait}
 use Rattle.server_session.specs.declared.exchange.SessionFault.{SessionFault}
 use Rattle.server_session.specs.declared.outgoing.Outgoing.{Outgoing}
 use Rattle.server_session.specs.Answers.{AnswersOneAtMost}
@@ -54,9 +55,10 @@ message_served most limits a b x y z old new outgoing result h sent =
 
 module _ (most : ℕ) (limits : Limits) where
   -- a wait, with the receipts that were handed in before it
-  wait_shifted : (past : List Receipt) → jobs_in_hand past ≡ 0 → (held : List Receipt) (told : Result ℕ Refusal) (new : List Receipt) →
+  wait_shifted : (past : List Receipt) → jobs_in_hand past ≡ 0 → (held : List Receipt) (told : Aside) (new : List Receipt) →
       WaitsUntilBuilt most held told new → WaitsUntilBuilt most (past ++ held) told (past ++ new)
-  wait_shifted past none held told new w = (w.0, looks_shifted most past none held w.0 new w.1, w.2)
+  wait_shifted past none held (SaysWait outcome) new w = (w.0, looks_shifted most past none held w.0 new w.1, w.2)
+  wait_shifted past none held (SaysNumbers outcome) new w = (w.0, ap (λ (x : List Receipt). past ++ x) w.1)
 
   -- a step of a session, with these
   step_shifted : (past : List Receipt) → jobs_in_hand past ≡ 0 → (before after held holds : Option (List ℕ)) (old new : List Receipt)

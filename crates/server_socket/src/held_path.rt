@@ -14,6 +14,36 @@ const OWNER_WRITES: u32 = 0o600;
 /// The rights of all but a file's owner.
 const RIGHTS_OF_OTHERS: u32 = 0o077;
 
+/// How the end of a server is asked for.
+#[derive(Clone, Copy)]
+pub(crate) enum EndWord {
+    /// Its sessions come to their ends.
+    Stop,
+    /// Their connections are shut.
+    Now,
+}
+
+impl EndWord {
+    /// What is written into the file of the lock. The second word begins with the first, and may be written over it.
+    pub(crate) fn text(self) -> &'static str {
+        match self {
+            EndWord::Stop => "stop\n",
+            EndWord::Now => "stop now\n",
+        }
+    }
+}
+
+/// The word of which so many bytes were written, or none where nothing was.
+fn word_of(bytes: u64) -> Option<EndWord> {
+    if bytes == 0 {
+        None
+    } else if bytes < EndWord::Now.text().len() as u64 {
+        Some(EndWord::Stop)
+    } else {
+        Some(EndWord::Now)
+    }
+}
+
 /// The path of a socket, held until each handle of it is dropped.
 #[derive(Drop)]
 pub(crate) struct HeldPath {
@@ -107,11 +137,11 @@ impl HeldPath {
         Ok(standing.uid() == self.lock.metadata()?.uid())
     }
 
-    /// Whether `gorefd stop` asked for the end of the server: it wrote into the file of the lock.
-    pub(crate) fn is_to_end(&self) -> bool {
+    /// How `gorefd stop` asked for the end of the server, if it did: it wrote a word into the file of the lock.
+    pub(crate) fn end_asked(&self) -> Option<EndWord> {
         match self.lock.metadata() {
-            Ok(data) => data.len() != 0,
-            Err(_) => false,
+            Ok(data) => word_of(data.len()),
+            Err(_) => None,
         }
     }
 }

@@ -15,6 +15,7 @@ mod socket;
 mod stopping;
 mod threads;
 mod turns;
+mod under_way;
 
 pub use fault::ServeFault;
 pub use seat_desk::SeatDesk;

@@ -4,7 +4,7 @@ use build_kept::KnownUnits;
 use build_unit::{Built, Job};
 use history_book::{Changing, Handed, HandingIn, Looking, LookingBack, Question, Taking};
 use history_machine::{HistoryView, View};
-use server_commands::Desk;
+use server_commands::{Desk, ServerNumbers, book_numbers, edit_bytes, kept_behind};
 use server_shared::{Opening, Seat, Shared};
 use std::sync::Wait;
 use workspace_check::Known;
@@ -27,7 +27,7 @@ impl<'a, L: Opening, R: Wait> Desk for SeatDesk<'a, L, R> {
     // The desk keeps its seat.
     ghost steps = { λ old event reply new. (new.seat.ghost_name ≡ old.seat.ghost_name) × CallsAtSeat L.most old.seat.now event reply new.seat.now };
 
-    ghost waits = { λ old outcome new. (new.seat.ghost_name ≡ old.seat.ghost_name) × WaitsUntilBuilt L.most old.seat.now outcome new.seat.now };
+    ghost waits = { λ old said new. (new.seat.ghost_name ≡ old.seat.ghost_name) × WaitsUntilBuilt L.most old.seat.now said new.seat.now };
 
     // Other seats change the book too, so nothing is known of the current files.
     ghost sees = { λ _ _. ⊤ };
@@ -48,7 +48,10 @@ impl<'a, L: Opening, R: Wait> Desk for SeatDesk<'a, L, R> {
 
     /// Its base is compared with the current files under the lock.
     fn commit(&mut self, basis: u64, change: MadeChange) -> Result<u64, Refusal> {
-        self.step(Changing::Commit(basis, change))
+        let bytes = edit_bytes(&change.get().edits);
+        let done = self.step(Changing::Commit(basis, change));
+        self.shared.keep(self.rt, kept_behind(0, bytes, &done));
+        done
     }
 
     fn take(&mut self) -> Result<Job, Refusal> {
@@ -64,6 +67,20 @@ impl<'a, L: Opening, R: Wait> Desk for SeatDesk<'a, L, R> {
         match self.shared.wait_built(self.rt, self.seat) {
             Ok(view) => Ok(view.snapshot.number()),
             Err(refusal) => Err(refusal),
+        }
+    }
+
+    /// It is no event, so the seat gains no receipt.
+    fn numbers(&self) -> Result<ServerNumbers, Refusal> {
+        match self.shared.standing(self.rt) {
+            Err(error) => Err(Refusal::from(error)),
+            Ok(standing) => Ok(ServerNumbers {
+                sessions: standing.sessions,
+                workers: standing.workers,
+                due: standing.due,
+                kept: standing.kept,
+                book: book_numbers(&standing.snapshot, standing.begun, standing.entries),
+            }),
         }
     }
 

@@ -270,7 +270,7 @@ fn serve_held<
 {
     let alloc = rt.alloc();
     let listener = listen_alone(rt, alloc, words.socket, held)?;
-    let turns = Turns::new(listener, held.share()?, words);
+    let turns = Turns::new(alloc, listener, held.share()?, words);
     let blank = Blank::new(threads_of(words));
     let _ = eprintln!(rt; "gorefd: serving {}", words.socket);
     let served = serve_in::<Brand, R, G>(rt, alloc, words, gate, turns, blank);

@@ -61,10 +61,13 @@ fn take_turns<L: Opening, R: Wait + Clock>(
     ensures held { WithHandedIn (HoldsSome L.most) seat.old seat.new }
 {
     for _ in rt.forever() {
-        match turns.next(rt) {
-            Some(stream) => {
+        match turns.next(rt, alloc) {
+            Some(connected) => {
+                shared.begin_session(rt);
                 // How a session ends concerns no other.
-                let _ended = serve_connection(rt, alloc, shared, seat, &stream);
+                let _ended = serve_connection(rt, alloc, shared, seat, &connected.stream);
+                shared.end_session(rt);
+                turns.end(rt, connected.number);
             }
             None => return,
         }
@@ -82,6 +85,7 @@ fn serve_at<L: Opening, R: Wait + Clock>(
     let SessionSeat { seat } = held;
     let mut seat = seat;
     take_turns(rt, alloc, shared, &mut seat, turns);
+    turns.leave(rt);
     SessionSeat { seat }
 }
 
@@ -139,6 +143,7 @@ fn serve_sessions<L: Opening + Send + Sync, R: Threads + Wait + Clock + Sync>(
             turn.end();
         }
         drop(turn);
+        turns.watch(rt, threads.len() as u64);
         all_joined(rt, threads, back)
     })
 }

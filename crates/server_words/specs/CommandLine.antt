@@ -35,9 +35,13 @@ serve_app = with_rule (with_rule (with_rule (with_rule (with_rule (with_rule (ne
     (number_rule (codes "idle") 1000000))
     (number_rule (codes "chapter") 900000)
 
--- the subcommand `stop`, with its option
+-- an option that has no value
+abbrev pub flag_rule : Text → Rule
+flag_rule name = record (new_rule name) { long = Some name; action = Some SetTrue }
+
+-- the subcommand `stop`, with its two options
 abbrev pub stop_app : App
-stop_app = with_rule (new_app (codes "stop")) socket_rule
+stop_app = with_rule (with_rule (new_app (codes "stop")) socket_rule) (flag_rule (codes "now"))
 
 -- the command line without its subcommands: a subcommand must be given, and there is none named `help`
 abbrev pub bare_app : App
@@ -47,9 +51,9 @@ bare_app = on_top (λ top. record top { has_version = true; subcommand_required 
 abbrev pub root_rule : Rule
 root_rule = record (option_rule (codes "root")) { defaults = codes "." ∷ [] }
 
--- the option `--dry-run`, which has no value
+-- the option `--dry-run`
 abbrev pub dry_run_rule : Rule
-dry_run_rule = record (new_rule (codes "dry-run")) { long = Some (codes "dry-run"); action = Some SetTrue }
+dry_run_rule = flag_rule (codes "dry-run")
 
 -- a word that must be given without the name of an option
 abbrev pub word_rule : Text → Rule

@@ -1,5 +1,5 @@
 -- The request of a command line, from what the parser of command lines found in it.
-use Rattle.std.specs.Prelude.{◌≡◌, ◌≤◌, ℕ, List, Option, Some, None, codes}
+use Rattle.std.specs.Prelude.{◌≡◌, ◌↔◌, ◌≤◌, ℕ, IsTrue, List, Option, Some, None, codes}
 use Rattle.std.specs.Str.Parse.{IsNumeral, digits_value, without_leading_plus}
 use Rattle.clap.specs.Words.{Row, Text, first_of, one_of}
 use Rattle.server_words.specs.declared.requests.ServeOptions.{ServeOptions}
@@ -42,11 +42,12 @@ abbrev pub FindsServe : List Row → Option ServeOptions → Type 0
 FindsServe rows (Some words) = AreServeOptions rows words
 FindsServe rows None = (words : ServeOptions) → AreServeOptions rows words → ⊥
 
--- the value of the option of `stop`
-abbrev pub AreStopOptions : List Row → StopOptions → Type 0
-AreStopOptions rows words = first_of (codes "socket") rows ≡ Some words.socket.now
+-- the options of `stop`
+pub record AreStopOptions (rows : List Row) (words : StopOptions) : Type 0 where
+  pub socket : first_of (codes "socket") rows ≡ Some words.socket.now
+  pub at_once : IsTrue words.at_once ↔ (first_of (codes "now") rows ≡ Some (codes "true"))
 
--- the option of `stop`, or none where it is missing
+-- the options of `stop`, or none where the path is missing
 abbrev pub FindsStop : List Row → Option StopOptions → Type 0
 FindsStop rows (Some words) = AreStopOptions rows words
 FindsStop rows None = (words : StopOptions) → AreStopOptions rows words → ⊥

@@ -9,6 +9,7 @@ ghost use Rattle.server_words.specs.CommandLine.{
   dry_run_rule,
   ending_app,
   faults_app,
+  flag_rule,
   gorefd,
   listing_app,
   lsp_app,
@@ -132,14 +133,26 @@ fn serve_command<'a>(alloc: Global) -> Result<Command<'a>, AllocError>
     with_idle.arg(chapter(alloc))
 }
 
-/// The subcommand `stop`, with its option.
+/// The option `--now`.
+fn at_once<'a>(alloc: Global) -> Arg<'a>
+    ensures rule { rule_of result ≡ flag_rule (codes "now") }
+    ensures local { result.global ≡ false }
+{
+    Arg::new(alloc, "now")
+        .long("now")
+        .help("Shuts the connections of sessions that are under way")
+        .action(ArgAction::SetTrue)
+}
+
+/// The subcommand `stop`, with its options.
 fn stop_command<'a>(alloc: Global) -> Result<Command<'a>, AllocError>
     ensures app { IfOk result (λ command. app_of command ≡ stop_app) }
     ensures local { IfOk result (λ command. (fields_of command).has_globals ≡ false) }
 {
     let about = "Ends a server, and returns once it has ended";
     let bare = Command::new(alloc, "stop").about(about);
-    with_option(bare, socket(alloc))
+    let with_socket = with_option(bare, socket(alloc))?;
+    with_option(with_socket, at_once(alloc))
 }
 
 /// The command with one more option, which its subcommands do not take over.

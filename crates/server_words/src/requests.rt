@@ -4,7 +4,7 @@ ghost use Rattle.clap.specs.Words.{found_of, rows_of, subcommand_rows_of};
 ghost use Rattle.server_words.specs.CommandRequests.{FindsRequest, FindsNumber, FindsOptional, FindsServe, FindsStop};
 
 use crate::tools::{
-    FaultsOptions, LspOptions, MoveOptions, RenameOptions, UsesOptions, faults_options,
+    FaultsOptions, LspOptions, MoveOptions, RenameOptions, UsesOptions, faults_options, is_given,
     lsp_options, move_options, rename_options, uses_options, value,
 };
 use clap::ArgMatches;
@@ -22,10 +22,11 @@ pub struct ServeOptions<'a> {
     pub chapter: Option<u32>,
 }
 
-/// The option of `stop`: the path of the socket.
+/// The options of `stop`: the path of the socket, and whether the connections of sessions under way are shut.
 #[derive(Clone, Copy)]
 pub struct StopOptions<'a> {
     pub socket: &'a str,
+    pub at_once: bool,
 }
 
 /// The request of a command line.
@@ -92,12 +93,15 @@ fn serve_words<'a>(matches: &ArgMatches<'a>) -> Option<ServeOptions<'a>>
     })
 }
 
-/// The option of `stop`, or `None` where it is missing.
+/// The options of `stop`, or `None` where the path is missing.
 fn stop_words<'a>(matches: &ArgMatches<'a>) -> Option<StopOptions<'a>>
     ensures { FindsStop (rows_of (found_of matches.now)) result }
 {
     let socket = value(matches, "socket")?;
-    Some(StopOptions { socket })
+    Some(StopOptions {
+        socket,
+        at_once: is_given(matches, "now"),
+    })
 }
 
 /// The name of the subcommand, with its matches.

@@ -49,11 +49,11 @@ pub(crate) fn value<'a>(matches: &ArgMatches<'a>, option: &str) -> Option<&'a st
     matches.get_str(option)
 }
 
-/// Whether the option `--dry-run` was given.
-fn is_dry_run(matches: &ArgMatches<'_>) -> bool
-    ensures { IsTrue result ↔ (first_of (codes "dry-run") (rows_of (found_of matches.now)) ≡ Some (codes "true")) }
+/// Whether an option without a value was given.
+pub(crate) fn is_given(matches: &ArgMatches<'_>, option: &str) -> bool
+    ensures { IsTrue result ↔ (first_of option.now (rows_of (found_of matches.now)) ≡ Some (codes "true")) }
 {
-    match value(matches, "dry-run") {
+    match value(matches, option) {
         Some(text) => text == "true",
         None => false,
     }
@@ -68,7 +68,7 @@ pub(crate) fn rename_options<'a>(matches: &ArgMatches<'a>) -> Option<RenameOptio
     let name = value(matches, "NAME")?;
     Some(RenameOptions {
         root,
-        dry_run: is_dry_run(matches),
+        dry_run: is_given(matches, "dry-run"),
         place,
         name,
     })
@@ -83,7 +83,7 @@ pub(crate) fn move_options<'a>(matches: &ArgMatches<'a>) -> Option<MoveOptions<'
     let to = value(matches, "TO")?;
     Some(MoveOptions {
         root,
-        dry_run: is_dry_run(matches),
+        dry_run: is_given(matches, "dry-run"),
         from,
         to,
     })

@@ -2,7 +2,7 @@
 use Rattle.std.proofs.Common.{refl, subst}
 use Rattle.history_machine.specs.Machine.{Machine, opening}
 use Rattle.history_machine.specs.Step.{Step}
-use Rattle.server_commands.specs.Wait.{RefusesWait}
+use Rattle.server_commands.specs.Wait.{SoloWaits}
 use Rattle.server_session.specs.Conversing.{EndsOver}
 use Rattle.std.proofs.KnownBytes.{Keeps-refl}
 use Rattle.server_session.proofs.Exchanges.{answers_none}
@@ -20,6 +20,6 @@ returns-in-Err g c = (
   (
     g.R.Read.remaining c.args.reader,
     (Keeps-refl (g.R.Read.remaining c.args.reader), refl, Keeps-refl (g.W.Write.contents c.args.writer)),
-    answers_none Step RefusesWait (opening c.args.limits),
+    answers_none Step SoloWaits (opening c.args.limits),
   ),
 )

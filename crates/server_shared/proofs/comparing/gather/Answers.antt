@@ -1,6 +1,4 @@
 -- The seat's receipts were added, or dropped for want of memory.
-use Rattle.std.proofs.Common.{◌≡◌, ◌⊎◌, ◌++◌, List, [], length, subst, ap, arith}
-use Rattle.server_shared.specs.declared.receipt.Receipt.{Receipt}
 use Rattle.server_shared.proofs.GatheredLaws.{gathered_handed, gathered_length, gathered_whole}
 use Rattle.server_shared.proofs.comparing.gather.Goals as goal
 

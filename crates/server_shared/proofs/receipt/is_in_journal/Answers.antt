@@ -1,5 +1,5 @@
 -- The entry at the receipt's index is compared, if the index is not too small.
-use Rattle.std.proofs.Common.{◌≡◌, ◌≤◌, Some, None, ap, refl, sym, ◌∙◌, slice_get, arith}
+use Rattle.std.proofs.Common.{◌≡◌, Some, None, ap, refl, sym, ◌∙◌, slice_get, arith}
 use Rattle.std.proofs.lemmas.Bool.{false≢true}
 use Rattle.std.proofs.lemmas.Option.{none-some, same_Some, slice_get_read, slice_get_past}
 use Rattle.server_shared.proofs.receipt.is_in_journal.Goals as goal

@@ -1,6 +1,6 @@
 -- The chapter was settled, so its border is one more of the past. Where it is not closed, the receipts are in another order.
 use mathlib.Core.Logic.{∥∥₁_map}
-use Rattle.std.proofs.Common.{List, [], length, sym, ap, subst, ◌∙◌, arith}
+use Rattle.std.proofs.Common.{List, length, sym, ap, subst, arith}
 use Rattle.history_machine.specs.Machine.{Machine}
 use Rattle.server_shared.specs.Past.{HasPast, IsHandedIn}
 use Rattle.server_shared.specs.declared.receipt.Receipt.{Receipt}

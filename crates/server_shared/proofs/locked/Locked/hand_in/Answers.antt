@@ -1,5 +1,5 @@
 -- What a seat hands in together is accounted for.
-use Rattle.std.proofs.Common.{List, ◌++◌, length, length-append, sym, ap, subst, ◌∙◌, arith}
+use Rattle.std.proofs.Common.{List, length, length-append, sym, ap, subst, arith}
 use Rattle.server_shared.specs.Past.{IsHandedIn}
 use Rattle.server_shared.specs.declared.receipt.Receipt.{Receipt}
 use Rattle.server_shared.proofs.GatheredLaws.{both_handed}

@@ -1,7 +1,6 @@
 -- The receipts of the last chapter, with what the seats still held.
-use Rattle.std.proofs.Common.{refl, sym, subst, ◌∙◌, true, false, Bool, IsTrue, arith}
+use Rattle.std.proofs.Common.{refl, sym, ◌∙◌, true, false, arith}
 use Rattle.std.proofs.lemmas.Bool.{false≢true}
-use Rattle.server_shared.specs.SettledBook.{IsSettling}
 use Rattle.server_shared.proofs.SettlingLaws.{settling_of}
 use Rattle.server_shared.proofs.locked.Locked.settle.Goals as goal
 

@@ -1,15 +1,30 @@
--- The past goes on with the step.
-use Rattle.server_shared.proofs.SettlingLaws.{past_stepped}
+-- There is memory for the receipt, or the event is turned away for want of it.
+use mathlib.Core.Logic.{∥∥₁_map}
+use Rattle.std.proofs.Common.{◌≡◌, ℕ, MatchOption, subst}
+use Rattle.history_machine.specs.Machine.{Machine}
+use Rattle.server_shared.specs.Past.{HasPast}
+use Rattle.server_shared.specs.Steps.{ReceiptStep}
+use Rattle.server_shared.specs.Waking.{CountsNews}
+use Rattle.server_shared.proofs.PastLaws.{past_reached}
+use Rattle.server_shared.proofs.RoomLaws.{brings_none, lacks_memory}
 use Rattle.server_shared.proofs.locked.Locked.step.Goals as goal
 
-pub invariant_of-self-clause-past : goal.invariant_of-self-clause-past
-invariant_of-self-clause-past g c =
-    past_stepped g.L.Opening.accounts g.L.Opening.from c.args.self.now.from c.args.self.now.book (g.Q.Question.event c.args.question)
-    (g.Q.Question.reply c.step_book-answer.result.0) c.step_book-answer.result.1 c.step_book-answer.new.book c.step_book-answer.ensures.all_limits c.step_book-answer.ensures.step
-    c.args.self.now.past
+pub returns-in-Ok-clause-step : goal.returns-in-Ok-clause-step
+returns-in-Ok-clause-step g c =
+    subst (λ (m : Machine). ReceiptStep m (g.Q.Question.event c.args.question) (g.Q.Question.reply c.make_step.result.0) c.make_step.result.1
+    c.make_step.new.self.book) c.make_room.ensures.book c.make_step.ensures.step
 
-pub invariant_of-self-in-Some-clause-past : goal.invariant_of-self-in-Some-clause-past
-invariant_of-self-in-Some-clause-past g c =
-    past_stepped g.L.Opening.accounts g.L.Opening.from c.args.self.now.from c.args.self.now.book (g.Q.Question.event c.args.question)
-    (g.Q.Question.reply c.step_book-answer.result.0) c.step_book-answer.result.1 c.step_book-answer.new.book c.step_book-answer.ensures.all_limits c.step_book-answer.ensures.step
-    c.args.self.now.past
+pub returns-in-Ok-clause-news : goal.returns-in-Ok-clause-news
+returns-in-Ok-clause-news g c =
+    subst (λ (n : ℕ). MatchOption c.make_step.result.1 (c.make_step.new.self.news ≡ n)
+    (λ receipt. CountsNews receipt.entry.line n c.make_step.new.self.news)) c.make_room.ensures.news c.make_step.ensures.news
+
+pub returns-in-Err-clause-step : goal.returns-in-Err-clause-step
+returns-in-Err-clause-step g c =
+    let old = c.args.self.now.book in
+    let event = g.Q.Question.event c.args.question in
+    let away = lacks_memory old event (brings_none event c.kind.result c.kind.ensures c.in-Err.ensures.why) in (
+      ∥∥₁_map c.args.self.now.past (λ (p : HasPast g.L.Opening.accounts g.L.Opening.from c.args.self.now.from old).
+          past_reached g.L.Opening.accounts g.L.Opening.from c.args.self.now.from old p),
+      rw (c.turn_away.ensures.turned, c.make_room.ensures.book) away,
+    )
