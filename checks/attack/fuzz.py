@@ -184,7 +184,7 @@ class Told:
         elif way == 9:
             self.send(b"%s %d" % (self.generator.choice([b"undo", b"undo", b"redo"]), self.number()))
         elif way == 10:
-            self.send(self.generator.choice([b"cat " + self.a_path(), b"list", b"look"]))
+            self.send(self.generator.choice([b"cat " + self.a_path(), b"list", b"look", b"status"]))
         elif way == 11:
             self.send(b"work")
             self.send(b"object " + (self.a_path().rpartition(b"/")[0] or b"a"))

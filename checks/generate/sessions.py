@@ -302,7 +302,7 @@ def question(generator, talk):
     elif way == 2:
         talk.send("uses %s:#%d" % a_place(generator, texts))
     elif way == 3:
-        talk.send(generator.choice(["list", "look"]))
+        talk.send(generator.choice(["list", "look", "status"]))
     elif way == 4:
         talk.send("object " + a_folder(generator, texts))
     elif way == 5:

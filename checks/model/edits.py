@@ -23,6 +23,10 @@ class EditSet:
             at = end
         return b"".join([*parts, text[at:]])
 
+    def bytes_put(self):
+        """How many bytes are put into files."""
+        return sum(len(new) for found in self.spans.values() for _, _, new in found)
+
     def moved(self, place):
         path, offset = place
         by = sum(len(new) - (end - start) for start, end, new in self.spans.get(path, ()) if end <= offset)

@@ -42,6 +42,7 @@ class State:
 
 
 UNDO_DEPTH = 100
+ENTRIES = 1_000_000
 
 
 class History:
@@ -52,6 +53,7 @@ class History:
         self.numbers = 1
         self.journal = journal
         self.entries = []
+        self.kept = 0
 
     @property
     def current(self):
@@ -68,8 +70,10 @@ class History:
         if basis != self.current.number:
             raise Refusal(6, f"{self.current.number}\n")
 
-    def change(self, texts):
+    def change(self, texts, put=0):
+        """Changes the files. The journal keeps what is put into them, so many bytes."""
         self.enter("commit", f"ok {self.numbers}")
+        self.kept += put
         state = State(self.numbers, texts, set(), self.interfaces)
         state.finished = self.current.carried(state)
         self.states = (self.states[: self.cursor + 1] + [state])[-UNDO_DEPTH - 1 :]
@@ -97,6 +101,13 @@ class History:
         before = len(self.entries)
         self.enter("log")
         return self.entries[number] if number < before else ""
+
+    def status(self):
+        """What a session on a book of its own is told: it is the only one, there is no worker, and no chapter is closed."""
+        left = (ENTRIES if self.journal is None else self.journal) - len(self.entries)
+        size = sum(map(len, self.current.texts.values()))
+        told = {"sessions": 1, "workers": 0, "chapter": 0, "due": left, "left": left, "bytes": size, "kept": self.kept}
+        return "".join(f"{word} {number}\n" for word, number in told.items())
 
     def object(self, package):
         if not is_path(package, 1):
@@ -192,6 +203,7 @@ VERBS = {
     "objects": 1,
     "work": 0,
     "log": 1,
+    "status": 0,
     "end": 0,
 }
 
@@ -206,6 +218,8 @@ def body_of(history, words, body):
     place = a_place(rest[0] if verb == "uses" else rest[1]) if verb in ("uses", "rename") else None
     if verb == "log":
         return history.log(a_number(rest[0]))
+    if verb == "status":
+        return history.status()
     history.enter("look")
     if basis is not None:
         history.meant_for(basis)
@@ -219,15 +233,15 @@ def body_of(history, words, body):
     if verb == "put":
         if texts.get(path) == body:
             raise Refusal(13)
-        history.change({**texts, path: body})
+        history.change({**texts, path: body}, len(body))
     elif verb == "del":
         history.change({other: text for other, text in texts.items() if other != path})
     elif verb == "rename":
         edits = plan_rename(history.current.workspace, texts, *place, rest[2])
-        history.change(edits.edited(texts))
+        history.change(edits.edited(texts), edits.bytes_put())
     elif verb == "move":
         edits = plan_move(history.current.workspace, texts, rest[1], rest[2])
-        history.change(edits.edited(texts))
+        history.change(edits.edited(texts), edits.bytes_put())
     elif verb == "undo":
         history.move(verb, -1, 7)
     elif verb == "redo":

@@ -60,12 +60,13 @@ def bytes_in_all():
 
 
 def entries():
-    """A put is two entries. A take keeps room for its own entry and for that of the Job, and a look comes before it."""
+    """A put is two entries. A take keeps room for its own entry and for that of the Job, and a look comes before it. A `status` needs no room."""
     first, looked = put(0, "a/a.go", b"package a\n"), b"ok 1 14\nundo 1 redo 0\n"
     count = ENTRIES - 5
     answers(first + LOOK * count + b"work\n" + LOOK, b"ok 1 0\n" + looked * count + b"ok 1 2\na\n" + FULL)
     count += 1
-    answers(first + LOOK * count + b"work\n" + LOOK * 2, b"ok 1 0\n" + looked * count + FULL + looked + FULL)
+    status = b"ok 1 61\nsessions 1\nworkers 0\nchapter 0\ndue 0\nleft 0\nbytes 10\nkept 10\n"
+    answers(first + LOOK * count + b"work\n" + LOOK * 2 + b"status\n", b"ok 1 0\n" + looked * count + FULL + looked + FULL + status)
 
 
 def at_a_server():

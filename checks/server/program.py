@@ -5,7 +5,7 @@ limits at their full size, and a server with clients and workers on threads. che
 checks, which need more of a machine or take longer.
 """
 
-from checks.server import chapters, connections, editors, entries, late, limits, serve, statuses, streams, tools
+from checks.server import chapters, connections, editors, entries, late, limits, serve, standing, statuses, streams, tools
 
 CHECKS = (
     statuses.bad_words,
@@ -16,6 +16,7 @@ CHECKS = (
     statuses.servers_at_once,
     statuses.after_a_kill,
     statuses.stopped,
+    statuses.stopped_now,
     statuses.silent_clients,
     statuses.told_start_and_end,
     statuses.foreign_locks,
@@ -40,6 +41,7 @@ CHECKS = (
     editors.alone_settled,
     *entries.CHECKS,
     *chapters.CHECKS,
+    *standing.CHECKS,
     *late.CHECKS,
     connections.cut_while_sending,
     connections.cut_while_reading,

@@ -377,6 +377,55 @@ def stopped_early():
             same(os.path.getsize(path + ".lock"), 0)
 
 
+NOW = ["stop", "--now", "--socket"]
+
+
+def stopped_now():
+    """`gorefd stop --now` shuts the connections of sessions under way, where each thread has one, and a further client waits. The server settles,
+    its socket is gone, and a server may serve there again."""
+    with Server(1, 2) as server:
+        clients = [server.connect() for _ in range(3)]
+        same(clients[0].ask(put(0, "a/a.txt", b"x")), (b"ok 1", b""))
+        same(clients[1].number(), 1)
+        same(run([*NOW, server.path]), (0, b"", b""))
+        same([client.rest() for client in clients], [b""] * 3)
+        same(settles(server), 3)
+        same(os.listdir(server.folder.name), ["s.lock"])
+        same(run([*NOW, server.path]), (1, b"", b"gorefd: no server is at work at this path\n"))
+        together(lambda: same(run(serve_words(server.path, 1, 1, 1)), (0, b"settled 0\n", b"")), lambda: comes(server.path))
+
+
+def now_behind_a_stop():
+    """A `gorefd stop` waits for a session that goes on. A `gorefd stop --now` behind it ends the session, and both return."""
+    with Server(1, 1) as server:
+        client, told = server.connect(), []
+        same(client.number(), 0)
+        first = threading.Thread(target=lambda: told.append(run(["stop", "--socket", server.path])), daemon=True)
+        first.start()
+        threading.Event().wait(0.5)
+        same((told, client.number()), ([], 0))
+        same(run([*NOW, server.path]), (0, b"", b""))
+        first.join(DEADLINE)
+        same((told, client.rest(), settles(server)), ([(0, b"", b"")], b"", 2))
+
+
+def now_in_the_midst():
+    """Sessions that are cut off by `gorefd stop --now`: one in the bytes of a put, which is not done; one whose client reads nothing of long
+    replies; one that waits for packages; one that is silent. All end, and the server settles."""
+    with Server(1, 5) as server:
+        clients = [server.connect() for _ in range(5)]
+        cut, deaf, waits, silent, asks = clients
+        same(asks.ask(put(0, "l/l.go", b"package l\n" + b"// line\n" * 100_000)), (b"ok 1", b""))
+        cut.send(put(1, "a/a.txt", b"x" * 1_000)[:-1])
+        deaf.send(b"cat l/l.go\n" * 50)
+        same(deaf.socket.recv(2, socket.MSG_PEEK | socket.MSG_WAITALL), b"ok")
+        waits.send(b"wait\n")
+        same([client.number() for client in (silent, asks)], [1, 1])
+        same(run([*NOW, server.path]), (0, b"", b""))
+        same([client.rest() for client in (silent, asks)], [b"", b""])
+        settles(server)
+
+
 def silent_clients():
     """A client that sends nothing for three seconds is let go, and so is one that reads nothing. Who waits for packages is not."""
     with Server(1, 1, 3, more=["--idle", "3"]) as server:
@@ -472,6 +521,9 @@ CHECKS = (
     after_a_kill,
     stopped,
     stopped_early,
+    stopped_now,
+    now_behind_a_stop,
+    now_in_the_midst,
     silent_clients,
     told_start_and_end,
     foreign_locks,
