@@ -1,7 +1,8 @@
 -- Lists of packed changes: what stays when more is appended, and how two parts join.
 use Rattle.std.proofs.Common.{◌≡◌, ℕ, ◌+◌, ◌-◌, ◌<◌, ◌≤◌, List, [], ◌∷◌, ◌++◌, length, take, drop, map, get_or, refl, sym, ap, subst, ◌∙◌, arith}
 use Rattle.std.specs.List.{All}
-use Rattle.std.proofs.lemmas.List.{append_assoc, append-nil, length-append, length-drop, length-map, map-append, get_or_append_left, take-append-le, drop-append-le, take_all}
+use Rattle.std.proofs.lemmas.List.{append_assoc, append-nil, length-append, length-drop, length-map}
+use Rattle.std.proofs.lemmas.List.{map-append, get_or_append_left, take-append-le, drop-append-le, take_all}
 use Rattle.std.proofs.lemmas.List.Elements.{All-nil, All-cons, All-head, All-tail, All-append, All-take, All-drop}
 use Rattle.base_edits.specs.Edits.{AreInOrder}
 use Rattle.base_edits.specs.declared.edit.Edit.{Edit}

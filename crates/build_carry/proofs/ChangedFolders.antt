@@ -118,7 +118,8 @@ closures_marked w folders marks reaching so are = record {
   );
 }
 
-pub marks_before : (v w : Workspace) (folders : List (List ℕ)) (marks : List Bool) → AreChanged v w folders → MarkClosures v folders marks → MarkChanges v w marks
+pub marks_before : (v w : Workspace) (folders : List (List ℕ)) (marks : List Bool) → AreChanged v w folders → MarkClosures v folders marks →
+    MarkChanges v w marks
 marks_before v w folders marks are so = record {
   size = so.size;
   changed = λ i p at marked keeps. (let h = (so.each i p at).0 marked in are.changed h.path h.among (keeps h.path h.in_closure));
@@ -128,6 +129,7 @@ marks_before v w folders marks are so = record {
 other_way : (v w : Workspace) (q : List ℕ) → HasSameFiles v w q → HasSameFiles w v q
 other_way v w q same e = ((same e).1, (same e).0)
 
-pub marks_after : (v w : Workspace) (folders : List (List ℕ)) (marks : List Bool) → AreChanged v w folders → MarkClosures w folders marks → MarkChanges w v marks
+pub marks_after : (v w : Workspace) (folders : List (List ℕ)) (marks : List Bool) → AreChanged v w folders → MarkClosures w folders marks →
+    MarkChanges w v marks
 marks_after v w folders marks are so = marks_before w v folders marks
     (record { changed = λ q has same. are.changed q has (other_way w v q same); same = λ q none. other_way v w q (are.same q none) }) so

@@ -27,7 +27,8 @@ use Rattle.build_object.specs.Sources.{HasQualifier, IsGlobalAt, own, imported, 
 -- string literals
 
 -- the value of a string literal, as a row of the table of texts
-pub as_text : (s : SourceFile) (token : ℕ) (o : Option (Vec ℕ Global)) → MatchOption o ((v : List ℕ) → HasLiteral s token v → ⊥) (λ v. HasLiteral s token v.items) →
+pub as_text : (s : SourceFile) (token : ℕ) (o : Option (Vec ℕ Global)) → MatchOption o ((v : List ℕ) → HasLiteral s token v →
+    ⊥) (λ v. HasLiteral s token v.items) →
     IsTextAt s token (option_map (λ v. v.items) o)
 as_text s token None h = h
 as_text s token (Some v) h = h

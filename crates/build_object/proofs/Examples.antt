@@ -103,7 +103,8 @@ pub first_text : object_text no_names first_object ≡ lines
     (codes "object a a" ∷ codes "var a#x int" ∷ codes "func a#F (int) (int) 1 5" ∷ codes "global a#x" ∷ codes "local 0" ∷ codes "op +" ∷ codes "ret 1" ∷
     codes "end" ∷ [])
 unfolding operand_of operations bound_name named_meaning statement_lines block_lines statements_lines statement_places block_places statements_places
-    ident_place judge_type named_type variable_declarations declared_by declared_in names_behind_all declared_from function_text type_text operator_text words_of
+    ident_place judge_type named_type variable_declarations declared_by declared_in names_behind_all declared_from function_text type_text operator_text
+    words_of
     declaration_text digits
 first_text = refl
 

@@ -214,7 +214,8 @@ mutual
       operations_stay s slots (operated o xs (operand_of s slots e).value) rest
       (operated_stays (length slots) o xs (operand_of s slots e).value h (expr_sound s slots e).0)
 
-  linked_sound : (s : Source) (slots : List ℕ) (o : CodeOperand) (links : LinkTrees) → IsSound (length slots) o → IsSound (length slots) (linked s slots o links)
+  linked_sound : (s : Source) (slots : List ℕ) (o : CodeOperand) (links : LinkTrees) → IsSound (length slots) o →
+      IsSound (length slots) (linked s slots o links)
   linked_sound s slots o no_link h = h
   linked_sound s slots o (selector d n rest) h = linked_sound s slots (selected s slots n o) rest (selected_sound s slots n o o.mode h)
   linked_sound s slots o (index b e c rest) h =
@@ -226,7 +227,8 @@ mutual
 
   arguments_stay : (s : Source) (slots : List ℕ) (xs : ArgumentTrees) → Stays (length slots) (argument_lines s slots xs)
   arguments_stay s slots no_argument = none_stays (length slots)
-  arguments_stay s slots (argument e c rest) = stays_joined (length slots) ((operand_of s slots e).value ++ enter_line s (operand_of s slots e) e) (argument_lines s slots rest)
+  arguments_stay s slots (argument e c rest) = stays_joined (length slots) ((operand_of s slots e).value ++ enter_line s (operand_of s slots e) e)
+      (argument_lines s slots rest)
       (stays_joined (length slots) (operand_of s slots e).value (enter_line s (operand_of s slots e) e) (expr_sound s slots e).0
       (enter_stays (length slots) s (operand_of s slots e) e))
       (arguments_stay s slots rest)
@@ -239,7 +241,8 @@ mutual
   keyed_stay : (s : Source) (slots : List ℕ) (es : ElementTrees) → Stays (length slots) (keyed_lines s slots es)
   keyed_stay s slots no_element = none_stays (length slots)
   keyed_stay s slots (element key e c rest) =
-      stays_joined (length slots) ((operand_of s slots e).value ++ enter_line s (operand_of s slots e) e) (line_if_known With (key_position s key) ++ keyed_lines s slots rest)
+      stays_joined (length slots) ((operand_of s slots e).value ++ enter_line s (operand_of s slots e) e) (line_if_known With (key_position s key) ++
+      keyed_lines s slots rest)
       (stays_joined (length slots) (operand_of s slots e).value (enter_line s (operand_of s slots e) e) (expr_sound s slots e).0
       (enter_stays (length slots) s (operand_of s slots e) e))
       (stays_joined (length slots) (line_if_known With (key_position s key)) (keyed_lines s slots rest)
@@ -247,7 +250,8 @@ mutual
 
   bare_stay : (s : Source) (slots : List ℕ) (es : ElementTrees) → Stays (length slots) (bare_lines s slots es)
   bare_stay s slots no_element = none_stays (length slots)
-  bare_stay s slots (element key e c rest) = stays_joined (length slots) ((operand_of s slots e).value ++ enter_line s (operand_of s slots e) e) (bare_lines s slots rest)
+  bare_stay s slots (element key e c rest) = stays_joined (length slots) ((operand_of s slots e).value ++ enter_line s (operand_of s slots e) e) (bare_lines
+      s slots rest)
       (stays_joined (length slots) (operand_of s slots e).value (enter_line s (operand_of s slots e) e) (expr_sound s slots e).0
       (enter_stays (length slots) s (operand_of s slots e) e))
       (bare_stay s slots rest)

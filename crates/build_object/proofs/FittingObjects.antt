@@ -12,8 +12,10 @@ use Rattle.types_declared.specs.Package.{Package}
 use Rattle.build_object.specs.Lines.{FunctionName, GlobalName}
 use Rattle.build_object.specs.Source.{Source}
 use Rattle.build_object.specs.Names.{function_names}
-use Rattle.build_object.specs.Objects.{Object, ObjectFunction, ObjectDeclaration, TypeOf, Variable, FunctionOf, ObjectDefinition, Initial, type_declarations, definition_of, declared_type}
-use Rattle.build_object.specs.Objects.{known_variable, first_initial, other_initials, variable_declarations, literals_of, initials_of, global_variables, declared_function}
+use Rattle.build_object.specs.Objects.{Object, ObjectFunction, ObjectDeclaration, TypeOf, Variable}
+use Rattle.build_object.specs.Objects.{FunctionOf, ObjectDefinition, Initial, type_declarations, definition_of, declared_type}
+use Rattle.build_object.specs.Objects.{known_variable, first_initial, other_initials, variable_declarations}
+use Rattle.build_object.specs.Objects.{literals_of, initials_of, global_variables, declared_function}
 use Rattle.build_object.specs.Objects.{declared_by, names_behind, declared_in, names_behind_all, declared_from}
 use Rattle.build_object.specs.Sources.{IsObjectOf}
 use Rattle.build_object.specs.Fitting.{HasFittingCode}
@@ -45,7 +47,8 @@ variable_fits None name value = tt
 variable_fits (Some own) None value = tt
 variable_fits (Some own) (Some name) value = (tt, tt)
 
-variables_fit : (s : Source) (own : Option PlainType) (names : List (Item ℕ)) (values : List (Option Initial)) → AreFitting (variable_declarations s own names values)
+variables_fit : (s : Source) (own : Option PlainType) (names : List (Item ℕ)) (values : List (Option Initial)) →
+    AreFitting (variable_declarations s own names values)
 unfolding variable_declarations
 variables_fit s own [] values = tt
 variables_fit s own (n ∷ ns) values =

@@ -20,9 +20,11 @@ use Rattle.build_object.specs.Source.{Source}
 use Rattle.build_object.specs.Numbering.{slot_of}
 use Rattle.build_object.specs.Slots.{slots_of}
 use Rattle.build_object.specs.Expressions.{operand_of, value_lines, given_lines, enter_line, address_lines, values_left}
-use Rattle.build_object.specs.Statements.{lines_of_values, from_last, set_name, set_bound, set_left, target_lines, targets_of, update_lines, step_op, simple_lines}
+use Rattle.build_object.specs.Statements.{lines_of_values, from_last, set_name, set_bound, set_left}
+use Rattle.build_object.specs.Statements.{target_lines, targets_of, update_lines, step_op, simple_lines}
 use Rattle.build_object.specs.Statements.{optional_lines, init_lines, zeros, first_values, local_lines, Exits, further, no_exits, block_exits, branched}
-use Rattle.build_object.specs.Statements.{for_init, for_condition, for_post, loop_condition, body_exits, with_jump_back, loop_lines, statement_lines, block_lines}
+use Rattle.build_object.specs.Statements.{for_init, for_condition, for_post, loop_condition}
+use Rattle.build_object.specs.Statements.{body_exits, with_jump_back, loop_lines, statement_lines, block_lines}
 use Rattle.build_object.specs.Statements.{statements_lines, if_lines, else_lines, body_lines}
 use Rattle.build_object.specs.Objects.{function_of}
 use Rattle.build_object.specs.Fitting.{HasFittingCode}

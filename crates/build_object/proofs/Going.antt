@@ -74,7 +74,8 @@ pub puts_on : {rule : CodeOperand → CodeOperand} {stands : ops.Mode} {first le
     AppliesRule rule stands first left old mid → Puts (lines_for left o) mid new → Puts (lines_for first (rule o)) old new
 puts_on o same g p = record { put = p.put ∙ sym (g.on o same) }
 
-pub puts_from : {rule : List CodeLine → List CodeLine} {v : List CodeLine} {old mid new : Code} → AppliesLines rule old mid → Puts v mid new → Puts (rule v) old new
+pub puts_from : {rule : List CodeLine → List CodeLine} {v : List CodeLine} {old mid new : Code} → AppliesLines rule old mid → Puts v mid new →
+    Puts (rule v) old new
 puts_from {rule} {v} g p = record { put = p.put ∙ sym (g.on v) }
 
 -- The lines wanted of operands whose value and address have equal lines
@@ -112,7 +113,8 @@ pub goes_as : {rule other : CodeOperand → CodeOperand} {stands : ops.Mode} {fi
     AppliesRule other stands first left old new → AppliesRule rule stands first left old new
 goes_as {rule} {other} {stands} {first} {left} {old} {new} e g = record { on = λ o same. ap (λ p. lines_for first p ++ lines_in old) (e o) ∙ g.on o same }
 
-pub goes_behind_as : {rule : CodeOperand → CodeOperand} {b d : Bool} {first left : Wanted} {old new : Code} → b ≡ d → AppliesSelector rule b first left old new →
+pub goes_behind_as : {rule : CodeOperand → CodeOperand} {b d : Bool} {first left : Wanted} {old new : Code} → b ≡ d →
+    AppliesSelector rule b first left old new →
     AppliesSelector rule d first left old new
 goes_behind_as {rule} {b} {d} e g = record { on = λ o q. g.on o (q ∙ sym e) }
 

@@ -118,7 +118,8 @@ goes_test o {b} {old} {mid} {new} n form size p q = record {
 
 -- more operators before others
 
-pub goes_before : {rule : List CodeLine → List CodeLine} {step : List CodeLine → List CodeLine} {old mid new : Code} → AppliesLines rule old mid → AppliesLines step mid new →
+pub goes_before : {rule : List CodeLine → List CodeLine} {step : List CodeLine → List CodeLine} {old mid new : Code} → AppliesLines rule old mid →
+    AppliesLines step mid new →
     AppliesLines (λ a. rule (step a)) old new
 goes_before {rule} {step} g h = record { on = λ a. g.on (step a) ∙ h.on a }
 

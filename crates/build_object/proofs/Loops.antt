@@ -56,7 +56,8 @@ unfolding from_last
 from_last_more f [] x = sym (append-nil (f x.value))
 from_last_more f (y ∷ ys) x = ap (λ z. z ++ f y.value) (from_last_more f ys x) ∙ append_assoc (f x.value) (from_last f ys) (f y.value)
 
-pub taken_step : {X Y : Type 0} (f : Y → List CodeLine) (view : X → Item Y) {old mid new : Code} (xs : List X) (i : ℕ) (x : X) → i < length xs → x ≡ get_or xs i x →
+pub taken_step : {X Y : Type 0} (f : Y → List CodeLine) (view : X → Item Y) {old mid new : Code} (xs : List X) (i : ℕ) (x : X) → i < length xs →
+    x ≡ get_or xs i x →
     Puts (from_last f (map view (take i xs))) old mid → Puts (f (view x).value) mid new → Puts (from_last f (map view (take (i + 1) xs))) old new
 taken_step f view xs i x lt is p q =
     puts_as (ap (λ ys. from_last f (map view ys)) (take_more xs i x lt ∙ ap (λ y. take i xs ++ (y ∷ [])) (sym is)) ∙

@@ -55,7 +55,8 @@ one_global_at p formed file token _ _ (source.imported {path = path} x) (source.
 one_global_at p formed file token _ _ (source.imported {path = v} x) (source.imported {path = w} y) =
     ap (λ path. record { path = path; name = spelled p file token }) (one_path_behind p formed file token v w x y)
 
-one_global : (p : Package) → WellFormed p.layout → (file token : ℕ) (o u : Option GlobalName) → DenotesGlobal p file token o → DenotesGlobal p file token u → o ≡ u
+one_global : (p : Package) → WellFormed p.layout → (file token : ℕ) (o u : Option GlobalName) → DenotesGlobal p file token o →
+    DenotesGlobal p file token u → o ≡ u
 one_global p formed file token None None a b = refl
 one_global p formed file token None (Some y) a b = absurd (a y b)
 one_global p formed file token (Some x) None a b = absurd (b x a)

@@ -65,7 +65,8 @@ line_set xs n y lines rest l size e =
 -- a line of code that is set to a jump back over all lines before it
 pub with_jump_back : (old new : Code) (n passed : ℕ) → new.lines.items ≡ set old.lines.items n (instruction.JumpBack passed) →
     passed ≡ length old.lines.items - n →
-    (lines rest : List CodeLine) (l : CodeLine) → length rest ≡ n → lines_in old ≡ lines ++ (l ∷ rest) → lines_in new ≡ lines ++ (JumpBack (suc (length lines)) ∷ rest)
+    (lines rest : List CodeLine) (l : CodeLine) → length rest ≡ n → lines_in old ≡ lines ++ (l ∷ rest) →
+    lines_in new ≡ lines ++ (JumpBack (suc (length lines)) ∷ rest)
 unfolding line_of
 with_jump_back old new n passed e count lines rest l size was =
     let all : length old.lines.items ≡ length lines + suc (length rest) = sym (lines_length old) ∙ (ap length was ∙ length-append lines (l ∷ rest)) in

@@ -25,7 +25,8 @@ use Rattle.build_object.specs.PackagesView.{type_in}
 use Rattle.build_object.specs.Slots.{slots_of}
 use Rattle.build_object.specs.Statements.{body_lines}
 use Rattle.build_object.specs.Objects.{Initial, FunctionOf, declared_type, global_variables, declared_in, declared_by, first_initial, other_initials}
-use Rattle.build_object.specs.Objects.{function_of, initials_of, names_behind, names_behind_all, parameters_of, results_of, known_variable, variable_declarations}
+use Rattle.build_object.specs.Objects.{function_of, initials_of, names_behind, names_behind_all}
+use Rattle.build_object.specs.Objects.{parameters_of, results_of, known_variable, variable_declarations}
 use Rattle.build_object.specs.Text.{code_text, ended}
 use Rattle.build_object.specs.ObjectText.{declaration_text, header_text}
 use Rattle.build_object.specs.DeclarationsView.{literal_value_at}
@@ -63,7 +64,8 @@ no_variables s [] values = refl
 no_variables s (n ∷ ns) values = no_variables s ns (other_initials values)
 
 abbrev pub variables_text : Source → PlainType → List (Item ℕ) → List (Option Initial) → List ℕ
-variables_text s own ns values = flat_map (declaration_text (type_in s.packages.now)) (variable_declarations (source_of s) (Some own) (list_view same_index ns) values)
+variables_text s own ns values = flat_map (declaration_text (type_in s.packages.now)) (variable_declarations (source_of s) (Some own) (list_view same_index
+    ns) values)
 
 first_at : (values : List (Option Initial)) (i : ℕ) → first_initial (drop i values) ≡ slice_index_or values i None
 first_at [] zero = refl

@@ -9,7 +9,8 @@ use Rattle.build_object.specs.Source.{Source}
 use Rattle.build_object.specs.Expressions.{argument_lines, given_lines}
 use Rattle.build_object.specs.Statements.{lines_of_values, targets_of, from_last, set_left}
 
-pub values_are_arguments : (s : Source) (slots : List ℕ) (xs : List ExprItem) → lines_of_values s slots (exprs_view xs) ≡ argument_lines s slots (arguments_in xs)
+pub values_are_arguments : (s : Source) (slots : List ℕ) (xs : List ExprItem) → lines_of_values s slots (exprs_view xs) ≡ argument_lines s slots
+    (arguments_in xs)
 unfolding argument_lines arguments_in
 values_are_arguments s slots [] = refl
 values_are_arguments s slots (x ∷ xs) = ap (λ rest. given_lines s slots (expr_view x.value) ++ rest) (values_are_arguments s slots xs)

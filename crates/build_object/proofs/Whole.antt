@@ -135,7 +135,8 @@ one_file_more p n members enterings packages names number others old mid new h k
         AreEnterings p (map enterings_in enterings) → (file : ℕ) (f : SourceFile) (s : Source) → slice_get p.files file ≡ Some f →
         slice_get (h.sources ++ (k.source ∷ [])) file ≡ Some s → IsSourceOf p files_of file f s
     made files_of have are enter file f s in_file at_source = elim (cases_lt file n) [
-      | inl lt ↦ h.made_of files_of have are enter file f s in_file (sym (get_before h.sources k.source file (subst (λ m. file < m) (sym h.all) lt)) ∙ at_source)
+      | inl lt ↦ h.made_of files_of have are enter file f s in_file (sym (get_before h.sources k.source file (subst (λ m. file < m) (sym h.all) lt)) ∙
+          at_source)
       | inr ge ↦
           let bound : file < length (h.sources ++ (k.source ∷ [])) = slice_get_within (h.sources ++ (k.source ∷ [])) file s at_source in
           let size : length (h.sources ++ (k.source ∷ [])) ≡ n + 1 = length-append h.sources (k.source ∷ []) ∙ ap (λ m. m + 1) h.all in
@@ -172,7 +173,8 @@ pub whole_text : (p : Package) (members : List (Vec MemberUse)) (enterings : Lis
     (names : List program.FunctionName) (others : ℕ) (mid new : List ℕ) →
     map function_of names ≡ function_names p.path p.files →
     PrintsHead p [] mid → PrintsFiles p (length p.files) members enterings packages names others mid new →
-    (files_of : List ℕ → List SourceFile) → AreMemberUses p (map uses_in members) → AreEnterings p (map enterings_in enterings) → HaveNames packages files_of → IsObjectText p files_of new
+    (files_of : List ℕ → List SourceFile) → AreMemberUses p (map uses_in members) → AreEnterings p (map enterings_in enterings) →
+    HaveNames packages files_of → IsObjectText p files_of new
 whole_text p members enterings packages names others mid new named head h files_of are enter have =
     let trees : List FileTree = map (λ (g : SourceFile). g.tree) p.files in
     let made : Object = object_of h.sources p.path (package_name p.files) head.imports (function_names p.path p.files) trees in

@@ -120,7 +120,8 @@ other_initials (v ∷ vs) = vs
 -- The declarations of variables of one type, each with the value at its place.
 unfoldable pub variable_declarations : Source → Option PlainType → List (Item ℕ) → List (Option Initial) → List ObjectDeclaration
 variable_declarations s own [] values = []
-variable_declarations s own (n ∷ ns) values = known_variable own (s.global n.value) (first_initial values) ++ variable_declarations s own ns (other_initials values)
+variable_declarations s own (n ∷ ns) values = known_variable own (s.global n.value) (first_initial values) ++ variable_declarations s own ns (other_initials
+    values)
 
 -- The literals behind the `=` of variables, and none where there is no `=`.
 abbrev pub literals_of : Option (ℕ × List (Item BasicTree)) → List (Item BasicTree)

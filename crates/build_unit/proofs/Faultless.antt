@@ -81,7 +81,8 @@ module _ (w : Workspace) (p : List ℕ) (known : Verdicts) (one : Option FoundEx
     }
 
     seen_as : (c : Package) → IsPackageOf p trees name_of export_data_of c → IsExportData c (export_data_known p one)
-    seen_as c is = subst (λ d. IsExportData d (export_data_known p one)) (one_checked w known p own.checked c own.is_package (package_by c is)) own.is_export_data
+    seen_as c is = subst (λ d. IsExportData d (export_data_known p one)) (one_checked w known p own.checked c own.is_package (package_by c is))
+        own.is_export_data
 
     pub definitions_by : (list : List Definition) → ((rank : ℕ) → slice_get list rank ≡ ranked (definitions_listed one) rank) →
         OwnDefinitionsOf p trees name_of export_data_of list

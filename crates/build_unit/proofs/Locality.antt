@@ -20,7 +20,8 @@ files_local w x p same q files closed f = record {
   are_files = f.are_files;
 }
 
-read_local : (w x : Workspace) (p : List ℕ) → HasSameClosure w x p → (q : List ℕ) (files : List SourceFile) → AreFilesSeen w p q files → AreFilesSeen x p q files
+read_local : (w x : Workspace) (p : List ℕ) → HasSameClosure w x p → (q : List ℕ) (files : List SourceFile) → AreFilesSeen w p q files →
+    AreFilesSeen x p q files
 read_local w x p same q files (within closed are) = within (closed_there w x p same q closed) (files_local w x p same q files closed are)
 read_local w x p same q _ (beyond outside) = beyond (λ closed. outside (closed_there x w p (same_back w x p same) q closed))
 

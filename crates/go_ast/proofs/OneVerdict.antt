@@ -64,7 +64,8 @@ syntax_or_nesting {ss = ss} {l = l} {d = d} f g = elim (cut f.before f.rest g.be
 ]
 
 -- the first of two nesting faults excludes the second
-earlier : {ss : List GrammarSymbol} {l d : ℕ} {ts : List Token} {m n : ℕ} (f : IsTooDeep ss l d ts m) (g : IsTooDeep ss l d ts n) (t : Token) (mid rest : List Token) →
+earlier : {ss : List GrammarSymbol} {l d : ℕ} {ts : List Token} {m n : ℕ} (f : IsTooDeep ss l d ts m) (g : IsTooDeep ss l d ts n) (t : Token) (mid rest :
+    List Token) →
     g.before ≡ f.before ++ (t ∷ mid) → f.t ∷ f.others ≡ t ∷ rest → ⊥
 earlier {l = l} {d = d} f g t mid rest p q =
     let y = moved d _ _ (regrouped f.before g.before t f.t mid (g.t ∷ g.viable.0) p (heads f.t t f.others rest q)) g.viable.1 in

@@ -5,10 +5,12 @@ use Rattle.std.proofs.lemmas.Bool.{and_from}
 use Rattle.go_ast.specs.declared.syntax.Kind.TheVariants as kind
 use Rattle.go_ast.specs.declared.syntax.Token.{Token}
 use Rattle.go_ast.specs.declared.syntax.TokenFaultKind.TheVariants.{Syntax}
-use Rattle.go_ast.specs.Grammar.{GrammarSymbol, One, Opening, Close, A, Part, Rule, Begins, Otherwise, rules, Single, ImportItem, GlobalItem, TypeItem, LocalItem}
+use Rattle.go_ast.specs.Grammar.{GrammarSymbol, One, Opening, Close, A, Part, Rule}
+use Rattle.go_ast.specs.Grammar.{Begins, Otherwise, rules, Single, ImportItem, GlobalItem, TypeItem, LocalItem}
 use Rattle.go_ast.specs.Grammar.{AfterName, AfterSelector, Address, File}
 use Rattle.go_ast.specs.Language.{Among, tested, untested, below, Derives, ends, token, opening, closing, by_rule, IsSyntaxFault}
-use Rattle.go_parser.specs.Machine.{ParserRun, take, opens, closes, expand, refused, refused_opening, left_over, Stopped, Selects, first as selects_first, later, last}
+use Rattle.go_parser.specs.Machine.{ParserRun, take, opens, closes, expand, refused}
+use Rattle.go_parser.specs.Machine.{refused_opening, left_over, Stopped, Selects, first as selects_first, later, last}
 use Rattle.go_parser.proofs.Tables.{first, firsts, followed, nullable, nullables, implies, symbols_of}
 use Rattle.go_parser.proofs.Predictive.{and_left, and_right, rule_at, implied, no, Good, good_rule, followed_at, selected, goes_by, after_token}
 use Rattle.go_parser.proofs.Predictive.{after_opening, after_closing, stops_at}
@@ -82,7 +84,8 @@ goes_at_end : {p : Part} {ss then : List GrammarSymbol} → Selects (rules p) []
 goes_at_end {then = then} s (by_rule {p = p} {then = other} {ss = ss} a x) =
     subst (λ z. Derives (z ++ ss) []) (forced_at_end (rules p) then other s a (end_checked p) (nullables_append other ss (derives_empty x)).0) x
 
-goes : (p : Part) (ss then : List GrammarSymbol) (ts : List Token) → Selects (rules p) ts then → Good (A p ∷ ss) → Derives (A p ∷ ss) ts → Derives (then ++ ss) ts
+goes : (p : Part) (ss then : List GrammarSymbol) (ts : List Token) → Selects (rules p) ts then → Good (A p ∷ ss) → Derives (A p ∷ ss) ts →
+    Derives (then ++ ss) ts
 goes p ss then [] s g x = goes_at_end s x
 goes p ss then (t ∷ ts) s g x = goes_by g s x
 

@@ -74,7 +74,8 @@ read_shorter {a = a} {ts = ts} {rest = rest} h r = behind_shorter a ts rest h r.
 pub leads_no_longer : {x y : List GrammarSymbol} {a : List Token} {d e : ℕ} {ts rest : List Token} → Leads x y a d ts e rest → length rest ≤ length ts
 leads_no_longer {a = a} {ts = ts} {rest = rest} r = behind_no_longer a ts rest r.text
 
-pub leads_shorter : {x y : List GrammarSymbol} {a : List Token} {d e : ℕ} {ts rest : List Token} → 1 ≤ length a → Leads x y a d ts e rest → length rest < length ts
+pub leads_shorter : {x y : List GrammarSymbol} {a : List Token} {d e : ℕ} {ts rest : List Token} → 1 ≤ length a → Leads x y a d ts e rest →
+    length rest < length ts
 leads_shorter {a = a} {ts = ts} {rest = rest} h r = behind_shorter a ts rest h r.text
 
 pub separator_no_longer : (k : Kind) (s : Option ℕ) (ts rest : List Token) → Separates k s ts rest → length rest ≤ length ts

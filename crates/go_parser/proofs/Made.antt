@@ -30,7 +30,8 @@ rule {p = p} {then = then} {ss = ss} a m e = record { by = by_rule a m.by; gives
 pub along : {ss : List GrammarSymbol} {vs : Values ss} {ts us : List Token} → ts ≡ us → Made ss vs us → Made ss vs ts
 along {ss = ss} {vs = vs} e m = subst (λ x. Made ss vs x) (sym e) m
 
-pub made_type : (t : TypeTree) {ss : List GrammarSymbol} {vs : Values ss} {ts : List Token} → Made ss vs ts → Made (A TypeUse ∷ ss) (t, vs) (type_tokens t ++ ts)
+pub made_type : (t : TypeTree) {ss : List GrammarSymbol} {vs : Values ss} {ts : List Token} → Made ss vs ts →
+    Made (A TypeUse ∷ ss) (t, vs) (type_tokens t ++ ts)
 unfolding type_tokens
 made_type (Local n) m = rule (below (below untested)) (one refl (rule (below untested) m refl)) refl
 made_type (Imported p d n) m = rule (below (below untested)) (one refl (rule tested (one refl (one refl m)) refl)) refl

@@ -105,7 +105,8 @@ statement_parts s (Some p) rest w = (w.0, (w.1, w.2))
 statement_is : (s : StatementTree) (semicolon : Option ℕ) (rest : StatementTrees) → statement s semicolon rest ≡ no_statement → ⊥
 statement_is s semicolon rest e = cc
 
-made_return : (es : List (Item ExprTree)) → (es ≡ []) ⊎ IsList (IsExprIn false) es → {ss : List GrammarSymbol} {vs : Values ss} {ts : List Token} → Made ss vs ts →
+made_return : (es : List (Item ExprTree)) → (es ≡ []) ⊎ IsList (IsExprIn false) es → {ss : List GrammarSymbol} {vs : Values ss} {ts : List Token} →
+    Made ss vs ts →
     Made (A ReturnValues ∷ ss) (es, vs) (exprs_tokens es ++ ts)
 unfolding all_tokens
 made_return es (inl e) {ss = ss} {vs = vs} {ts = ts} m =

@@ -6,7 +6,8 @@ use Rattle.go_ast.specs.declared.syntax.BinaryOp.{BinaryOp}
 use Rattle.go_ast.specs.declared.syntax.BinaryOp.TheVariants as binary
 use Rattle.go_ast.specs.declared.syntax.PrefixOp.{PrefixOp}
 use Rattle.go_ast.specs.declared.syntax.PrefixOp.TheVariants as prefix
-use Rattle.go_ast.specs.Grammar.{GrammarSymbol, Close, A, is_binary, is_prefix, Expression, Binaries, Unary, Operand, AfterName, AfterSelector, Links, Arguments}
+use Rattle.go_ast.specs.Grammar.{GrammarSymbol, Close, A, is_binary, is_prefix, Expression}
+use Rattle.go_ast.specs.Grammar.{Binaries, Unary, Operand, AfterName, AfterSelector, Links, Arguments}
 use Rattle.go_ast.specs.Grammar.{MoreArguments, Address as AddressPart, Elements, ElementList, MoreElements, Element}
 use Rattle.go_ast.specs.Language.{tested, untested, below}
 use Rattle.go_ast.specs.Tree.{TypeTree, Local, Imported, Pointer, Slice, ExprTree, Number, Text, Name, Blank, Composite, Paren, Prefix, Address, Chain}
@@ -66,7 +67,8 @@ pub record Linked (h : Bool) (ss : List GrammarSymbol) (vs : Values ss) (ls : Li
   pub after_name : Made (A (AfterName h) ∷ ss) ((λ x. chain (Name x) ls), vs) ts
   pub after_selector : Made (A (AfterSelector h) ∷ ss) ((λ x e m. Chain (Name x) (selector e m ls)), vs) ts
 
-linked_along : {h : Bool} {ss : List GrammarSymbol} {vs : Values ss} {ls : LinkTrees} {ts us : List Token} → ts ≡ us → Linked h ss vs ls us → Linked h ss vs ls ts
+linked_along : {h : Bool} {ss : List GrammarSymbol} {vs : Values ss} {ls : LinkTrees} {ts us : List Token} → ts ≡ us → Linked h ss vs ls us →
+    Linked h ss vs ls ts
 linked_along {h = h} {ss = ss} {vs = vs} {ls = ls} e k = subst (λ x. Linked h ss vs ls x) (sym e) k
 
 linked_none : (h : Bool) {ss : List GrammarSymbol} {vs : Values ss} {ts : List Token} → Made ss vs ts → Linked h ss vs no_link ts
@@ -119,7 +121,8 @@ linked_index false o e c f k = record {
   after_selector = rule (below (below tested)) (opens refl (f _ _ _ (one refl (closes k.links)))) refl;
 }
 
-linked_call : (h : Bool) (o : ℕ) (xs : ArgumentTrees) (c : ℕ) {ss : List GrammarSymbol} {vs : Values ss} {ls : LinkTrees} {ts : List Token} → MakesArguments xs →
+linked_call : (h : Bool) (o : ℕ) (xs : ArgumentTrees) (c : ℕ) {ss : List GrammarSymbol} {vs : Values ss} {ls : LinkTrees} {ts : List Token} →
+    MakesArguments xs →
     Linked h ss vs ls ts →
     Linked h ss vs (call o xs c ls) (sign kind.LeftParen o ∷ (argument_tokens xs ++ (sign kind.RightParen c ∷ ts)))
 linked_call true o xs c f k = record {
@@ -198,7 +201,8 @@ more_elements None rest c q f {ss = ss} {vs = vs} {ts = ts} m =
 -- expressions
 
 abbrev Operates : Bool → ExprTree → Type 0
-Operates h t = (ls : LinkTrees) (ss : List GrammarSymbol) (vs : Values ss) (ts : List Token) → Linked h ss vs ls ts → Starts h ss vs (chain t ls) (expr_tokens t ++ ts)
+Operates h t = (ls : LinkTrees) (ss : List GrammarSymbol) (vs : Values ss) (ts : List Token) → Linked h ss vs ls ts →
+    Starts h ss vs (chain t ls) (expr_tokens t ++ ts)
 
 abbrev Stands : Bool → ExprTree → Type 0
 Stands h t = (ss : List GrammarSymbol) (vs : Values ss) (ts : List Token) → Made ss vs ts → Starts h ss vs t (expr_tokens t ++ ts)

@@ -9,7 +9,8 @@ use Rattle.go_ast.specs.declared.syntax.StepOp.{StepOp}
 use Rattle.go_ast.specs.declared.syntax.StepOp.TheVariants as step
 use Rattle.go_ast.specs.declared.syntax.UpdateOp.{UpdateOp}
 use Rattle.go_ast.specs.declared.syntax.UpdateOp.TheVariants as update
-use Rattle.go_ast.specs.Grammar.{GrammarSymbol, One, A, is_ident, is_step, is_update, may_set, Setting, Plain, Head, Post, in_head, LocalItem, Single, MoreIdents}
+use Rattle.go_ast.specs.Grammar.{GrammarSymbol, One, A, is_ident, is_step, is_update, may_set}
+use Rattle.go_ast.specs.Grammar.{Setting, Plain, Head, Post, in_head, LocalItem, Single, MoreIdents}
 use Rattle.go_ast.specs.Grammar.{LocalRest, LocalValues, Expressions, MoreExpressions, SimpleRest}
 use Rattle.go_ast.specs.Language.{tested, untested, below}
 use Rattle.go_ast.specs.Tree.{Item, IdentTree, Named, Underscore, TypeTree, ExprTree, SimpleTree, Alone, Step, Update, Assign, Define, LocalTree}
@@ -26,7 +27,8 @@ use Rattle.go_parser.proofs.FormedParts.{head_of, tail_of}
 
 -- lists of expressions
 
-pub made_exprs : (h : Bool) (es : List (Item ExprTree)) → IsList (IsExprIn h) es → (ss : List GrammarSymbol) (vs : Values ss) (ts : List Token) → Made ss vs ts →
+pub made_exprs : (h : Bool) (es : List (Item ExprTree)) → IsList (IsExprIn h) es → (ss : List GrammarSymbol) (vs : Values ss) (ts : List Token) →
+    Made ss vs ts →
     Made (A (Expressions h) ∷ ss) (es, vs) (exprs_tokens es ++ ts)
 unfolding all_tokens
 made_exprs h [] w ss vs ts m = absurd w.some

@@ -92,7 +92,8 @@ one_chosen p ss (t ∷ ts) x y a b d e g =
     one_rule p (rules p) t.kind x y a b (and_right (rules_fit p (rules p) t.kind) (decides p (rules p) t.kind) (sound_at p t.kind))
     (looks_append p x ss t.kind g.0 (begins_so d)) (looks_append p y ss t.kind g.0 (begins_so e))
 
-built_same : (p : Part) (ss : List GrammarSymbol) (ts : List Token) (m n : Chosen (rules p)) → m ≡ n → (x : Derives (m.0 ++ ss) ts) (y : Derives (n.0 ++ ss) ts) →
+built_same : (p : Part) (ss : List GrammarSymbol) (ts : List Token) (m n : Chosen (rules p)) → m ≡ n → (x : Derives (m.0 ++ ss) ts) (y : Derives (n.0 ++ ss)
+    ts) →
     ((z : Derives (m.0 ++ ss) ts) → value x ≡ value z) → built p m.0 ss m.1 (value x) ≡ built p n.0 ss n.1 (value y)
 built_same p ss ts m n e x y f =
     let P : Chosen (rules p) → Type 0 = λ n. (y : Derives (n.0 ++ ss) ts) → built p m.0 ss m.1 (value x) ≡ built p n.0 ss n.1 (value y) in

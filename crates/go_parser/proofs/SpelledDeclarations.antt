@@ -57,7 +57,8 @@ method_spelled_as m = ap (λ x. sign kind.Name m.name ∷ sign kind.LeftParen m.
 pub method_read_as : (m : MethodSpec) → sign kind.Name m.name ∷ sign kind.LeftParen m.open ∷
     ((items_spelled kind.Comma param_spelled m.params.items ++ (sign kind.RightParen m.close ∷ [])) ++ results_spelled m.results) ≡ method_spelled m
 method_read_as m = ap (λ x. sign kind.Name m.name ∷ sign kind.LeftParen m.open ∷ x)
-    (append_assoc (items_spelled kind.Comma param_spelled m.params.items) (sign kind.RightParen m.close ∷ []) (results_spelled m.results)) ∙ sym (method_spelled_as m)
+    (append_assoc (items_spelled kind.Comma param_spelled m.params.items) (sign kind.RightParen m.close ∷ []) (results_spelled m.results)) ∙ sym
+    (method_spelled_as m)
 
 pub interface_spelled : (s o : ℕ) (ms : _) (c : ℕ) → body_spelled (body.Interface s o ms c) ≡ sign kind.Interface s ∷ sign kind.LeftBrace o ∷
     (items_spelled kind.Semicolon method_spelled ms.items ++ (sign kind.RightBrace c ∷ []))

@@ -116,7 +116,8 @@ leads_item k sep item more b same {a = a} {d = d} {ts = ts} {rest = rest} goes e
     (leads_item_so k sep item more goes ends p s)
 
 -- an item of a list in brackets, and its separator if it has one
-leads_enclosed_so : (k : Kind) (sep : Option ℕ) (item : List GrammarSymbol) (list more : Part) (closer : Kind) {a : List Token} {d : ℕ} {ts mid rest : List Token} →
+leads_enclosed_so : (k : Kind) (sep : Option ℕ) (item : List GrammarSymbol) (list more : Part) (closer : Kind) {a : List Token} {d : ℕ} {ts mid rest : List
+    Token} →
     Selects (rules list) ts (item ++ (A more ∷ [])) →
     ((us : List Token) → at (is k) us ≡ true → Selects (rules more) us (One (is k) ∷ A list ∷ [])) →
     ((us : List Token) → at (is k) us ≡ false → Selects (rules more) us (One (is closer) ∷ [])) →
@@ -124,7 +125,8 @@ leads_enclosed_so : (k : Kind) (sep : Option ℕ) (item : List GrammarSymbol) (l
     Leads (A list ∷ []) (list_rest list closer (is_some sep)) (a ++ sign_if k sep) d ts d rest
 leads_enclosed_so k None item list more closer {a = a} {d = d} {ts = ts} {mid = mid} {rest = rest} chosen goes ends p s = record {
   text = p.text ∙ (ap (λ x. a ++ x) s.1 ∙ ap (λ x. x ++ rest) (sym (append-nil a)));
-  leads = λ after o r. expand chosen (runs_on _ p.passes after o (expand (ends mid s.0) (subst (λ us. ParserRun d (One (is closer) ∷ after) us o) (sym s.1) r)));
+  leads = λ after o r. expand chosen (runs_on _ p.passes after o (expand (ends mid s.0) (subst (λ us. ParserRun d (One (is closer) ∷ after) us o) (sym s.1)
+      r)));
 }
 leads_enclosed_so k (Some n) item list more closer {a = a} {d = d} {ts = ts} {mid = mid} {rest = rest} chosen goes ends p s = record {
   text = p.text ∙ (ap (λ x. a ++ x) s ∙ sym (append_assoc a (sign k n ∷ []) rest));
@@ -193,7 +195,8 @@ leads_optional p k (Some n) to {d = d} {ts = ts} goes ends s = record {
 -- symbols that lead to others, after tokens that have been parsed
 
 -- The machine goes from some symbols to others over the tokens that were added.
-pub record LeadsFrom (begun : List Token) (from to : List GrammarSymbol) (spelled : List Token) (d : ℕ) (ts : List Token) (e : ℕ) (rest : List Token) : Type 0 where
+pub record LeadsFrom (begun : List Token) (from to : List GrammarSymbol) (spelled : List Token) (d : ℕ) (ts : List Token) (e : ℕ) (rest : List Token) : Type
+    0 where
   pub added : List Token
   pub is : spelled ≡ begun ++ added
   pub leads : Leads from to added d ts e rest
@@ -212,13 +215,15 @@ from_push {begun = begun} {a = a} {rest = rest} p q e = record {
   };
 }
 
-pub from_more : (left : Bool → List GrammarSymbol) (more : Bool) {begun : List Token} {from : List GrammarSymbol} {a : List Token} {d e : ℕ} {ts rest : List Token} →
+pub from_more : (left : Bool → List GrammarSymbol) (more : Bool) {begun : List Token} {from : List GrammarSymbol} {a : List Token} {d e : ℕ} {ts rest : List
+    Token} →
     LeadsFrom begun from (left more) a d ts e rest → more ≡ true → LeadsFrom begun from (left true) a d ts e rest
 from_more left more {begun = begun} {from = from} {a = a} {d = d} {e = e} {ts = ts} {rest = rest} l h =
     subst (λ b. LeadsFrom begun from (left b) a d ts e rest) h l
 
 -- a continuation by a rule, after which no symbol is left
-pub continued_items : (left : Bool → List GrammarSymbol) (more : Bool) {begun : List Token} {from : List GrammarSymbol} {a : List Token} {d : ℕ} {ts rest : List Token} →
+pub continued_items : (left : Bool → List GrammarSymbol) (more : Bool) {begun : List Token} {from : List GrammarSymbol} {a : List Token} {d : ℕ} {ts rest :
+    List Token} →
     left false ≡ [] → LeadsFrom begun from (left more) a d ts d rest → more ≡ false → Continued from begun a d ts rest
 continued_items left more {begun = begun} {a = a} {rest = rest} none l h = record {
   text = (continued begun (read_items left more none l.leads h) refl).text ∙ ap (λ x. x ++ rest) (sym l.is);

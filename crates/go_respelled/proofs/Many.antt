@@ -1,5 +1,6 @@
 -- A text in which names and strings are replaced, one edit after another.
-use Rattle.std.proofs.Common.{ℕ, ◌≡◌, ◌+◌, ◌-◌, ◌<◌, ◌≤◌, List, [], ◌∷◌, ◌++◌, length, take, drop, refl, sym, ap, ◌∙◌, subst, arith, drop-drop, append_assoc, inl}
+use Rattle.std.proofs.Common.{ℕ, ◌≡◌, ◌+◌, ◌-◌, ◌<◌, ◌≤◌, List, [], ◌∷◌, ◌++◌, length}
+use Rattle.std.proofs.Common.{take, drop, refl, sym, ap, ◌∙◌, subst, arith, drop-drop, append_assoc, inl}
 use Rattle.std.specs.Prelude.{◌↔◌, map}
 use Rattle.std.specs.List.{AllByRecursion, Contains, slice_range}
 use Rattle.std.proofs.lemmas.List.{map-append}
@@ -53,7 +54,8 @@ piece_edits pieces edits are = record {
 
 -- edits of pieces have bytes
 
-pub pieces_have_bytes : (text : List ℕ) (pieces : List Piece) (edits : List Edit) → IsCut text pieces → AllByRecursion (IsPieceEdit pieces) edits → HaveBytes edits
+pub pieces_have_bytes : (text : List ℕ) (pieces : List Piece) (edits : List Edit) → IsCut text pieces → AllByRecursion (IsPieceEdit pieces) edits →
+    HaveBytes edits
 pieces_have_bytes text pieces [] cut each = tt
 pieces_have_bytes text pieces (e ∷ edits) cut each = (
   (begins_behind 0 (length text) pieces (edited_piece each.0.class e) (cut_covers text pieces cut) each.0.is_piece).1,

@@ -28,7 +28,8 @@ use Rattle.base_edits.specs.declared.edit.Edit.{Edit}
 use Rattle.base_edits.proofs.Steps.{drop_next, past_all, past_later, past_start, past_stops}
 use Rattle.go_respelled.specs.PieceEdits.{ArePieceEdits, IsEncodedString}
 use Rattle.go_respelled.specs.Renamings.{moved_piece, recut}
-use Rattle.go_respelled.specs.Replaced.{AreFollowing, AreMoved, FitsMoved, GoesOn, IsBehindSame, IsMovedBy, IsTokenBehind, MovesBefore, PutsToken, ReplacesToken, Respell, passed}
+use Rattle.go_respelled.specs.Replaced.{AreFollowing, AreMoved, FitsMoved, GoesOn, IsBehindSame, IsMovedBy}
+use Rattle.go_respelled.specs.Replaced.{IsTokenBehind, MovesBefore, PutsToken, ReplacesToken, Respell, passed}
 use Rattle.go_respelled.specs.declared.between.TokenBehind.{TokenBehind}
 use Rattle.go_respelled.specs.declared.moved.Cursor.{Cursor}
 use Rattle.go_respelled.specs.Trees.{KeepKinds}

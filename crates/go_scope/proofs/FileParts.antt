@@ -76,7 +76,8 @@ unfolding group_sites group_view separated_sites
 spec_from f v g o items c xs eg ex = ap (flat_map (λ x. f (v x.value))) ex ∙ flat_map-map (λ x. f x.value) (item_view v) items.items ∙
     ap (λ z. spec_sites f (group_view v z)) (sym eg)
 
-pub struct_from : (s : TokenSpellings) (b : TypeBody) (p o : ℕ) (fields : _) (c : ℕ) (xs : List (Item FieldDecl)) → b ≡ body.Struct p o fields c → xs ≡ fields.items →
+pub struct_from : (s : TokenSpellings) (b : TypeBody) (p o : ℕ) (fields : _) (c : ℕ) (xs : List (Item FieldDecl)) → b ≡ body.Struct p o fields c →
+    xs ≡ fields.items →
     flat_map (field_part s) xs ≡ body_sites s (body_view b)
 unfolding body_sites body_view
 struct_from s b p o fields c xs eb ex = ap (flat_map (field_part s)) ex ∙ flat_map-map (λ x. field_sites s x.value) (item_view field_view) fields.items ∙
@@ -87,7 +88,8 @@ pub interface_from : (s : TokenSpellings) (b : TypeBody) (p o : ℕ) (methods : 
 unfolding body_sites body_view
 interface_from s b p o methods c xs eb ex = ap (λ z. list_sites (method_sites s) (list_view method_view z)) ex ∙ ap (λ z. body_sites s (body_view z)) (sym eb)
 
-pub results_from : (s : TokenSpellings) (r : Results) (o : ℕ) (types : _) (c : ℕ) (xs : List (Item TypeExpr)) → r ≡ results.Several o types c → xs ≡ types.items →
+pub results_from : (s : TokenSpellings) (r : Results) (o : ℕ) (types : _) (c : ℕ) (xs : List (Item TypeExpr)) → r ≡ results.Several o types c →
+    xs ≡ types.items →
     flat_map (type_part s) xs ≡ result_sites s (results_view r)
 unfolding result_sites results_view
 results_from s r o types c xs er ex = ap (flat_map (type_part s)) ex ∙ flat_map-map (λ x. type_sites s x.value) (item_view type_view) types.items ∙

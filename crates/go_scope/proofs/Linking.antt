@@ -160,7 +160,8 @@ module _ (l : Layout) (size : ℕ) (names : Names) where
       }
 
   pub linked_next : (d : ℕ) (around new : List (Option ℕ)) (next : Option ℕ) → new ≡ around ++ (next ∷ []) →
-      (IsLeadInside l names (names d) d → IsLastOpen l size names (names d) d next) → AreOpenLinked l size names d around → AreOpenLinked l size names (d + 1) new
+      (IsLeadInside l names (names d) d → IsLastOpen l size names (names d) d next) → AreOpenLinked l size names d around →
+      AreOpenLinked l size names (d + 1) new
   linked_next d around new next e p h = record {
     sized = sized_next around new next d h.sized e;
     each = each_next (λ k x. IsLeadInside l names (names k) k → IsLastOpen l size names (names k) k x) around new next d h.sized e p h.each;

@@ -214,7 +214,8 @@ module _ (l : Layout) (w : WellFormed l) where
       let P : Block → Type 0 = λ B. Within B (l.place x) in
       subst P (sym i.3) (i.4, i.5, omega arith)
 
-  not_holds_itself : (B : Block) (s t : ℕ) (p : Position) → ((f : ℕ) × (a : ℕ) × (b : ℕ) × (B ≡ Inner f a b)) → t ≤ s → p.index < t → Holds (scope_for B s) p → ⊥
+  not_holds_itself : (B : Block) (s t : ℕ) (p : Position) → ((f : ℕ) × (a : ℕ) × (b : ℕ) × (B ≡ Inner f a b)) → t ≤ s → p.index < t →
+      Holds (scope_for B s) p → ⊥
   not_holds_itself (Inner f a b) s t p i le lt h = omega arith
   not_holds_itself (File f) s t p i le lt h = let e : File f ≡ Inner i.0 i.1 i.2 = i.3 in cc
   not_holds_itself Package s t p i le lt h = let e : Package ≡ Inner i.0 i.1 i.2 = i.3 in cc

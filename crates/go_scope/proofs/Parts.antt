@@ -43,7 +43,8 @@ unfolding link_sites links_view
 link_row s end_of-Link = refl
 link_row s (more_of-Link l rest) = link_before s l (links_view rest) ∙ ap (λ z. link_part s l ++ z) (link_row s rest)
 
-operand_row : (s : TokenSpellings) {n : _} (row : Row_of-Operand n) → operand_sites s (operands_view row) ≡ flat_map (operand_part s) (items-the_row-Operand n row)
+operand_row : (s : TokenSpellings) {n : _} (row : Row_of-Operand n) → operand_sites s (operands_view row) ≡ flat_map (operand_part s) (items-the_row-Operand
+    n row)
 unfolding operand_sites operands_view
 operand_row s end_of-Operand = refl
 operand_row s (more_of-Operand op at e rest) = ap (λ z. expr_sites s (expr_view e) ++ z) (operand_row s rest)
@@ -83,7 +84,8 @@ unfolding link_sites link_view
 call_parts s o arguments c = append-nil _ ∙ argument_row s (hidden-the_row-ExprItem-2 arguments) ∙
     ap (flat_map (argument_part s)) (items_hidden-the_row-ExprItem-2 arguments)
 
-element_row : (s : TokenSpellings) {n : _} (row : Row_of-Element n) → element_sites s (elements_view row) ≡ flat_map (element_part s) (items-the_row-Element n row)
+element_row : (s : TokenSpellings) {n : _} (row : Row_of-Element n) → element_sites s (elements_view row) ≡ flat_map (element_part s) (items-the_row-Element
+    n row)
 unfolding element_sites elements_view
 element_row s end_of-Element = refl
 element_row s (more_of-Element k e c rest) =
@@ -99,7 +101,8 @@ literal_parts s t o es c = ap (λ z. type_sites s (type_view t) ++ z)
 
 -- a value as the program reads it, and the value itself
 
-pub chain_from : (s : TokenSpellings) (e : Expr) (first : _) (links : _) (v : Expr) (xs : List Link) → e ≡ expr.Chain first links → v ≡ first.value → xs ≡ links.items →
+pub chain_from : (s : TokenSpellings) (e : Expr) (first : _) (links : _) (v : Expr) (xs : List Link) → e ≡ expr.Chain first links → v ≡ first.value →
+    xs ≡ links.items →
     expr_sites s (expr_view v) ++ flat_map (link_part s) xs ≡ expr_sites s (expr_view e)
 chain_from s e first links v xs ee ev ex =
     ap (λ z. expr_sites s (expr_view z) ++ flat_map (link_part s) xs) ev ∙ ap (λ z. expr_sites s (expr_view first.value) ++ flat_map (link_part s) z) ex ∙

@@ -317,7 +317,8 @@ mutual
       (segment_plain_before s.rank p q (suc u.0) q (expr_sites s e) (block_sites s x ++ else_sites s q rest) (plain_expr s e)
       (segment_join s.rank p q (suc u.0) (close_of x) q (block_sites s x) (else_sites s q rest) (omega arith) (omega arith) y.1 z)))
 
-  pub else_fits : (s : TokenSpellings) (a b n q : ℕ) (x : ElseTree) → IsElse x → a < n → q ≤ b → Rises n (else_tokens x) q → Segment s.rank a b n q (else_sites s q x)
+  pub else_fits : (s : TokenSpellings) (a b n q : ℕ) (x : ElseTree) → IsElse x → a < n → q ≤ b → Rises n (else_tokens x) q →
+      Segment s.rank a b n q (else_sites s q x)
   else_fits s a b n q no_else w an qb h = (tt, tt)
   else_fits s a b n q (else_if p x) w an qb h =
       let np : n ≤ p = h.0 in

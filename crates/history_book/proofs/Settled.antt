@@ -16,7 +16,8 @@ module _ (m : Content) (job : JobRecord) (built : Built) (out : JobsOut) (lost :
   abbrev after : State → Content
   after new = record m { current = new; out = out }
 
-  pub settled : (outcome : DeliveryOutcome) (reply : Reply) (new : State) → HasOutcome m.current job built outcome → TakesInOutcome m.current outcome reply new →
+  pub settled : (outcome : DeliveryOutcome) (reply : Reply) (new : State) → HasOutcome m.current job built outcome →
+      TakesInOutcome m.current outcome reply new →
       AnswersOrLacks m (Deliver job built) reply (after new)
   settled Late reply new comes s =
       subst (λ (r : Reply). AnswersOrLacks m (Deliver job built) r (after new)) (sym s.0) (comes, refl, (out, lost, ap (λ (x : State). after x) s.1))

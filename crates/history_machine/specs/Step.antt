@@ -105,7 +105,8 @@ Step old event (Refused Memory) new = ¬ (BringsJob event) × (new ≡ old)
 Step old event (Refused JournalFull) new = ¬ (BringsJob event) × ¬ (HasRoom old event) × (new ≡ old)
 Step old event (Back Memory job unit) new = HandsOver event job unit × MayLackMemory old.out event × (new ≡ old)
 Step old event (Back JournalFull job unit) new = HandsOver event job unit × ¬ (HasRoom old event) × (new ≡ old)
-Step old event reply new = HasRoom old event × Answers (content old) event reply (content new) × Records old.current.number old.begun old.journal event reply new.journal
+Step old event reply new = HasRoom old event × Answers (content old) event reply (content new) × Records old.current.number old.begun old.journal event
+    reply new.journal
 
 -- the reply to a look with this answer
 abbrev pub looked : Result View Refusal → Reply

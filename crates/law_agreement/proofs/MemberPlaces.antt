@@ -56,7 +56,8 @@ pub record IsNamedAt (w : Workspace) (known : Verdicts) (d : Declaration) (place
   pub declares : DeclaresMember inside user d
 
 module _ (w : Workspace) (known : Verdicts) where
-  name_begins : (p : Package) → IsCheckedPackage w known p → (at : Position) → IsNamedIn p at.file at.index → (place : Place) → TokenAt p at place → Begins p at place
+  name_begins : (p : Package) → IsCheckedPackage w known p → (at : Position) → IsNamedIn p at.file at.index → (place : Place) → TokenAt p at place →
+      Begins p at place
   name_begins p is at named place token =
       let t = (name_stands w known p is at named).stands in
       let b : TokenBegins (Some t.file) at.index place = subst (λ o. TokenBegins o at.index place) t.of_rank token in

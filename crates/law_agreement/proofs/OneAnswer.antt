@@ -30,7 +30,8 @@ use Rattle.refs_index.proofs.Becoming.{StandBoth, by_cases}
 use Rattle.refactor_after.specs.ScopedPackages.{IsScopedIn}
 use Rattle.refactor_after.proofs.OneUse.{one_scope_use}
 use Rattle.refactor_conflict.specs.BoundAfter.{HasBecome, IsBoundByScopes, IsExportAfter, IsBoundByPackage, IsBoundByMember}
-use Rattle.refactor_conflict.specs.Conflicts.{IsCapturer, LostOrCaptured, is_lost, is_captured, LosesMember, ChangesBinding, IsConflictIn, IsConflict, IsFirstConflict}
+use Rattle.refactor_conflict.specs.Conflicts.{IsCapturer, LostOrCaptured, is_lost, is_captured}
+use Rattle.refactor_conflict.specs.Conflicts.{LosesMember, ChangesBinding, IsConflictIn, IsConflict, IsFirstConflict}
 use Rattle.refactor_conflict.specs.Conflicts.{by_scope, by_package, by_member, by_name}
 use Rattle.refactor_conflict.specs.ScopesAfter.{IsBindable}
 use Rattle.refactor_conflict.specs.Staying.{NoneIsLostBefore}

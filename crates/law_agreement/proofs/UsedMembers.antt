@@ -15,7 +15,8 @@ use Rattle.law_renamed_workspaces.proofs.NamedMembers.{members_named}
 use Rattle.law_agreement.proofs.Premises.{IsDeclaredByName, UsedMembersAreDeclared}
 
 -- what a package of the closure owns has a name there
-owned_named : (w : Workspace) (known : Verdicts) (right : AreVerdicts w known) (p : Package) (is : IsCheckedPackage w known p) (definitions : Symbol → Definition)
+owned_named : (w : Workspace) (known : Verdicts) (right : AreVerdicts w known) (p : Package) (is : IsCheckedPackage w known p) (definitions : Symbol →
+    Definition)
     (are : AreDefinitions p definitions) (d : Declaration) → IsOwned w known right p is definitions are d → IsDeclaredByName w known d
 owned_named w known right p is definitions are (Predeclared n) o = absurd o
 owned_named w known right p is definitions are (Declared path n) o = absurd o

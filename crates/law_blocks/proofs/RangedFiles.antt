@@ -101,7 +101,8 @@ receiver_at s b k q n m r kn mq h =
     each_append (AtSpec b k q) (ident_sites s (Declaring b q) r.name) (site s r.type_name Use ∷ [])
     (ident_at s b k q (suc r.lparen) u.0 r.name (omega arith) (omega arith) u.1.0) ((λ m. no_declaration m), tt)
 
-param_at : (s : TokenSpellings) (b : Block) (k q n m : ℕ) (p : ParamTree) → k ≤ n → m ≤ q → Rises n (param_tokens p) m → Each (AtSpec b k q) (param_sites s b q p)
+param_at : (s : TokenSpellings) (b : Block) (k q n m : ℕ) (p : ParamTree) → k ≤ n → m ≤ q → Rises n (param_tokens p) m →
+    Each (AtSpec b k q) (param_sites s b q p)
 unfolding param_sites param_tokens
 param_at s b k q n m p kn mq h =
     let u = rises_split n (list_tokens kind.Comma ident_tokens p.names) (type_tokens p.type_use) m h in

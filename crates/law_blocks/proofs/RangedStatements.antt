@@ -49,12 +49,14 @@ pub ident_at : (s : TokenSpellings) (b : Block) (k q n m : ℕ) (x : IdentTree) 
 ident_at s b k q n m (Named i) kn mq h = ((λ may. (omega (arith, h.0), omega (arith, h.1), refl, refl, refl)), tt)
 ident_at s b k q n m (Underscore i) kn mq h = ((λ may. declares_not may), tt)
 
-pub idents_at : (s : TokenSpellings) (b : Block) (k q n m : ℕ) (xs : List (Item IdentTree)) → k ≤ n → m ≤ q → Rises n (list_tokens kind.Comma ident_tokens xs) m →
+pub idents_at : (s : TokenSpellings) (b : Block) (k q n m : ℕ) (xs : List (Item IdentTree)) → k ≤ n → m ≤ q →
+    Rises n (list_tokens kind.Comma ident_tokens xs) m →
     Each (AtSpec b k q) (list_sites (ident_sites s (Declaring b q)) xs)
 idents_at s b k q n m xs kn mq h =
     each_rising (AtSpec b k q) ident_tokens (ident_sites s (Declaring b q)) kind.Comma k q (λ i j x ki jq r. ident_at s b k q i j x ki jq r) n m xs kn mq h
 
-define_at : (s : TokenSpellings) (b : Block) (k q : ℕ) (es : List (Item ExprTree)) (p : ℕ) (fs : List (Item ExprTree)) → Rises k (simple_tokens (Define es p fs)) q →
+define_at : (s : TokenSpellings) (b : Block) (k q : ℕ) (es : List (Item ExprTree)) (p : ℕ) (fs : List (Item ExprTree)) →
+    Rises k (simple_tokens (Define es p fs)) q →
     Each (AtSpec b k q) (list_sites (left_sites s b q) es ++ exprs_sites s fs)
 unfolding simple_tokens
 define_at s b k q es p fs h =

@@ -43,7 +43,8 @@ use Rattle.law_changed_types.proofs.RenumberedTypesAlike.{Half, SameTree, SameTr
 use Rattle.law_changed_types.proofs.RenumberedTypesAlike.{Follows, Turned, TurnedIdentifiers, SameForm}
 use Rattle.law_changed_types.proofs.RenumberedTypesWritten.{turned_tree, turned_form, turned_trees}
 use Rattle.law_changed_types.proofs.Names.{LocalsFollow}
-use Rattle.law_changed_types.proofs.RenumberedTypesListed.{map_by, new_variable, new_type, new_function, new_field, variables_by, types_by, functions_by, fields_by}
+use Rattle.law_changed_types.proofs.RenumberedTypesListed.{map_by, new_variable, new_type, new_function}
+use Rattle.law_changed_types.proofs.RenumberedTypesListed.{new_field, variables_by, types_by, functions_by, fields_by}
 use Rattle.law_changed_types.proofs.RenumberedTypesListed.{parameters_by, results_by, form_by, flat_by}
 use Rattle.std.proofs.lemmas.List.{map-append}
 use Rattle.law_changed_types.proofs.Moving.{ap2}

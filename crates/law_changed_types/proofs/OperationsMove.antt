@@ -7,7 +7,8 @@ use Rattle.types_expr.specs.declared.types.Basic.TheVariants as basic
 use Rattle.types_expr.specs.declared.classes.ValueClass.{ValueClass}
 use Rattle.types_expr.specs.declared.classes.Family.{Family}
 use Rattle.types_expr.specs.declared.classes.Family.TheVariants as family
-use Rattle.types_expr.specs.Types.{PlainType, Underlying, Plain, PointerTo, SliceOf, Struct, Interface, ValueKind, Typed, Untyped, Nil, Value, same_basic, same_type}
+use Rattle.types_expr.specs.Types.{PlainType, Underlying, Plain, PointerTo, SliceOf, Struct, Interface}
+use Rattle.types_expr.specs.Types.{ValueKind, Typed, Untyped, Nil, Value, same_basic, same_type}
 use Rattle.types_expr.specs.Types.{same_underlying, has_nil, element_of, either_unnamed, BasicType}
 use Rattle.types_expr.specs.World.{underlying}
 use Rattle.types_expr.specs.Operations.{enters, fits, converts, joined, is_nil, class_of, class_of_underlying, compares, is_int, is_bool, is_ordered, family_of}

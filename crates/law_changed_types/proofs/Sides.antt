@@ -17,7 +17,8 @@ use Rattle.types_stmt.specs.Sides.{named, all_named, entered_at, all_entered, gi
 use Rattle.law_rename.specs.Renumbered.{items_by, ident_by, expr_by, exprs_by}
 use Rattle.law_changed_types.specs.Renumbering.{AreRenumberedLocals, renumbered_bound, renumbered_noted, renumbered_uses, renumbered_found}
 use Rattle.law_changed_types.proofs.Renumber.{Renumber, new, ap2, ap3, if_maps, two, same_token}
-use Rattle.law_changed_types.proofs.RenumberedTokensRules.{list_value, list_values, list_found, followed_found, value_before_found, all_whole_stays, misfit_found}
+use Rattle.law_changed_types.proofs.RenumberedTokensRules.{list_value, list_values, list_found}
+use Rattle.law_changed_types.proofs.RenumberedTokensRules.{followed_found, value_before_found, all_whole_stays, misfit_found}
 use Rattle.law_changed_types.proofs.RenumberedTokensRules.{entering_found}
 use Rattle.law_changed_types.proofs.Places.{reports}
 use Rattle.law_changed_types.proofs.Found.{Judging, at_value, found}

@@ -30,7 +30,8 @@ use Rattle.law_changed_types.proofs.PartsMove.{IsMoved, unchecked, same_as, part
 
 -- faults that stay
 
-condition_stays : (m : Move) (place : ℕ) (k : Option ValueKind) → condition_faults m.new place (option_map (moved_kind m.path) k) ≡ condition_faults m.old place k
+condition_stays : (m : Move) (place : ℕ) (k : Option ValueKind) → condition_faults m.new place (option_map (moved_kind m.path) k) ≡ condition_faults m.old
+    place k
 unfolding condition_faults
 condition_stays m place None = refl
 condition_stays m place (Some k) = ap (λ z. if is_bool z then [] else place ∷ []) (class_stays m k)

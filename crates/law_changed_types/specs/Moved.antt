@@ -1,7 +1,8 @@
 -- A move of packages gives them other paths. The symbols of types, members and meanings change their package with it; nothing else does.
 use Rattle.std.specs.Prelude.{ℕ, ◌≡◌, List, option_map, map}
 use Rattle.types_expr.specs.declared.symbol.Symbol.{Symbol}
-use Rattle.types_expr.specs.Types.{PlainType, BasicType, Defined, Pointer, Slice, Underlying, Plain, PointerTo, SliceOf, Struct, Interface, ValueKind, Typed, Untyped, Nil}
+use Rattle.types_expr.specs.Types.{PlainType, BasicType, Defined, Pointer, Slice, Underlying, Plain}
+use Rattle.types_expr.specs.Types.{PointerTo, SliceOf, Struct, Interface, ValueKind, Typed, Untyped, Nil}
 use Rattle.types_expr.specs.Types.{Signature, Meaning, Value, TypeName, Function, BuiltinName, Package, Results, Broken, WrittenAs, AFieldOf, AMethodOf}
 use Rattle.types_expr.specs.World.{Bound, Local, Means, BrokenVariable, BrokenFunction, BrokenType, Member, AField, AMethod, ABrokenMethod, Locals}
 use Rattle.types_expr.specs.Judge.{MemberUse, Entering, Noted, OfMember, OfEntering, Judged}

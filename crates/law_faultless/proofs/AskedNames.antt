@@ -19,7 +19,8 @@ use Rattle.go_scope.specs.FileSites.{receiver_sites, param_sites, result_sites, 
 use Rattle.types_expr.specs.Types.{PlainType, Meaning}
 use Rattle.types_expr.specs.World.{World, Locals}
 use Rattle.law_typing.specs.Simple.{LocalIsTyped}
-use Rattle.law_faultless.specs.Questions.{TokenQuestion, OfInteger, OfText, OfName, OfExport, OfMember, OfDeclared, OfLeft, Asks, for_integer, for_text, for_name}
+use Rattle.law_faultless.specs.Questions.{TokenQuestion, OfInteger, OfText, OfName, OfExport, OfMember}
+use Rattle.law_faultless.specs.Questions.{OfDeclared, OfLeft, Asks, for_integer, for_text, for_name}
 use Rattle.law_faultless.specs.Questions.{in_composite, in_paren, in_prefix, in_address, in_chain, in_links, in_binary, in_operands, LinksAsk, for_member}
 use Rattle.law_faultless.specs.Questions.{for_export, behind_selector, in_index, behind_index, in_arguments, behind_call, OperandsAsk, in_operand}
 use Rattle.law_faultless.specs.Questions.{in_later_operand, ArgumentsAsk, in_argument, in_later_argument, LiteralAsks, in_elements, ElementsAsk, for_key}
@@ -199,7 +200,8 @@ module _ (w : World) (s : TokenSpellings) where
       AskIfPresent SimpleTree (SimpleAsks w) before x q → Sited q (sites_if (simple_sites s b following) x)
   optional_sited b following (asks_present a) = simple_sited b following a
 
-  condition_sited : {before : Locals} {x : Option ExprTree} {q : TokenQuestion} → AskIfPresent ExprTree (Asks w) before x q → Sited q (sites_if (expr_sites s) x)
+  condition_sited : {before : Locals} {x : Option ExprTree} {q : TokenQuestion} → AskIfPresent ExprTree (Asks w) before x q →
+      Sited q (sites_if (expr_sites s) x)
   condition_sited (asks_present {before} a) = expression_sited before a
 
   init_sited : (b : Block) {before : Locals} {x : Option InitTree} {q : TokenQuestion} → AskIfPresent InitTree (InitAsks w) before x q →

@@ -197,7 +197,8 @@ module _ (w : World) (B : ℕ → Type 0) (s : TokenSpellings) (u : IsUnbroken w
 
     pub statement_typed : (results : List PlainType) (targets : List Target) → AreTargets targets results →
         (A : List Site) (b : Block) (q n m : ℕ) (x : StatementTree)
-        (st : FoundSoFar) → IsStatement x → (check_statement w targets st x).faults ≡ [] → AllKnown w st.locals A → AreResolved w B A (statement_sites s b q x) →
+        (st : FoundSoFar) → IsStatement x → (check_statement w targets st x).faults ≡ [] → AllKnown w st.locals A →
+        AreResolved w B A (statement_sites s b q x) →
         Strung B n (statement_tokens x) m → m ≤ q →
         Outcome w A (statement_sites s b q x) (StatementIsTyped w results st.locals x) (check_statement w targets st x).locals
     statement_typed results targets e A b q n m tree.Empty st formed f known r t le = (nothing, known)
@@ -288,7 +289,8 @@ module _ (w : World) (B : ℕ → Type 0) (s : TokenSpellings) (u : IsUnbroken w
           known_join w after A s1 (s2 ++ (s3 ++ s4)) (known_join w after (past A s1) s2 (s3 ++ s4) (known_join w after (past (past A s1) s2) s3 s4 h4.1)),
         )
 
-    else_typed : (results : List PlainType) (targets : List Target) → AreTargets targets results → (A : List Site) (q n m : ℕ) (x : ElseTree) (st : FoundSoFar) →
+    else_typed : (results : List PlainType) (targets : List Target) → AreTargets targets results → (A : List Site) (q n m : ℕ) (x : ElseTree) (st :
+        FoundSoFar) →
         IsElse x → (check_else w targets st x).faults ≡ [] → AllKnown w st.locals A → AreResolved w B A (else_sites s q x) → Strung B n (else_tokens x) m →
         Outcome w A (else_sites s q x) (ElseIsTyped w results st.locals x) (check_else w targets st x).locals
     else_typed results targets e A q n m tree.no_else st formed f known r t = (without_else, known)

@@ -102,7 +102,8 @@ module _ (w : Workspace) (sound : ListsFaults w []) (known : Verdicts) (right : 
     ]
   ]
 
-  pub lexical_bound : (u : ℕ) → IsInFiles p u → MayDeclare p.layout u ⊎ (is_use (p.layout.role u) ≡ true) → (d : Declaration) × IsBoundToDeclaration w known p u d
+  pub lexical_bound : (u : ℕ) → IsInFiles p u → MayDeclare p.layout u ⊎ (is_use (p.layout.role u) ≡ true) →
+      (d : Declaration) × IsBoundToDeclaration w known p u d
   lexical_bound u stands h = elim (binding p.layout p.names formed u) [
     | inl n ↦ by_number u n.0 n.1
     | inr none ↦ absurd (unbound_no u stands.0 h none)

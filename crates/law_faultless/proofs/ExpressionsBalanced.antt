@@ -23,9 +23,11 @@ use Rattle.build_object.specs.Operands.{CodeOperand, Values, plain, prefixed, op
 use Rattle.build_object.specs.Expressions.{argument_count, element_count, field_position, keyed_in, key_position, literal_code, typed_literal, operand_of}
 use Rattle.build_object.specs.Expressions.{operations, linked, argument_lines, literal_lines, keyed_lines, bare_lines, value_lines, given_lines}
 use Rattle.law_faultless.specs.Stack.{Arity}
-use Rattle.law_faultless.specs.Questions.{TokenQuestion, OfInteger, OfText, OfName, OfExport, OfMember, Asks, for_integer, for_text, for_name, in_composite, in_paren}
+use Rattle.law_faultless.specs.Questions.{TokenQuestion, OfInteger, OfText, OfName, OfExport, OfMember}
+use Rattle.law_faultless.specs.Questions.{Asks, for_integer, for_text, for_name, in_composite, in_paren}
 use Rattle.law_faultless.specs.Questions.{in_prefix, in_address, in_chain, in_links, in_binary, in_operands, LinksAsk, for_member, for_export, behind_selector}
-use Rattle.law_faultless.specs.Questions.{in_index, behind_index, in_arguments, behind_call, OperandsAsk, in_operand, in_later_operand, ArgumentsAsk, in_argument}
+use Rattle.law_faultless.specs.Questions.{in_index, behind_index, in_arguments, behind_call}
+use Rattle.law_faultless.specs.Questions.{OperandsAsk, in_operand, in_later_operand, ArgumentsAsk, in_argument}
 use Rattle.law_faultless.specs.Questions.{in_later_argument, LiteralAsks, in_elements, ElementsAsk, for_key, in_element, in_later_element}
 use Rattle.law_faultless.specs.QuestionAnswers.{IsKnown, IsAnswered, MemberIsKnown}
 use Rattle.law_faultless.proofs.StackParts.{Turns, none_turns, turns_as, turns_joined, turns_over, line_turns, turns_then, known_turns}
@@ -110,7 +112,8 @@ unfolding IsExpr
 binary_parts e tree.no_operand f = absurd f
 binary_parts e (tree.operand o p x more) f = (f.1, (strength o, f.2))
 
-prefix_settles : {w : World} {o : PrefixOp} {k : ValueKind} {m : Meaning} (arity : FunctionName → Arity) (x : CodeOperand) → Prefixes w o k m → IsOneValue arity x →
+prefix_settles : {w : World} {o : PrefixOp} {k : ValueKind} {m : Meaning} (arity : FunctionName → Arity) (x : CodeOperand) → Prefixes w o k m →
+    IsOneValue arity x →
     Settles arity x m
 prefix_settles arity x (plus h) v = v
 prefix_settles arity x (negates h) v = v

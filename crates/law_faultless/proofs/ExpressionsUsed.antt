@@ -15,7 +15,8 @@ use Rattle.law_typing.specs.Links.{SelectsMember}
 use Rattle.law_typing.specs.Links as links
 use Rattle.law_typing.specs.Meanings.{HasMeaning, LinksMean, OperandsMean, AreValues, IsLiteralOf, AreFields, AreElements}
 use Rattle.law_typing.specs.Meanings as means
-use Rattle.law_faultless.specs.Questions.{TokenQuestion, OfMember, Asks, in_composite, in_paren, in_prefix, in_address, in_chain, in_links, in_binary, in_operands}
+use Rattle.law_faultless.specs.Questions.{TokenQuestion, OfMember, Asks, in_composite, in_paren}
+use Rattle.law_faultless.specs.Questions.{in_prefix, in_address, in_chain, in_links, in_binary, in_operands}
 use Rattle.law_faultless.specs.Questions.{LinksAsk, for_member, behind_selector, in_index, behind_index, in_arguments, behind_call, OperandsAsk, in_operand}
 use Rattle.law_faultless.specs.Questions.{in_later_operand, ArgumentsAsk, in_argument, in_later_argument, LiteralAsks, in_elements, ElementsAsk, for_key}
 use Rattle.law_faultless.specs.Questions.{in_element, in_later_element}
@@ -58,7 +59,8 @@ selected w ls U f (links.of_package h) = inl (bound_name w ls h)
 mutual
   unfolding expr_sites
 
-  pub expr_links : (w : World) (ls : Locals) (U : ℕ → Type 0) (s : TokenSpellings) {e : ExprTree} {m : Meaning} → Tells w U (Asks w ls e) → HasMeaning w ls e m →
+  pub expr_links : (w : World) (ls : Locals) (U : ℕ → Type 0) (s : TokenSpellings) {e : ExprTree} {m : Meaning} → Tells w U (Asks w ls e) →
+      HasMeaning w ls e m →
       AreLinked w U (expr_sites s e)
   expr_links w ls U s f means.number = tt
   expr_links w ls U s f means.text = tt

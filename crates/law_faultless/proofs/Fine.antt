@@ -100,7 +100,8 @@ module _ (w : Workspace) (sound : ListsFaults w []) (known : Verdicts) (right : 
       let x = checked_package w sound q has in by_type x.checked (other_package q has) (sound.known q).export_data x.is_export_data rank (slice_get
       (package_types x.checked) rank) refl
     where
-      by_type : (c : Package) → IsCheckedPackage w known c → (i : ExportData) → IsExportData c i → (rank : ℕ) → (o : Option _) → slice_get (package_types c) rank ≡ o →
+      by_type : (c : Package) → IsCheckedPackage w known c → (i : ExportData) → IsExportData c i → (rank : ℕ) → (o : Option _) →
+          slice_get (package_types c) rank ≡ o →
           HasWholeMethods (i.definition rank)
       by_type c is i h rank None e = subst HasWholeMethods (sym (h.beyond rank e)) (nothing_fine _ (λ name. refl))
       by_type c is i h rank (Some d) e = definition_fine c is rank (i.definition rank) (h.definitions rank d e)

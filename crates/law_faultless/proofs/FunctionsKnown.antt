@@ -80,7 +80,8 @@ signature_at : (w : World) (b : Bool) (s : FoundSoFar) (f : FuncTree) {entered :
 unfolding check_function check_signature is_bad_init check_statement
 signature_at w b s f a = a
 
-function_met : (w : World) (b : Bool) {before after : Locals} {f : FuncTree} {q : TokenQuestion} → FunctionIsTyped w b before f after → FunctionAsks w before f q →
+function_met : (w : World) (b : Bool) {before after : Locals} {f : FuncTree} {q : TokenQuestion} → FunctionIsTyped w b before f after →
+    FunctionAsks w before f q →
     (s : FoundSoFar) → IsAt s before →
     Met q (check_function w b s f).uses
 unfolding check_function

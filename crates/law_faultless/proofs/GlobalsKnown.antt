@@ -5,7 +5,8 @@ use Rattle.go_scope.specs.Bindings.{IsPackageLevel}
 use Rattle.types_expr.specs.Types.{Meaning, Package as PackageName, Broken}
 use Rattle.types_expr.specs.World.{Bound, Means}
 use Rattle.types_declared.specs.Package.{Package, spelled}
-use Rattle.types_declared.specs.MeaningOf.{PredeclaredMeans, a_type, a_truth, an_untruth, a_nil, a_function, IsMeaningOf, predeclared, import_name, local, variable}
+use Rattle.types_declared.specs.MeaningOf.{PredeclaredMeans, a_type, a_truth, an_untruth, a_nil}
+use Rattle.types_declared.specs.MeaningOf.{a_function, IsMeaningOf, predeclared, import_name, local, variable}
 use Rattle.types_declared.specs.MeaningOf.{broken_variable, function, broken_function, definition, broken_definition}
 use Rattle.types_info.specs.Worlds.{IsBoundAt, by_scope, by_package, IsName, is_bound, is_unbound}
 use Rattle.build_object.specs.Lines.{GlobalName}

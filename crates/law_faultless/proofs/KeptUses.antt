@@ -6,7 +6,8 @@ use Rattle.go_ast.specs.Tree as tree
 use Rattle.types_expr.specs.World.{World}
 use Rattle.types_stmt.specs.Checked.{FoundSoFar, check_items, check_group}
 use Rattle.types_stmt.specs.Sides.{Target}
-use Rattle.types_stmt.specs.Simple.{check_condition, check_step, check_update, check_expr_statement, check_assign, check_define, check_simple, check_optional_simple}
+use Rattle.types_stmt.specs.Simple.{check_condition, check_step, check_update, check_expr_statement}
+use Rattle.types_stmt.specs.Simple.{check_assign, check_define, check_simple, check_optional_simple}
 use Rattle.types_stmt.specs.Simple.{check_optional_condition, check_typed_local, check_untyped_local, check_local_of, check_local}
 use Rattle.types_stmt.specs.Statements.{check_return, check_init, check_for_header, check_statement, check_block, check_statements, check_if, check_else}
 use Rattle.types_stmt.specs.Headers.{judge_results, check_optional_receiver, check_receiver, check_param, check_signature, check_function}
@@ -38,7 +39,8 @@ pub optional_condition_keeps : (q : TokenQuestion) (w : World) → Keeps q (chec
 optional_condition_keeps q w s None h = h
 optional_condition_keeps q w s (Some e) h = condition_keeps q w s e h
 
-local_of_keeps : (q : TokenQuestion) (w : World) (s : FoundSoFar) (names : List (Item IdentTree)) (t : Option TypeTree) (v : Option (ℕ × List (Item ExprTree))) →
+local_of_keeps : (q : TokenQuestion) (w : World) (s : FoundSoFar) (names : List (Item IdentTree)) (t : Option TypeTree) (v : Option (ℕ × List (Item
+    ExprTree))) →
     Met q s.uses → Met q (check_local_of w s names t v).uses
 unfolding check_typed_local check_untyped_local
 local_of_keeps q w s names (Some t) None h = met_left q s.uses _ h
@@ -89,7 +91,8 @@ mutual
   statement_keeps q w results (tree.Continue p) s h = h
   statement_keeps q w results (tree.Return p es) s h = met_left q s.uses _ h
 
-  pub block_keeps : (q : TokenQuestion) (w : World) (results : List Target) (b : BlockTree) (s : FoundSoFar) → Met q s.uses → Met q (check_block w results s b).uses
+  pub block_keeps : (q : TokenQuestion) (w : World) (results : List Target) (b : BlockTree) (s : FoundSoFar) → Met q s.uses →
+      Met q (check_block w results s b).uses
   block_keeps q w results (tree.block o ss c) s h = statements_keep q w results ss s h
 
   pub statements_keep : (q : TokenQuestion) (w : World) (results : List Target) (ss : StatementTrees) (s : FoundSoFar) → Met q s.uses →
@@ -103,7 +106,8 @@ mutual
       else_keeps q w results otherwise (check_block w results (check_condition w (check_init w s init) e) b)
       (block_keeps q w results b (check_condition w (check_init w s init) e) (condition_keeps q w (check_init w s init) e (init_keeps q w s init h)))
 
-  pub else_keeps : (q : TokenQuestion) (w : World) (results : List Target) (o : ElseTree) (s : FoundSoFar) → Met q s.uses → Met q (check_else w results s o).uses
+  pub else_keeps : (q : TokenQuestion) (w : World) (results : List Target) (o : ElseTree) (s : FoundSoFar) → Met q s.uses →
+      Met q (check_else w results s o).uses
   else_keeps q w results tree.no_else s h = h
   else_keeps q w results (tree.else_if p i) s h = if_keeps q w results i s h
   else_keeps q w results (tree.else_block p b) s h = block_keeps q w results b s h
@@ -130,7 +134,8 @@ global_keeps q w s g h = met_left q s.uses (global_enterings w g) h
 type_keeps : (q : TokenQuestion) (w : World) → Keeps q (check_type w)
 type_keeps q w s t h = met_left q s.uses [] h
 
-pub decls_keep : (q : TokenQuestion) (w : World) (is_init : ℕ → Bool) (ds : List DeclTree) (s : FoundSoFar) → Met q s.uses → Met q (check_decls w is_init s ds).uses
+pub decls_keep : (q : TokenQuestion) (w : World) (is_init : ℕ → Bool) (ds : List DeclTree) (s : FoundSoFar) → Met q s.uses →
+    Met q (check_decls w is_init s ds).uses
 unfolding check_decls check_decl
 decls_keep q w is_init [] s h = h
 decls_keep q w is_init (tree.VarDecl p g c ∷ ds) s h = decls_keep q w is_init ds (check_group (check_global w) s g)

@@ -6,7 +6,8 @@ use Rattle.law_faultless.specs.Stack.{Arity, Effect, Works, Calls, Tests, Leads,
 use Rattle.law_faultless.specs.Machine.{Steps, works, calls, goes_on, leads_away, leads, leads_back, ReachesLine, begins, further, IsReady}
 
 -- the line of a number does what it says
-runs_there : (arity : FunctionName → Arity) (at : ℕ → ℕ) (i : ℕ) (ls : List CodeLine) (n : ℕ) (l : CodeLine) → LinesObey arity at i ls → slice_get ls n ≡ Some l →
+runs_there : (arity : FunctionName → Arity) (at : ℕ → ℕ) (i : ℕ) (ls : List CodeLine) (n : ℕ) (l : CodeLine) → LinesObey arity at i ls →
+    slice_get ls n ≡ Some l →
     LineObeys arity at (n + i) l
 runs_there arity at i [] n l r e = cc
 runs_there arity at i (x ∷ xs) zero l r e =

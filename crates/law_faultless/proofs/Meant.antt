@@ -138,7 +138,8 @@ module _ (w : Workspace) (known : Verdicts) (path : List ℕ) (p : Package) (h :
 
   -- the path of an import without a name, where it declares
 
-  to_laid : (d f : ℕ) → block_of (p.layout.role d) ≡ File f → (q : List ℕ) → IsPathOf (map source_of h.files) (laid_in (scoped h.files)) d q → DeclaresImport p d q
+  to_laid : (d f : ℕ) → block_of (p.layout.role d) ≡ File f → (q : List ℕ) → IsPathOf (map source_of h.files) (laid_in (scoped h.files)) d q →
+      DeclaresImport p d q
   to_laid d f block q i =
       let place : (n : ℕ) → p.layout.place n ≡ (old n).place = λ n. place_is w known path p h n ∙ place_stays names xs n in
       let number : literal_of p.layout d ≡ literal_of (laid_in (scoped h.files)).layout d =

@@ -274,7 +274,8 @@ links_typed w ls u (means.selector sel more) h = links_typed w ls u more (select
 links_typed w ls u (means.index v i more) h = links_typed w ls u more (index_typed w i)
 links_typed w ls u (means.call vs c more) h = links_typed w ls u more (call_typed w c)
 
-operands_typed : (w : World) (ls : Locals) {k : ValueKind} {a : Bool} {r : Meaning} {os : OperandTrees} → OperandsMean w ls (Value k a) os r → IsTyped (Value k a) →
+operands_typed : (w : World) (ls : Locals) {k : ValueKind} {a : Bool} {r : Meaning} {os : OperandTrees} → OperandsMean w ls (Value k a) os r →
+    IsTyped (Value k a) →
     IsTyped r
 operands_typed w ls means.no_operand h = h
 operands_typed w ls (means.operand v o c) h = operands_typed w ls c constant

@@ -12,8 +12,10 @@ use Rattle.types_info.proofs.DeclKinds.{Holds}
 use Rattle.law_tokens.proofs.Elements.{all_made}
 use Rattle.build_object.specs.Lines.{GlobalName, FunctionName, CodeLine}
 use Rattle.build_object.specs.Names.{function_names}
-use Rattle.build_object.specs.Objects.{ObjectDefinition, Initial, ObjectDeclaration, TypeOf, Variable, FunctionOf, Object, type_declarations, declared_type, known_variable, first_initial}
-use Rattle.build_object.specs.Objects.{other_initials, variable_declarations, global_variables, function_of, declared_function, names_behind, declared_by, declared_in}
+use Rattle.build_object.specs.Objects.{ObjectDefinition, Initial, ObjectDeclaration, TypeOf, Variable}
+use Rattle.build_object.specs.Objects.{FunctionOf, Object, type_declarations, declared_type, known_variable, first_initial}
+use Rattle.build_object.specs.Objects.{other_initials, variable_declarations, global_variables, function_of}
+use Rattle.build_object.specs.Objects.{declared_function, names_behind, declared_by, declared_in}
 use Rattle.build_object.specs.Objects.{names_behind_all, declared_from, definition_of}
 use Rattle.build_object.specs.Source.{Source}
 use Rattle.build_object.specs.Sources.{IsSourceOf, IsObjectOf}

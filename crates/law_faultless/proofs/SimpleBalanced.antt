@@ -23,7 +23,8 @@ use Rattle.build_object.specs.Lines as line
 use Rattle.build_object.specs.Source.{Source}
 use Rattle.build_object.specs.Operands.{CodeOperand, Values, value_count}
 use Rattle.build_object.specs.Expressions.{operand_of, value_lines, address_lines}
-use Rattle.build_object.specs.Statements.{lines_of_values, from_last, set_name, set_left, targets_of, update_lines, step_op, simple_lines, optional_lines, zeros}
+use Rattle.build_object.specs.Statements.{lines_of_values, from_last, set_name, set_left, targets_of}
+use Rattle.build_object.specs.Statements.{update_lines, step_op, simple_lines, optional_lines, zeros}
 use Rattle.build_object.specs.Statements.{first_values, local_lines}
 use Rattle.law_faultless.specs.Stack.{Arity}
 use Rattle.law_faultless.specs.Questions.{TokenQuestion, OfDeclared, OfLeft, Asks}
@@ -91,7 +92,8 @@ alone_turns arity o (Results ts) g h = dropped arity o (length ts) h.is h.value
 alone_turns arity o Broken g h = absurd g
 
 -- `x op= y`
-update_turns : (arity : FunctionName → Arity) (x y : List CodeLine) (o : BinaryOp) → Turns arity 0 1 x → Turns arity 0 1 y → Turns arity 0 0 (update_lines x y o)
+update_turns : (arity : FunctionName → Arity) (x y : List CodeLine) (o : BinaryOp) → Turns arity 0 1 x → Turns arity 0 1 y →
+    Turns arity 0 0 (update_lines x y o)
 update_turns arity x y o f g =
     turns_joined arity 0 1 0 x (line.Duplicate ∷ line.Load ∷ (y ++ (line.Operate o ∷ line.Assign 1 ∷ []))) f
     (turns_joined arity 1 2 0 (line.Duplicate ∷ []) (line.Load ∷ (y ++ (line.Operate o ∷ line.Assign 1 ∷ [])))
@@ -178,7 +180,8 @@ local_turns arity w s slots (of_values {before} {l = l} {v} {ks} e u g taken d) 
 
 -- parts that stand one behind another
 
-items_turn : {X : Type 0} (arity : FunctionName → Arity) (R : PartRule X) (A : Asking X) (P : X → Type 0) (Q : TokenQuestion → Type 0) (lines : X → List CodeLine) →
+items_turn : {X : Type 0} (arity : FunctionName → Arity) (R : PartRule X) (A : Asking X) (P : X → Type 0) (Q : TokenQuestion → Type 0) (lines : X →
+    List CodeLine) →
     ((before after : Locals) (x : X) → R before x after → P x → ((q : TokenQuestion) → A before x q → Q q) → Turns arity 0 0 (lines x)) →
     {before after : Locals} {is : List (Item X)} → InTurn X R before is after → All (λ (i : Item X). P i.value) is →
     ((q : TokenQuestion) → AskInTurn X R A before is q → Q q) →
@@ -189,7 +192,8 @@ items_turn {X} arity R A P Q lines part (then_item {before} {inside} {after} {i}
     (part before inside i.value r (All-head (λ (x : Item X). P x.value) i is f) (λ q a. k q (this_item a)))
     (items_turn arity R A P Q lines part more (All-tail (λ (x : Item X). P x.value) i is f) (λ q a. k q (later_item r a)))
 
-group_turns : {X : Type 0} (arity : FunctionName → Arity) (R : PartRule X) (A : Asking X) (P : X → Type 0) (Q : TokenQuestion → Type 0) (lines : X → List CodeLine) →
+group_turns : {X : Type 0} (arity : FunctionName → Arity) (R : PartRule X) (A : Asking X) (P : X → Type 0) (Q : TokenQuestion → Type 0) (lines : X →
+    List CodeLine) →
     ((before after : Locals) (x : X) → R before x after → P x → ((q : TokenQuestion) → A before x q → Q q) → Turns arity 0 0 (lines x)) →
     {before after : Locals} {g : Group X} → InGroup X R before g after → IsGroup P g → ((q : TokenQuestion) → AskInGroup X R A before g q → Q q) →
     Turns arity 0 0 (flat_map lines (group_items g))

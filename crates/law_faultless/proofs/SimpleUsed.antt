@@ -32,7 +32,8 @@ each_links w ls U s f (also_value {i} {is} h more) =
     linked_append w U (expr_sites s i.value) (exprs_sites s is) (expr_links w ls U s (λ n t m a. f n t m (this_one a)) h)
     (each_links w ls U s (λ n t m a. f n t m (a_later_one a)) more)
 
-pub give_links : (w : World) (ls : Locals) (U : ℕ → Type 0) (s : TokenSpellings) {is : List (Item ExprTree)} {ks : List ValueKind} → Tells w U (AnyAsks w ls is) →
+pub give_links : (w : World) (ls : Locals) (U : ℕ → Type 0) (s : TokenSpellings) {is : List (Item ExprTree)} {ks : List ValueKind} →
+    Tells w U (AnyAsks w ls is) →
     GiveKinds w ls is ks → AreLinked w U (exprs_sites s is)
 give_links w ls U s f (values h) = each_links w ls U s f h
 give_links w ls U s f (results {i} h) = linked_append w U (expr_sites s i.value) [] (expr_links w ls U s (λ n t m a. f n t m (this_one a)) h) tt

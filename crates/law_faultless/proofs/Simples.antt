@@ -67,7 +67,8 @@ exprs_known w B ls s A n m es known r t =
 
 -- simple statements
 
-simple_stands : (B : ℕ → Type 0) (s : TokenSpellings) (b : Block) (q n m : ℕ) (x : SimpleTree) → Strung B n (simple_tokens x) m → Before m (simple_sites s b q x)
+simple_stands : (B : ℕ → Type 0) (s : TokenSpellings) (b : Block) (q n m : ℕ) (x : SimpleTree) → Strung B n (simple_tokens x) m →
+    Before m (simple_sites s b q x)
 unfolding simple_sites simple_tokens
 simple_stands B s b q n m (tree.Alone e) h = expr_stands B s n m e h
 simple_stands B s b q n m (tree.Step e o p) h =
@@ -147,7 +148,8 @@ declare_kept no_name n k = k
 declare_kept (no_local more) n k = declare_kept more n k
 declare_kept (new_local {before} {p = p} {t = t} g more) n k = declare_kept more n (declared_kept before p t n k)
 
-declare_known : {before after : Locals} {ns : List (Option ℕ)} {ks : List ValueKind} → Declare before ns ks after → (p : ℕ) → Holds ns (Some p) → IsKnown (after p)
+declare_known : {before after : Locals} {ns : List (Option ℕ)} {ks : List ValueKind} → Declare before ns ks after → (p : ℕ) → Holds ns (Some p) →
+    IsKnown (after p)
 declare_known no_name p h = absurd h
 declare_known (no_local more) p h = elim h [ inl e ↦ absurd (none-some p e) | inr r ↦ declare_known more p r ]
 declare_known (new_local {before} {after} {p = q} {t = t} g more) p h = elim h [
@@ -237,7 +239,8 @@ simple_behind w s b q (a_definition {before} {after} {xs} {ys} h g t d) = (
       (plain_known w after (exprs_sites s ys) (plain_exprs s ys)),
 )
 
-pub simple_typed : (w : World) (B : ℕ → Type 0) (s : TokenSpellings) (u : IsUnbroken w) (A : List Site) (b : Block) (q n m : ℕ) (st : FoundSoFar) (x : SimpleTree) →
+pub simple_typed : (w : World) (B : ℕ → Type 0) (s : TokenSpellings) (u : IsUnbroken w) (A : List Site) (b : Block) (q n m : ℕ) (st : FoundSoFar) (x :
+    SimpleTree) →
     (check_simple w st x).faults ≡ [] → AllKnown w st.locals A → AreResolved w B A (simple_sites s b q x) → Strung B n (simple_tokens x) m → m ≤ q →
     SimpleIsTyped w st.locals x (check_simple w st x).locals × AllKnown w (check_simple w st x).locals (past A (simple_sites s b q x))
 simple_typed w B s u A b q n m st x f known r t le =
@@ -254,7 +257,8 @@ simple_typed w B s u A b q n m st x f known r t le =
 
 -- declarations of locals
 
-pub idents_stand : (B : ℕ → Type 0) (s : TokenSpellings) (b : Block) (q n m : ℕ) (xs : List (Item IdentTree)) → Strung B n (list_tokens kind.Comma ident_tokens xs) m →
+pub idents_stand : (B : ℕ → Type 0) (s : TokenSpellings) (b : Block) (q n m : ℕ) (xs : List (Item IdentTree)) →
+    Strung B n (list_tokens kind.Comma ident_tokens xs) m →
     Before m (list_sites (ident_sites s (Declaring b q)) xs)
 unfolding all_tokens
 idents_stand B s b q n m [] h = tt
@@ -283,7 +287,8 @@ idents_later w s b q (x ∷ xs) =
 abbrev Values : Type 0
 Values = Option (ℕ × List (Item ExprTree))
 
-types_stand : (B : ℕ → Type 0) (s : TokenSpellings) (n m : ℕ) (o : Option TypeTree) → Strung B n (tokens_if type_tokens o) m → Before m (sites_if (type_sites s) o)
+types_stand : (B : ℕ → Type 0) (s : TokenSpellings) (n m : ℕ) (o : Option TypeTree) → Strung B n (tokens_if type_tokens o) m →
+    Before m (sites_if (type_sites s) o)
 types_stand B s n m None h = tt
 types_stand B s n m (Some x) h = stand_below B is_ident_token s n m (type_sites s x) (type_tokens x) (type_named s x) h
 

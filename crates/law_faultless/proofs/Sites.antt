@@ -98,7 +98,8 @@ file_numbers rank (g ∷ fs) (suc i) r f e q =
     (file_sites (record { rank = r; spell = f.spell }) f.tree)
     (file_numbers (suc rank) fs i r f e (let same : suc rank + i ≡ r = omega (arith, q) in same))
 
-stand_in : (s : TokenSpellings) (xs : List Site) (ts : List Token) → Pairs s xs ts → AllByRecursion (λ x. (x.place.file ≡ s.rank) × (is_implied x.role ≡ false)) xs
+stand_in : (s : TokenSpellings) (xs : List Site) (ts : List Token) → Pairs s xs ts → AllByRecursion (λ x. (x.place.file ≡ s.rank) × (is_implied x.role ≡
+    false)) xs
 stand_in s [] ts p = tt
 stand_in s (x ∷ xs) [] p = absurd p
 stand_in s (x ∷ xs) (t ∷ ts) p = ((ap (λ (y : Site). y.place.file) p.1, p.0), stand_in s xs ts p.2)

@@ -16,7 +16,8 @@ use Rattle.build_object.specs.Slots.{receiver_places, parameter_places, local_pl
 use Rattle.build_object.specs.Slots.{statements_places, if_places, else_places, slots_of}
 use Rattle.go_ast.specs.Tree.{LinkTrees, OperandTrees, ArgumentTrees, LiteralTree, ElementTrees}
 use Rattle.types_expr.specs.Types.{Meaning}
-use Rattle.law_faultless.specs.Questions.{TokenQuestion, OfInteger, OfText, OfName, OfExport, OfMember, OfDeclared, OfLeft, Asks, for_integer, for_text, for_name}
+use Rattle.law_faultless.specs.Questions.{TokenQuestion, OfInteger, OfText, OfName, OfExport, OfMember}
+use Rattle.law_faultless.specs.Questions.{OfDeclared, OfLeft, Asks, for_integer, for_text, for_name}
 use Rattle.law_faultless.specs.Questions.{in_composite, in_paren, in_prefix, in_address, in_chain, in_links, in_binary, in_operands, LinksAsk, for_member}
 use Rattle.law_faultless.specs.Questions.{for_export, behind_selector, in_index, behind_index, in_arguments, behind_call, OperandsAsk, in_operand}
 use Rattle.law_faultless.specs.Questions.{in_later_operand, ArgumentsAsk, in_argument, in_later_argument, LiteralAsks, in_elements, ElementsAsk, for_key}
@@ -186,7 +187,8 @@ local_placed : (w : World) {before : Locals} {l : LocalTree} {q : TokenQuestion}
 local_placed w (for_declared {n = n} d) = declared_among n d
 local_placed w (in_values {locals} {l} {q = q} e a) = plain_placed q (local_places l) (any_plain w locals a)
 
-locals_placed : (w : World) {before : Locals} {is : List (Item LocalTree)} {q : TokenQuestion} → AskInTurn LocalTree (LocalIsTyped w) (LocalAsks w) before is q →
+locals_placed : (w : World) {before : Locals} {is : List (Item LocalTree)} {q : TokenQuestion} → AskInTurn LocalTree (LocalIsTyped w) (LocalAsks w) before
+    is q →
     Placed q (flat_map local_places (map (λ (i : Item LocalTree). i.value) is))
 locals_placed w (this_item {i = i} {is} {q} a) = placed_left q (local_places i.value) (flat_map local_places (map (λ (i : Item LocalTree). i.value) is))
     (local_placed w a)

@@ -19,7 +19,8 @@ use Rattle.law_typing.specs.Statements.{an_else}
 use Rattle.build_object.specs.Lines.{FunctionName, CodeLine}
 use Rattle.build_object.specs.Source.{Source}
 use Rattle.build_object.specs.Expressions.{value_lines}
-use Rattle.build_object.specs.Statements.{lines_of_values, init_lines, local_lines, simple_lines, Exits, further, block_exits, branched, for_init, for_condition}
+use Rattle.build_object.specs.Statements.{lines_of_values, init_lines, local_lines, simple_lines, Exits}
+use Rattle.build_object.specs.Statements.{further, block_exits, branched, for_init, for_condition}
 use Rattle.build_object.specs.Statements.{for_post, loop_condition, body_exits, loop_lines, statement_lines, block_lines, statements_lines, if_lines}
 use Rattle.build_object.specs.Statements.{else_lines}
 use Rattle.law_faultless.specs.Stack.{Arity}

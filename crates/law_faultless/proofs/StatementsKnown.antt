@@ -10,7 +10,8 @@ use Rattle.types_expr.specs.Judge.{judge, judge_value, judge_type, as_value}
 use Rattle.types_stmt.specs.Checked.{FoundSoFar, check_items, check_group}
 use Rattle.types_stmt.specs.Sides.{Target, Takes, receiving, given_enterings}
 use Rattle.types_stmt.specs.Sides.{values_of, judge_each, rhs, assignable, judge_operand, assigned_one, assigned, defined}
-use Rattle.types_stmt.specs.Simple.{without_parentheses, check_condition, check_step, check_update, check_expr_statement, check_assign, check_define, check_simple}
+use Rattle.types_stmt.specs.Simple.{without_parentheses, check_condition, check_step, check_update}
+use Rattle.types_stmt.specs.Simple.{check_expr_statement, check_assign, check_define, check_simple}
 use Rattle.types_stmt.specs.Simple.{check_optional_simple, written_targets, name_targets, check_optional_condition}
 use Rattle.types_stmt.specs.Simple.{check_typed_local, check_untyped_local, check_local_of, check_local}
 use Rattle.types_stmt.specs.Statements.{check_return, check_init, check_for_header, check_statement, check_block, check_statements, check_if, check_else}
@@ -19,7 +20,8 @@ use Rattle.law_typing.specs.Statements.{a_while}
 use Rattle.law_typing.proofs.PartOutcomes.{IsAt, held}
 use Rattle.law_typing.proofs.Locals.{local_true}
 use Rattle.law_typing.proofs.Statements.{AreTargets, optional_true, optional_condition_true, init_true, header_true, statement_true, block_true}
-use Rattle.law_faultless.specs.Questions.{TokenQuestion, Asks, for_integer, for_text, for_name, in_composite, in_paren, in_prefix, in_address, in_chain, in_links}
+use Rattle.law_faultless.specs.Questions.{TokenQuestion, Asks, for_integer, for_text, for_name}
+use Rattle.law_faultless.specs.Questions.{in_composite, in_paren, in_prefix, in_address, in_chain, in_links}
 use Rattle.law_faultless.specs.Questions.{in_binary, in_operands}
 use Rattle.law_faultless.specs.StatementAsking.{AskInTurn, this_item, later_item, AskInGroup, asks_alone, asks_together, AskIfPresent, asks_present}
 use Rattle.law_faultless.specs.StatementAsking.{AnyAsks, this_one, a_later_one, SimpleAsks, in_call, in_step, in_updated, in_update, in_assigned}
@@ -28,7 +30,8 @@ use Rattle.law_faultless.specs.StatementAsking.{in_while, in_first, in_test, in_
 use Rattle.law_faultless.specs.StatementAsking.{in_loop, in_return, BlockAsks, in_block, StatementsAsk, this_statement, later_statement, IfAsks}
 use Rattle.law_faultless.specs.StatementAsking.{before_condition, in_condition, in_then, in_otherwise, ElseAsks, in_else_if, in_else}
 use Rattle.law_faultless.proofs.Used.{Met, met_left, met_right, met_inner, expression_met}
-use Rattle.law_faultless.proofs.KeptUses.{condition_keeps, optional_keeps, optional_condition_keeps, local_keeps, items_keep, block_keeps, statements_keep, else_keeps}
+use Rattle.law_faultless.proofs.KeptUses.{condition_keeps, optional_keeps, optional_condition_keeps, local_keeps}
+use Rattle.law_faultless.proofs.KeptUses.{items_keep, block_keeps, statements_keep, else_keeps}
 
 -- lists of expressions
 
@@ -47,7 +50,8 @@ one_right : (q : TokenQuestion) (w : World) (ls : Locals) (i : Item ExprTree) �
 unfolding rhs
 one_right q w ls i a = met_left q (judge w ls i.value).uses (values_of (place_of i.value) (judge w ls i.value).meaning).uses (expression_met w ls a)
 
-first_right : (q : TokenQuestion) (w : World) (ls : Locals) (i : Item ExprTree) (is : List (Item ExprTree)) → Asks w ls i.value q → Met q (rhs w ls (i ∷ is)).uses
+first_right : (q : TokenQuestion) (w : World) (ls : Locals) (i : Item ExprTree) (is : List (Item ExprTree)) → Asks w ls i.value q →
+    Met q (rhs w ls (i ∷ is)).uses
 unfolding rhs
 first_right q w ls i [] a = one_right q w ls i a
 first_right q w ls i (j ∷ is) a = each_met w ls (this_one a)
@@ -95,7 +99,8 @@ asks_inside (in_links h a) = in_links h a
 asks_inside (in_binary a) = in_binary a
 asks_inside (in_operands a) = in_operands a
 
-alone_met : (q : TokenQuestion) (w : World) (s : FoundSoFar) (ls : Locals) (e : ExprTree) → s.locals ≡ ls → Asks w ls e q → Met q (check_expr_statement w s e).uses
+alone_met : (q : TokenQuestion) (w : World) (s : FoundSoFar) (ls : Locals) (e : ExprTree) → s.locals ≡ ls → Asks w ls e q →
+    Met q (check_expr_statement w s e).uses
 unfolding check_expr_statement
 alone_met q w s ls e at a = met_right q s.uses (judge w s.locals (without_parentheses e)).uses
     (expression_met w s.locals (asks_inside (subst (λ z. Asks w z e q) (sym at) a)))
@@ -144,15 +149,18 @@ condition_at w s a r = header_true w s a (a_while r)
 
 -- parts that stand one behind another
 
-optional_met : (w : World) {before : Locals} {x : Option SimpleTree} {q : TokenQuestion} → AskIfPresent SimpleTree (SimpleAsks w) before x q → (s : FoundSoFar) →
+optional_met : (w : World) {before : Locals} {x : Option SimpleTree} {q : TokenQuestion} → AskIfPresent SimpleTree (SimpleAsks w) before x q →
+    (s : FoundSoFar) →
     s.locals ≡ before → Met q (check_optional_simple w s x).uses
 optional_met w (asks_present {q = q} a) s at = simple_met q w s at a
 
-condition_met : (q : TokenQuestion) (w : World) (s : FoundSoFar) (ls : Locals) (e : ExprTree) → s.locals ≡ ls → Asks w ls e q → Met q (check_condition w s e).uses
+condition_met : (q : TokenQuestion) (w : World) (s : FoundSoFar) (ls : Locals) (e : ExprTree) → s.locals ≡ ls → Asks w ls e q →
+    Met q (check_condition w s e).uses
 unfolding check_condition
 condition_met q w s ls e at a = met_right q s.uses (judge_value w s.locals e).uses (value_met q w s.locals e (subst (λ z. Asks w z e q) (sym at) a))
 
-optional_condition_met : (w : World) {before : Locals} {x : Option ExprTree} {q : TokenQuestion} → AskIfPresent ExprTree (Asks w) before x q → (s : FoundSoFar) →
+optional_condition_met : (w : World) {before : Locals} {x : Option ExprTree} {q : TokenQuestion} → AskIfPresent ExprTree (Asks w) before x q →
+    (s : FoundSoFar) →
     s.locals ≡ before → Met q (check_optional_condition w s x).uses
 optional_condition_met w (asks_present {before} {x} {q} a) s at = condition_met q w s before x at a
 
@@ -254,7 +262,8 @@ mutual
       else_met w results targets t a (check_block w targets (check_condition w first e) b)
       (block_true w results targets t r (check_condition w first e) (condition_at w first (init_true w s at i) c))
 
-  else_met : (w : World) (results : List PlainType) (targets : List Target) → AreTargets targets results → {before : Locals} {x : ElseTree} {q : TokenQuestion} →
+  else_met : (w : World) (results : List PlainType) (targets : List Target) → AreTargets targets results →
+      {before : Locals} {x : ElseTree} {q : TokenQuestion} →
       ElseAsks w results before x q → (s : FoundSoFar) → IsAt s before →
       Met q (check_else w targets s x).uses
   else_met w results targets t (in_else_if a) s at = if_met w results targets t a s at

@@ -15,7 +15,8 @@ use Rattle.law_typing.proofs.Judgements.{followed_agrees, value_at_agrees}
 use Rattle.law_typing.proofs.Naming.{type_true}
 use Rattle.law_typing.proofs.Selecting.{selects_true}
 use Rattle.law_typing.proofs.Soundness.{index_agrees, call_agrees, sound, sound_arguments}
-use Rattle.law_faultless.specs.Questions.{TokenQuestion, OfInteger, OfText, OfName, OfExport, OfMember, OfDeclared, OfLeft, Asks, for_integer, for_text, for_name}
+use Rattle.law_faultless.specs.Questions.{TokenQuestion, OfInteger, OfText, OfName, OfExport, OfMember}
+use Rattle.law_faultless.specs.Questions.{OfDeclared, OfLeft, Asks, for_integer, for_text, for_name}
 use Rattle.law_faultless.specs.Questions.{in_composite, in_paren, in_prefix, in_address, in_chain, in_links, in_binary, in_operands, LinksAsk, for_member}
 use Rattle.law_faultless.specs.Questions.{for_export, behind_selector, in_index, behind_index, in_arguments, behind_call, OperandsAsk, in_operand}
 use Rattle.law_faultless.specs.Questions.{in_later_operand, ArgumentsAsk, in_argument, in_later_argument, LiteralAsks, in_elements, ElementsAsk, for_key}
@@ -140,7 +141,8 @@ mutual
       (as_value (place_of e) (judge w locals e).meaning).uses (expression_met w locals a))
   expression_met w locals (in_operands {e} a) = operands_met w locals a (first_token e) (value_at e (judge w locals e))
 
-  links_met : (w : World) (locals : Locals) {m : Meaning} {links : LinkTrees} {q : TokenQuestion} → LinksAsk w locals m links q → (start place : ℕ) (j : Judged) →
+  links_met : (w : World) (locals : Locals) {m : Meaning} {links : LinkTrees} {q : TokenQuestion} → LinksAsk w locals m links q →
+      (start place : ℕ) (j : Judged) →
       IsJudgedAs j m →
       Met q (judge_links w locals start place j links).uses
   links_met w locals (for_member {n = n} {rest} {t} {a}) start place j h =

@@ -19,7 +19,8 @@ use Rattle.types_declared.specs.Definitions.{IsMethodOf}
 use Rattle.types_declared.specs.Package.{Package, PlacedType, PlacedVariable, PlacedFunction, package_types, package_variables, package_functions}
 use Rattle.types_declared.specs.Package.{variables_of, placed_type, decl_types, decl_variables, decl_functions, types_in, variables_in, functions_in}
 use Rattle.types_declared.specs.Package.{declared_types, declared_variables, declared_functions, spelled}
-use Rattle.types_declared.specs.Written.{BindsToken, DeclaresType, DenotesType, predeclared, defined, written_types, IsWrittenIn, IsBroken, by_itself, through, IsTypeOf}
+use Rattle.types_declared.specs.Written.{BindsToken, DeclaresType, DenotesType, predeclared, defined}
+use Rattle.types_declared.specs.Written.{written_types, IsWrittenIn, IsBroken, by_itself, through, IsTypeOf}
 use Rattle.types_info.proofs.DeclKinds.{Holds, holds_got, holds_flat, held_flat, holds_map, held_map, holds_ranked}
 use Rattle.types_info.specs.Worlds.{IsWorldOf, is_init}
 use Rattle.workspace_check.specs.FaultLists.{ListsFaults}
@@ -45,7 +46,8 @@ record Declares (p : Package) (file : ℕ) (P : DeclTree → Type 0) : Type 0 wh
   in_tree : Holds source.tree.decls decl
   is : P decl
 
-declares : (p : Package) (file : ℕ) (P : DeclTree → Type 0) (r : RankedSource) (d : DeclTree) → Holds (ranked_files p.files) r → Holds r.1.tree.decls d → file ≡ r.0 →
+declares : (p : Package) (file : ℕ) (P : DeclTree → Type 0) (r : RankedSource) (d : DeclTree) → Holds (ranked_files p.files) r → Holds r.1.tree.decls d →
+    file ≡ r.0 →
     P d → Declares p file P
 declares p file P r d hr hd e h =
     let i = holds_ranked 0 p.files r hr in

@@ -73,7 +73,8 @@ name_answered arity s slots n BrokenType k h = tt
 
 question_answered : (arity : FunctionName → Arity) (p : Package) (files_of : List ℕ → List SourceFile) (file : ℕ) (f : SourceFile) (s : Source) →
     IsSourceOf p files_of file f s → IsSourceFile f → (g : FuncTree) (at : Locals) →
-    IsFunctionIn s.world (is_init f) no_locals f.tree.decls g at → (q : TokenQuestion) → FunctionAsks s.world at g q → OpenIsKnown arity s (slots_of s.world g) q →
+    IsFunctionIn s.world (is_init f) no_locals f.tree.decls g at → (q : TokenQuestion) → FunctionAsks s.world at g q →
+    OpenIsKnown arity s (slots_of s.world g) q →
     IsAnswered arity s (slots_of s.world g) q
 question_answered arity p files_of file f s is source g at there (OfInteger n) a h = subst (λ z. IsKnown z) (sym (is.number n))
     (integer_asked s.world (is_init f) f g no_locals at n source there a)
@@ -90,7 +91,8 @@ question_answered arity p files_of file f s is source g at there (OfLeft n) a h 
 
 pub whole_balanced : (arity : FunctionName → Arity) (p : Package) (files_of : List ℕ → List SourceFile) (file : ℕ) (f : SourceFile) (s : Source) →
     IsSourceOf p files_of file f s → IsSourceFile f → (g : FuncTree) (at : Locals) →
-    IsFunctionIn s.world (is_init f) no_locals f.tree.decls g at → ((q : TokenQuestion) → FunctionAsks s.world at g q → OpenIsKnown arity s (slots_of s.world g) q) →
+    IsFunctionIn s.world (is_init f) no_locals f.tree.decls g at → ((q : TokenQuestion) → FunctionAsks s.world at g q →
+    OpenIsKnown arity s (slots_of s.world g) q) →
     IsBalanced arity 0 (body_lines s (slots_of s.world g) (length (result_types g.result)) g.body) 0
 whole_balanced arity p files_of file f s is source g at there settled =
     let typed = function_typed s.world (is_init f) there in

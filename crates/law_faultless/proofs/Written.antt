@@ -14,7 +14,8 @@ use Rattle.go_ast.specs.Tree as tree
 use Rattle.types_expr.specs.Types.{PlainType, Meaning}
 use Rattle.types_expr.specs.World.{World, Locals}
 use Rattle.law_typing.specs.Simple.{LocalIsTyped}
-use Rattle.law_faultless.specs.Questions.{TokenQuestion, OfInteger, OfText, OfName, OfExport, OfMember, OfDeclared, OfLeft, Asks, for_integer, for_text, for_name}
+use Rattle.law_faultless.specs.Questions.{TokenQuestion, OfInteger, OfText, OfName, OfExport, OfMember}
+use Rattle.law_faultless.specs.Questions.{OfDeclared, OfLeft, Asks, for_integer, for_text, for_name}
 use Rattle.law_faultless.specs.Questions.{in_composite, in_paren, in_prefix, in_address, in_chain, in_links, in_binary, in_operands, LinksAsk, for_member}
 use Rattle.law_faultless.specs.Questions.{for_export, behind_selector, in_index, behind_index, in_arguments, behind_call, OperandsAsk, in_operand}
 use Rattle.law_faultless.specs.Questions.{in_later_operand, ArgumentsAsk, in_argument, in_later_argument, LiteralAsks, in_elements, ElementsAsk, for_key}
@@ -198,7 +199,8 @@ local_written w (in_values {locals} {l} {v} {q} e a) =
     right q (list_tokens kind.Comma ident_tokens l.names) (tokens_if type_tokens l.type_use ++ tokens_if (value_tokens expr_tokens) l.values)
     (right q (tokens_if type_tokens l.type_use) (tokens_if (value_tokens expr_tokens) l.values) (values_written w locals l.values v q e a))
 
-locals_written : (w : World) {before : Locals} {is : List (Item LocalTree)} {q : TokenQuestion} → AskInTurn LocalTree (LocalIsTyped w) (LocalAsks w) before is q →
+locals_written : (w : World) {before : Locals} {is : List (Item LocalTree)} {q : TokenQuestion} → AskInTurn LocalTree (LocalIsTyped w) (LocalAsks w) before
+    is q →
     Written q (list_tokens kind.Semicolon local_tokens is)
 unfolding all_tokens
 locals_written w (this_item {i = i} {is} {q} a) =

@@ -47,7 +47,8 @@ mutual
     behind_selector : {d n : ℕ} {rest : LinkTrees} {m s : Meaning} {q : TokenQuestion} → SelectsMember w locals m n s → LinksAsk w locals s rest q →
         LinksAsk w locals m (tree.selector d n rest) q
     in_index : {o c : ℕ} {e : ExprTree} {rest : LinkTrees} {m : Meaning} {q : TokenQuestion} → Asks w locals e q → LinksAsk w locals m (tree.index o e c rest) q
-    behind_index : {o c : ℕ} {e : ExprTree} {rest : LinkTrees} {m s : Meaning} {k : ValueKind} {a : Bool} {q : TokenQuestion} → HasMeaning w locals e (Value k a) →
+    behind_index : {o c : ℕ} {e : ExprTree} {rest : LinkTrees} {m s : Meaning} {k : ValueKind} {a : Bool} {q : TokenQuestion} →
+        HasMeaning w locals e (Value k a) →
         Indexes w m k s → LinksAsk w locals s rest q → LinksAsk w locals m (tree.index o e c rest) q
     in_arguments : {o c : ℕ} {xs : ArgumentTrees} {rest : LinkTrees} {m : Meaning} {q : TokenQuestion} → ArgumentsAsk w locals xs q →
         LinksAsk w locals m (tree.call o xs c rest) q
@@ -63,7 +64,8 @@ mutual
 
   -- The code of one of the arguments asks the question.
   pub data ArgumentsAsk (w : World) (locals : Locals) : ArgumentTrees → TokenQuestion → Type 0 where
-    in_argument : {e : ExprTree} {c : Option ℕ} {rest : ArgumentTrees} {q : TokenQuestion} → Asks w locals e q → ArgumentsAsk w locals (tree.argument e c rest) q
+    in_argument : {e : ExprTree} {c : Option ℕ} {rest : ArgumentTrees} {q : TokenQuestion} → Asks w locals e q →
+        ArgumentsAsk w locals (tree.argument e c rest) q
     in_later_argument : {e : ExprTree} {c : Option ℕ} {rest : ArgumentTrees} {q : TokenQuestion} → ArgumentsAsk w locals rest q →
         ArgumentsAsk w locals (tree.argument e c rest) q
 

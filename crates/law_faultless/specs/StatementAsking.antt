@@ -27,7 +27,8 @@ pub data AskInTurn (X : Type 0) (R : PartRule X) (A : Asking X) : Locals → Lis
 -- The code of one part of a group asks the question: of a single part, or of one item between parentheses.
 pub data AskInGroup (X : Type 0) (R : PartRule X) (A : Asking X) : Locals → Group X → TokenQuestion → Type 0 where
   asks_alone : {before : Locals} {x : X} {q : TokenQuestion} → A before x q → AskInGroup X R A before (single x) q
-  asks_together : {before : Locals} {o c : ℕ} {is : List (Item X)} {q : TokenQuestion} → AskInTurn X R A before is q → AskInGroup X R A before (several o is c) q
+  asks_together : {before : Locals} {o c : ℕ} {is : List (Item X)} {q : TokenQuestion} → AskInTurn X R A before is q →
+      AskInGroup X R A before (several o is c) q
 
 -- The optional part is there, and its code asks the question.
 pub data AskIfPresent (X : Type 0) (A : Asking X) : Locals → Option X → TokenQuestion → Type 0 where
@@ -54,10 +55,13 @@ pub data SimpleAsks (w : World) : Locals → SimpleTree → TokenQuestion → Ty
   in_step : {locals : Locals} {e : ExprTree} {o : StepOp} {p : ℕ} {q : TokenQuestion} → Asks w locals e q → SimpleAsks w locals (tree.Step e o p) q
   in_updated : {locals : Locals} {x y : ExprTree} {o : UpdateOp} {p : ℕ} {q : TokenQuestion} → Asks w locals x q → SimpleAsks w locals (tree.Update x o p y) q
   in_update : {locals : Locals} {x y : ExprTree} {o : UpdateOp} {p : ℕ} {q : TokenQuestion} → Asks w locals y q → SimpleAsks w locals (tree.Update x o p y) q
-  in_assigned : {locals : Locals} {xs ys : List (Item ExprTree)} {p : ℕ} {q : TokenQuestion} → AnyAsks w locals xs q → SimpleAsks w locals (tree.Assign xs p ys) q
-  in_assignment : {locals : Locals} {xs ys : List (Item ExprTree)} {p : ℕ} {q : TokenQuestion} → AnyAsks w locals ys q → SimpleAsks w locals (tree.Assign xs p ys) q
+  in_assigned : {locals : Locals} {xs ys : List (Item ExprTree)} {p : ℕ} {q : TokenQuestion} → AnyAsks w locals xs q →
+      SimpleAsks w locals (tree.Assign xs p ys) q
+  in_assignment : {locals : Locals} {xs ys : List (Item ExprTree)} {p : ℕ} {q : TokenQuestion} → AnyAsks w locals ys q →
+      SimpleAsks w locals (tree.Assign xs p ys) q
   for_left : {locals : Locals} {xs ys : List (Item ExprTree)} {p n : ℕ} → IsLeft xs n → SimpleAsks w locals (tree.Define xs p ys) (OfLeft n)
-  in_definition : {locals : Locals} {xs ys : List (Item ExprTree)} {p : ℕ} {q : TokenQuestion} → AnyAsks w locals ys q → SimpleAsks w locals (tree.Define xs p ys) q
+  in_definition : {locals : Locals} {xs ys : List (Item ExprTree)} {p : ℕ} {q : TokenQuestion} → AnyAsks w locals ys q →
+      SimpleAsks w locals (tree.Define xs p ys) q
 
 -- The code of a declaration of locals asks the question.
 pub data LocalAsks (w : World) : Locals → LocalTree → TokenQuestion → Type 0 where

@@ -49,7 +49,8 @@ ends_import : (f : SourceFile) (token offset : ℕ) → Decided (EndsImport f to
 ends_import f token offset =
     turned ((spelling_of f token ≡ codes "import") × (offset_of f token + length (spelling_of f token) ≡ offset)) (EndsImport f token offset)
     (λ h. record { word = h.0; ends = h.1 }) (λ h. (h.word, h.ends))
-    (both (spelling_of f token ≡ codes "import") (offset_of f token + length (spelling_of f token) ≡ offset) (cases_bytes (spelling_of f token) (codes "import"))
+    (both (spelling_of f token ≡ codes "import") (offset_of f token + length (spelling_of f token) ≡ offset) (cases_bytes (spelling_of f token) (codes
+    "import"))
     (same_or_not (offset_of f token + length (spelling_of f token)) offset))
 
 follows_word : (f : SourceFile) (token : ℕ) → Decided (FollowsImportWord f token)

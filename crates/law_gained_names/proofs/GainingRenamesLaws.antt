@@ -154,7 +154,8 @@ module _ (w : Workspace) (known : Verdicts) (p : Package) (n : ℕ) (name : List
             let same_imports = g.gained.imports in
             let was : IsCheckedPackage w known y = record {
               of_workspace = subst (λ ps. Contains ps y.path) (sym same_imports.paths) is_y.of_workspace;
-              is_checked = package_there middle w y.path (stands_by middle w (imports_back w middle same_imports) y.path (sym (g.gained.others y.path away))) known y
+              is_checked = package_there middle w y.path (stands_by middle w (imports_back w middle same_imports) y.path (sym (g.gained.others y.path
+                  away))) known y
                   is_y.is_checked;
             } in
             let in_folder : folder place.path ≡ y.path = sym (begins_in_folder middle known y is_y place.path place.offset k begins) in

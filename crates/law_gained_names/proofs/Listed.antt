@@ -179,7 +179,8 @@ is_name (Some t) = name_class t.class
 Begins : Option SourceFile → ℕ → Place → Type 0
 Begins o token place = NameBegins o token place.path place.offset
 
-begins_here : (o : Option SourceFile) (token : ℕ) → ((x : Place) × (Begins o token x × ((y : Place) → Begins o token y → x ≡ y))) ⊎ ((x : Place) → Begins o token x → ⊥)
+begins_here : (o : Option SourceFile) (token : ℕ) → ((x : Place) × (Begins o token x × ((y : Place) → Begins o token y → x ≡ y))) ⊎ ((x : Place) →
+    Begins o token x → ⊥)
 unfolding Begins
 begins_here None token = inr (λ x h. h)
 begins_here (Some f) token = elim (is_name (slice_get (tokens_in f.cut) token)) [

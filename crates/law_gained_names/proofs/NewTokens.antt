@@ -22,7 +22,8 @@ less_by : (x y : ℕ) → nat_cmp x y ≡ Less → x < y
 less_by x y e = ranked x y Less (sym e)
 
 -- the tokens behind an offset begin there
-rise_behind : (x : ℕ) (ts : List Piece) → AllByRecursion (λ y. nat_cmp x y ≡ Less) (starts ts) → (j : ℕ) (t : Piece) → slice_get ts j ≡ Some t → x < t.span.start
+rise_behind : (x : ℕ) (ts : List Piece) → AllByRecursion (λ y. nat_cmp x y ≡ Less) (starts ts) → (j : ℕ) (t : Piece) → slice_get ts j ≡ Some t →
+    x < t.span.start
 rise_behind x [] all j t at = absurd (none-some t at)
 rise_behind x (u ∷ ts) all zero t at = subst (λ (p : Piece). x < p.span.start) (same_Some u t at) (less_by x u.span.start all.0)
 rise_behind x (u ∷ ts) all (suc j) t at = rise_behind x ts all.1 j t at

@@ -46,7 +46,8 @@ moves_not place offset put less =
 moves_by : (place offset : ℕ) (put : List ℕ) → place ≤ offset → moved_offset (inserted place put ∷ []) offset ≡ offset + length put
 moves_by place offset put le =
     ap (λ b. by_test place put offset (cond b (inserted place put ∷ []) [])) (le_true place offset le)
-    ∙ ap (λ n. (offset + n) - sum_by (λ (e : Edit). e.span.end - e.span.start) (inserted place put ∷ [])) (sum_by-cons (λ (e : Edit). length e.text) (inserted place put) [])
+    ∙ ap (λ n. (offset + n) - sum_by (λ (e : Edit). e.span.end - e.span.start) (inserted place put ∷ [])) (sum_by-cons (λ (e : Edit). length e.text)
+    (inserted place put) [])
     ∙ ap (λ n. (offset + (length put + 0)) - n) (sum_by-cons (λ (e : Edit). e.span.end - e.span.start) (inserted place put) [])
     ∙ whole
   where
@@ -119,7 +120,8 @@ offsets_move p number may at n =
     ∙ ap (λ (k : ℕ). offset_at (news p) (slice_get (t.ones ++ name_piece p ∷ map (moved_behind p) (literal_piece p ∷ t.behind)) (from_on k n)))
     (literal_number p may t number at)
     ∙ all_move (length p.front) (put_bytes p) (texts p) (news p) ends size (name_piece p) (moved_behind p) (λ x le. by_size x le) t.ones
-    (literal_piece p ∷ t.behind) (begin_before t.ones t.behind (literal_piece p) rise) (follow_behind 0 (length (texts p)) t.ones t.behind (literal_piece p) follow) n
+    (literal_piece p ∷ t.behind) (begin_before t.ones t.behind (literal_piece p) rise) (follow_behind 0 (length (texts p)) t.ones t.behind (literal_piece p)
+    follow) n
     ∙ ap (λ ts. moved_offset (put_edit p ∷ []) (offset_at (texts p) (slice_get ts n))) (sym t.old)
   where
     by_size : (x : Piece) → length p.front ≤ x.span.start → (moved_behind p x).span.start ≡ x.span.start + length (put_bytes p)

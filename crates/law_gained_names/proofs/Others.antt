@@ -89,7 +89,8 @@ module _ (w : Workspace) (known : Verdicts) (p : Package) (n : ℕ) (name : List
   declared_elsewhere y is away d other counts =
       let place = have_places w known y is d counts other in
       let at = y.layout.place (literal_of y.layout d) in
-      let same : moved f.naming place.0 ≡ place.0 = tokens.unmoved w known p n name s h f place.0 (λ e. away (sym (token_folder w known y is at place.0 place.1) ∙ e)) in (
+      let same : moved f.naming place.0 ≡ place.0 = tokens.unmoved w known p n name s h f place.0 (λ e. away (sym (token_folder w known y is at place.0
+      place.1) ∙ e)) in (
         place.0,
         (
           record {
@@ -137,7 +138,8 @@ module _ (w : Workspace) (known : Verdicts) (p : Package) (n : ℕ) (name : List
 
     second_stays : StaysByScope v known second y u place
     second_stays =
-        others_by v known q n name f.renaming f.renames (packages_there v known (Declared q.path n) name f.renaming f.renames.rename) y (numbers.other_package w known p n name s h f y away is)
+        others_by v known q n name f.renaming f.renames (packages_there v known (Declared q.path n) name f.renaming f.renames.rename) y
+        (numbers.other_package w known p n name s h f y away is)
         (λ same. away (ap (λ (x : Package). x.path) same ∙ f.gained.renumbered.path)) u place begins
 
     used : (e : Declaration) → IsBoundByScopes second place e → IsBoundByScopes r place e
@@ -250,7 +252,8 @@ module _ (w : Workspace) (known : Verdicts) (p : Package) (n : ℕ) (name : List
             named = numbers.named_first w known p n name s h f d ∙ named;
             become = λ x k.
                 subst (λ t. HasBecome w known r (Declared t d) x) (sym same)
-                (after.became w known p n name s h f (Declared p.path d) (Declared q.path (g d)) x place.0 old (tokens.declared w known p n name s h f d place.0 old)
+                (after.became w known p n name s h f (Declared p.path d) (Declared q.path (g d)) x place.0 old (tokens.declared w known p n name s h f d
+                place.0 old)
                 (subst (λ t. HasBecome v known second (Declared t (g d)) x) (same ∙ sym f.gained.renumbered.path) k));
           },
         ))

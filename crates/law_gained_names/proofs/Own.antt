@@ -125,7 +125,8 @@ module _ (w : Workspace) (known : Verdicts) (p : Package) (n : ℕ) (name : List
       let itself : HasBecome v known second (Declared q.path (g m)) (Declared q.path (g m)) =
       becomes_itself v known second q o f.renames.is_package (numbers.after w known p n name s h f).1.0 relaid moves (g m)
       (numbers.own_after w known p n name s h f m other) before there in
-      became (Declared p.path m) (Declared q.path (g m)) (Declared q.path (g m)) place.0 place.1 (tokens.declared w known p n name s h f m place.0 place.1) itself
+      became (Declared p.path m) (Declared q.path (g m)) (Declared q.path (g m)) place.0 place.1 (tokens.declared w known p n name s h f m place.0 place.1)
+      itself
 
   -- The declaration `e` afterwards is that of `d`, which has the number `m`.
   pub record IsNumberAfter (m : ℕ) (d e : Declaration) : Type 0 where

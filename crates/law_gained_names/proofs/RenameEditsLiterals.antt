@@ -54,7 +54,8 @@ unnamed p n =
 literal_in : (p : Package) (n : ℕ) → FindsLiteral (IsPathLiteralIn p n)
 literal_in p n = elim (unnamed p n) [
   | inr other ↦ none_found (IsPathLiteralIn p n) (λ l h. other (h.0, h.1))
-  | inl is ↦ found_as (IsTokenOf (slice_get p.files (p.layout.place n).file) (p.layout.place n).index) (IsPathLiteralIn p n) (λ l h. (is.0, is.1, h)) (λ l h. h.2)
+  | inl is ↦ found_as (IsTokenOf (slice_get p.files (p.layout.place n).file) (p.layout.place n).index) (IsPathLiteralIn p n) (λ l h. (is.0, is.1, h)) (λ l
+      h. h.2)
       (token_found (slice_get p.files (p.layout.place n).file) (p.layout.place n).index)
 ]
 

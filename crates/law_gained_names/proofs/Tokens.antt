@@ -70,7 +70,8 @@ named_in : (o : Option SourceFile) (i : ℕ) (path : List ℕ) (offset : ℕ) �
 named_in None i path offset h = absurd h
 named_in (Some f) i path offset h = h.0
 
-token_of_name : (o : Option SourceFile) (i : ℕ) (path : List ℕ) (offset : ℕ) → NameBegins o i path offset → TokenBegins o i (record { path = path; offset = offset })
+token_of_name : (o : Option SourceFile) (i : ℕ) (path : List ℕ) (offset : ℕ) → NameBegins o i path offset →
+    TokenBegins o i (record { path = path; offset = offset })
 token_of_name None i path offset h = absurd h
 token_of_name (Some f) i path offset h = (h.1, h.2)
 

@@ -149,4 +149,5 @@ pub newest_pushed : (c d : Content) → IsLike c d →
     outlines (newest c.limits.undo_depth (c.earlier ++ c.current ∷ [])) ≡ outlines (newest d.limits.undo_depth (d.earlier ++ d.current ∷ []))
 newest_pushed c d l =
     ap (λ (x : Limits). outlines (newest x.undo_depth (c.earlier ++ c.current ∷ []))) l.limits
-    ∙ newest_same d.limits.undo_depth (c.earlier ++ c.current ∷ []) (d.earlier ++ d.current ∷ []) (pushed_same c.earlier d.earlier c.current d.current l.earlier l.current)
+    ∙ newest_same d.limits.undo_depth (c.earlier ++ c.current ∷ []) (d.earlier ++ d.current ∷ []) (pushed_same c.earlier d.earlier c.current d.current
+    l.earlier l.current)

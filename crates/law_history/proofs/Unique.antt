@@ -21,7 +21,8 @@ use Rattle.history_machine.specs.declared.entry.EntryKind.TheVariants.{Look, Log
 use Rattle.history_machine.specs.declared.entry.Reason.TheVariants.{Moved, NothingToUndo, NothingToRedo, Stale, Already, NoJob}
 use Rattle.history_machine.specs.declared.entry.Told.{Told}
 use Rattle.history_machine.specs.declared.entry.Told.TheVariants.{Done, Refused}
-use Rattle.law_history.specs.Replays.{CommitsEdits, FinishesTicket, HasEffect, LosesTicket, Outline, ReturnsTicket, StateOutline, TakesNext, outline, state_outline}
+use Rattle.law_history.specs.Replays.{CommitsEdits, FinishesTicket, HasEffect, LosesTicket, Outline}
+use Rattle.law_history.specs.Replays.{ReturnsTicket, StateOutline, TakesNext, outline, state_outline}
 use Rattle.law_history.proofs.Outlines.{IsLike, carried_alike, finished_too, like_of, newest_pushed, outline_of, popped_same, pushed_same, state_same}
 use Rattle.law_history.proofs.Tickets.{TicketsRise, one_place, rise_push, rise_remove}
 use Rattle.workspace_graph.proofs.PackagePaths.{one_number, paths_sorted}
@@ -81,7 +82,8 @@ undoes_like c d c' d' e one other =
       limits = one.1.limits ∙ l.limits ∙ sym other.1.limits;
       earlier = popped.0;
       current = popped.1;
-      later = ap (map state_outline) one.1.later ∙ pushed_same c.later d.later c.current d.current l.later l.current ∙ sym (ap (map state_outline) other.1.later);
+      later = ap (map state_outline) one.1.later ∙ pushed_same c.later d.later c.current d.current l.later l.current ∙ sym (ap (map state_outline)
+          other.1.later);
       next = one.1.next ∙ l.next ∙ sym other.1.next;
       visit = one.0.visit ∙ ap (λ n. n + 1) l.visit ∙ sym other.0.visit;
       out = one.0.out ∙ l.out ∙ sym other.0.out;

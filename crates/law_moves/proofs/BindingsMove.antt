@@ -64,7 +64,8 @@ module _ (w : Workspace) (known : Verdicts) (r : Revision) (goes : PathMap) (h :
     moved = moved_to w known r goes h after c p is
 
     -- what an identifier is bound to afterwards
-    kept_as : (u : ℕ) (place : Place) → BeginsAt p place.path place.offset u → (old e : Declaration) → uses.IsBoundToDeclaration r.after after now u e → Goes old e →
+    kept_as : (u : ℕ) (place : Place) → BeginsAt p place.path place.offset u → (old e : Declaration) → uses.IsBoundToDeclaration r.after after now u e →
+        Goes old e →
         Kept place old
     kept_as u place b old e bound goes_there = record {
       declaration = e;

@@ -222,13 +222,45 @@ module _ (w : Workspace) (before : Verdicts) (from to : List ℕ) (s : FileChang
       imports_by : (a b : Package) → a.layout ≡ b.layout → a.names ≡ b.names → a.size ≡ b.size → a.files ≡ b.files → (d : ℕ) (path : List ℕ) →
           DeclaresImport a d path → DeclaresImport b d path
       imports_by a b layout names size fs d path i =
-          subst (λ k. DeclaresImport (record { path = b.path; files = b.files; layout = b.layout; names = b.names; size = k; export_data_of = b.export_data_of }) d
+          subst (λ k. DeclaresImport (record {
+            path = b.path;
+            files = b.files;
+            layout = b.layout;
+            names = b.names;
+            size = k;
+            export_data_of =
+                b.export_data_of;
+          }) d
           path) size
-          (subst (λ k. DeclaresImport (record { path = b.path; files = b.files; layout = b.layout; names = k; size = a.size; export_data_of = b.export_data_of }) d
+          (subst (λ k. DeclaresImport (record {
+            path = b.path;
+            files = b.files;
+            layout = b.layout;
+            names = k;
+            size = a.size;
+            export_data_of =
+                b.export_data_of;
+          }) d
           path) names
-          (subst (λ k. DeclaresImport (record { path = b.path; files = b.files; layout = k; names = a.names; size = a.size; export_data_of = b.export_data_of }) d
+          (subst (λ k. DeclaresImport (record {
+            path = b.path;
+            files = b.files;
+            layout = k;
+            names = a.names;
+            size = a.size;
+            export_data_of =
+                b.export_data_of;
+          }) d
           path) layout
-          (subst (λ k. DeclaresImport (record { path = b.path; files = k; layout = a.layout; names = a.names; size = a.size; export_data_of = b.export_data_of }) d
+          (subst (λ k. DeclaresImport (record {
+            path = b.path;
+            files = k;
+            layout = a.layout;
+            names = a.names;
+            size = a.size;
+            export_data_of =
+                b.export_data_of;
+          }) d
           path) fs (record { is_import = i.is_import; of_path = i.of_path }))))
 
       -- what the package imports is there

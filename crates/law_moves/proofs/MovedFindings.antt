@@ -288,7 +288,8 @@ module _ (worlds_move : WorldsMove) (files_move : FilesMove) (w : Workspace) (be
       };
     }
 
-    qualified_there : (was now : List Qualified) → map listed now ≡ map (moved_listed g) (map listed was) → AreQualified c was → AreQualifiedOf x after (g path) now
+    qualified_there : (was now : List Qualified) → map listed now ≡ map (moved_listed g) (map listed was) → AreQualified c was →
+        AreQualifiedOf x after (g path) now
     qualified_there was now same are = record {
       checked = q;
       is_package = in_place;
@@ -340,9 +341,16 @@ module _ (worlds_move : WorldsMove) (files_move : FilesMove) (w : Workspace) (be
 
       same : verdict_from (g path) now.known ≡ after (g path)
       same =
-          subst (λ r. verdict_from (g r) now.known ≡ record { faulty = false; export_data = moved_data h.edits.moved.from h.edits.moved.name g r (export_data_known r was.known) })
+          subst (λ r. verdict_from (g r) now.known ≡ record {
+            faulty = false;
+            export_data = moved_data h.edits.moved.from h.edits.moved.name g r
+                (export_data_known r was.known);
+          })
           own m.verdict
-          ∙ same_verdict (record { faulty = false; export_data = moved_data h.edits.moved.from h.edits.moved.name g path (export_data_known path was.known) }) (after (g path)) refl
+          ∙ same_verdict (record {
+            faulty = false;
+            export_data = moved_data h.edits.moved.from h.edits.moved.name g path (export_data_known path was.known);
+          }) (after (g path)) refl
           (ap (moved_data h.edits.moved.from h.edits.moved.name g path) same_data ∙ sym (data_at w before from to s h swap path))
 
   pub all_move : (old rest : Known) → KnowsVerdicts w old → AreMovedKnown h.edits.moved.from h.edits.moved.name g (package_paths w) (package_paths x) old rest →

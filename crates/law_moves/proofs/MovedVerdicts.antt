@@ -21,7 +21,8 @@ use Rattle.workspace_graph.specs.Packages.{IsInClosure}
 use Rattle.workspace_graph.specs.Parsed.{AreParsed}
 use Rattle.workspace_check.specs.declared.fault.FileFault.{FileFault}
 use Rattle.workspace_check.specs.Faults.{placed_in}
-use Rattle.workspace_check.specs.Verdicts.{Verdicts, AreVerdicts, AreVerdictsBelow, BuildsOn, IsFaultBy, IsFaultBehindOuter, IsPackageIn, IsReadFault, IsVerdict}
+use Rattle.workspace_check.specs.Verdicts.{Verdicts, AreVerdicts, AreVerdictsBelow, BuildsOn}
+use Rattle.workspace_check.specs.Verdicts.{IsFaultBy, IsFaultBehindOuter, IsPackageIn, IsReadFault, IsVerdict}
 use Rattle.workspace_check.specs.Verdicts.{IsVerdictBy, follows}
 use Rattle.workspace_check.proofs.FaultFiles.{in_outer, some_source}
 use Rattle.workspace_check.proofs.OneList.{no_fault}

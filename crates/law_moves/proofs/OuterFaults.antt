@@ -43,7 +43,8 @@ no_item P f none (i ∷ is) (inr h) = no_item P f none is h
 
 -- imports of packages without faults have no fault
 all_good : (files : List SourceFile) (f : Fault) → IsImportFault (λ path. Good) files f → ⊥
-all_good files f h = no_item (IsFaultOfImport (λ path. Good)) f (λ i fault. none-some f.kind fault.of_state.kind) (flat_map placed_imports (ranked_files files)) h
+all_good files f h = no_item (IsFaultOfImport (λ path. Good)) f (λ i fault. none-some f.kind fault.of_state.kind) (flat_map placed_imports (ranked_files
+    files)) h
 
 abbrev FollowPath : FileChanges → (List ℕ → List ℕ) → List FileParts → Type 0
 FollowPath s name ts = (k : ℕ) (t : FileParts) → slice_get ts k ≡ Some t → clause_name (source_of (new_parts s t)) ≡ name (clause_name (source_of t))

@@ -54,7 +54,8 @@ module _ (w : Workspace) (known : Verdicts) (r : Revision) (goes : PathMap) (h :
       let o = scopes_of d.inside d.is_package in
       record { inside = o.0; is_package = o.1.0; of_path = o.1.1.path ∙ d.of_path; holds = declares_same d.inside o.0 o.1.1 path n place d.holds }
 
-  become_declared : (old : Declaration) (path : List ℕ) (n : ℕ) → Corresponds (IsCheckedPackage w known) (IsCheckedPackage x after) r.moved old (Declared path n) →
+  become_declared : (old : Declaration) (path : List ℕ) (n : ℕ) → Corresponds (IsCheckedPackage w known) (IsCheckedPackage x after) r.moved old (Declared
+      path n) →
       HasBecome w known r old (Declared path n)
   become_declared old path n c = elim (by_cases (IsCheckedPackage w known) (IsCheckedPackage x after) r.moved old (Declared path n) c) [
     | inl m ↦ absurd (not_predeclared (Declared path n) (Declared path n) refl tt m.number m.other)
@@ -66,7 +67,8 @@ module _ (w : Workspace) (known : Verdicts) (r : Revision) (goes : PathMap) (h :
   become_predeclared old n predeclared = predeclared
   become_predeclared old n (stands place d k) = absurd k
 
-  become_scoped : (o : Package) (u : ℕ) (old e : Declaration) → BindsByScope o u e → Corresponds (IsCheckedPackage w known) (IsCheckedPackage x after) r.moved old e →
+  become_scoped : (o : Package) (u : ℕ) (old e : Declaration) → BindsByScope o u e → Corresponds (IsCheckedPackage w known) (IsCheckedPackage x after)
+      r.moved old e →
       HasBecome w known r old e
   become_scoped o u old (Predeclared n) b c = become_predeclared old n c
   become_scoped o u old (Declared path n) b c = become_declared old path n c

@@ -19,17 +19,20 @@ use Rattle.law_moves.specs.MovedVerdicts.{MovesBySwap}
 -- The moved finding of a package is right of the edited workspace.
 abbrev pub FindingsMove : Type 0
 FindingsMove = (w : Workspace) (known : Verdicts) (from to : List ℕ) (s : FileChanges) → IsMove w known from to s →
-    MovesBySwap w from to → NoneIsLost w known (revision_of w s) → (path : List ℕ) → Contains (package_paths w) path → (was now : Finding) → IsFindingOf w path was →
+    MovesBySwap w from to → NoneIsLost w known (revision_of w s) → (path : List ℕ) → Contains (package_paths w) path → (was now : Finding) →
+    IsFindingOf w path was →
     IsMovedFinding (swapped from to) was now → IsFindingOf (edited s w) (swapped from to path) now
 
 -- So is the moved known verdict on a package.
 abbrev pub KnownVerdictsMove : Type 0
 KnownVerdictsMove = (w : Workspace) (known : Verdicts) (from to : List ℕ) (s : FileChanges) → (h : IsMove w known from to s) →
-    MovesBySwap w from to → NoneIsLost w known (revision_of w s) → (path : List ℕ) → Contains (package_paths w) path → (was now : KnownVerdict) → IsKnownVerdict w path was →
+    MovesBySwap w from to → NoneIsLost w known (revision_of w s) → (path : List ℕ) → Contains (package_paths w) path → (was now : KnownVerdict) →
+    IsKnownVerdict w path was →
     IsMovedKnown h.edits.moved.from h.edits.moved.name (swapped from to) was now → IsKnownVerdict (edited s w) (swapped from to path) now
 
 -- So all moved known verdicts are right of it.
 abbrev pub AllKnownMove : Type 0
 AllKnownMove = (w : Workspace) (known : Verdicts) (from to : List ℕ) (s : FileChanges) → (h : IsMove w known from to s) →
     MovesBySwap w from to → NoneIsLost w known (revision_of w s) → (old rest : Known) → KnowsVerdicts w old →
-    AreMovedKnown h.edits.moved.from h.edits.moved.name (swapped from to) (package_paths w) (package_paths (edited s w)) old rest → KnowsVerdicts (edited s w) rest
+    AreMovedKnown h.edits.moved.from h.edits.moved.name (swapped from to) (package_paths w) (package_paths (edited s w)) old rest →
+    KnowsVerdicts (edited s w) rest

@@ -17,7 +17,8 @@ use Rattle.build_object.specs.Lines.{GlobalName, FunctionName}
 use Rattle.build_object.specs.Source.{Source}
 use Rattle.build_object.specs.Slots.{slots_of}
 use Rattle.build_object.specs.Statements.{body_lines}
-use Rattle.build_object.specs.Objects.{ObjectFunction, ObjectDeclaration, FunctionOf, ObjectDefinition, SameAs, Asks, object_asked, asked_methods, Initial, IntegerValue}
+use Rattle.build_object.specs.Objects.{ObjectFunction, ObjectDeclaration, FunctionOf, ObjectDefinition, SameAs}
+use Rattle.build_object.specs.Objects.{Asks, object_asked, asked_methods, Initial, IntegerValue}
 use Rattle.build_object.specs.Objects.{definition_of, type_declarations, declared_type, initial_of, known_variable, first_initial, other_initials, literals_of}
 use Rattle.build_object.specs.Objects.{variable_declarations, initials_of, global_variables, function_of, declared_function}
 use Rattle.build_object.specs.Objects.{declared_by, others_of, names_behind, declared_in, names_behind_all, declared_from}

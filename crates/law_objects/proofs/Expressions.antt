@@ -207,7 +207,8 @@ module _ (m : NewSource) where
       lines_of_literal (tree.literal x o es c) h =
           let behind = back K (type_tokens x) (sign kind.LeftBrace o ∷ (element_tokens es ++ (sign kind.RightBrace c ∷ []))) h in
           let inside = front K (element_tokens es) (sign kind.RightBrace c ∷ []) behind.1 in
-          ap (λ z. typed_literal u z (keyed_lines u slots_now (elements_by t es)) (bare_lines u slots_now (elements_by t es)) (element_count (elements_by t es)))
+          ap (λ z. typed_literal u z (keyed_lines u slots_now (elements_by t es)) (bare_lines u slots_now (elements_by t es)) (element_count (elements_by t
+          es)))
           (same_written m x (front K (type_tokens x) (sign kind.LeftBrace o ∷ (element_tokens es ++ (sign kind.RightBrace c ∷ []))) h))
           ∙ ap₂ (λ y z. typed_literal u (judge_type s.world x).type_of y z (element_count (elements_by t es))) (keyed_stay es inside) (bare_stay es inside)
           ∙ ap (typed_literal u (judge_type s.world x).type_of (keyed_lines s slots es) (bare_lines s slots es)) (elements_counted es)
@@ -220,8 +221,10 @@ module _ (m : NewSource) where
           let behind = back K (key_tokens k) others h in
           let later = back K (sign_if kind.Comma c) (element_tokens rest) (back K (expr_tokens e) (sign_if kind.Comma c ++ element_tokens rest) behind) in
           ap₂ (λ z x. z ++ (line_if_known line.With x ++ keyed_lines u slots_now (elements_by t rest)))
-          (given_from e (operand_stays e (front K (expr_tokens e) (sign_if kind.Comma c ++ element_tokens rest) behind))) (key_stays k (front K (key_tokens k) others h))
-          ∙ ap (λ z. ((operand_of s slots e).value ++ enter_line s (operand_of s slots e) e) ++ (line_if_known line.With (key_position s k) ++ z)) (keyed_stay rest later)
+          (given_from e (operand_stays e (front K (expr_tokens e) (sign_if kind.Comma c ++ element_tokens rest) behind))) (key_stays k (front K (key_tokens
+          k) others h))
+          ∙ ap (λ z. ((operand_of s slots e).value ++ enter_line s (operand_of s slots e) e) ++ (line_if_known line.With (key_position s k) ++ z))
+          (keyed_stay rest later)
 
       bare_stay : (es : ElementTrees) → AllOf K (element_tokens es) → bare_lines u slots_now (elements_by t es) ≡ bare_lines s slots es
       bare_stay tree.no_element h = refl

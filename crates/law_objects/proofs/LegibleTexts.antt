@@ -1,5 +1,6 @@
 -- The text of an object in which one declaration gets a new name.
-use Rattle.std.proofs.Common.{◌≡◌, ◌∙◌, ℕ, true, List, [], ◌∷◌, ◌++◌, Option, Some, None, option_map, length, map, append_assoc, append-nil, refl, sym, ap, subst, codes}
+use Rattle.std.proofs.Common.{◌≡◌, ◌∙◌, ℕ, true, List, [], ◌∷◌, ◌++◌, Option, Some}
+use Rattle.std.proofs.Common.{None, option_map, length, map, append_assoc, append-nil, refl, sym, ap, subst, codes}
 use Rattle.std.proofs.lemmas.List.{length-map}
 use Rattle.std.specs.Fmt.{decimal}
 use Rattle.std.specs.List.{AllByRecursion, flat_map}
@@ -10,7 +11,8 @@ use Rattle.build_object.specs.Objects.{Object, ObjectDeclaration, TypeOf, Variab
 use Rattle.build_object.specs.Objects.{ObjectAsked, ObjectDefinition, SameAs, Fields, Asks, Initial, IntegerValue, TextValue}
 use Rattle.build_object.specs.Objects.{ObjectFunction}
 use Rattle.build_object.specs.Text.{bytes_text, code_text, ended, function_text, global_text, type_list, type_text, types_joined, words_of}
-use Rattle.build_object.specs.ObjectText.{asked_behind, asked_joined, asked_text, declaration_text, definition_text, first_line, header_text, import_line, initial_text, object_text}
+use Rattle.build_object.specs.ObjectText.{asked_behind, asked_joined, asked_text, declaration_text, definition_text}
+use Rattle.build_object.specs.ObjectText.{first_line, header_text, import_line, initial_text, object_text}
 use Rattle.build_names.specs.Words.{NameChange, is_break, symbol_text, words_with}
 use Rattle.law_objects.specs.Replaced.{asked_renamed_by, definition_by, declaration_by, function_by, line_by, of_global, text_by, Replaced}
 use Rattle.law_objects.specs.Legible.{AreLegibleNames, IsLegible, IsLegibleChange, IsLegibleDeclaration, IsLegibleFunction, IsLegibleLine, IsLegibleObject}
@@ -84,7 +86,8 @@ module _ (c : NameChange) (is : IsLegibleChange c) (names : Symbol → Option Gl
       (subst (T ((x ++ 59 ∷ asked_text names m) ++ flat_map (asked_behind names) ms))
       (append_assoc y (59 ∷ asked_text later (asked_renamed_by r m)) (flat_map (asked_behind later) (map (asked_renamed_by r) ms))) whole)
 
-  all_asked : (ms : List ObjectAsked) → AllByRecursion (λ m. IsLegibleFunction m.name) ms → T (asked_joined names ms) (asked_joined later (map (asked_renamed_by r) ms))
+  all_asked : (ms : List ObjectAsked) → AllByRecursion (λ m. IsLegibleFunction m.name) ms → T (asked_joined names ms) (asked_joined later (map
+      (asked_renamed_by r) ms))
   all_asked [] all = none
   all_asked (m ∷ ms) all = asked_others ms all.1 (asked_text names m) (asked_text later (asked_renamed_by r m)) (asked m all.0)
 

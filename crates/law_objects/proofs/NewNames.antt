@@ -1,6 +1,7 @@
 -- Objects print the same names of a package, and the positions of its fields stay, where its tokens get new numbers and keep their bytes.
 use Rattle.std.proofs.lemmas.Bool.{eqb-true}
-use Rattle.std.proofs.Common.{ℕ, suc, ◌≡◌, ◌==◌, ◌+◌, Bool, true, false, if◌then◌else◌, List, [], ◌∷◌, ◌++◌, Option, Some, None, option_map, map, refl, ap, sym, ◌∙◌}
+use Rattle.std.proofs.Common.{ℕ, suc, ◌≡◌, ◌==◌, ◌+◌, Bool, true, false, if◌then◌else◌, List, []}
+use Rattle.std.proofs.Common.{◌∷◌, ◌++◌, Option, Some, None, option_map, map, refl, ap, sym, ◌∙◌}
 use Rattle.std.specs.List.{flat_map}
 use Rattle.std.proofs.Math.Path.{ap₂}
 use Rattle.std.proofs.lemmas.List.{map-append}
@@ -127,7 +128,8 @@ module _ (t : ℕ → ℕ → ℕ) (fs gs : List SourceFile) (spelled : (file n 
   body_names d (Struct k o xs c) =
       ap (λ is. map (λ (i : Item ℕ). no_name i) is) (field_names (t d.file) xs) ∙ no_names (t d.file) (names_of_fields xs)
   body_names d (Interface k o ms c) =
-      ap (λ of. map (λ (i : Item MethodTree). Some (Method of (spelled_in gs d.file i.value.name))) (items_by (t d.file) (method_by (t d.file)) ms)) (same_owner d)
+      ap (λ of. map (λ (i : Item MethodTree). Some (Method of (spelled_in gs d.file i.value.name))) (items_by (t d.file) (method_by (t d.file)) ms))
+      (same_owner d)
       ∙ methods_ranked (name_of_type path fs d) d.file ms
 
   types_named : (ds : List PlacedType) → flat_map (asked_names_in path gs) (map (new_type t) ds) ≡ flat_map (asked_names_in path fs) ds

@@ -264,8 +264,10 @@ module _ (w x : Workspace) (sound : ListsFaults w []) (sound_now : ListsFaults x
             (
               is_new i at p q a order worlds literal k f g is there files_of new_of functions_are positions_are asked_are (own_asks k) s of v.0 v.1,
               subst (λ j. IsRenumberedSource (token i at j) f.tree.decls s
-                  (new i at p q a order worlds literal k f g is there files_of new_of functions_are positions_are asked_are (own_asks k) s of v.0 v.1)) zero_plus
-                  (is_renumbered i at p q a order worlds literal k f g is there files_of new_of functions_are positions_are asked_are (own_asks k) s of v.0 v.1),
+                  (new i at p q a order worlds literal k f g is there files_of new_of functions_are positions_are asked_are (own_asks k) s of v.0 v.1))
+                  zero_plus
+                  (is_renumbered i at p q a order worlds literal k f g is there files_of new_of functions_are positions_are asked_are (own_asks k) s of v.0
+                  v.1),
             ),
           )
 

@@ -239,7 +239,8 @@ module _ (r : Replaced) where
         (receiver_by o (is_pointer t) on_pointer) (s.function f) (length signature.results)
     member_by o t (Some (ABrokenMethod f)) = refl
 
-    typed_by : (n : ℕ) (o : CodeOperand) (b : Option PlainType) → s.before n ≡ b → typed_selector now n (operand_by r o) b ≡ operand_by r (typed_selector s n o b)
+    typed_by : (n : ℕ) (o : CodeOperand) (b : Option PlainType) → s.before n ≡ b → typed_selector now n (operand_by r o) b ≡ operand_by r (typed_selector s
+        n o b)
     unfolding typed_selector
     typed_by n o None e = refl
     typed_by n o (Some t) e = ap (member_operand now (operand_by r o) t) (agree n t e) ∙ member_by o t (s.world.member n t)

@@ -91,7 +91,8 @@ module _ (i : Gain) (at : ℕ) (p q : Package) (a : IsGainedAt i at p q) (in_ord
   literal_binds : (d : ℕ) → BindsToken q i.rank (i.number + 1) d → ⊥
   literal_binds d b =
       let bound : IsBoundTo q.layout q.names (suc at) d = subst (λ u. IsBoundTo q.layout q.names u d) (literal_found b.identifier b.found) b.bound in
-      nothing_bound i i.name at a.named.old a.named.new a.named.gained q.names d (subst (λ (l : Layout). IsBoundTo l q.names (suc at) d) a.named.is.layout bound)
+      nothing_bound i i.name at a.named.old a.named.new a.named.gained q.names d (subst (λ (l : Layout). IsBoundTo l q.names (suc at) d) a.named.is.layout
+      bound)
 
   -- the name
 

@@ -172,7 +172,8 @@ module _ (m : NewSource) where
       (sign_if kind.Star r.star ++ (sign kind.Name r.type_name ∷ (sign_if kind.Comma r.comma ++ (sign kind.RightParen r.rparen ∷ [])))) h.1)
 
   parameter : (p : ParamTree) → AllOf K (param_tokens p) →
-      flat_map (λ (n : Item IdentTree). ident_place n.value ∷ []) (param_by t p).names ≡ map t (flat_map (λ (n : Item IdentTree). ident_place n.value ∷ []) p.names)
+      flat_map (λ (n : Item IdentTree). ident_place n.value ∷ []) (param_by t p).names ≡ map t (flat_map (λ (n : Item IdentTree). ident_place n.value ∷ [])
+      p.names)
   unfolding param_tokens
   parameter p h =
       items_changed K t (ident_by t) ident_tokens t (λ i. ident_place i ∷ []) (λ i. ident_place i ∷ []) place_moves kind.Comma p.names

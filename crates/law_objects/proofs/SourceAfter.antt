@@ -53,7 +53,8 @@ use Rattle.law_changed_types.proofs.ChangedNotes.{members_renumbered, enterings_
 -- the type before a use, where uses are at new numbers
 uses_before : (t : ℕ → ℕ) → ((a b : ℕ) → t a ≡ t b → a ≡ b) → (us : List MemberUse) (n : ℕ) → type_before (map (renumbered_use t) us) (t n) ≡ type_before us n
 uses_before t apart [] n = refl
-uses_before t apart (u ∷ us) n = ap₂ (λ (b : Bool) (z : Option PlainType). if b then Some u.before else z) (same_equal t apart u.place n) (uses_before t apart us n)
+uses_before t apart (u ∷ us) n = ap₂ (λ (b : Bool) (z : Option PlainType). if b then Some u.before else z) (same_equal t apart u.place n) (uses_before t
+    apart us n)
 
 -- the same of entries, and of the methods that interfaces ask for
 entries_at : (t : ℕ → ℕ) → ((a b : ℕ) → t a ≡ t b → a ≡ b) → (es : List Entering) (n : ℕ) →
@@ -108,7 +109,8 @@ module _ (i : Gain) (at : ℕ) (p q : Package) (a : IsGainedAt i at p q) (in_ord
   module _ (files_of new_of : List ℕ → List SourceFile) (functions : (x : Symbol) → function_name new_of x ≡ function_name files_of x)
       (positions : (x : Symbol) → position_of_field new_of x ≡ position_of_field files_of x)
       (asked : (x : Symbol) → name_of_asked new_of x ≡ name_of_asked files_of x)
-      (asks : asked_in_file q.path q.files file ≡ map (asked_moved (moved_by i file)) (asked_in_file p.path p.files file)) (old : Source) (of : IsSourceOf p files_of file f old) (v : World)
+      (asks : asked_in_file q.path q.files file ≡ map (asked_moved (moved_by i file)) (asked_in_file p.path p.files file)) (old : Source) (of : IsSourceOf p
+      files_of file f old) (v : World)
       (judged : IsWorldOf q file g v) where
     -- the world
 

@@ -68,7 +68,8 @@ the_new t n s u still = record {
   text = u.text;
 }
 
-pub made_is : (t : ℕ → ℕ) (n : IsRenumbering t) (s u : Source) (still : (n : ℕ) → u.entered (t n) ≡ s.entered n) → ((x : Symbol) → u.world.definition x ≡ s.world.definition x) →
+pub made_is : (t : ℕ → ℕ) (n : IsRenumbering t) (s u : Source) (still : (n : ℕ) → u.entered (t n) ≡ s.entered n) → ((x : Symbol) →
+    u.world.definition x ≡ s.world.definition x) →
     ((y : PlainType) (x : Symbol) → u.world.implements y x ≡ s.world.implements y x) → ((x : Symbol) → u.function x ≡ s.function x) → ((x : Symbol) →
     u.position x ≡ s.position x) → ((x : Symbol) → u.asked x ≡ s.asked x) → made (the_new t n s u still) ≡ u
 made_is t n s u still definition implements function position asked = λ i. record {

@@ -244,7 +244,8 @@ module _ (m : NewSource) (slots : List ℕ) where
         let bodies = back K (expr_tokens e) (block_tokens b ++ else_tokens otherwise) behind in
         let other = else_lines s slots results x otherwise in
         let exits = block_exits other x in
-        ap₂ (λ a y. a ++ (y ++ branched (block_lines u slots_now results (block_exits (else_lines u slots_now results x (else_by t otherwise)) x) (block_by t b))
+        ap₂ (λ a y. a ++ (y ++ branched (block_lines u slots_now results (block_exits (else_lines u slots_now results x (else_by t otherwise)) x) (block_by
+        t b))
         (else_lines u slots_now results x (else_by t otherwise)))) (init i (front K first_tokens others h.1))
         (value e (front K (expr_tokens e) (block_tokens b ++ else_tokens otherwise) behind))
         ∙ ap (λ z. init_lines s slots i ++ (value_lines s slots e ++ branched (block_lines u slots_now results (block_exits z x) (block_by t b)) z))

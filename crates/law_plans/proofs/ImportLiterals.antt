@@ -119,7 +119,8 @@ module _ (w : Workspace) (sound : ListsFaults w []) (known : Verdicts) (right : 
 
 module _ (w : Workspace) (sound : ListsFaults w []) (known : Verdicts) (right : AreVerdicts w known) (f : SourceFile) (source : IsSourceIn w known f) (i : ℕ)
     (token : Piece) (at : slice_get (tokens_in f.cut) i ≡ Some token) where
-  in_package : (p : Package) → IsCheckedPackage w known p → (d : ℕ) (l : Literal) → IsPathLiteralIn p d l → l.path ≡ f.path → l.token ≡ i → token.class ≡ Name → ⊥
+  in_package : (p : Package) → IsCheckedPackage w known p → (d : ℕ) (l : Literal) → IsPathLiteralIn p d l → l.path ≡ f.path → l.token ≡ i →
+      token.class ≡ Name → ⊥
   in_package p is d l h path index name = by_file (slice_get p.files (p.layout.place d).file) refl h.2
     where
       by_file : (o : Option SourceFile) → slice_get p.files (p.layout.place d).file ≡ o → IsTokenOf o (p.layout.place d).index l → ⊥

@@ -352,7 +352,8 @@ module _ (rank : ℕ) (old : ℕ → List ℕ) (spell : Spelling) where
 
   decls_respelled : (ds : List DeclTree) → All (KeepsRole old (spell rank)) ds → flat_map (decl_sites after) ds ≡ map by (flat_map (decl_sites before) ds)
   decls_respelled [] all = refl
-  decls_respelled (d ∷ ds) all = both (decl_sites before d) (flat_map (decl_sites before) ds) (decl_respelled d (All-head (KeepsRole old (spell rank)) d ds all)) (decls_respelled ds (All-tail (KeepsRole old (spell rank)) d ds all))
+  decls_respelled (d ∷ ds) all = both (decl_sites before d) (flat_map (decl_sites before) ds) (decl_respelled d (All-head (KeepsRole old (spell rank)) d ds
+      all)) (decls_respelled ds (All-tail (KeepsRole old (spell rank)) d ds all))
 
   pub file_respelled' : (f : FileTree) → KeepsRoles old (spell rank) f → file_sites after f ≡ map by (file_sites before f)
   unfolding file_sites

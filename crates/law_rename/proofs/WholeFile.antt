@@ -10,7 +10,8 @@ use Rattle.go_ast.specs.declared.syntax.Kind.{Kind}
 use Rattle.go_ast.specs.declared.syntax.Kind.TheVariants as kind
 use Rattle.go_ast.specs.declared.syntax.Token.{Token}
 use Rattle.go_ast.specs.Flatten.{sign, sign_if, all_tokens, group_tokens, import_tokens, imports_tokens, list_tokens}
-use Rattle.go_ast.specs.Grammar.{A, Begins, Close, File, GroupOf, ImportItem, Imports, Items, MoreItems, One, Opening, Otherwise, Part, Rule, Single, GrammarSymbol}
+use Rattle.go_ast.specs.Grammar.{A, Begins, Close, File, GroupOf, ImportItem, Imports, Items}
+use Rattle.go_ast.specs.Grammar.{MoreItems, One, Opening, Otherwise, Part, Rule, Single, GrammarSymbol}
 use Rattle.go_ast.specs.Grammar.{Tops, is, rules}
 use Rattle.go_ast.specs.Language.{Among, Derives, below, by_rule, closing, ends, levels, opening, tested, token, untested}
 use Rattle.go_ast.specs.Kinds.{kind_of_name, kinds_of}
@@ -92,15 +93,18 @@ refused_opening unfit also = record { forth = λ x. absurd (no_opening unfit x);
 
 -- rules
 
-rule_forth : {p : Part} {d : ℕ} {ss : List GrammarSymbol} {ts us : List Token} → ((then : List GrammarSymbol) → Among (rules p) then → Alike d (then ++ ss) ts us) →
+rule_forth : {p : Part} {d : ℕ} {ss : List GrammarSymbol} {ts us : List Token} → ((then : List GrammarSymbol) → Among (rules p) then →
+    Alike d (then ++ ss) ts us) →
     Derives (A p ∷ ss) ts → Derives (A p ∷ ss) us
 rule_forth go (by_rule a x) = by_rule a ((go _ a).forth x)
 
-rule_back : {p : Part} {d : ℕ} {ss : List GrammarSymbol} {ts us : List Token} → ((then : List GrammarSymbol) → Among (rules p) then → Alike d (then ++ ss) ts us) →
+rule_back : {p : Part} {d : ℕ} {ss : List GrammarSymbol} {ts us : List Token} → ((then : List GrammarSymbol) → Among (rules p) then →
+    Alike d (then ++ ss) ts us) →
     (x : Derives (A p ∷ ss) us) → Back d (A p ∷ ss) ts (levels d x)
 rule_back go (by_rule a x) = let b = (go _ a).back x in record { old = by_rule a b.old; bounds = b.bounds }
 
-by_rules : {p : Part} {d : ℕ} {ss : List GrammarSymbol} {ts us : List Token} → ((then : List GrammarSymbol) → Among (rules p) then → Alike d (then ++ ss) ts us) →
+by_rules : {p : Part} {d : ℕ} {ss : List GrammarSymbol} {ts us : List Token} → ((then : List GrammarSymbol) → Among (rules p) then →
+    Alike d (then ++ ss) ts us) →
     Alike d (A p ∷ ss) ts us
 by_rules go = record { forth = rule_forth go; back = rule_back go }
 
@@ -109,7 +113,8 @@ first_rule : {s : List GrammarSymbol} {d : ℕ} (ss : List GrammarSymbol) {ts us
 first_rule ss a then untested = a
 first_rule ss a then (below x) = elim x [ ]
 
-first_rules : {p : Part} {s : List GrammarSymbol} {d : ℕ} {ss : List GrammarSymbol} {ts us : List Token} → rules p ≡ Otherwise s ∷ [] → Alike d (s ++ ss) ts us →
+first_rules : {p : Part} {s : List GrammarSymbol} {d : ℕ} {ss : List GrammarSymbol} {ts us : List Token} → rules p ≡ Otherwise s ∷ [] →
+    Alike d (s ++ ss) ts us →
     Alike d (A p ∷ ss) ts us
 first_rules {ss = ss} is a = by_rules (λ then among. first_rule ss a then (subst (λ (rs : List Rule). Among rs then) is among))
 

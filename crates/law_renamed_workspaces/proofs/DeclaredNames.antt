@@ -95,7 +95,8 @@ is_level_of d p = elim (declared_here d p.path) [
 ]
 
 module _ (own_renames : OwnRenamesAreRenames) (others_stay : OtherScopesStay) (w : Workspace) (before : Verdicts) (d : Declaration) (name : List ℕ)
-    (s : FileChanges) (plain : IsPlainRename w before d name s) (p q : Package) (was : IsCheckedPackage w before p) (relaid : IsRelaid (revision_of w s) p q) where
+    (s : FileChanges) (plain : IsPlainRename w before d name s) (p q : Package) (was : IsCheckedPackage w before p) (relaid : IsRelaid (revision_of w s) p
+    q) where
   renames_here : (m : ℕ) → d ≡ Declared p.path m → Renames p.layout p.names m name q.names
   renames_here m e = own_renames w before p.path m name s (subst (λ x. IsPlainRename w before x name s) e plain) p q was refl relaid
 

@@ -26,7 +26,8 @@ use Rattle.law_renamed_workspaces.proofs.ScopedAgain.{imported}
 use Rattle.law_renamed_workspaces.specs.ScopedPackages.{FaultlessPackagesAreScoped}
 
 -- A package of the workspace `v`, by any verdicts. The names under which it sees what it imports are those of clauses.
-module _ (v : Workspace) (known : Verdicts) (q : Package) (is : IsCheckedPackage v known q) (name_of : List ℕ → Option (List ℕ)) (are : AreClauseNames v name_of)
+module _ (v : Workspace) (known : Verdicts) (q : Package) (is : IsCheckedPackage v known q) (name_of : List ℕ →
+    Option (List ℕ)) (are : AreClauseNames v name_of)
     (sees : (r : List ℕ) → PackageImports v q.path r → (n : Option (List ℕ)) (i : ExportData) → IsSeenAs v known q.path r n i → n ≡ name_of r) where
   abbrev files : List FileParts
   files = is.is_checked.files

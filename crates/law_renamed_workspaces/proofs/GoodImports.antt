@@ -166,7 +166,8 @@ module _ (w : Workspace) (sound : ListsFaults w []) (p : Package) (has : Contain
       no_outer_fault state are f.0 f.1)
 
 -- by any right verdicts
-pub imports_are_good : (w : Workspace) → ListsFaults w [] → (known : Verdicts) → AreVerdicts w known → (p : Package) → IsCheckedPackage w known p → (q : List ℕ) →
+pub imports_are_good : (w : Workspace) → ListsFaults w [] → (known : Verdicts) → AreVerdicts w known → (p : Package) → IsCheckedPackage w known p →
+    (q : List ℕ) →
     PackageImports w p.path q → (BuildsOn w p.path q → ⊥) → ⊥
 imports_are_good w sound known right p is q imports never =
     let own = package_for w known sound.known right sound.right p is in

@@ -28,7 +28,8 @@ use Rattle.law_renamed_workspaces.specs.Layouts.{IsRelaid}
 use Rattle.law_renamed_workspaces.specs.MembersMoved.{AreSeenAfter, FieldsFollow, MethodsFollow}
 
 -- one package at a path
-pub one_inside : (w : Workspace) (known : Verdicts) (p : Package) → IsCheckedPackage w known p → (P : Package → Type 0) → InPackage (IsCheckedPackage w known) p.path P → P p
+pub one_inside : (w : Workspace) (known : Verdicts) (p : Package) → IsCheckedPackage w known p → (P : Package → Type 0) →
+    InPackage (IsCheckedPackage w known) p.path P → P p
 one_inside w known p is P h =
     let there : IsPackageIn w known p.path h.inside = subst (λ path. IsPackageIn w known path h.inside) h.of_path h.is_package.is_checked in
     subst P (one_checked w known p.path h.inside p there is.is_checked) h.holds
@@ -111,7 +112,8 @@ pub record AreMembersNamed (p : Package) : Type 0 where
   pub fields : (rank : ℕ) → CountsAsField p rank → IsNamedSomewhere (IsFieldAt p) p rank
   pub methods : (rank : ℕ) → CountsAsMethod p rank → IsNamedSomewhere (IsMethodAt p) p rank
 
-module _ (w : Workspace) (known : Verdicts) (r : Revision) (p q : Package) (is : IsCheckedPackage w known p) (formed : WellFormed q.layout) (relaid : IsRelaid r p q)
+module _ (w : Workspace) (known : Verdicts) (r : Revision) (p q : Package) (is : IsCheckedPackage w known p) (formed : WellFormed q.layout) (relaid :
+    IsRelaid r p q)
     (bound : IsBoundAlike p q) (seen : AreSeenAfter (IsCheckedPackage w known) r p q) (fields : FieldsFollow) (methods : MethodsFollow)
     (none_lost : NoneIsLost w known r) (named : AreMembersNamed p) (fine : (f : Fault) → IsMemberFault p f → ⊥) where
   abbrev back : Alike q p
@@ -156,7 +158,8 @@ module _ (w : Workspace) (known : Verdicts) (r : Revision) (p q : Package) (is :
           let n = named.methods h.rank
           (record { definition = h.definition; name = spelled p h.method.file h.method.function.name; method = h.method; counting = c }) in
           let after = (none_lost n.place p is n.user n.begins).by_name (method_at p.path h.rank) (refl, n.named) in
-          let now : MethodCounts (IsCheckedPackage w known) r p h.rank = one_inside w known p is (λ x. MethodCounts (IsCheckedPackage w known) r x h.rank) after in
+          let now : MethodCounts (IsCheckedPackage w known) r p h.rank = one_inside w known p is (λ x. MethodCounts (IsCheckedPackage w known) r x h.rank)
+          after in
           let there = methods w known r p q is relaid bound seen now.definition now.name h.rank now.first in
           h.displaced (method_counts_so q formed h.definition now.definition h.rank h.name now.name h.method there.0 h.is_method there.1)
 

@@ -53,7 +53,8 @@ unnamed_role (NotLexical purpose.UnnamedImport) e = refl
 unnamed_role r e = absurd (true≢false (sym e))
 
 module _ (w : Workspace) (known : Verdicts) (path : List ℕ) (p : Package) (h : IsPackageIn w known path p) where
-  all_fit : (s : SourceFile) → IsSourceFile s → (source : TokenSpellings) → AllByRecursion (λ x. Fits (OfKind s.cut) x.place.index x.role) (file_sites source s.tree)
+  all_fit : (s : SourceFile) → IsSourceFile s → (source : TokenSpellings) → AllByRecursion (λ x. Fits (OfKind s.cut) x.place.index x.role) (file_sites
+      source s.tree)
   all_fit s is source = file_fits (OfKind s.cut) source s.tree (file_kinds s is)
 
   -- what is selected, a key or a member's name is called otherwise than `_`

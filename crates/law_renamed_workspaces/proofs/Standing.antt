@@ -36,7 +36,8 @@ use Rattle.refs_lookup.proofs.OnePlace.{same_size, same_files}
 use Rattle.law_faultless.proofs.Declared.{given, sites, old_site, new_site, sources, role_is, place_is, kept, file_of_told, told_name}
 use Rattle.law_faultless.proofs.FilesDecided.{IsGlobal}
 use Rattle.law_faultless.proofs.Numbers.{OfKind, IsTold, IsKept, universal, plain, laid, kept_at}
-use Rattle.law_renamed_workspaces.proofs.RenamedScopesNameTokens.{IsIdent, IsUseTold, IsStringIn, IsStringAt, Led, is_import_name, is_named, ident_piece, files_uses, files_led}
+use Rattle.law_renamed_workspaces.proofs.RenamedScopesNameTokens.{IsIdent, IsUseTold, IsStringIn, IsStringAt, Led}
+use Rattle.law_renamed_workspaces.proofs.RenamedScopesNameTokens.{is_import_name, is_named, ident_piece, files_uses, files_led}
 use Rattle.law_renamed_workspaces.proofs.RenamedScopesNameTokens.{all_last, led_at, led_universe}
 
 -- a name stands at the token of the identifier

@@ -36,7 +36,8 @@ use Rattle.law_renamed_workspaces.specs.StayingMembers.{DeclaredMembersStay, Use
 use Rattle.law_renamed_workspaces.proofs.CountingMembers as counting
 use Rattle.law_renamed_workspaces.proofs.WorldsAlike.{same_member}
 
-module _ (w : Workspace) (known : Verdicts) (r : Revision) (kept : NoneIsLost w known r) (p q : Package) (is : IsCheckedPackage w known p) (relaid : IsRelaid r p q)
+module _ (w : Workspace) (known : Verdicts) (r : Revision) (kept : NoneIsLost w known r) (p q : Package) (is : IsCheckedPackage w known p) (relaid :
+    IsRelaid r p q)
     (alike : Alike p q) (seen : AreSeenAfter (IsCheckedPackage w known) r p q) (u : ℕ) (place : Place) (begins : BeginsAt p place.path place.offset u) where
   lies : (at : Position) → LiesAt p.layout at u → LiesAt q.layout at u
   lies at h = subst (λ (l : Layout). LiesAt l at u) (sym relaid.layout) h
@@ -64,7 +65,8 @@ module _ (w : Workspace) (known : Verdicts) (r : Revision) (kept : NoneIsLost w 
   method_declared s h =
       let n = h.1 in
       let c = n.is_at.counts in
-      let k = of_one w known p is s.package (sym h.0) (λ o. MethodCounts (IsCheckedPackage w known) r o s.rank) ((kept place p is u begins).by_name (Method s) h) in
+      let k = of_one w known p is s.package (sym h.0) (λ o. MethodCounts (IsCheckedPackage w known) r o s.rank) ((kept place p is u begins).by_name (Method
+      s) h) in
       let f = counting.counting_method w known r p q is relaid alike seen k.definition k.name s.rank k.first in
       let before = counting.function_before w known r p q is relaid s.rank f.0 f.1.is_method.has_rank in
       let same : f.0 ≡ c.method = same_Some f.0 c.method (sym before ∙ c.counting.is_method.has_rank) in (

@@ -27,7 +27,8 @@ OfLocalRenames K = (w : Workspace) (known : Verdicts) (p : Package) (n : ℕ) (n
 
 -- Only the scopes of its own package bind identifiers to the declaration.
 abbrev pub OwnScopesAloneBind : Type 0
-OwnScopesAloneBind = OfLocalRenames (λ w known p n s. (x : Package) → IsCheckedPackage w known x → (u : ℕ) → IsBoundToDeclaration w known x u (Declared p.path n) →
+OwnScopesAloneBind = OfLocalRenames (λ w known p n s. (x : Package) → IsCheckedPackage w known x → (u : ℕ) →
+    IsBoundToDeclaration w known x u (Declared p.path n) →
     (x ≡ p) × scopes.IsBoundTo p.layout p.names u n)
 
 -- The identifier at the position is none of those.

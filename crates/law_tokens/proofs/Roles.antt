@@ -181,7 +181,8 @@ told_keeps c index old new selected key h = record {
   key = ((λ q. h.key.0 (key.0 q)), (λ q. key.1 (h.key.1 q)));
 }
 
-pub named_role_told : (names : ℕ → Option (List ℕ)) (files : List FileParts) → AreSourceFiles files → (u : ℕ) → u < length (with_names names (scoped files)).sites →
+pub named_role_told : (names : ℕ → Option (List ℕ)) (files : List FileParts) → AreSourceFiles files → (u : ℕ) →
+    u < length (with_names names (scoped files)).sites →
     IsIdentifier (layout_in (with_names names (scoped files))) u → (f : FileParts) →
     slice_get files ((layout_in (with_names names (scoped files))).place u).file ≡ Some f →
     FitsTokens f.cut ((layout_in (with_names names (scoped files))).place u).index ((layout_in (with_names names (scoped files))).role u)

@@ -79,7 +79,8 @@ in_turn_silent w (v ∷ vs) a no_values = absurd a
 in_turn_silent w (v ∷ vs) a (then_fits {t = t} {ts = ts} f more) =
     empty_both (misfit w v.place v.kind t) (misfits w vs ts) (fit_silent w v.place a.0 f) (in_turn_silent w vs a.1 more)
 
-pub silent_in_turn : (w : World) (vs : List ListValue) (ks : List ValueKind) (ts : List PlainType) → AreOf vs ks → length vs ≡ length ts → misfits w vs ts ≡ [] →
+pub silent_in_turn : (w : World) (vs : List ListValue) (ks : List ValueKind) (ts : List PlainType) → AreOf vs ks → length vs ≡ length ts →
+    misfits w vs ts ≡ [] →
     FitInTurn w ks ts
 unfolding misfits
 silent_in_turn w [] [] [] a n h = no_values

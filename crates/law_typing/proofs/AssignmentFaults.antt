@@ -22,7 +22,8 @@ use Rattle.law_typing.specs.Assignments.{own, by_default, Taker, Fresh, OfType, 
 use Rattle.law_typing.proofs.Assignments.{aim}
 use Rattle.law_typing.specs.ExpressionFaults.{BreaksAt, ValueBreaksAt}
 use Rattle.law_typing.specs.AssignmentFaults.{given_at, a_value, not_a_value, EachGives, none_left, one_more, SidesGive, nothing_given, a_call, one_given}
-use Rattle.law_typing.specs.AssignmentFaults.{several_given, Refuses, refuses, RefusedInTurn, this_refused, later_refused, AllHaveKinds, all_given, also_given, AllTake}
+use Rattle.law_typing.specs.AssignmentFaults.{several_given, Refuses, refuses, RefusedInTurn, this_refused}
+use Rattle.law_typing.specs.AssignmentFaults.{later_refused, AllHaveKinds, all_given, also_given, AllTake}
 use Rattle.law_typing.specs.AssignmentFaults.{all_taken, also_taken, IsAssignmentFault, one_refused, wrong_count, IsReturnFault, result_refused, wrong_return}
 use Rattle.law_typing.specs.SimpleFaults.{SingleBreaksAt, in_lone, gives_nothing, AnyBreaksAt, this_one, a_later_one, SidesBreakAt, alone, one_of_several}
 use Rattle.law_typing.proofs.FaultLists.{AreExactly, none_told, both_told, told_as, At, at_place, nothing_at, fault_at, test_told, fault_told}
@@ -141,7 +142,8 @@ nothing_is : (w : World) (locals : Locals) (e : ExprTree) → IsNothing w locals
 nothing_is w locals e c = let s = meaning_is w locals c.means in
     (meant_whole w locals c.means, subst (λ z. IsNoValue z) (sym s) c.is_none, λ ts h. c.no_call ts (sym s ∙ h))
 
-lone_cases : {w : World} {locals : Locals} {e : ExprTree} {p : ℕ} → SingleBreaksAt w locals e p → BreaksAt w locals e p ⊎ At (place_of e) (IsNothing w locals e) p
+lone_cases : {w : World} {locals : Locals} {e : ExprTree} {p : ℕ} → SingleBreaksAt w locals e p → BreaksAt w locals e p ⊎ At (place_of e) (IsNothing w
+    locals e) p
 lone_cases (in_lone b) = inl b
 lone_cases (gives_nothing {m = m} h n c) = inr (refl, record { meaning = m; means = h; is_none = n; no_call = c })
 
@@ -238,7 +240,8 @@ misgiven_right : {w : World} {place : ℕ} {vs : List ListValue} {ts : List (Opt
 misgiven_right e (one_refused f r) = r
 misgiven_right e (wrong_count n g t) = absurd (n e)
 
-misgiven_wrong : {w : World} {place : ℕ} {vs : List ListValue} {ts : List (Option Taker)} {p : ℕ} → (length vs ≡ length ts → ⊥) → IsAssignmentFault w place vs ts p →
+misgiven_wrong : {w : World} {place : ℕ} {vs : List ListValue} {ts : List (Option Taker)} {p : ℕ} → (length vs ≡ length ts → ⊥) →
+    IsAssignmentFault w place vs ts p →
     At place (AllHaveKinds vs × AllTake ts) p
 misgiven_wrong n (one_refused e r) = absurd (n e)
 misgiven_wrong n (wrong_count m g t) = (refl, (g, t))

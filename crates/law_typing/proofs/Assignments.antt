@@ -55,7 +55,8 @@ as_many w [] a (also_given f more) = absurd a
 as_many w (v ∷ vs) a none_given = absurd a
 as_many w (v ∷ vs) a (also_given f more) = ap suc (as_many w vs a.1 more)
 
-pub none_refused : (w : World) (vs : List ListValue) {ks : List ValueKind} {ts : List Taker} → AreOf vs ks → TakenInTurn w ks ts → all_refused w vs (map aim ts) ≡ []
+pub none_refused : (w : World) (vs : List ListValue) {ks : List ValueKind} {ts : List Taker} → AreOf vs ks → TakenInTurn w ks ts →
+    all_refused w vs (map aim ts) ≡ []
 unfolding all_refused
 none_refused w [] a none_given = refl
 none_refused w [] a (also_given f more) = absurd a
@@ -110,12 +111,14 @@ unfolding given_faults
 given_silent w place vs {ks} {ts} a t = right_count (all_refused w vs (map aim ts)) (fault_if (all_whole vs && all_unbroken (map aim ts)) place)
     (as_many w vs a t) (none_refused w vs a t)
 
-pub silent_given : (w : World) (place : ℕ) (vs : List ListValue) (ks : List ValueKind) (ts : List Taker) → AreOf vs ks → given_faults w place vs (map aim ts) ≡ [] →
+pub silent_given : (w : World) (place : ℕ) (vs : List ListValue) (ks : List ValueKind) (ts : List Taker) → AreOf vs ks →
+    given_faults w place vs (map aim ts) ≡ [] →
     TakenInTurn w ks ts
 unfolding given_faults
 silent_given w place vs ks ts a h = counted (length vs == length (map aim ts)) (all_refused w vs (map aim ts)) (fault_if (all_whole vs && all_unbroken
     (map aim ts)) place) h
-    (λ q. one_fault (all_whole vs && all_unbroken (map aim ts)) place (and_both (all_whole vs) (all_unbroken (map aim ts)) (whole_all vs ks a) (sound_aims ts)) q)
+    (λ q. one_fault (all_whole vs && all_unbroken (map aim ts)) place (and_both (all_whole vs) (all_unbroken (map aim ts)) (whole_all vs ks a) (sound_aims
+    ts)) q)
     (λ c q. all_taken w vs ks ts a (eqb-true (length vs) (length (map aim ts)) c) q)
 
 pub return_silent : (w : World) (place : ℕ) (vs : List ListValue) {ks : List ValueKind} {ts : List Taker} → AreOf vs ks → TakenInTurn w ks ts →
@@ -123,7 +126,8 @@ pub return_silent : (w : World) (place : ℕ) (vs : List ListValue) {ks : List V
 unfolding returned
 return_silent w place vs {ks} {ts} a t = right_count (all_refused w vs (map aim ts)) (fault_if (all_whole vs) place) (as_many w vs a t) (none_refused w vs a t)
 
-pub silent_return : (w : World) (place : ℕ) (vs : List ListValue) (ks : List ValueKind) (ts : List Taker) → AreOf vs ks → returned w place vs (map aim ts) ≡ [] →
+pub silent_return : (w : World) (place : ℕ) (vs : List ListValue) (ks : List ValueKind) (ts : List Taker) → AreOf vs ks →
+    returned w place vs (map aim ts) ≡ [] →
     TakenInTurn w ks ts
 unfolding returned
 silent_return w place vs ks ts a h = counted (length vs == length (map aim ts)) (all_refused w vs (map aim ts)) (fault_if (all_whole vs) place) h

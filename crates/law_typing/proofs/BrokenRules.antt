@@ -9,7 +9,8 @@ use Rattle.types_expr.specs.declared.types.Basic.TheVariants as basic
 use Rattle.types_expr.specs.declared.types.Builtin.{Builtin}
 use Rattle.types_expr.specs.declared.types.Builtin.TheVariants as builtin
 use Rattle.types_expr.specs.declared.symbol.Symbol.{Symbol}
-use Rattle.types_expr.specs.Types.{PlainType, BasicType, Pointer, Slice, Underlying, Plain, PointerTo, SliceOf, Struct, Interface, ValueKind, Typed, Untyped, Nil, Signature}
+use Rattle.types_expr.specs.Types.{PlainType, BasicType, Pointer, Slice, Underlying, Plain, PointerTo}
+use Rattle.types_expr.specs.Types.{SliceOf, Struct, Interface, ValueKind, Typed, Untyped, Nil, Signature}
 use Rattle.types_expr.specs.Types.{Meaning, Value, TypeName, Function, BuiltinName, Package, Results, Broken, is_pointer, AFieldOf, AMethodOf}
 use Rattle.types_expr.specs.World.{World, Locals, Bound, Local, Means, BrokenVariable, BrokenFunction, BrokenType, Member, AField, AMethod, ABrokenMethod}
 use Rattle.types_expr.specs.World.{name_meaning}
@@ -65,7 +66,8 @@ pub prefix_or_fault : (w : World) (o : PrefixOp) (p : ℕ) (k : ValueKind) (a : 
 unfolding prefix_of
 prefix_or_fault w o p k a h = prefix_chosen w o p k (prefixed w o k) refl h
 
-operation_chosen : (start : ℕ) (r : Option ValueKind) → (value_or_wrong r start).faults ≡ [] → (l : ValueKind) × ((value_or_wrong r start).meaning ≡ Value l false)
+operation_chosen : (start : ℕ) (r : Option ValueKind) → (value_or_wrong r start).faults ≡ [] → (l : ValueKind) × ((value_or_wrong r start).meaning ≡ Value l
+    false)
 operation_chosen start None h = no_fault h
 operation_chosen start (Some l) h = (l, refl)
 
@@ -193,7 +195,8 @@ first_append : (w : World) (start : ℕ) (o : Option ValueKind) (vs : List ListV
 first_append w start None vs f a h = absurd (true≢false (sym f))
 first_append w start (Some k) vs f a h = element_append w start k (element_of_kind w k) vs a h
 
-append_or_fault : (w : World) (start : ℕ) (vs : List ListValue) → all_whole vs ≡ true → (append w start vs).faults ≡ [] → IsNotBroken (append w start vs).meaning
+append_or_fault : (w : World) (start : ℕ) (vs : List ListValue) → all_whole vs ≡ true → (append w start vs).faults ≡ [] →
+    IsNotBroken (append w start vs).meaning
 unfolding append all_whole
 append_or_fault w start [] a h = no_fault h
 append_or_fault w start (v ∷ vs) a h = first_append w start v.kind vs (and_first (is_whole v.kind) (all_whole vs) a)

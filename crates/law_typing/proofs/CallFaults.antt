@@ -37,7 +37,8 @@ use Rattle.law_typing.proofs.LinkFaults.{IsRule}
 
 -- arguments
 
-arguments_of : (w : World) (locals : Locals) {xs : ArgumentTrees} {ks : List ValueKind} → AreValues w locals xs ks → AreOf (judge_arguments w locals xs).values ks
+arguments_of : (w : World) (locals : Locals) {xs : ArgumentTrees} {ks : List ValueKind} → AreValues w locals xs ks →
+    AreOf (judge_arguments w locals xs).values ks
 unfolding judge
 arguments_of w locals no_argument = tt
 arguments_of w locals (argument h more) = (kind_is w locals h, arguments_of w locals more)
@@ -72,7 +73,8 @@ pub data CallBreaks (w : World) (locals : Locals) (start place : ℕ) (xs : Argu
 
 -- misfits are found
 
-misfit_holds : (w : World) (place : ℕ) {o : Option ValueKind} {k : ValueKind} {t : PlainType} → o ≡ Some k → (FitsType w k t → ⊥) → HasToken (misfit w place o t) place
+misfit_holds : (w : World) (place : ℕ) {o : Option ValueKind} {k : ValueKind} {t : PlainType} → o ≡ Some k → (FitsType w k t → ⊥) →
+    HasToken (misfit w place o t) place
 unfolding misfit
 misfit_holds w place {k = k} {t = t} e n = subst (λ z. HasToken (misfit w place z t) place) (sym e) (unfit (fits w k t) refl)
   where
@@ -114,7 +116,8 @@ right_count : (w : World) (start : ℕ) (s : Signature) (vs : List ListValue) (p
 right_count w start s vs p true e h = unless_holds (misfits w vs s.parameters) (all_whole vs) (result_meaning s.results) p h
 right_count w start s vs p false e h = absurd (true≢false (sym e))
 
-append_holds : (w : World) (start : ℕ) (vs : List ListValue) (p : ℕ) {o : Option ValueKind} {t u : PlainType} → o ≡ Some (Typed t) → underlying w t ≡ SliceOf u →
+append_holds : (w : World) (start : ℕ) (vs : List ListValue) (p : ℕ) {o : Option ValueKind} {t u : PlainType} → o ≡ Some (Typed t) →
+    underlying w t ≡ SliceOf u →
     HasToken (all_misfits w vs u) p → HasToken (append_first w start o vs).faults p
 append_holds w start vs p {t = t} {u = u} e s h = subst (λ z. HasToken (append_first w start z vs).faults p) (sym e) (subst
     (λ z. HasToken (append_to w start (Typed t) z vs).faults p) (sym (ap element_of s)) (unless_holds (all_misfits w vs u) (all_whole vs) (Value

@@ -6,7 +6,8 @@ use Rattle.types_expr.specs.declared.types.Builtin.{Builtin}
 use Rattle.types_expr.specs.declared.types.Builtin.TheVariants as builtin
 use Rattle.types_expr.specs.declared.classes.ValueClass.{ValueClass}
 use Rattle.types_expr.specs.declared.classes.ValueClass.TheVariants as class
-use Rattle.types_expr.specs.Types.{PlainType, BasicType, Underlying, Plain, PointerTo, SliceOf, Struct, Interface, ValueKind, Typed, Untyped, Nil, Signature, Meaning, Value}
+use Rattle.types_expr.specs.Types.{PlainType, BasicType, Underlying, Plain, PointerTo, SliceOf, Struct}
+use Rattle.types_expr.specs.Types.{Interface, ValueKind, Typed, Untyped, Nil, Signature, Meaning, Value}
 use Rattle.types_expr.specs.Types.{TypeName, Function, BuiltinName, Package, Results, Broken, element_of}
 use Rattle.types_expr.specs.World.{World, underlying}
 use Rattle.types_expr.specs.Operations.{converts, class_of, class_of_underlying, has_length}
@@ -15,13 +16,15 @@ use Rattle.types_expr.specs.Judge.{convert, convert_one, append, append_first, a
 use Rattle.types_expr.specs.Judge.{noting, entering, enterings, all_enterings}
 use Rattle.law_typing.specs.Fits.{Converts, FitInTurn}
 use Rattle.law_typing.specs.Names.{IsNotBroken}
-use Rattle.law_typing.specs.Links.{ResultsMean, nothing, one, several, HasLength, a_string, a_slice, CallGives, function, conversion, len, panic, print, println}
+use Rattle.law_typing.specs.Links.{ResultsMean, nothing, one, several, HasLength, a_string, a_slice}
+use Rattle.law_typing.specs.Links.{CallGives, function, conversion, len, panic, print, println}
 use Rattle.law_typing.specs.Links.{append as appends}
 use Rattle.law_typing.specs.IsJudgedAs.{IsJudgedAs}
 use Rattle.law_typing.proofs.Judgements.{value_whole, results_whole, agrees_as, noted_agrees, means_it, wrong_broken}
 use Rattle.law_typing.proofs.Fitting.{converts_true, true_converts}
 use Rattle.law_typing.proofs.Classes.{class_true, class_is, slice_class}
-use Rattle.law_typing.proofs.Arguments.{AreOf, whole_all, kinds_of, as_many, in_turn_silent, silent_in_turn, each_silent, silent_each, printed_true, true_printed}
+use Rattle.law_typing.proofs.Arguments.{AreOf, whole_all, kinds_of, as_many, in_turn_silent}
+use Rattle.law_typing.proofs.Arguments.{silent_in_turn, each_silent, silent_each, printed_true, true_printed}
 
 -- from the rules to the judgement
 
@@ -57,7 +60,8 @@ one_converted w start (v ∷ []) {k} {t} a c = noted_agrees (entering w v.place 
     ap (λ (b : Bool). if b then means (Value (Typed t) false) else wrong start) (converts_true w c)) (means_it value_whole))
 one_converted w start (v ∷ u ∷ vs) a c = absurd a.1
 
-called_when : (fine : Bool) (vs : List ListValue) (ks : List ValueKind) (start : ℕ) (m : Meaning) → AreOf vs ks → fine ≡ true → call_when fine vs start m ≡ means m
+called_when : (fine : Bool) (vs : List ListValue) (ks : List ValueKind) (start : ℕ) (m : Meaning) → AreOf vs ks → fine ≡ true →
+    call_when fine vs start m ≡ means m
 called_when fine vs ks start m a h = ap (λ b. if b then (if fine then means m else wrong start) else means Broken) (whole_all vs ks a) ∙
     ap (λ b. if b then means m else wrong start) h
 
@@ -202,14 +206,19 @@ append_element : (w : World) (start : ℕ) (v : ListValue) (vs : List ListValue)
     IsNotBroken (append_to w start (Typed t) (element_of u) vs).meaning →
     IsCall w (v ∷ vs) (BuiltinName builtin.Append) (append_to w start (Typed t) (element_of u) vs).meaning
 append_element w start v vs t (SliceOf x) e f n = let p = passes (all_misfits w vs x) (all_whole vs) (Value (Typed t) false) n in
-    let ks = kinds_of vs p.1 in
-    (Typed t ∷ ks.0, (e, ks.1), subst (λ z. CallGives w (BuiltinName builtin.Append) (Typed t ∷ ks.0) z) (sym p.2) (appends f (silent_each w x vs ks.0 ks.1 p.0)))
+    let ks = kinds_of vs p.1 in (
+      Typed t ∷ ks.0,
+      (e, ks.1),
+      subst (λ z. CallGives w (BuiltinName builtin.Append) (Typed t ∷ ks.0) z) (sym p.2) (appends f (silent_each w x vs ks.0 ks.1
+          p.0)),
+    )
 append_element w start v vs t (Plain b) e f n = absurd (n (wrong_broken (all_whole vs) start))
 append_element w start v vs t (PointerTo x) e f n = absurd (n (wrong_broken (all_whole vs) start))
 append_element w start v vs t (Struct s) e f n = absurd (n (wrong_broken (all_whole vs) start))
 append_element w start v vs t (Interface s) e f n = absurd (n (wrong_broken (all_whole vs) start))
 
-append_value : (w : World) (start : ℕ) (v : ListValue) (vs : List ListValue) (o : Option ValueKind) → v.kind ≡ o → IsNotBroken (append_first w start o vs).meaning →
+append_value : (w : World) (start : ℕ) (v : ListValue) (vs : List ListValue) (o : Option ValueKind) → v.kind ≡ o →
+    IsNotBroken (append_first w start o vs).meaning →
     IsCall w (v ∷ vs) (BuiltinName builtin.Append) (append_first w start o vs).meaning
 append_value w start v vs None e n = absurd (n refl)
 append_value w start v vs (Some (Typed t)) e n = append_element w start v vs t (underlying w t) e refl n

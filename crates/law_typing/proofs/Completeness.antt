@@ -6,13 +6,15 @@ use Rattle.go_ast.specs.Tree.{ExprTree, LinkTrees, OperandTrees, ArgumentTrees, 
 use Rattle.go_ast.specs.Tree as tree
 use Rattle.types_expr.specs.declared.symbol.Symbol.{Symbol}
 use Rattle.types_expr.specs.Places.{first_token, first_of_type, place_of}
-use Rattle.types_expr.specs.Types.{PlainType, Pointer, SliceOf, Struct, ValueKind, Typed, Meaning, Value, TypeName, Function, BuiltinName, Package, Results, Broken}
+use Rattle.types_expr.specs.Types.{PlainType, Pointer, SliceOf, Struct, ValueKind, Typed, Meaning}
+use Rattle.types_expr.specs.Types.{Value, TypeName, Function, BuiltinName, Package, Results, Broken}
 use Rattle.types_expr.specs.Types.{element_of}
 use Rattle.types_expr.specs.World.{World, Locals, underlying}
 use Rattle.types_expr.specs.Operations.{operate, prefixed}
 use Rattle.types_expr.specs.Judge.{Judged, means_or_wrong, value_or_wrong, followed, value_at, value_kind, select, index_rule, index_of, as_value, call_rule}
 use Rattle.types_expr.specs.Judge.{operation, operation_on, prefix_of, address_of, judge, judge_links, judge_operands, judge_arguments, judge_literal}
-use Rattle.types_expr.specs.Judge.{judge_elements, judge_type, judge_key, is_whole_key, key_at, key_in, seen_with, wanted_after_key, no_key, none_seen, misfit_if}
+use Rattle.types_expr.specs.Judge.{judge_elements, judge_type, judge_key, is_whole_key, key_at}
+use Rattle.types_expr.specs.Judge.{key_in, seen_with, wanted_after_key, no_key, none_seen, misfit_if}
 use Rattle.types_expr.specs.Judge.{FieldKey, Seen}
 use Rattle.law_typing.specs.Operators.{Operates, Prefixes}
 use Rattle.law_typing.specs.Names.{IsNotBroken}
@@ -33,7 +35,8 @@ pub whole_as : {m n : Meaning} → m ≡ n → IsNotBroken n → IsNotBroken m
 whole_as e n h = n (sym e ∙ h)
 
 -- a part whose judged meaning is a value is one by the rules
-pub has_value : {w : World} {locals : Locals} {e : ExprTree} {m : Meaning} {k : ValueKind} {a : Bool} → (IsNotBroken m → HasMeaning w locals e m) → m ≡ Value k a →
+pub has_value : {w : World} {locals : Locals} {e : ExprTree} {m : Meaning} {k : ValueKind} {a : Bool} → (IsNotBroken m → HasMeaning w locals e m) →
+    m ≡ Value k a →
     HasMeaning w locals e (Value k a)
 has_value {w} {locals} {e} f h = subst (λ z. HasMeaning w locals e z) h (f (whole_as h value_whole))
 
@@ -54,7 +57,8 @@ record IsPrefixed (w : World) (o : PrefixOp) (m r : Meaning) : Type 0 where
   value : m ≡ Value kind addressable
   prefixes : Prefixes w o kind r
 
-prefix_chosen : (w : World) (o : PrefixOp) (p : ℕ) (k : ValueKind) (a : Bool) (r : Option Meaning) → prefixed w o k ≡ r → IsNotBroken (means_or_wrong r p).meaning →
+prefix_chosen : (w : World) (o : PrefixOp) (p : ℕ) (k : ValueKind) (a : Bool) (r : Option Meaning) → prefixed w o k ≡ r →
+    IsNotBroken (means_or_wrong r p).meaning →
     IsPrefixed w o (Value k a) (means_or_wrong r p).meaning
 prefix_chosen w o p k a None e n = absurd (n refl)
 prefix_chosen w o p k a (Some m) e n = record { kind = k; addressable = a; value = refl; prefixes = true_prefixes w o k m e }
@@ -200,7 +204,8 @@ mutual
       let s = true_calls w start place (judge_arguments w locals xs).values j.meaning more.0 in
       (s.0, call (complete_arguments w locals xs s.1.0 s.1.1) s.1.2 more.1)
 
-  complete_operands : (w : World) (locals : Locals) (rest : OperandTrees) (start : ℕ) (j : Judged) → IsNotBroken (judge_operands w locals start j rest).meaning →
+  complete_operands : (w : World) (locals : Locals) (rest : OperandTrees) (start : ℕ) (j : Judged) → IsNotBroken (judge_operands w locals start j
+      rest).meaning →
       IsNotBroken j.meaning × OperandsMean w locals j.meaning rest (judge_operands w locals start j rest).meaning
   complete_operands w locals tree.no_operand start j n = (n, no_operand)
   complete_operands w locals (tree.operand o p e rest) start j n =

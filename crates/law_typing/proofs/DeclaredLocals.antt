@@ -11,7 +11,8 @@ use Rattle.law_typing.specs.Names.{IsType}
 use Rattle.law_typing.proofs.Naming.{type_true, true_type}
 use Rattle.law_typing.proofs.Tests.{none_is_some}
 use Rattle.law_typing.specs.Assignments.{own, by_default}
-use Rattle.law_typing.specs.DeclaredLocals.{InfersType, from_value, from_nil, from_nothing, DeclareEach, all_declared, no_local, new_local, DeclareAll, no_name_left}
+use Rattle.law_typing.specs.DeclaredLocals.{InfersType, from_value, from_nil, from_nothing, DeclareEach}
+use Rattle.law_typing.specs.DeclaredLocals.{all_declared, no_local, new_local, DeclareAll, no_name_left}
 use Rattle.law_typing.specs.DeclaredLocals.{not_named, also_named, DeclareInferred, in_turn, under_wrong_count, WrittenTypeIs, a_type, no_type}
 
 -- types from values
@@ -40,7 +41,8 @@ each_declared before (None ∷ ns) (v ∷ vs) h = let m : length vs ≡ length n
 each_declared before (Some p ∷ ns) (v ∷ vs) h = let m : length vs ≡ length ns = omega arith in new_local (takes_found v.kind)
     (each_declared (declared before p (inferred_type v.kind)) ns vs m)
 
-each_only : {before after : Locals} {ns : List (Option ℕ)} {vs : List ListValue} → DeclareEach before ns vs after → with_locals before ns (inferred_types vs) ≡ after
+each_only : {before after : Locals} {ns : List (Option ℕ)} {vs : List ListValue} → DeclareEach before ns vs after →
+    with_locals before ns (inferred_types vs) ≡ after
 unfolding with_locals
 each_only all_declared = refl
 each_only (no_local more) = each_only more

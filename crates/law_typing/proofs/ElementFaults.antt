@@ -8,7 +8,8 @@ use Rattle.types_expr.specs.Types.{PlainType, Underlying, Plain, PointerTo, Slic
 use Rattle.types_expr.specs.World.{World, Locals, Member, AField, AMethod, ABrokenMethod, underlying}
 use Rattle.types_expr.specs.Operations.{fits}
 use Rattle.types_expr.specs.Judge.{JudgedElements, Seen, with_element, KeyMeaning, FieldKey, WrongKey, BrokenKey, key_at, key_in, key_of_member, key_faults}
-use Rattle.types_expr.specs.Judge.{is_whole_key, wanted_after_key, seen_with, misfit, misfit_if, judge_key, no_key as unkeyed_key, value_kind, judge, judge_value}
+use Rattle.types_expr.specs.Judge.{is_whole_key, wanted_after_key, seen_with, misfit, misfit_if}
+use Rattle.types_expr.specs.Judge.{judge_key, no_key as unkeyed_key, value_kind, judge, judge_value}
 use Rattle.types_expr.specs.Judge.{judge_elements}
 use Rattle.law_typing.specs.Fits.{FitsType}
 use Rattle.law_typing.specs.Meanings.{HasMeaning}
@@ -120,7 +121,8 @@ pub record IsElementMisfit (w : World) (locals : Locals) (t : PlainType) (e : Ex
 
 fits_told : (w : World) (locals : Locals) (e : ExprTree) (o : Option ValueKind) (u : PlainType) {C : Type 0} → value_kind (judge_value w locals e).meaning ≡ o →
     ((k : ValueKind) (a : Bool) →
-    HasMeaning w locals e (Value k a) → (FitsType w k u → ⊥) → C) → (C → (k : ValueKind) × (a : Bool) × HasMeaning w locals e (Value k a) × (FitsType w k u → ⊥)) →
+    HasMeaning w locals e (Value k a) → (FitsType w k u → ⊥) → C) → (C → (k : ValueKind) × (a : Bool) × HasMeaning w locals e (Value k a) × (FitsType w k u
+    → ⊥)) →
     AreExactly (misfit w (place_of e) o u) (At (place_of e) C)
 unfolding misfit
 fits_told w locals e None u h f g = nothing_at (place_of e) (λ c. let q = g c in none_some h (kind_is w locals q.2))
@@ -225,7 +227,8 @@ behind_told w locals t named key rest f = elim (key_is w t named key) [
   | a_field {s} g h ↦ subst (λ z. AreExactly (judge_elements w locals (Some t) (seen_with z (is_taken named)) rest).faults (Behind w locals t named key rest))
       (sym h)
       (told_as (f (s.rank ∷ named)) (λ p b. behind_one g b) (λ p b. behind_same g b))
-  | a_broken_one n b h ↦ subst (λ z. AreExactly (judge_elements w locals (Some t) (seen_with z (is_taken named)) rest).faults (Behind w locals t named key rest))
+  | a_broken_one n b h ↦ subst (λ z. AreExactly (judge_elements w locals (Some t) (seen_with z (is_taken named)) rest).faults (Behind w locals t named key
+      rest))
       (sym h)
       (told_as (f named) (λ p x. behind_none n x) (λ p x. behind_others n x))
   | a_wrong_one n b h ↦ subst (λ z. AreExactly (judge_elements w locals (Some t) (seen_with z (is_taken named)) rest).faults (Behind w locals t named key rest))

@@ -8,7 +8,8 @@ use Rattle.types_expr.specs.declared.symbol.Symbol.{Symbol}
 use Rattle.types_expr.specs.Types.{PlainType, Underlying, Plain, PointerTo, SliceOf, Struct, Interface, ValueKind, Typed, Meaning, Value, Broken}
 use Rattle.types_expr.specs.Types.{AFieldOf, AMethodOf}
 use Rattle.types_expr.specs.World.{World, Locals, Member, AField, AMethod, ABrokenMethod, underlying}
-use Rattle.types_expr.specs.Judge.{Judged, JudgedKey, JudgedElements, TypeJudged, Seen, KeyMeaning, FieldKey, WrongKey, is_whole, is_empty, is_whole_key, key_in}
+use Rattle.types_expr.specs.Judge.{Judged, JudgedKey, JudgedElements, TypeJudged, Seen, KeyMeaning}
+use Rattle.types_expr.specs.Judge.{FieldKey, WrongKey, is_whole, is_empty, is_whole_key, key_in}
 use Rattle.types_expr.specs.Judge.{key_of_member, value_kind, misfit_if, with_element, means, judge_type, judge_elements, good_type, none_seen, literal_of}
 use Rattle.types_expr.specs.Judge.{literal_meaning, literal_result}
 use Rattle.law_typing.specs.Names.{IsNotBroken, IsType}

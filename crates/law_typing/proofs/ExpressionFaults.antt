@@ -6,7 +6,8 @@ use Rattle.go_ast.specs.Tree.{TypeTree, ExprTree, LinkTrees, OperandTrees, Argum
 use Rattle.go_ast.specs.Tree as tree
 use Rattle.types_expr.specs.declared.symbol.Symbol.{Symbol}
 use Rattle.types_expr.specs.Places.{first_token, first_of_type, place_of}
-use Rattle.types_expr.specs.Types.{PlainType, Underlying, Plain, PointerTo, SliceOf, Struct, Interface, ValueKind, Typed, Untyped, Nil, Meaning, Value, TypeName, Function}
+use Rattle.types_expr.specs.Types.{PlainType, Underlying, Plain, PointerTo, SliceOf, Struct, Interface}
+use Rattle.types_expr.specs.Types.{ValueKind, Typed, Untyped, Nil, Meaning, Value, TypeName, Function}
 use Rattle.types_expr.specs.Types.{BuiltinName, Package, Results, Broken, element_of}
 use Rattle.types_expr.specs.World.{World, Locals, underlying}
 use Rattle.types_expr.specs.Operations.{prefixed}
@@ -25,15 +26,18 @@ use Rattle.law_typing.proofs.BrokenRules.{whole_or_broken}
 use Rattle.law_typing.proofs.Completeness.{complete, has_value, value_was}
 use Rattle.law_typing.proofs.RuleFaults.{status, whole_status}
 use Rattle.law_typing.proofs.Values.{value_true}
-use Rattle.law_typing.specs.ExpressionFaults.{MeaningIs, meant, unmeant, NextMeaning, SelectsBy, IndexedBy, CalledWith, NextKind, AreWhole, BreaksAt, in_composite}
-use Rattle.law_typing.specs.ExpressionFaults.{in_address, in_paren, in_prefix, no_prefix, in_chain, in_links, in_binary, in_operands, ValueBreaksAt, LinksBreakAt}
+use Rattle.law_typing.specs.ExpressionFaults.{MeaningIs, meant, unmeant, NextMeaning, SelectsBy}
+use Rattle.law_typing.specs.ExpressionFaults.{IndexedBy, CalledWith, NextKind, AreWhole, BreaksAt, in_composite}
+use Rattle.law_typing.specs.ExpressionFaults.{in_address, in_paren, in_prefix, no_prefix, in_chain}
+use Rattle.law_typing.specs.ExpressionFaults.{in_links, in_binary, in_operands, ValueBreaksAt, LinksBreakAt}
 use Rattle.law_typing.specs.ExpressionFaults.{no_member, no_selection, behind_selector, not_indexed, in_index, no_int, no_slice, behind_index, not_called}
 use Rattle.law_typing.specs.ExpressionFaults.{in_arguments, misfit, no_call, behind_call, OperandsBreakAt, in_operand, no_operation, behind_operation}
 use Rattle.law_typing.specs.ExpressionFaults.{ArgumentsBreakAt, in_this, in_other, LiteralBreaksAt, in_type, in_untyped, in_elements, unkeyed, no_literal}
 use Rattle.law_typing.specs.ExpressionFaults.{ValuesBreakAt, this_element, other_element, ElementsBreakAt, in_element, no_key, field_misfit, element_misfit}
 use Rattle.law_typing.specs.ExpressionFaults.{behind_value, behind_field, behind_no_field}
 use Rattle.law_typing.specs.SimpleFaults.{OperandBreaksAt}
-use Rattle.law_typing.proofs.FaultLists.{HasToken, holds_left, holds_right, holds_cases, AreExactly, none_told, both_told, told_as, At, at_place, nothing_at, fault_at}
+use Rattle.law_typing.proofs.FaultLists.{HasToken, holds_left, holds_right, holds_cases, AreExactly, none_told}
+use Rattle.law_typing.proofs.FaultLists.{both_told, told_as, At, at_place, nothing_at, fault_at}
 use Rattle.law_typing.proofs.FaultLists.{none_some}
 use Rattle.law_typing.proofs.TypeFaults.{type_told}
 use Rattle.law_typing.proofs.ValueFaults.{meaning_is, meant_whole, gives_found, gives_only, value_from, operand_from}
@@ -60,7 +64,8 @@ adds_more before added t = record {
   stands = λ p b. holds_right before added p (t.stands p b);
 }
 
-adds_then : {a b c : List ℕ} {A C B : ℕ → Type 0} → AddsWhere a b A → AddsWhere b c C → ((p : ℕ) → A p → B p) → ((p : ℕ) → C p → B p) → ((p : ℕ) → B p → A p ⊎ C p) →
+adds_then : {a b c : List ℕ} {A C B : ℕ → Type 0} → AddsWhere a b A → AddsWhere b c C → ((p : ℕ) → A p → B p) → ((p : ℕ) → C p → B p) → ((p : ℕ) → B p →
+    A p ⊎ C p) →
     AddsWhere a c B
 adds_then x y f g h = record {
   stays = λ p q. y.stays p (x.stays p q);
@@ -68,7 +73,8 @@ adds_then x y f g h = record {
   stands = λ p q. elim (h p q) [ inl r ↦ y.stays p (x.stands p r) | inr r ↦ y.stands p r ];
 }
 
-adds_told : {a c : List ℕ} {A C B : ℕ → Type 0} → AreExactly a A → AddsWhere a c C → ((p : ℕ) → A p → B p) → ((p : ℕ) → C p → B p) → ((p : ℕ) → B p → A p ⊎ C p) →
+adds_told : {a c : List ℕ} {A C B : ℕ → Type 0} → AreExactly a A → AddsWhere a c C → ((p : ℕ) → A p → B p) → ((p : ℕ) → C p → B p) → ((p : ℕ) → B p →
+    A p ⊎ C p) →
     AreExactly c B
 adds_told t y f g h = record {
   found = λ p q. elim (y.found p q) [ inl r ↦ f p (t.found p r) | inr s ↦ g p s ];
@@ -176,7 +182,8 @@ no_operand_breaks (in_operand b) e = cc
 no_operand_breaks (no_operation v n) e = cc
 no_operand_breaks (behind_operation x b) e = cc
 
-record IsBehindOperation (w : World) (locals : Locals) (start : ℕ) (o : BinaryOp) (e : ExprTree) (q : Option ValueKind) (rest : OperandTrees) (p : ℕ) : Type 0 where
+record IsBehindOperation (w : World) (locals : Locals) (start : ℕ) (o : BinaryOp) (e : ExprTree) (q : Option ValueKind) (rest : OperandTrees) (p : ℕ) : Type
+    0 where
   state : Option ValueKind
   next : NextKind w locals o e q state
   breaks : OperandsBreakAt w locals start state rest p
@@ -583,7 +590,8 @@ mutual
         | inr x ↦ inr (behind_as (λ y h. next_only (CalledWith w locals xs) j.meaning r (calls_rule w locals start place xs j.meaning) refl h) x)
       ])
 
-  operands_told : (w : World) (locals : Locals) (rest : OperandTrees) (start : ℕ) (j : Judged) → AddsWhere j.faults (judge_operands w locals start j rest).faults
+  operands_told : (w : World) (locals : Locals) (rest : OperandTrees) (start : ℕ) (j : Judged) → AddsWhere j.faults (judge_operands w locals start j
+      rest).faults
       (OperandsBreakAt w locals start (value_kind j.meaning) rest)
   operands_told w locals tree.no_operand start j = adds_none j.faults (λ p b. no_operand_breaks b refl)
   operands_told w locals (tree.operand o x e rest) start j = let V = judge_value w locals e in

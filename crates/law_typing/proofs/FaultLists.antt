@@ -44,7 +44,8 @@ pub record AreExactly (faults : List ℕ) (B : ℕ → Type 0) : Type 0 where
 pub none_told : {B : ℕ → Type 0} → ((p : ℕ) → B p → ⊥) → AreExactly [] B
 none_told n = record { found = λ p h. absurd h; stands = λ p b. n p b }
 
-pub both_told : (xs ys : List ℕ) {A C B : ℕ → Type 0} → AreExactly xs A → AreExactly ys C → ((p : ℕ) → A p → B p) → ((p : ℕ) → C p → B p) → ((p : ℕ) → B p → A p ⊎ C p) →
+pub both_told : (xs ys : List ℕ) {A C B : ℕ → Type 0} → AreExactly xs A → AreExactly ys C → ((p : ℕ) → A p → B p) → ((p : ℕ) → C p → B p) → ((p : ℕ) → B p →
+    A p ⊎ C p) →
     AreExactly (xs ++ ys) B
 both_told xs ys a c f g h = record {
   found = λ p q. elim (holds_cases xs ys p q) [ inl x ↦ f p (a.found p x) | inr y ↦ g p (c.found p y) ];

@@ -13,7 +13,8 @@ use Rattle.types_expr.specs.Judge.{judge_elements, judge_type, judge_key, key_at
 use Rattle.types_expr.specs.Judge.{literal_meaning}
 use Rattle.law_typing.specs.Names.{IsNotBroken}
 use Rattle.law_typing.specs.BrokenUses.{UsesBroken, blank, a_name, in_composite, in_address, in_paren, in_prefix, in_chain, in_links, in_binary, in_operands}
-use Rattle.law_typing.specs.BrokenUses.{LinksUseBroken, selected, in_index, in_call, behind_selector, behind_index, behind_call, OperandsUseBroken, this_operand}
+use Rattle.law_typing.specs.BrokenUses.{LinksUseBroken, selected, in_index, in_call}
+use Rattle.law_typing.specs.BrokenUses.{behind_selector, behind_index, behind_call, OperandsUseBroken, this_operand}
 use Rattle.law_typing.specs.BrokenUses.{other_operand, ArgumentsUseBroken, this_argument, other_argument, LiteralUsesBroken, of_broken_type, in_elements}
 use Rattle.law_typing.specs.BrokenUses.{ElementsUseBroken, a_key, this_value, other_element}
 use Rattle.law_typing.proofs.Tests.{and_both}
@@ -115,7 +116,8 @@ typed_literal w locals x o es c type_of faults t known e f h =
     let silent : (E (Some t)).faults ≡ [] = ap (λ z. (E z).faults) (sym e) ∙ empty_second faults (E type_of).faults front in
     let last : (M (Some t)).faults ≡ [] = ap (λ z. (M z).faults) (sym e) ∙ empty_second (faults ++ (E type_of).faults) (M type_of).faults h in
     elim (f silent) [
-      | inl whole ↦ inl (subst (λ z. IsNotBroken (M z).meaning) (sym e) (literal_settled w (first_of_type x) t (E (Some t)).whole (E (Some t)).unkeyed whole last))
+      | inl whole ↦ inl (subst (λ z. IsNotBroken (M z).meaning) (sym e) (literal_settled w (first_of_type x) t (E (Some t)).whole (E (Some t)).unkeyed whole
+          last))
       | inr u ↦ inr (in_elements (true_type w x t known) u)
     ]
 

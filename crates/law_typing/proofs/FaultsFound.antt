@@ -9,7 +9,8 @@ use Rattle.types_expr.specs.Places.{first_token, first_of_type, place_of}
 use Rattle.types_expr.specs.Types.{PlainType, Underlying, Plain, PointerTo, SliceOf, Struct, Interface, Typed, Untyped, Nil, Meaning, Value, TypeName, Function}
 use Rattle.types_expr.specs.Types.{BuiltinName, Package, Results, Broken, element_of}
 use Rattle.types_expr.specs.World.{World, Locals, underlying}
-use Rattle.types_expr.specs.Judge.{Judged, Seen, KeyMeaning, FieldKey, WrongKey, BrokenKey, followed, value_at, value_kind, select, index_rule, index_of, as_value}
+use Rattle.types_expr.specs.Judge.{Judged, Seen, KeyMeaning, FieldKey, WrongKey, BrokenKey}
+use Rattle.types_expr.specs.Judge.{followed, value_at, value_kind, select, index_rule, index_of, as_value}
 use Rattle.types_expr.specs.Judge.{call_rule, call_of, operation, prefix_of, address_of, judge, judge_links, judge_operands, judge_arguments, judge_literal}
 use Rattle.types_expr.specs.Judge.{judge_elements, judge_type, key_at, key_in, key_of_member, judge_key, key_faults, is_whole_key, wanted_after_key, seen_with}
 use Rattle.types_expr.specs.Judge.{none_seen, misfit_if, literal_meaning, literal_result}

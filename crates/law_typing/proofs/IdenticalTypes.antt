@@ -4,7 +4,8 @@ use Rattle.std.specs.Cmp.Lexicographic.{bytes_decides}
 use Rattle.types_expr.specs.declared.types.Basic.{Basic}
 use Rattle.types_expr.specs.declared.types.Basic.TheVariants as basic
 use Rattle.types_expr.specs.declared.symbol.Symbol.{Symbol}
-use Rattle.types_expr.specs.Types.{PlainType, BasicType, Defined, Pointer, Slice, Underlying, Plain, PointerTo, SliceOf, Struct, Interface, same_basic, same_path}
+use Rattle.types_expr.specs.Types.{PlainType, BasicType, Defined, Pointer, Slice, Underlying}
+use Rattle.types_expr.specs.Types.{Plain, PointerTo, SliceOf, Struct, Interface, same_basic, same_path}
 use Rattle.types_expr.specs.Types.{same_symbol, same_type, same_underlying}
 use Rattle.law_typing.proofs.Tests.{and_first, and_second, and_both}
 

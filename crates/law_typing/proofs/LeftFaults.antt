@@ -17,7 +17,8 @@ use Rattle.law_typing.specs.Excused.{IsBlank, underscored, IsDeclaredName, bound
 use Rattle.law_typing.proofs.Values.{value_true, operand_true}
 use Rattle.law_typing.proofs.Lefts.{assigned_cases, own_test, test_own, own_not}
 use Rattle.law_typing.specs.ExpressionFaults.{ValueBreaksAt}
-use Rattle.law_typing.specs.AssignmentFaults.{AssignedTakes, a_blank, a_variable, no_variable, NamesValueOf, an_old_name, DefinedTakes, an_underscore, a_new_name}
+use Rattle.law_typing.specs.AssignmentFaults.{AssignedTakes, a_blank, a_variable, no_variable}
+use Rattle.law_typing.specs.AssignmentFaults.{NamesValueOf, an_old_name, DefinedTakes, an_underscore, a_new_name}
 use Rattle.law_typing.specs.AssignmentFaults.{a_known_name, no_name, EachTakes, no_side, one_side}
 use Rattle.law_typing.specs.DeclaredLocals.{DeclaresNames, no_names, no_new_name}
 use Rattle.law_typing.specs.DeclaredLocals as lead
@@ -133,7 +134,8 @@ unfolding assigned_one judge assignable
 assigned_one_told w locals (tree.Blank p) = operand_told w locals (tree.Blank p)
 assigned_one_told w locals e = operand_told w locals e
 
-pub assigned_told : (w : World) (locals : Locals) (xs : List (Item ExprTree)) → AreExactly (assigned w locals xs).faults (AnyBreaksAt (OperandBreaksAt w locals) xs)
+pub assigned_told : (w : World) (locals : Locals) (xs : List (Item ExprTree)) → AreExactly (assigned w locals xs).faults (AnyBreaksAt (OperandBreaksAt w
+    locals) xs)
 unfolding assigned
 assigned_told w locals [] = no_expression (OperandBreaksAt w locals)
 assigned_told w locals (i ∷ is) = any_told (OperandBreaksAt w locals) i is (assigned_one_told w locals i.value) (assigned_told w locals is)
@@ -314,7 +316,8 @@ name_breaks : {w : World} {locals : Locals} {p q : ℕ} → DefinedBreaksAt w lo
 name_breaks (in_old_name n b) = (n, b)
 name_breaks {p = p} (defines_no_name n h) = absurd (n p refl)
 
-name_by : (w : World) (locals : Locals) (p : ℕ) (b : Bool) → declares w p ≡ b → AreExactly (if b then left_side sides.Takes no_judged else reassigned w locals p).faults
+name_by : (w : World) (locals : Locals) (p : ℕ) (b : Bool) → declares w p ≡ b → AreExactly (if b then left_side sides.Takes no_judged else reassigned w
+    locals p).faults
     (DefinedBreaksAt w locals (tree.Name p))
 name_by w locals p true h = none_told (λ q b. let n = name_breaks b in n.0 (declares_new w p h))
 name_by w locals p false h = told_as (value_told w locals (tree.Name p)) (λ q b. in_old_name (declares_none w p h) b) (λ q b. let n = name_breaks b in n.1)
@@ -328,7 +331,8 @@ record IsValueHere (w : World) (locals : Locals) (e : ExprTree) : Type 0 where
   addressable : Bool
   means : HasMeaning w locals e (Value kind addressable)
 
-value_here : (place here : ℕ) (m : Meaning) {C : Type 0} → ((k : ValueKind) (a : Bool) → m ≡ Value k a → C) → (C → (k : ValueKind) × (a : Bool) × (m ≡ Value k a)) →
+value_here : (place here : ℕ) (m : Meaning) {C : Type 0} → ((k : ValueKind) (a : Bool) → m ≡ Value k a → C) → (C →
+    (k : ValueKind) × (a : Bool) × (m ≡ Value k a)) →
     AreExactly (judged_name place (as_value here m).meaning).faults (At place C)
 unfolding judged_name as_value
 value_here place here (Value k a) f g = fault_at place (f k a refl)
@@ -361,7 +365,8 @@ defined_one_told w locals e = elim (sort_of w locals e) [
   | other_sort n m d c ↦ subst (λ (z : Lefts). AreExactly z.faults (DefinedBreaksAt w locals e)) (sym d) (other_told w locals e m)
 ]
 
-pub defined_told : (w : World) (locals : Locals) (xs : List (Item ExprTree)) → AreExactly (defined w locals xs).faults (AnyBreaksAt (DefinedBreaksAt w locals) xs)
+pub defined_told : (w : World) (locals : Locals) (xs : List (Item ExprTree)) → AreExactly (defined w locals xs).faults (AnyBreaksAt (DefinedBreaksAt w
+    locals) xs)
 unfolding defined
 defined_told w locals [] = no_expression (DefinedBreaksAt w locals)
 defined_told w locals (i ∷ is) = any_told (DefinedBreaksAt w locals) i is (defined_one_told w locals i.value) (defined_told w locals is)
@@ -371,7 +376,8 @@ defined_told w locals (i ∷ is) = any_told (DefinedBreaksAt w locals) i is (def
 not_new : {w : World} {e : ExprTree} {p : ℕ} → e ≡ tree.Name p → (IsDeclaredName w (tree.Name p) → ⊥) → IsDeclaredName w e → ⊥
 not_new {w} e n h = n (subst (λ z. IsDeclaredName w z) e h)
 
-named_as : (w : World) (i : Item ExprTree) (is : List (Item ExprTree)) (ns : List (Option ℕ)) (p : ℕ) → i.value ≡ tree.Name p → DeclaresNames w is ns → (b : Bool) →
+named_as : (w : World) (i : Item ExprTree) (is : List (Item ExprTree)) (ns : List (Option ℕ)) (p : ℕ) → i.value ≡ tree.Name p → DeclaresNames w is ns →
+    (b : Bool) →
     declares w p ≡ b → DeclaresNames w (i ∷ is) ((if b then Some p else None) ∷ ns)
 named_as w i is ns p e more true h = lead.a_new_name e (test_own (w.bound p) p h) more
 named_as w i is ns p e more false h = no_new_name (not_new e (declares_none w p h)) more
@@ -403,7 +409,8 @@ new_name_is w {p = p} e h = name_of w e ∙ ap (λ c. if c then Some p else None
 other_name_is : (w : World) (locals : Locals) (e : ExprTree) → (IsDeclaredName w e → ⊥) → defined_name w e ≡ None
 other_name_is w locals e n = elim (sort_of w locals e) [
   | blank_sort h ↦ blank_name w h
-  | name_sort {p} h ↦ name_of w h ∙ ap (λ c. if c then Some p else None) (none_declares w p (declares w p) refl (λ q. n (subst (λ z. IsDeclaredName w z) (sym h) q)))
+  | name_sort {p} h ↦ name_of w h ∙ ap (λ c. if c then Some p else None) (none_declares w p (declares w p) refl (λ q. n (subst (λ z. IsDeclaredName w z)
+      (sym h) q)))
   | other_sort k m d c ↦ c
 ]
 

@@ -3,7 +3,8 @@ use Rattle.std.proofs.Common.{ℕ, ◌≡◌, Bool, true, false, if◌then◌els
 use Rattle.go_ast.specs.Tree.{ExprTree}
 use Rattle.types_expr.specs.declared.types.Basic.TheVariants as basic
 use Rattle.types_expr.specs.Places.{place_of}
-use Rattle.types_expr.specs.Types.{PlainType, SliceOf, ValueKind, Typed, Untyped, Nil, Meaning, Value, TypeName, Function, BuiltinName, Package, Results, Broken}
+use Rattle.types_expr.specs.Types.{PlainType, SliceOf, ValueKind, Typed, Untyped, Nil, Meaning}
+use Rattle.types_expr.specs.Types.{Value, TypeName, Function, BuiltinName, Package, Results, Broken}
 use Rattle.types_expr.specs.World.{World, Locals, underlying}
 use Rattle.types_expr.specs.Operations.{class_of, is_int, element_of_kind}
 use Rattle.types_expr.specs.Judge.{as_value, value_kind, means_or_wrong, member_meaning, select, select_member, bad_index, indexed, index_of, element_meaning}
@@ -52,7 +53,8 @@ pub record IsRule (R : Meaning → Meaning → Type 0) (m r : Meaning) : Type 0 
 
 pub next_found : (R : Meaning → Meaning → Type 0) (m r : Meaning) → IsRule R m r → NextMeaning R (status m) (status r)
 next_found R m r f = elim (whole_or_broken r) [
-  | inl n ↦ let q = f.holds n in subst (λ z. NextMeaning R z (status r)) (sym (whole_status m q.0)) (subst (λ z. NextMeaning R (Some m) z) (sym (whole_status r n))
+  | inl n ↦ let q = f.holds n in subst (λ z. NextMeaning R z (status r)) (sym (whole_status m q.0)) (subst (λ z. NextMeaning R (Some m) z) (sym
+      (whole_status r n))
       (leads q.1))
   | inr b ↦ subst (λ z. NextMeaning R (status m) (status z)) (sym b) (elim (whole_or_broken m) [
     | inl n ↦ subst (λ z. NextMeaning R z None) (sym (whole_status m n)) (leads_nowhere (λ s h. let q = f.only s h in q.1 (sym q.0 ∙ b)))
@@ -175,7 +177,8 @@ pub data IndexBreaks (w : World) (locals : Locals) (start place : ℕ) (e : Expr
   inside : {m : Option Meaning} {p : ℕ} → ValueBreaksAt w locals e p → IndexBreaks w locals start place e m p
   no_int_there : {m : Option Meaning} {k : ValueKind} {a : Bool} → HasMeaning w locals e (Value k a) → (IsBasic w k basic.Int → ⊥) →
       IndexBreaks w locals start place e m (place_of e)
-  no_slice_there : {j k : ValueKind} {a b : Bool} → HasMeaning w locals e (Value k a) → IsBasic w k basic.Int → ((s : Meaning) → Indexes w (Value j b) k s → ⊥) →
+  no_slice_there : {j k : ValueKind} {a b : Bool} → HasMeaning w locals e (Value k a) → IsBasic w k basic.Int → ((s : Meaning) → Indexes w (Value j b) k s →
+      ⊥) →
       IndexBreaks w locals start place e (Some (Value j b)) start
 
 record IsKnownNoValue (m : Meaning) : Type 0 where
@@ -228,7 +231,8 @@ no_element_of w start j k b i n (Some u) e = let q = slice_of_kind w j u e in ab
     (Typed u) true))
     (sym q.1) (element q.2 i)))
 
-slice_index : (w : World) (start place : ℕ) (j k : ValueKind) (b : Bool) (c : Bool) → c ≡ true → HasToken (element_meaning (element_of_kind w j) start).faults start →
+slice_index : (w : World) (start place : ℕ) (j k : ValueKind) (b : Bool) (c : Bool) → c ≡ true → HasToken (element_meaning (element_of_kind w j)
+    start).faults start →
     HasToken (indexed w start (if c then [] else (place ∷ [])) true (Value j b)).faults start
 unfolding indexed
 slice_index w start place j k b true e h = h

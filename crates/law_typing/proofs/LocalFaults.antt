@@ -142,7 +142,8 @@ local_places_of w ls l None None e f = none_told (λ p b. neither_cases e f b)
 local_places : (w : World) (ls : Locals) (l : LocalTree) → AreExactly (local_added w ls l) (LocalBreaksAt w ls l)
 local_places w ls l = local_places_of w ls l l.type_use l.values refl refl
 
-faults_of : (w : World) (s : FoundSoFar) (names : List (Item IdentTree)) (t : Option TypeTree) (v : Values) → (check_local_of w s names t v).faults ≡ s.faults ++
+faults_of : (w : World) (s : FoundSoFar) (names : List (Item IdentTree)) (t : Option TypeTree) (v : Values) →
+    (check_local_of w s names t v).faults ≡ s.faults ++
     local_added_of w s.locals names t v
 unfolding check_typed_local check_untyped_local
 faults_of w s names (Some x) None = refl

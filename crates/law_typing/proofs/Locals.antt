@@ -66,7 +66,8 @@ only_written : (w : World) (s : FoundSoFar) (names : List (Item IdentTree)) {x :
 unfolding check_typed_local
 only_written w s names h i d = typed_names w s names h i d
 
-pub local_true : (w : World) (s : FoundSoFar) (l : LocalTree) (after : Locals) → s.faults ≡ [] → LocalIsTyped w s.locals l after → IsAt (check_local w s l) after
+pub local_true : (w : World) (s : FoundSoFar) (l : LocalTree) (after : Locals) → s.faults ≡ [] → LocalIsTyped w s.locals l after →
+    IsAt (check_local w s l) after
 unfolding check_typed_local check_untyped_local
 local_true w s l after h (of_type e f i d) = chosen w s l e f (only_written w s l.names h i d)
 local_true w s l after h (of_type_with_values {x = x} {v = v} e f i g t d) = let q = type_true w i in

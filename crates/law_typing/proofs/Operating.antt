@@ -10,13 +10,16 @@ use Rattle.types_expr.specs.declared.classes.ValueClass.{ValueClass}
 use Rattle.types_expr.specs.declared.classes.ValueClass.TheVariants as class
 use Rattle.types_expr.specs.declared.classes.Family.{Family}
 use Rattle.types_expr.specs.declared.classes.Family.TheVariants as family
-use Rattle.types_expr.specs.Types.{PlainType, Underlying, Plain, PointerTo, SliceOf, Struct, Interface, ValueKind, Typed, Untyped, Nil, Meaning, Value, same_type, same_basic}
+use Rattle.types_expr.specs.Types.{PlainType, Underlying, Plain, PointerTo, SliceOf, Struct, Interface}
+use Rattle.types_expr.specs.Types.{ValueKind, Typed, Untyped, Nil, Meaning, Value, same_type, same_basic}
 use Rattle.types_expr.specs.World.{World, underlying}
 use Rattle.types_expr.specs.Operations.{fits, joined, is_nil, class_of, class_of_underlying, compares as compares_class, is_int, is_bool, is_ordered}
 use Rattle.types_expr.specs.Operations.{family_of, when, result_of, operate, operate_on, pointee, prefixed}
 use Rattle.law_typing.specs.Fits.{FitsType, nil_as_pointer, nil_as_slice, nil_as_interface}
-use Rattle.law_typing.specs.Operators.{IsUntyped, a_constant, a_nil, HaveCommonKind, of_one_type, right_fits, left_fits, of_one_kind, IsArithmetic, minus, times}
-use Rattle.law_typing.specs.Operators.{divided, remainder, IsOrderOperator, less, less_or_equal, greater, greater_or_equal, IsEquality, equal, not_equal, IsLogic}
+use Rattle.law_typing.specs.Operators.{IsUntyped, a_constant, a_nil, HaveCommonKind, of_one_type}
+use Rattle.law_typing.specs.Operators.{right_fits, left_fits, of_one_kind, IsArithmetic, minus, times}
+use Rattle.law_typing.specs.Operators.{divided, remainder, IsOrderOperator, less, less_or_equal}
+use Rattle.law_typing.specs.Operators.{greater, greater_or_equal, IsEquality, equal, not_equal, IsLogic}
 use Rattle.law_typing.specs.Operators.{and, or, IsComparable, a_basic, a_pointer, Operates, adds, computes, orders, connects, compares, compares_with_nil}
 use Rattle.law_typing.specs.Operators.{compares_nil_with, Prefixes, plus, negates, denies, follows}
 use Rattle.law_typing.specs.Names.{IsNotBroken}
@@ -142,7 +145,8 @@ operates_true w (compares_nil_with {o} {t} q f) = operated w o family.Equality (
 some_when : {A : Type 0} (b : Bool) (v r : A) → when b v ≡ Some r → (b ≡ true) × (v ≡ r)
 some_when b v r h = if_some b v r h
 
-arithmetic : (w : World) (o : BinaryOp) (a b k r : ValueKind) → IsArithmetic o → HaveCommonKind w a b k → when (is_int (class_of w k)) k ≡ Some r → Operates w o a b r
+arithmetic : (w : World) (o : BinaryOp) (a b k r : ValueKind) → IsArithmetic o → HaveCommonKind w a b k → when (is_int (class_of w k)) k ≡ Some r →
+    Operates w o a b r
 arithmetic w o a b k r q g h = let p : (is_int (class_of w k) ≡ true) × (k ≡ r) = some_when (is_int (class_of w k)) k r h in
     subst (λ z. Operates w o a b z) p.1 (computes q g (is_of_int w k p.0))
 
@@ -150,7 +154,8 @@ addition : (w : World) (a b k r : ValueKind) → HaveCommonKind w a b k → when
 addition w a b k r g h = let p : (is_ordered (class_of w k) ≡ true) × (k ≡ r) = some_when (is_ordered (class_of w k)) k r h in
     subst (λ z. Operates w op.Add a b z) p.1 (adds g (is_of_ordered w k p.0))
 
-order : (w : World) (o : BinaryOp) (a b k r : ValueKind) → IsOrderOperator o → HaveCommonKind w a b k → when (is_ordered (class_of w k)) (Untyped basic.Bool) ≡ Some r →
+order : (w : World) (o : BinaryOp) (a b k r : ValueKind) → IsOrderOperator o → HaveCommonKind w a b k →
+    when (is_ordered (class_of w k)) (Untyped basic.Bool) ≡ Some r →
     Operates w o a b r
 order w o a b k r q g h = let p : (is_ordered (class_of w k) ≡ true) × (Untyped basic.Bool ≡ r) =
     some_when (is_ordered (class_of w k)) (Untyped basic.Bool) r h in
@@ -160,7 +165,8 @@ logic : (w : World) (o : BinaryOp) (a b k r : ValueKind) → IsLogic o → HaveC
 logic w o a b k r q g h = let p : (is_bool (class_of w k) ≡ true) × (k ≡ r) = some_when (is_bool (class_of w k)) k r h in
     subst (λ z. Operates w o a b z) p.1 (connects q g (is_of_bool w k p.0))
 
-with_nil : (w : World) (o : BinaryOp) {a b k : ValueKind} → IsEquality o → HaveCommonKind w a b k → (is_nil a || is_nil b) ≡ true → (class_of w k ≡ class.Nil → ⊥) →
+with_nil : (w : World) (o : BinaryOp) {a b k : ValueKind} → IsEquality o → HaveCommonKind w a b k → (is_nil a || is_nil b) ≡ true →
+    (class_of w k ≡ class.Nil → ⊥) →
     Operates w o a b (Untyped basic.Bool)
 unfolding is_nil class_of
 with_nil w o q (right_fits a_nil f) h c = compares_with_nil q f
@@ -186,7 +192,8 @@ equality w o a b k r q g h = let p : (compares_class (is_nil a || is_nil b) (cla
     some_when (compares_class (is_nil a || is_nil b) (class_of w k)) (Untyped basic.Bool) r h in
     subst (λ z. Operates w o a b z) p.1 (comparison w o a b k (class_of w k) q g refl p.0)
 
-by_operator : (w : World) (o : BinaryOp) (a b k r : ValueKind) → HaveCommonKind w a b k → result_of (family_of o) (is_nil a || is_nil b) (class_of w k) k ≡ Some r →
+by_operator : (w : World) (o : BinaryOp) (a b k r : ValueKind) → HaveCommonKind w a b k → result_of (family_of o) (is_nil a || is_nil b) (class_of w k) k ≡
+    Some r →
     Operates w o a b r
 unfolding family_of result_of
 by_operator w op.Multiply a b k r g h = arithmetic w op.Multiply a b k r times g h
@@ -203,7 +210,8 @@ by_operator w op.GreaterEqual a b k r g h = order w op.GreaterEqual a b k r grea
 by_operator w op.And a b k r g h = logic w op.And a b k r and g h
 by_operator w op.Or a b k r g h = logic w op.Or a b k r or g h
 
-by_common : (w : World) (o : BinaryOp) (a b r : ValueKind) (j : Option ValueKind) → joined w a b ≡ j → operate_on w (family_of o) (is_nil a || is_nil b) j ≡ Some r →
+by_common : (w : World) (o : BinaryOp) (a b r : ValueKind) (j : Option ValueKind) → joined w a b ≡ j → operate_on w (family_of o) (is_nil a || is_nil b) j ≡
+    Some r →
     Operates w o a b r
 by_common w o a b r None e h = cc
 by_common w o a b r (Some k) e h = by_operator w o a b k r (go_together w a b k e) h

@@ -3,11 +3,13 @@ use Rattle.std.proofs.Common.{ℕ, ◌≡◌, Bool, true, false, List, [], ◌�
 use Rattle.go_ast.specs.Tree.{TypeTree, ArgumentTrees}
 use Rattle.go_ast.specs.Tree as tree
 use Rattle.types_expr.specs.Places.{place_of}
-use Rattle.types_expr.specs.Types.{PlainType, Underlying, Plain, PointerTo, SliceOf, Struct, Interface, ValueKind, Meaning, Value, TypeName, Function, BuiltinName, Package}
+use Rattle.types_expr.specs.Types.{PlainType, Underlying, Plain, PointerTo, SliceOf, Struct, Interface}
+use Rattle.types_expr.specs.Types.{ValueKind, Meaning, Value, TypeName, Function, BuiltinName, Package}
 use Rattle.types_expr.specs.Types.{Results, Broken, element_of}
 use Rattle.types_expr.specs.World.{World, Locals, Bound, Local, Means, BrokenVariable, BrokenFunction, BrokenType}
 use Rattle.types_expr.specs.Operations.{fits}
-use Rattle.types_expr.specs.Judge.{KeyMeaning, FieldKey, WrongKey, BrokenKey, as_value, value_kind, judge, judge_arguments, judge_type, named_type, imported_type}
+use Rattle.types_expr.specs.Judge.{KeyMeaning, FieldKey, WrongKey, BrokenKey, as_value}
+use Rattle.types_expr.specs.Judge.{value_kind, judge, judge_arguments, judge_type, named_type, imported_type}
 use Rattle.types_expr.specs.Judge.{misfit, misfits, all_misfits, misfit_if, key_faults}
 use Rattle.law_typing.specs.Fits.{FitsType}
 use Rattle.law_typing.specs.Faults.{NamesNoType, NamesValue, a_local, a_value, a_broken_variable, IsNoType, by_name, behind_package, behind_value, no_package}

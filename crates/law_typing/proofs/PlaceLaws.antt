@@ -36,7 +36,8 @@ places {check = check} t s x p = (
 )
 
 -- the locals after a check are those that the part declares
-pub outcomes : {X : Type 0} {R : PartRule X} {B : FaultRule X} {check : FoundSoFar → X → FoundSoFar} → IsExact X R B check → (s : FoundSoFar) (x : X) (after : Locals) →
+pub outcomes : {X : Type 0} {R : PartRule X} {B : FaultRule X} {check : FoundSoFar → X → FoundSoFar} → IsExact X R B check →
+    (s : FoundSoFar) (x : X) (after : Locals) →
     R s.locals x after ↔ ((check s x).locals ≡ after)
 outcomes {R = R} t s x after = (λ r. t.only s x after r, λ e. subst (λ z. R s.locals x z) e (t.leads s x))
 

@@ -9,11 +9,13 @@ use Rattle.go_ast.specs.Tree as tree
 use Rattle.types_expr.specs.declared.types.Basic.TheVariants as basic
 use Rattle.types_expr.specs.declared.types.Builtin.{Builtin}
 use Rattle.types_expr.specs.declared.types.Builtin.TheVariants as builtin
-use Rattle.types_expr.specs.Types.{PlainType, BasicType, Underlying, Plain, PointerTo, SliceOf, Struct, Interface, ValueKind, Typed, Untyped, Nil, Signature, Meaning, Value}
+use Rattle.types_expr.specs.Types.{PlainType, BasicType, Underlying, Plain, PointerTo, SliceOf, Struct}
+use Rattle.types_expr.specs.Types.{Interface, ValueKind, Typed, Untyped, Nil, Signature, Meaning, Value}
 use Rattle.types_expr.specs.Types.{TypeName, Function, BuiltinName, Package, Results, Broken, element_of}
 use Rattle.types_expr.specs.World.{World, Locals, underlying}
 use Rattle.types_expr.specs.Operations.{operate, prefixed, converts, class_of, is_int, element_of_kind}
-use Rattle.types_expr.specs.Judge.{ListValue, means, wrong, means_or_wrong, value_or_wrong, as_value, value_kind, member_meaning, select, select_member, is_whole}
+use Rattle.types_expr.specs.Judge.{ListValue, means, wrong, means_or_wrong, value_or_wrong}
+use Rattle.types_expr.specs.Judge.{as_value, value_kind, member_meaning, select, select_member, is_whole}
 use Rattle.types_expr.specs.Judge.{all_whole, unless_faults, wrong_if_whole, bad_index, indexed, index_of, element_meaning, operation, prefix_of, misfits}
 use Rattle.types_expr.specs.Judge.{all_misfits, result_meaning, call_function, convert, convert_one, append, append_first, append_to, len_fits, all_printed}
 use Rattle.types_expr.specs.Judge.{call_builtin, call_of, noting, enterings}
@@ -63,7 +65,8 @@ whole_status Package n = refl
 whole_status (Results ts) n = refl
 whole_status Broken n = absurd (n refl)
 
-pub operand_status : {w : World} {locals : Locals} {e : ExprTree} (m : Meaning) → (IsNotBroken m → HasMeaning w locals e m) → MeaningOrNone w locals e (status m)
+pub operand_status : {w : World} {locals : Locals} {e : ExprTree} (m : Meaning) → (IsNotBroken m → HasMeaning w locals e m) →
+    MeaningOrNone w locals e (status m)
 operand_status (Value k a) f = meant (f value_whole)
 operand_status (TypeName t) f = meant (f (λ h. cc))
 operand_status (Function s) f = meant (f function_whole)
@@ -205,7 +208,8 @@ pub no_slice_here : {w : World} {m : Meaning} {k : ValueKind} {r : Meaning} → 
 no_slice_here {w} (element {t} {u} {a} e i) s x same none = let q : Typed t ≡ s = cc in
     let c : Some u ≡ None = sym (ap element_of e) ∙ (ap (element_of_kind w) q ∙ none) in cc
 
-pub index_each : (P : ℕ → Type 0) (w : World) (start place : ℕ) (m i : Meaning) → ((k : ValueKind) (a : Bool) → i ≡ Value k a → (IsBasic w k basic.Int → ⊥) → P place) →
+pub index_each : (P : ℕ → Type 0) (w : World) (start place : ℕ) (m i : Meaning) → ((k : ValueKind) (a : Bool) → i ≡ Value k a → (IsBasic w k basic.Int →
+    ⊥) → P place) →
     ((s k : ValueKind) (x a : Bool) → m ≡ Value s x → i ≡ Value k a → IsBasic w k basic.Int → element_of_kind w s ≡ None → P start) →
     Each P (index_of w start place m i).faults
 unfolding index_of bad_index value_kind
@@ -320,7 +324,8 @@ builtin_each P w start builtin.Println vs f g = fine_each P (all_printed w vs) (
 pub call_each : (P : ℕ → Type 0) (w : World) (start place : ℕ) (vs : List ListValue) (m : Meaning) → (IsNoCallee m → P place) →
     ((s : Signature) → m ≡ Function s → length vs ≡ length s.parameters → Each P (misfits w vs s.parameters)) →
     (m ≡ BuiltinName builtin.Append → ElementsMisfit P w vs) →
-    (IsNotBroken m → IsWrong w vs m → all_whole vs ≡ true → (call_of w start place vs m).meaning ≡ Broken → P start) → Each P (call_of w start place vs m).faults
+    (IsNotBroken m → IsWrong w vs m → all_whole vs ≡ true → (call_of w start place vs m).meaning ≡ Broken → P start) →
+    Each P (call_of w start place vs m).faults
 unfolding call_of call_function
 call_each P w start place vs (Function s) f g h i =
     count_each P w start s vs (length vs == length s.parameters) (λ e. g s refl (eqb-true (length vs) (length s.parameters) e))

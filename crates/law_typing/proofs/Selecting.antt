@@ -2,7 +2,8 @@
 use Rattle.std.proofs.Common.{ℕ, ◌≡◌, Bool, true, false, ◌||◌, List, [], ◌∷◌, Option, Some, None, refl, sym, ap, ◌∙◌, if◌then◌else◌, option_map}
 use Rattle.types_expr.specs.declared.types.Basic.TheVariants as basic
 use Rattle.types_expr.specs.declared.symbol.Symbol.{Symbol}
-use Rattle.types_expr.specs.Types.{PlainType, BasicType, Defined, Pointer, Slice, Underlying, Plain, PointerTo, SliceOf, Struct, Interface, ValueKind, Typed, Untyped, Nil}
+use Rattle.types_expr.specs.Types.{PlainType, BasicType, Defined, Pointer, Slice, Underlying, Plain}
+use Rattle.types_expr.specs.Types.{PointerTo, SliceOf, Struct, Interface, ValueKind, Typed, Untyped, Nil}
 use Rattle.types_expr.specs.Types.{Signature, Meaning, Value, TypeName, Function, BuiltinName, Package, Results, Broken, points, is_pointer, element_of}
 use Rattle.types_expr.specs.Types.{AFieldOf, AMethodOf}
 use Rattle.types_expr.specs.World.{World, Locals, Member, AField, AMethod, ABrokenMethod, member_symbol, underlying}
@@ -39,7 +40,8 @@ selected : (w : World) (t : PlainType) (a : Bool) (name : ℕ) {r : Meaning} →
 unfolding select_member
 selected w t a name e n = used_agrees (record { place = name; before = t; member = option_map member_symbol (w.member name t) }) (chosen_agrees name e n)
 
-pub selects_true : (w : World) (locals : Locals) (place : ℕ) {m r : Meaning} {name : ℕ} → SelectsMember w locals m name r → IsJudgedAs (select w locals place name m) r
+pub selects_true : (w : World) (locals : Locals) (place : ℕ) {m r : Meaning} {name : ℕ} → SelectsMember w locals m name r →
+    IsJudgedAs (select w locals place name m) r
 unfolding select
 selects_true w locals place {name = name} (field {t} {u} {a} {s = s} e n) =
     selected w t a name (found_member w t a name e (ap (λ b. Some (Value (Typed u) (b || a))) (no_pointer (underlying w t) n))) value_whole
@@ -71,7 +73,8 @@ abbrev on_variable : Bool → Signature → Option Meaning
 on_variable b g = if b then Some (Function g) else None
 
 of_variable : (w : World) (locals : Locals) (t : PlainType) (name : ℕ) (s : Symbol) (g : Signature) (a : Bool) → w.member name t ≡ Some (AMethod s true g) →
-    IsNotBroken (means_or_wrong (on_variable a g) name).meaning → SelectsMember w locals (Value (Typed t) a) name (means_or_wrong (on_variable a g) name).meaning
+    IsNotBroken (means_or_wrong (on_variable a g) name).meaning → SelectsMember w locals (Value (Typed t) a) name (means_or_wrong (on_variable a g)
+    name).meaning
 of_variable w locals t name s g true e n = method_on_variable e
 of_variable w locals t name s g false e n = absurd (n refl)
 
@@ -107,7 +110,8 @@ true_selects w locals place name Broken n = absurd (n refl)
 
 -- indexes
 
-pub indexes_true : (w : World) (start place : ℕ) {m r : Meaning} {k : ValueKind} (a : Bool) → Indexes w m k r → IsJudgedAs (index_of w start place m (Value k a)) r
+pub indexes_true : (w : World) (start place : ℕ) {m r : Meaning} {k : ValueKind} (a : Bool) → Indexes w m k r →
+    IsJudgedAs (index_of w start place m (Value k a)) r
 unfolding index_of bad_index value_kind indexed
 indexes_true w start place a (element {t} {u} {a = b} e j) = agrees_as
     (ap (λ (x : Bool). indexed w start (if x then [] else place ∷ []) true (Value (Typed t) b)) (ap is_int (class_true w j)) ∙
@@ -129,7 +133,8 @@ element_found w start t a k j (PointerTo x) e n = absurd (n refl)
 element_found w start t a k j (Struct s) e n = absurd (n refl)
 element_found w start t a k j (Interface s) e n = absurd (n refl)
 
-value_indexed : (w : World) (start : ℕ) (s k : ValueKind) (a : Bool) → IsBasic w k basic.Int → IsNotBroken (element_meaning (element_of_kind w s) start).meaning →
+value_indexed : (w : World) (start : ℕ) (s k : ValueKind) (a : Bool) → IsBasic w k basic.Int → IsNotBroken (element_meaning (element_of_kind w s)
+    start).meaning →
     Indexes w (Value s a) k (element_meaning (element_of_kind w s) start).meaning
 value_indexed w start (Typed t) k a j n = element_found w start t a k j (underlying w t) refl n
 value_indexed w start (Untyped b) k a j n = absurd (n refl)

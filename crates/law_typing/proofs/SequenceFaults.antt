@@ -25,7 +25,8 @@ added_stands before {added} t p b = holds_right before added p (t.stands p b)
 
 -- items
 
-items_lead : {X : Type 0} {R : PartRule X} {B : FaultRule X} {check : FoundSoFar → X → FoundSoFar} → IsExact X R B check → (s : FoundSoFar) (is : List (Item X)) →
+items_lead : {X : Type 0} {R : PartRule X} {B : FaultRule X} {check : FoundSoFar → X → FoundSoFar} → IsExact X R B check →
+    (s : FoundSoFar) (is : List (Item X)) →
     InTurn X R s.locals is (check_items check s is).locals
 unfolding check_items
 items_lead t s [] = no_item
@@ -39,13 +40,15 @@ items_only t s [] after no_item = refl
 items_only {X} {R} {check = check} t s (i ∷ is) after (then_item {inside = inside} r more) = items_only t (check s i.value) is after (subst
     (λ z. InTurn X R z is after) (sym (t.only s i.value inside r)) more)
 
-items_stay : {X : Type 0} {R : PartRule X} {B : FaultRule X} {check : FoundSoFar → X → FoundSoFar} → IsExact X R B check → (s : FoundSoFar) (is : List (Item X)) (p : ℕ) →
+items_stay : {X : Type 0} {R : PartRule X} {B : FaultRule X} {check : FoundSoFar → X → FoundSoFar} → IsExact X R B check →
+    (s : FoundSoFar) (is : List (Item X)) (p : ℕ) →
     HasToken s.faults p → HasToken (check_items check s is).faults p
 unfolding check_items
 items_stay t s [] p h = h
 items_stay {check = check} t s (i ∷ is) p h = items_stay t (check s i.value) is p (t.stays s i.value p h)
 
-items_found : {X : Type 0} {R : PartRule X} {B : FaultRule X} {check : FoundSoFar → X → FoundSoFar} → IsExact X R B check → (s : FoundSoFar) (is : List (Item X)) (p : ℕ) →
+items_found : {X : Type 0} {R : PartRule X} {B : FaultRule X} {check : FoundSoFar → X → FoundSoFar} → IsExact X R B check →
+    (s : FoundSoFar) (is : List (Item X)) (p : ℕ) →
     HasToken (check_items check s is).faults p → HasToken s.faults p ⊎ BreaksInTurn X R B s.locals is p
 unfolding check_items
 items_found t s [] p h = inl h
@@ -54,7 +57,8 @@ items_found {check = check} t s (i ∷ is) p h = elim (items_found t (check s i.
   | inr b ↦ inr (later_item (t.leads s i.value) b)
 ]
 
-items_stand : {X : Type 0} {R : PartRule X} {B : FaultRule X} {check : FoundSoFar → X → FoundSoFar} → IsExact X R B check → (s : FoundSoFar) (is : List (Item X)) (p : ℕ) →
+items_stand : {X : Type 0} {R : PartRule X} {B : FaultRule X} {check : FoundSoFar → X → FoundSoFar} → IsExact X R B check →
+    (s : FoundSoFar) (is : List (Item X)) (p : ℕ) →
     BreaksInTurn X R B s.locals is p → HasToken (check_items check s is).faults p
 unfolding check_items
 items_stand t s [] p b = elim b [ ]
@@ -80,25 +84,29 @@ unfolding check_group
 group_leads t s (single x) = alone (t.leads s x)
 group_leads t s (several o is c) = together (items_lead t s is)
 
-group_only : {X : Type 0} {R : PartRule X} {B : FaultRule X} {check : FoundSoFar → X → FoundSoFar} → IsExact X R B check → (s : FoundSoFar) (g : Group X) (after : Locals) →
+group_only : {X : Type 0} {R : PartRule X} {B : FaultRule X} {check : FoundSoFar → X → FoundSoFar} → IsExact X R B check →
+    (s : FoundSoFar) (g : Group X) (after : Locals) →
     InGroup X R s.locals g after → (check_group check s g).locals ≡ after
 unfolding check_group
 group_only t s (single x) after (alone r) = t.only s x after r
 group_only t s (several o is c) after (together r) = items_only t s is after r
 
-group_stays : {X : Type 0} {R : PartRule X} {B : FaultRule X} {check : FoundSoFar → X → FoundSoFar} → IsExact X R B check → (s : FoundSoFar) (g : Group X) (p : ℕ) →
+group_stays : {X : Type 0} {R : PartRule X} {B : FaultRule X} {check : FoundSoFar → X → FoundSoFar} → IsExact X R B check →
+    (s : FoundSoFar) (g : Group X) (p : ℕ) →
     HasToken s.faults p → HasToken (check_group check s g).faults p
 unfolding check_group
 group_stays t s (single x) p h = t.stays s x p h
 group_stays t s (several o is c) p h = items_stay t s is p h
 
-group_found : {X : Type 0} {R : PartRule X} {B : FaultRule X} {check : FoundSoFar → X → FoundSoFar} → IsExact X R B check → (s : FoundSoFar) (g : Group X) (p : ℕ) →
+group_found : {X : Type 0} {R : PartRule X} {B : FaultRule X} {check : FoundSoFar → X → FoundSoFar} → IsExact X R B check →
+    (s : FoundSoFar) (g : Group X) (p : ℕ) →
     HasToken (check_group check s g).faults p → HasToken s.faults p ⊎ BreaksInGroup X R B s.locals g p
 unfolding check_group
 group_found t s (single x) p h = elim (t.found s x p h) [ inl a ↦ inl a | inr b ↦ inr (in_single b) ]
 group_found t s (several o is c) p h = elim (items_found t s is p h) [ inl a ↦ inl a | inr b ↦ inr (in_several b) ]
 
-group_stands : {X : Type 0} {R : PartRule X} {B : FaultRule X} {check : FoundSoFar → X → FoundSoFar} → IsExact X R B check → (s : FoundSoFar) (g : Group X) (p : ℕ) →
+group_stands : {X : Type 0} {R : PartRule X} {B : FaultRule X} {check : FoundSoFar → X → FoundSoFar} → IsExact X R B check →
+    (s : FoundSoFar) (g : Group X) (p : ℕ) →
     BreaksInGroup X R B s.locals g p → HasToken (check_group check s g).faults p
 unfolding check_group
 group_stands t s (single x) p (in_single b) = t.stands s x p b
@@ -125,22 +133,26 @@ present_leads : {X : Type 0} {R : PartRule X} {B : FaultRule X} {check : FoundSo
 present_leads t s None = absent
 present_leads t s (Some x) = present (t.leads s x)
 
-present_only : {X : Type 0} {R : PartRule X} {B : FaultRule X} {check : FoundSoFar → X → FoundSoFar} → IsExact X R B check → (s : FoundSoFar) (o : Option X) (after : Locals) →
+present_only : {X : Type 0} {R : PartRule X} {B : FaultRule X} {check : FoundSoFar → X → FoundSoFar} → IsExact X R B check →
+    (s : FoundSoFar) (o : Option X) (after : Locals) →
     IfPresent X R s.locals o after → (check_present check s o).locals ≡ after
 present_only t s None after absent = refl
 present_only t s (Some x) after (present r) = t.only s x after r
 
-present_stays : {X : Type 0} {R : PartRule X} {B : FaultRule X} {check : FoundSoFar → X → FoundSoFar} → IsExact X R B check → (s : FoundSoFar) (o : Option X) (p : ℕ) →
+present_stays : {X : Type 0} {R : PartRule X} {B : FaultRule X} {check : FoundSoFar → X → FoundSoFar} → IsExact X R B check →
+    (s : FoundSoFar) (o : Option X) (p : ℕ) →
     HasToken s.faults p → HasToken (check_present check s o).faults p
 present_stays t s None p h = h
 present_stays t s (Some x) p h = t.stays s x p h
 
-present_found : {X : Type 0} {R : PartRule X} {B : FaultRule X} {check : FoundSoFar → X → FoundSoFar} → IsExact X R B check → (s : FoundSoFar) (o : Option X) (p : ℕ) →
+present_found : {X : Type 0} {R : PartRule X} {B : FaultRule X} {check : FoundSoFar → X → FoundSoFar} → IsExact X R B check →
+    (s : FoundSoFar) (o : Option X) (p : ℕ) →
     HasToken (check_present check s o).faults p → HasToken s.faults p ⊎ BreaksIfPresent X B s.locals o p
 present_found t s None p h = inl h
 present_found t s (Some x) p h = elim (t.found s x p h) [ inl a ↦ inl a | inr b ↦ inr (in_present b) ]
 
-present_stands : {X : Type 0} {R : PartRule X} {B : FaultRule X} {check : FoundSoFar → X → FoundSoFar} → IsExact X R B check → (s : FoundSoFar) (o : Option X) (p : ℕ) →
+present_stands : {X : Type 0} {R : PartRule X} {B : FaultRule X} {check : FoundSoFar → X → FoundSoFar} → IsExact X R B check →
+    (s : FoundSoFar) (o : Option X) (p : ℕ) →
     BreaksIfPresent X B s.locals o p → HasToken (check_present check s o).faults p
 present_stands t s None p b = elim b [ ]
 present_stands t s (Some x) p (in_present b) = t.stands s x p b

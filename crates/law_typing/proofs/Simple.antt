@@ -222,12 +222,14 @@ update_settled w s x y o p h = let f = (judge_operand w s.locals x).faults ++ ((
 
 -- values given to targets
 
-pub giving_at : (w : World) (s : FoundSoFar) (place : ℕ) (locals : Locals) (l : Lefts) (r : JudgedList) {after : Locals} {ks : List ValueKind} {ts : List Taker} →
+pub giving_at : (w : World) (s : FoundSoFar) (place : ℕ) (locals : Locals) (l : Lefts) (r : JudgedList) {after : Locals} {ks : List ValueKind} {ts : List
+    Taker} →
     s.faults ≡ [] → AreLefts l ts → AreGiven r ks → TakenInTurn w ks ts →
     locals ≡ after → IsAt (with_given w s place locals l r) after
 giving_at w s place locals l r {ts = ts} h a g t e = reached s (l.faults ++ (r.faults ++ given_faults w place r.values l.targets)) (l.uses ++ (r.uses ++
     given_enterings w r.values l.targets)) h
-    (empty_both l.faults (r.faults ++ given_faults w place r.values l.targets) a.faultless (empty_both r.faults (given_faults w place r.values l.targets) g.faultless
+    (empty_both l.faults (r.faults ++ given_faults w place r.values l.targets) a.faultless (empty_both r.faults (given_faults w place r.values l.targets)
+    g.faultless
     (ap (given_faults w place r.values) a.targets ∙ given_silent w place r.values g.kinds t))) e
 
 -- values given to targets without a fault

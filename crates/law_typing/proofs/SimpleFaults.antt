@@ -88,8 +88,10 @@ condition_faults_are : (w : World) (s : FoundSoFar) (e : ExprTree) → (check_co
 unfolding check_condition
 condition_faults_are w s e = refl
 
-pub told_of : (X : Type 0) (R : (Locals → X → Locals → Type 0)) (B : (Locals → X → ℕ → Type 0)) (check : FoundSoFar → X → FoundSoFar) (added : Locals → X → List ℕ) →
-    ((s : FoundSoFar) (x : X) → R s.locals x (check s x).locals) → ((s : FoundSoFar) (x : X) (after : Locals) → R s.locals x after → (check s x).locals ≡ after) →
+pub told_of : (X : Type 0) (R : (Locals → X → Locals → Type 0)) (B : (Locals → X → ℕ → Type 0)) (check : FoundSoFar → X → FoundSoFar) (added : Locals → X →
+    List ℕ) →
+    ((s : FoundSoFar) (x : X) → R s.locals x (check s x).locals) → ((s : FoundSoFar) (x : X) (after : Locals) → R s.locals x after →
+    (check s x).locals ≡ after) →
     ((s : FoundSoFar) (x : X) → (check s x).faults ≡ s.faults ++ added s.locals x) → ((locals : Locals) (x : X) → AreExactly (added locals x) (B locals x)) →
     IsExact X R B check
 told_of X R B check added leads only faults t = record {
@@ -149,7 +151,8 @@ alone_places w locals e = let j = judge w locals (without_parentheses e) in
 
 -- `++` and `--`
 
-int_told : (w : World) (place : ℕ) (o : Option ValueKind) {C : Type 0} → ((k : ValueKind) → o ≡ Some k → (IsBasic w k basic.Int → ⊥) → C) → (C → (k : ValueKind) × (o ≡ Some k) ×
+int_told : (w : World) (place : ℕ) (o : Option ValueKind) {C : Type 0} → ((k : ValueKind) → o ≡ Some k → (IsBasic w k basic.Int → ⊥) → C) → (C →
+    (k : ValueKind) × (o ≡ Some k) ×
     (IsBasic w k basic.Int → ⊥)) → AreExactly (step_faults w place o) (At place C)
 unfolding step_faults
 int_told w place None f g = nothing_at place (λ c. let q = g c in none_is_some q.0 q.1)
@@ -179,7 +182,8 @@ step_places w locals e o q = both_told (judge_operand w locals e).faults (step_f
 abbrev CannotOperate : World → BinaryOp → Option ValueKind → Option ValueKind → Type 0
 CannotOperate w b x y = (j : ValueKind) × (k : ValueKind) × (x ≡ Some j) × (y ≡ Some k) × ((l : ValueKind) → Operates w b j k l → ⊥)
 
-operated : (w : World) (b : BinaryOp) (start : ℕ) (j k : ValueKind) (r : Option ValueKind) → operate w b j k ≡ r → {C : Type 0} → (((l : ValueKind) → Operates w b j k l →
+operated : (w : World) (b : BinaryOp) (start : ℕ) (j k : ValueKind) (r : Option ValueKind) → operate w b j k ≡ r → {C : Type 0} → (((l : ValueKind) →
+    Operates w b j k l →
     ⊥) → C) →
     (C → (l : ValueKind) → Operates w b j k l → ⊥) → AreExactly (fault_if_none r start) (At start C)
 operated w b start j k None e f g = fault_at start (f (λ l o. none_is_some l (sym e ∙ operates_true w o)))

@@ -53,7 +53,8 @@ defined_not w locals (defined_uses n m u) (an_old_name {t = t} e b h more) = no_
 defined_not w locals (defined_no_variable m v x) (an_underscore e more) = no_blank w locals e v
 defined_not w locals (defined_no_variable m v x) (a_new_name e b more) = m (subst (λ z. IsDeclaredName w z) (sym e) (bound_to_itself b))
 defined_not w locals (defined_no_variable {i = i} {k = k} {a = a} m v x) (an_old_name {t = t} e b h more) =
-    variable_kind x (has_one_meaning w locals i.value (Value k a) (Value (Typed t) true) v (subst (λ z. HasMeaning w locals z (Value (Typed t) true)) (sym e) h))
+    variable_kind x (has_one_meaning w locals i.value (Value k a) (Value (Typed t) true) v (subst (λ z. HasMeaning w locals z (Value (Typed t) true)) (sym
+    e) h))
 defined_not w locals (later_defined x) (an_underscore e more) = defined_not w locals x more
 defined_not w locals (later_defined x) (a_new_name e b more) = defined_not w locals x more
 defined_not w locals (later_defined x) (an_old_name e b h more) = defined_not w locals x more

@@ -17,7 +17,8 @@ use Rattle.law_typing.specs.Meanings.{HasMeaning, number, text, name, composite,
 use Rattle.law_typing.specs.Meanings.{call, OperandsMean, no_operand, operand, AreValues, no_argument, argument, IsLiteralOf, struct_literal, slice_literal}
 use Rattle.law_typing.specs.Meanings.{AreFields, no_field, field, AreElements, no_element, element}
 use Rattle.law_typing.specs.IsJudgedAs.{IsJudgedAs}
-use Rattle.law_typing.proofs.Judgements.{value_whole, agrees_as, means_it, followed_agrees, chosen_agrees, value_agrees, value_at_agrees, kind_known, empty_both}
+use Rattle.law_typing.proofs.Judgements.{value_whole, agrees_as, means_it, followed_agrees}
+use Rattle.law_typing.proofs.Judgements.{chosen_agrees, value_agrees, value_at_agrees, kind_known, empty_both}
 use Rattle.law_typing.proofs.Naming.{name_true, name_whole, type_true}
 use Rattle.law_typing.proofs.Operating.{operates_true, prefixes_true, prefix_whole}
 use Rattle.law_typing.proofs.Selecting.{selects_true, indexes_true}
@@ -34,7 +35,8 @@ operation_agrees : (w : World) {o : BinaryOp} {j k l : ValueKind} (start : ℕ) 
 unfolding operation value_kind
 operation_agrees w start a b q = agrees_as (ap (λ z. value_or_wrong z start) (operates_true w q)) (means_it value_whole)
 
-pub index_agrees : (w : World) (start place : ℕ) (e : ExprTree) {m s : Meaning} {k : ValueKind} {a : Bool} {i : Judged} → Indexes w m k s → IsJudgedAs i (Value k a) →
+pub index_agrees : (w : World) (start place : ℕ) (e : ExprTree) {m s : Meaning} {k : ValueKind} {a : Bool} {i : Judged} → Indexes w m k s →
+    IsJudgedAs i (Value k a) →
     IsJudgedAs (index_rule w start place e i m) s
 index_agrees w start place e {a = a} {i} (slice_element {t} {a = b} h j) v =
     followed_agrees (λ s. followed i (index_of w start (place_of e) s)) (value_agrees place)

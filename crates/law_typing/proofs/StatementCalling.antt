@@ -12,7 +12,8 @@ use Rattle.types_expr.specs.Judge.{judge}
 use Rattle.types_stmt.specs.Simple.{ends_in_call, unless_end, without_last, may_be_statement, is_statement, statement_faults, binary_of}
 use Rattle.law_typing.specs.Names.{IsNotBroken}
 use Rattle.law_typing.specs.Fits.{FitsType, identical}
-use Rattle.law_typing.specs.Operators.{IsUntyped, HaveCommonKind, of_one_type, right_fits, left_fits, of_one_kind, IsOrderOperator, IsEquality, IsLogic, Operates, adds}
+use Rattle.law_typing.specs.Operators.{IsUntyped, HaveCommonKind, of_one_type, right_fits, left_fits}
+use Rattle.law_typing.specs.Operators.{of_one_kind, IsOrderOperator, IsEquality, IsLogic, Operates, adds}
 use Rattle.law_typing.specs.Operators.{computes, orders, connects, compares, compares_with_nil}
 use Rattle.law_typing.specs.Meanings.{HasMeaning}
 use Rattle.law_typing.proofs.BrokenRules.{no_fault}

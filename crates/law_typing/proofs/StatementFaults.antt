@@ -8,17 +8,21 @@ use Rattle.types_expr.specs.Judge.{ListValue}
 use Rattle.types_stmt.specs.Checked.{FoundSoFar}
 use Rattle.types_stmt.specs.Sides.{Target, rhs, receiving}
 use Rattle.types_stmt.specs.Simple.{check_simple, check_optional_simple, check_condition, check_optional_condition}
-use Rattle.types_stmt.specs.Statements.{returned, check_return, check_init, check_for_header, check_statement, check_block, check_statements, check_if, check_else}
+use Rattle.types_stmt.specs.Statements.{returned, check_return, check_init, check_for_header}
+use Rattle.types_stmt.specs.Statements.{check_statement, check_block, check_statements, check_if, check_else}
 use Rattle.law_typing.specs.Sequences.{PartRule, IfPresent}
 use Rattle.law_typing.specs.AssignmentFaults.{SidesGive, taker_of, IsReturnFault, as_targets}
-use Rattle.law_typing.specs.DeclaredLocals.{SimpleDeclares, InitDeclares, behind_init, HeaderDeclares, behind_for, behind_while, behind_clauses, StatementDeclares}
+use Rattle.law_typing.specs.DeclaredLocals.{SimpleDeclares, InitDeclares, behind_init, HeaderDeclares}
+use Rattle.law_typing.specs.DeclaredLocals.{behind_for, behind_while, behind_clauses, StatementDeclares}
 use Rattle.law_typing.specs.DeclaredLocals.{behind_nothing, behind_declaration, behind_simple, behind_inner, behind_choice, behind_loop, behind_break}
-use Rattle.law_typing.specs.DeclaredLocals.{behind_continue, behind_return, BlockDeclares, behind_block, StatementsDeclare, behind_none, behind_one, IfDeclares, behind_if}
+use Rattle.law_typing.specs.DeclaredLocals.{behind_continue, behind_return, BlockDeclares, behind_block}
+use Rattle.law_typing.specs.DeclaredLocals.{StatementsDeclare, behind_none, behind_one, IfDeclares, behind_if}
 use Rattle.law_typing.specs.DeclaredLocals.{ElseDeclares, without_else, behind_else_if, behind_else}
 use Rattle.law_typing.specs.SequenceFaults.{FaultRule, BreaksIfPresent}
 use Rattle.law_typing.specs.SimpleFaults.{ConditionBreaksAt, SidesBreakAt, SimpleBreaksAt}
 use Rattle.law_typing.specs.StatementFaults.{InitBreaksAt, in_init, HeaderBreaksAt, in_while, in_first, in_test, in_post, StatementBreaksAt, in_declaration}
-use Rattle.law_typing.specs.StatementFaults.{in_simple, in_inner, in_choice, in_header, in_loop, in_return, no_return, BlockBreaksAt, in_block, StatementsBreakAt}
+use Rattle.law_typing.specs.StatementFaults.{in_simple, in_inner, in_choice, in_header, in_loop}
+use Rattle.law_typing.specs.StatementFaults.{in_return, no_return, BlockBreaksAt, in_block, StatementsBreakAt}
 use Rattle.law_typing.specs.StatementFaults.{this_statement, later_statement, IfBreaksAt, before_condition, in_condition, in_then, in_otherwise, ElseBreaksAt}
 use Rattle.law_typing.specs.StatementFaults.{in_else_if, in_else}
 use Rattle.law_typing.proofs.FaultLists.{HasToken, AreExactly, both_told, holds_left}
@@ -28,7 +32,8 @@ use Rattle.law_typing.proofs.SimpleFaults.{Keeps, keeps, condition_told, simple_
 use Rattle.law_typing.proofs.LocalFaults.{aim_of_type, local_told}
 
 -- a check that is equal to another
-pub told_by : {X : Type 0} {R : PartRule X} {B : FaultRule X} {d : FoundSoFar → X → FoundSoFar} (c : FoundSoFar → X → FoundSoFar) → ((s : FoundSoFar) (x : X) → c s x ≡ d s x) →
+pub told_by : {X : Type 0} {R : PartRule X} {B : FaultRule X} {d : FoundSoFar → X → FoundSoFar} (c : FoundSoFar → X → FoundSoFar) →
+    ((s : FoundSoFar) (x : X) → c s x ≡ d s x) →
     IsExact X R B d →
     IsExact X R B c
 told_by {R = R} {B = B} c e t = record {
@@ -120,7 +125,8 @@ header_stays w s (tree.clauses init o condition q post) p h = let t = optional_t
     let c = test_told w in
     t.stays (clauses_at w s init condition) post p (c.stays (check_optional_simple w s init) condition p (t.stays s init p h))
 
-header_found : (w : World) (s : FoundSoFar) (h : ForTree) (p : ℕ) → HasToken (check_for_header w s h).faults p → HasToken s.faults p ⊎ HeaderBreaksAt w s.locals h p
+header_found : (w : World) (s : FoundSoFar) (h : ForTree) (p : ℕ) → HasToken (check_for_header w s h).faults p →
+    HasToken s.faults p ⊎ HeaderBreaksAt w s.locals h p
 unfolding check_for_header
 header_found w s tree.forever p h = inl h
 header_found w s (tree.while e) p h = let c = condition_told w in elim (c.found s e p h) [ inl a ↦ inl a | inr b ↦ inr (in_while b) ]
@@ -207,7 +213,8 @@ mutual
   pub block_leads : (w : World) (targets : List Target) (s : FoundSoFar) (x : BlockTree) → BlockDeclares w s.locals x (check_block w targets s x).locals
   block_leads w targets s (tree.block o ss c) = behind_block (statements_lead w targets s ss)
 
-  statements_lead : (w : World) (targets : List Target) (s : FoundSoFar) (x : StatementTrees) → StatementsDeclare w s.locals x (check_statements w targets s x).locals
+  statements_lead : (w : World) (targets : List Target) (s : FoundSoFar) (x : StatementTrees) → StatementsDeclare w s.locals x (check_statements w targets s
+      x).locals
   statements_lead w targets s tree.no_statement = behind_none
   statements_lead w targets s (tree.statement x p rest) = behind_one (statement_leads w targets s x) (statements_lead w targets
       (check_statement w targets s x) rest)
@@ -256,7 +263,8 @@ mutual
   if_only w targets s (tree.if_tree p init e b otherwise) after (behind_if {entered = entered} {inside = inside} i r more) = let t = init_told w in
       let A = check_init w s init in
       let C = check_condition w A e in
-      else_only w targets (check_block w targets C b) otherwise after (subst (λ z. ElseDeclares w z otherwise after) (sym (block_only w targets C b inside (subst
+      else_only w targets (check_block w targets C b) otherwise after (subst (λ z. ElseDeclares w z otherwise after) (sym (block_only w targets C b inside
+      (subst
       (λ z. BlockDeclares w z b inside) (sym (condition_keeps w A e ∙ t.only s init entered i)) r))) more)
 
   else_only : (w : World) (targets : List Target) (s : FoundSoFar) (x : ElseTree) (after : Locals) → ElseDeclares w s.locals x after →
@@ -283,7 +291,8 @@ mutual
   statement_stays w targets s (tree.Return q es) p h = holds_left s.faults ((rhs w s.locals es).faults ++ returned (receiving w es (rhs w s.locals es).values) q
       (rhs w s.locals es).values targets) p h
 
-  pub block_stays : (w : World) (targets : List Target) (s : FoundSoFar) (x : BlockTree) (p : ℕ) → HasToken s.faults p → HasToken (check_block w targets s x).faults p
+  pub block_stays : (w : World) (targets : List Target) (s : FoundSoFar) (x : BlockTree) (p : ℕ) → HasToken s.faults p →
+      HasToken (check_block w targets s x).faults p
   block_stays w targets s (tree.block o ss c) p h = statements_stay w targets s ss p h
 
   statements_stay : (w : World) (targets : List Target) (s : FoundSoFar) (x : StatementTrees) (p : ℕ) → HasToken s.faults p →
@@ -328,7 +337,8 @@ mutual
   statement_found w results s (tree.Continue q) p h = inl h
   statement_found w results s (tree.Return q es) p h = added_found s.faults (return_places w results s.locals q es) p h
 
-  pub block_found : (w : World) (results : List (Option PlainType)) (s : FoundSoFar) (x : BlockTree) (p : ℕ) → HasToken (check_block w (as_targets results) s x).faults p →
+  pub block_found : (w : World) (results : List (Option PlainType)) (s : FoundSoFar) (x : BlockTree) (p : ℕ) →
+      HasToken (check_block w (as_targets results) s x).faults p →
       HasToken s.faults p ⊎ BlockBreaksAt w results s.locals x p
   block_found w results s (tree.block o ss c) p h = elim (statements_found w results s ss p h) [ inl a ↦ inl a | inr b ↦ inr (in_block b) ]
 
@@ -359,7 +369,8 @@ mutual
         | inr b ↦ inr (in_otherwise (t.leads s init) (subst (λ z. BlockDeclares w z x D.locals) k (block_leads w (as_targets results) C x)) b)
       ]
 
-  else_found : (w : World) (results : List (Option PlainType)) (s : FoundSoFar) (x : ElseTree) (p : ℕ) → HasToken (check_else w (as_targets results) s x).faults p →
+  else_found : (w : World) (results : List (Option PlainType)) (s : FoundSoFar) (x : ElseTree) (p : ℕ) →
+      HasToken (check_else w (as_targets results) s x).faults p →
       HasToken s.faults p ⊎ ElseBreaksAt w results s.locals x p
   else_found w results s tree.no_else p h = inl h
   else_found w results s (tree.else_if q i) p h = elim (if_found w results s i p h) [ inl a ↦ inl a | inr b ↦ inr (in_else_if b) ]
@@ -370,7 +381,8 @@ mutual
 mutual
   unfolding check_statement check_return
 
-  pub statement_stands : (w : World) (results : List (Option PlainType)) (s : FoundSoFar) (x : StatementTree) (p : ℕ) → StatementBreaksAt w results s.locals x p →
+  pub statement_stands : (w : World) (results : List (Option PlainType)) (s : FoundSoFar) (x : StatementTree) (p : ℕ) →
+      StatementBreaksAt w results s.locals x p →
       HasToken (check_statement w (as_targets results) s x).faults p
   statement_stands w results s tree.Empty p b = elim b [ ]
   statement_stands w results s (tree.Var q g) p (in_declaration b) = let t = group_told (local_told w) in t.stands s g p b
@@ -391,7 +403,8 @@ mutual
   statements_stand : (w : World) (results : List (Option PlainType)) (s : FoundSoFar) (x : StatementTrees) (p : ℕ) → StatementsBreakAt w results s.locals x p →
       HasToken (check_statements w (as_targets results) s x).faults p
   statements_stand w results s tree.no_statement p b = elim b [ ]
-  statements_stand w results s (tree.statement x q rest) p (this_statement b) = statements_stay w (as_targets results) (check_statement w (as_targets results) s x) rest p
+  statements_stand w results s (tree.statement x q rest) p (this_statement b) = statements_stay w (as_targets results) (check_statement w (as_targets
+      results) s x) rest p
       (statement_stands w results s x p b)
   statements_stand w results s (tree.statement x q rest) p (later_statement {inside = inside} r b) = statements_stand w results (check_statement w
       (as_targets results) s x) rest p
@@ -403,7 +416,8 @@ mutual
       let c = condition_told w in
       let A = check_init w s init in
       let C = check_condition w A e in
-      else_stays w (as_targets results) (check_block w (as_targets results) C x) otherwise p (block_stays w (as_targets results) C x p (c.stays A e p (t.stands s init p b)))
+      else_stays w (as_targets results) (check_block w (as_targets results) C x) otherwise p (block_stays w (as_targets results) C x p (c.stays A e p
+      (t.stands s init p b)))
   if_stands w results s (tree.if_tree q init e x otherwise) p (in_condition {entered = entered} i b) = let t = init_told w in
       let c = condition_told w in
       let A = check_init w s init in
@@ -413,7 +427,8 @@ mutual
   if_stands w results s (tree.if_tree q init e x otherwise) p (in_then {entered = entered} i b) = let t = init_told w in
       let A = check_init w s init in
       let C = check_condition w A e in
-      else_stays w (as_targets results) (check_block w (as_targets results) C x) otherwise p (block_stands w results C x p (subst (λ z. BlockBreaksAt w results z x p)
+      else_stays w (as_targets results) (check_block w (as_targets results) C x) otherwise p (block_stands w results C x p (subst (λ z. BlockBreaksAt w
+      results z x p)
       (sym (condition_keeps w A e ∙ t.only s init entered i)) b))
   if_stands w results s (tree.if_tree q init e x otherwise) p (in_otherwise {entered = entered} {inside = inside} i r b) = let t = init_told w in
       let A = check_init w s init in
@@ -438,7 +453,8 @@ statement_told w results = record {
   stands = statement_stands w results;
 }
 
-pub block_told : (w : World) (results : List (Option PlainType)) → IsExact BlockTree (BlockDeclares w) (BlockBreaksAt w results) (check_block w (as_targets results))
+pub block_told : (w : World) (results : List (Option PlainType)) → IsExact BlockTree (BlockDeclares w) (BlockBreaksAt w results) (check_block w (as_targets
+    results))
 block_told w results = record {
   leads = block_leads w (as_targets results);
   only = block_only w (as_targets results);

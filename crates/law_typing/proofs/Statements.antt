@@ -7,7 +7,8 @@ use Rattle.types_expr.specs.World.{World, Locals}
 use Rattle.types_stmt.specs.Checked.{FoundSoFar}
 use Rattle.types_stmt.specs.Sides.{Target, rhs, given_enterings, receiving}
 use Rattle.types_stmt.specs.Simple.{check_optional_simple, check_condition, check_optional_condition, check_local}
-use Rattle.types_stmt.specs.Statements.{returned, check_return, check_init, check_for_header, check_statement, check_block, check_statements, check_if, check_else}
+use Rattle.types_stmt.specs.Statements.{returned, check_return, check_init, check_for_header}
+use Rattle.types_stmt.specs.Statements.{check_statement, check_block, check_statements, check_if, check_else}
 use Rattle.law_typing.specs.BrokenUses.{UsesBroken}
 use Rattle.law_typing.proofs.Judgements.{empty_first, empty_second, empty_both}
 use Rattle.law_typing.specs.Sequences.{IfPresent, absent, present, ExcusedIfPresent, excused_present}

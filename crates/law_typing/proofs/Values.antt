@@ -83,7 +83,8 @@ pub record AreGiven (js : JudgedList) (ks : List ValueKind) : Type 0 where
   pub kinds : AreOf js.values ks
   pub faultless : js.faults ≡ []
 
-each_given : (w : World) (locals : Locals) {is : List (Item ExprTree)} {ks : List ValueKind} → AreEachValues w locals is ks → AreGiven (judge_each w locals is) ks
+each_given : (w : World) (locals : Locals) {is : List (Item ExprTree)} {ks : List ValueKind} → AreEachValues w locals is ks →
+    AreGiven (judge_each w locals is) ks
 unfolding judge_each
 each_given w locals no_expression = record { kinds = tt; faultless = refl }
 each_given w locals (also_value {i} {is} h more) = let a = value_true w locals i.value h in

@@ -26,7 +26,8 @@ pub data GivesKind (w : World) (locals : Locals) (e : ExprTree) : Option ValueKi
 -- each expression gives the value at its position
 pub data EachGives (w : World) (locals : Locals) : List (Item ExprTree) → List ListValue → Type 0 where
   none_left : EachGives w locals [] []
-  one_more : {i : Item ExprTree} {is : List (Item ExprTree)} {k : Option ValueKind} {vs : List ListValue} → GivesKind w locals i.value k → EachGives w locals is vs →
+  one_more : {i : Item ExprTree} {is : List (Item ExprTree)} {k : Option ValueKind} {vs : List ListValue} → GivesKind w locals i.value k →
+      EachGives w locals is vs →
       EachGives w locals (i ∷ is) (given_at (place_of i.value) k ∷ vs)
 
 -- Right sides or returned expressions give these values. A single call with several results, or with none, gives these, each at the place
@@ -35,9 +36,11 @@ pub data SidesGive (w : World) (locals : Locals) : List (Item ExprTree) → List
   nothing_given : SidesGive w locals [] []
   a_call : {i : Item ExprTree} {ts : List PlainType} → HasMeaning w locals i.value (Results ts) →
       SidesGive w locals (i ∷ []) (map (λ t. given_at (place_of i.value) (Some (Typed t))) ts)
-  one_given : {i : Item ExprTree} {k : Option ValueKind} → ((ts : List PlainType) → HasMeaning w locals i.value (Results ts) → ⊥) → GivesKind w locals i.value k →
+  one_given : {i : Item ExprTree} {k : Option ValueKind} → ((ts : List PlainType) → HasMeaning w locals i.value (Results ts) → ⊥) →
+      GivesKind w locals i.value k →
       SidesGive w locals (i ∷ []) (given_at (place_of i.value) k ∷ [])
-  several_given : {i j : Item ExprTree} {is : List (Item ExprTree)} {vs : List ListValue} → EachGives w locals (i ∷ j ∷ is) vs → SidesGive w locals (i ∷ j ∷ is) vs
+  several_given : {i j : Item ExprTree} {is : List (Item ExprTree)} {vs : List ListValue} → EachGives w locals (i ∷ j ∷ is) vs →
+      SidesGive w locals (i ∷ j ∷ is) vs
 
 -- Left sides
 
@@ -80,7 +83,8 @@ pub data Refuses (w : World) : Option ValueKind → Option Taker → Type 0 wher
 
 -- one of the values, at this token, is refused by the target at its position
 pub data RefusedInTurn (w : World) : List ListValue → List (Option Taker) → ℕ → Type 0 where
-  this_refused : {v : ListValue} {vs : List ListValue} {t : Option Taker} {ts : List (Option Taker)} → Refuses w v.kind t → RefusedInTurn w (v ∷ vs) (t ∷ ts) v.place
+  this_refused : {v : ListValue} {vs : List ListValue} {t : Option Taker} {ts : List (Option Taker)} → Refuses w v.kind t →
+      RefusedInTurn w (v ∷ vs) (t ∷ ts) v.place
   later_refused : {v : ListValue} {vs : List ListValue} {t : Option Taker} {ts : List (Option Taker)} {p : ℕ} → RefusedInTurn w vs ts p →
       RefusedInTurn w (v ∷ vs) (t ∷ ts) p
 

@@ -43,7 +43,8 @@ pub data GiveKinds (w : World) (locals : Locals) : List (Item ExprTree) → List
 -- is given by its token, and is none where it declares no local.
 pub data Declare : Locals → List (Option ℕ) → List ValueKind → Locals → Type 0 where
   no_name : {before : Locals} → Declare before [] [] before
-  no_local : {before after : Locals} {k : ValueKind} {ns : List (Option ℕ)} {ks : List ValueKind} → Declare before ns ks after → Declare before (None ∷ ns) (k ∷ ks) after
+  no_local : {before after : Locals} {k : ValueKind} {ns : List (Option ℕ)} {ks : List ValueKind} → Declare before ns ks after →
+      Declare before (None ∷ ns) (k ∷ ks) after
   new_local : {before after : Locals} {p : ℕ} {k : ValueKind} {t : PlainType} {ns : List (Option ℕ)} {ks : List ValueKind} → DefaultsTo k t →
       Declare (declared before p (Some t)) ns ks after →
       Declare before (Some p ∷ ns) (k ∷ ks) after

@@ -48,7 +48,8 @@ mutual
         LinksUseBroken w locals m (tree.call o arguments c rest)
     behind_selector : {d n : ℕ} {rest : LinkTrees} {m s : Meaning} → SelectsMember w locals m n s → LinksUseBroken w locals s rest →
         LinksUseBroken w locals m (tree.selector d n rest)
-    behind_index : {o c : ℕ} {e : ExprTree} {rest : LinkTrees} {m s : Meaning} {k : ValueKind} {a : Bool} → HasMeaning w locals e (Value k a) → Indexes w m k s →
+    behind_index : {o c : ℕ} {e : ExprTree} {rest : LinkTrees} {m s : Meaning} {k : ValueKind} {a : Bool} → HasMeaning w locals e (Value k a) →
+        Indexes w m k s →
         LinksUseBroken w locals s rest →
         LinksUseBroken w locals m (tree.index o e c rest)
     behind_call : {o c : ℕ} {arguments : ArgumentTrees} {rest : LinkTrees} {m s : Meaning} {ks : List ValueKind} → AreValues w locals arguments ks →

@@ -49,7 +49,8 @@ pub data DeclareInferred : Locals → List (Option ℕ) → List ListValue → L
 -- the names that left sides of `:=` declare, by their tokens; none for a left side that declares no local
 pub data DeclaresNames (w : World) : List (Item ExprTree) → List (Option ℕ) → Type 0 where
   no_names : DeclaresNames w [] []
-  a_new_name : {i : Item ExprTree} {is : List (Item ExprTree)} {p : ℕ} {ns : List (Option ℕ)} → i.value ≡ tree.Name p → w.bound p ≡ Local p → DeclaresNames w is ns →
+  a_new_name : {i : Item ExprTree} {is : List (Item ExprTree)} {p : ℕ} {ns : List (Option ℕ)} → i.value ≡ tree.Name p → w.bound p ≡ Local p →
+      DeclaresNames w is ns →
       DeclaresNames w (i ∷ is) (Some p ∷ ns)
   no_new_name : {i : Item ExprTree} {is : List (Item ExprTree)} {ns : List (Option ℕ)} → (IsDeclaredName w i.value → ⊥) → DeclaresNames w is ns →
       DeclaresNames w (i ∷ is) (None ∷ ns)
@@ -108,7 +109,8 @@ mutual
 
   -- a block
   pub data BlockDeclares (w : World) : Locals → BlockTree → Locals → Type 0 where
-    behind_block : {before after : Locals} {o c : ℕ} {ss : StatementTrees} → StatementsDeclare w before ss after → BlockDeclares w before (tree.block o ss c) after
+    behind_block : {before after : Locals} {o c : ℕ} {ss : StatementTrees} → StatementsDeclare w before ss after →
+        BlockDeclares w before (tree.block o ss c) after
 
   -- statements in turn
   pub data StatementsDeclare (w : World) : Locals → StatementTrees → Locals → Type 0 where

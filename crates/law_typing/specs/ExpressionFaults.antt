@@ -97,7 +97,8 @@ mutual
         LinksBreakAt w locals start place m (tree.index o e c rest) p
     no_int : {start place o c : ℕ} {e : ExprTree} {rest : LinkTrees} {m : Option Meaning} {k : ValueKind} {a : Bool} → HasMeaning w locals e (Value k a) →
         (IsBasic w k basic.Int → ⊥) → LinksBreakAt w locals start place m (tree.index o e c rest) (place_of e)
-    no_slice : {start place o c : ℕ} {e : ExprTree} {rest : LinkTrees} {j k : ValueKind} {a b : Bool} → HasMeaning w locals e (Value k a) → IsBasic w k basic.Int →
+    no_slice : {start place o c : ℕ} {e : ExprTree} {rest : LinkTrees} {j k : ValueKind} {a b : Bool} → HasMeaning w locals e (Value k a) →
+        IsBasic w k basic.Int →
         ((s : Meaning) → Indexes w (Value j b) k s → ⊥) → LinksBreakAt w locals start place (Some (Value j b)) (tree.index o e c rest) start
     behind_index : {start place o c p : ℕ} {e : ExprTree} {rest : LinkTrees} {m s : Option Meaning} → NextMeaning (IndexedBy w locals e) m s →
         LinksBreakAt w locals start start s rest p → LinksBreakAt w locals start place m (tree.index o e c rest) p
@@ -107,7 +108,8 @@ mutual
         LinksBreakAt w locals start place m (tree.call o xs c rest) p
     misfit : {start place o c p : ℕ} {xs : ArgumentTrees} {rest : LinkTrees} {m : Meaning} → Misfits w locals m xs p →
         LinksBreakAt w locals start place (Some m) (tree.call o xs c rest) p
-    no_call : {start place o c : ℕ} {xs : ArgumentTrees} {rest : LinkTrees} {m : Meaning} {ks : List ValueKind} → (IsNoCallee m → ⊥) → AreValues w locals xs ks →
+    no_call : {start place o c : ℕ} {xs : ArgumentTrees} {rest : LinkTrees} {m : Meaning} {ks : List ValueKind} → (IsNoCallee m → ⊥) →
+        AreValues w locals xs ks →
         ((s : Meaning) → CallGives w m ks s → ⊥) → ((p : ℕ) → Misfits w locals m xs p → ⊥) →
         LinksBreakAt w locals start place (Some m) (tree.call o xs c rest) start
     behind_call : {start place o c p : ℕ} {xs : ArgumentTrees} {rest : LinkTrees} {m s : Option Meaning} → NextMeaning (CalledWith w locals xs) m s →
@@ -157,7 +159,8 @@ mutual
     no_key : {t : PlainType} {named : List ℕ} {key : ℕ × ℕ} {e : ExprTree} {c : Option ℕ} {rest : ElementTrees} →
         ((s : Symbol) (u : PlainType) → IsKey w t named key.0 s u → ⊥) → (IsBrokenKey w t key.0 → ⊥) →
         ElementsBreakAt w locals t named (tree.element (Some key) e c rest) key.0
-    field_misfit : {t : PlainType} {named : List ℕ} {key : ℕ × ℕ} {e : ExprTree} {c : Option ℕ} {rest : ElementTrees} {s : Symbol} {u : PlainType} {k : ValueKind}
+    field_misfit : {t : PlainType} {named : List ℕ} {key : ℕ × ℕ} {e : ExprTree} {c : Option ℕ} {rest : ElementTrees} {s : Symbol} {u : PlainType} {k :
+        ValueKind}
         {a : Bool} →
         IsKey w t named key.0 s u → HasMeaning w locals e (Value k a) → (FitsType w k u → ⊥) →
         ElementsBreakAt w locals t named (tree.element (Some key) e c rest) (place_of e)

@@ -143,7 +143,8 @@ mutual
         LinksHaveFault w locals start place (Some (Value k a)) (tree.selector d n rest) n
     no_selection : {start place d n : ℕ} {rest : LinkTrees} {m : Meaning} → IsNoOperand m →
         LinksHaveFault w locals start place (Some m) (tree.selector d n rest) place
-    behind_selector : {start place d n p : ℕ} {rest : LinkTrees} {m s : Meaning} → SelectsMember w locals m n s → LinksHaveFault w locals start n (Some s) rest p →
+    behind_selector : {start place d n p : ℕ} {rest : LinkTrees} {m s : Meaning} → SelectsMember w locals m n s →
+        LinksHaveFault w locals start n (Some s) rest p →
         LinksHaveFault w locals start place (Some m) (tree.selector d n rest) p
     behind_no_selector : {start place d n p : ℕ} {rest : LinkTrees} {m : Option Meaning} → LinksHaveFault w locals start n None rest p →
         LinksHaveFault w locals start place m (tree.selector d n rest) p
@@ -154,7 +155,8 @@ mutual
     no_int : {start place o c : ℕ} {e : ExprTree} {rest : LinkTrees} {m : Option Meaning} {k : ValueKind} {a : Bool} → HasMeaning w locals e (Value k a) →
         (IsBasic w k basic.Int → ⊥) →
         LinksHaveFault w locals start place m (tree.index o e c rest) (place_of e)
-    no_slice : {start place o c : ℕ} {e : ExprTree} {rest : LinkTrees} {j k : ValueKind} {a b : Bool} → HasMeaning w locals e (Value k a) → IsBasic w k basic.Int →
+    no_slice : {start place o c : ℕ} {e : ExprTree} {rest : LinkTrees} {j k : ValueKind} {a b : Bool} → HasMeaning w locals e (Value k a) →
+        IsBasic w k basic.Int →
         ((s : Meaning) → Indexes w (Value j b) k s → ⊥) →
         LinksHaveFault w locals start place (Some (Value j b)) (tree.index o e c rest) start
     behind_index : {start place o c p : ℕ} {e : ExprTree} {rest : LinkTrees} {m s : Meaning} {k : ValueKind} {a : Bool} → HasMeaning w locals e (Value k a) →
@@ -185,7 +187,8 @@ mutual
     no_operation : {start q : ℕ} {o : BinaryOp} {e : ExprTree} {rest : OperandTrees} {j k : ValueKind} {a b : Bool} → HasMeaning w locals e (Value k b) →
         ((l : ValueKind) → Operates w o j k l → ⊥) →
         OperandsHaveFault w locals start (Some (Value j a)) (tree.operand o q e rest) start
-    behind_operation : {start q p : ℕ} {o : BinaryOp} {e : ExprTree} {rest : OperandTrees} {j k l : ValueKind} {a b : Bool} → HasMeaning w locals e (Value k b) →
+    behind_operation : {start q p : ℕ} {o : BinaryOp} {e : ExprTree} {rest : OperandTrees} {j k l : ValueKind} {a b : Bool} →
+        HasMeaning w locals e (Value k b) →
         Operates w o j k l →
         OperandsHaveFault w locals start (Some (Value l false)) rest p → OperandsHaveFault w locals start (Some (Value j a)) (tree.operand o q e rest) p
     behind_no_operation : {start q p : ℕ} {o : BinaryOp} {e : ExprTree} {rest : OperandTrees} {m : Option Meaning} →
@@ -225,7 +228,8 @@ mutual
     no_key : {t : PlainType} {named : List ℕ} {key : ℕ × ℕ} {e : ExprTree} {c : Option ℕ} {rest : ElementTrees} →
         ((s : Symbol) (u : PlainType) → IsKey w t named key.0 s u → ⊥) → (IsBrokenKey w t key.0 → ⊥) →
         ElementsHaveFault w locals t named (tree.element (Some key) e c rest) key.0
-    field_misfit : {t u : PlainType} {named : List ℕ} {key : ℕ × ℕ} {e : ExprTree} {c : Option ℕ} {rest : ElementTrees} {s : Symbol} {k : ValueKind} {a : Bool} →
+    field_misfit : {t u : PlainType} {named : List ℕ} {key : ℕ × ℕ} {e : ExprTree} {c : Option ℕ} {rest : ElementTrees} {s : Symbol} {k : ValueKind} {a :
+        Bool} →
         IsKey w t named key.0 s u → HasMeaning w locals e (Value k a) →
         (FitsType w k u → ⊥) → ElementsHaveFault w locals t named (tree.element (Some key) e c rest) (place_of e)
     element_misfit : {t u : PlainType} {named : List ℕ} {key : Option (ℕ × ℕ)} {e : ExprTree} {c : Option ℕ} {rest : ElementTrees} {k : ValueKind} {a : Bool} →

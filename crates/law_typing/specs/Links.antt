@@ -4,7 +4,8 @@ use Rattle.types_expr.specs.declared.types.Basic.{Basic}
 use Rattle.types_expr.specs.declared.types.Basic.TheVariants as basic
 use Rattle.types_expr.specs.declared.types.Builtin.TheVariants as builtin
 use Rattle.types_expr.specs.declared.symbol.Symbol.{Symbol}
-use Rattle.types_expr.specs.Types.{PlainType, BasicType, Pointer, PointerTo, SliceOf, ValueKind, Typed, Signature, Meaning, Value, TypeName, Function, BuiltinName}
+use Rattle.types_expr.specs.Types.{PlainType, BasicType, Pointer, PointerTo, SliceOf, ValueKind}
+use Rattle.types_expr.specs.Types.{Typed, Signature, Meaning, Value, TypeName, Function, BuiltinName}
 use Rattle.types_expr.specs.Types.{Package, Results, AFieldOf, AMethodOf}
 use Rattle.types_expr.specs.World.{World, Locals, AField, AMethod, underlying}
 use Rattle.law_typing.specs.Fits.{Converts, FitInTurn, EachFits}
@@ -34,7 +35,8 @@ pub data SelectsMember (w : World) (locals : Locals) : Meaning → ℕ → Meani
 -- An index of this kind, after an operand of the first meaning, gives the second: an int gives the element of a slice, which is
 -- addressable.
 pub data Indexes (w : World) : Meaning → ValueKind → Meaning → Type 0 where
-  element : {t u : PlainType} {a : Bool} {i : ValueKind} → underlying w t ≡ SliceOf u → IsBasic w i basic.Int → Indexes w (Value (Typed t) a) i (Value (Typed u) true)
+  element : {t u : PlainType} {a : Bool} {i : ValueKind} → underlying w t ≡ SliceOf u → IsBasic w i basic.Int →
+      Indexes w (Value (Typed t) a) i (Value (Typed u) true)
 
 -- a call of a function with these results has this meaning: a value, where it has exactly one result
 pub data ResultsMean : List PlainType → Meaning → Type 0 where

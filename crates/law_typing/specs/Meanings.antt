@@ -44,7 +44,8 @@ mutual
     index : {o c : ℕ} {e : ExprTree} {rest : LinkTrees} {m s r : Meaning} {k : ValueKind} {a : Bool} → HasMeaning w locals e (Value k a) → Indexes w m k s →
         LinksMean w locals s rest r →
         LinksMean w locals m (tree.index o e c rest) r
-    call : {o c : ℕ} {arguments : ArgumentTrees} {rest : LinkTrees} {m s r : Meaning} {ks : List ValueKind} → AreValues w locals arguments ks → CallGives w m ks s →
+    call : {o c : ℕ} {arguments : ArgumentTrees} {rest : LinkTrees} {m s r : Meaning} {ks : List ValueKind} → AreValues w locals arguments ks →
+        CallGives w m ks s →
         LinksMean w locals s rest r →
         LinksMean w locals m (tree.call o arguments c rest) r
 
@@ -82,6 +83,7 @@ mutual
   -- the elements of a slice literal are typed: none has a key, and each is a value that fits the element type
   pub data AreElements (w : World) (locals : Locals) : PlainType → ElementTrees → Type 0 where
     no_element : {u : PlainType} → AreElements w locals u tree.no_element
-    element : {u : PlainType} {e : ExprTree} {c : Option ℕ} {rest : ElementTrees} {k : ValueKind} {a : Bool} → HasMeaning w locals e (Value k a) → FitsType w k u →
+    element : {u : PlainType} {e : ExprTree} {c : Option ℕ} {rest : ElementTrees} {k : ValueKind} {a : Bool} → HasMeaning w locals e (Value k a) →
+        FitsType w k u →
         AreElements w locals u rest →
         AreElements w locals u (tree.element None e c rest)

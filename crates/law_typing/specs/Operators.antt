@@ -63,7 +63,8 @@ pub data IsComparable (w : World) : ValueKind → Type 0 where
 pub data Operates (w : World) : BinaryOp → ValueKind → ValueKind → ValueKind → Type 0 where
   adds : {a b k : ValueKind} → HaveCommonKind w a b k → IsBasic w k basic.Int ⊎ IsBasic w k basic.String → Operates w op.Add a b k
   computes : {o : BinaryOp} {a b k : ValueKind} → IsArithmetic o → HaveCommonKind w a b k → IsBasic w k basic.Int → Operates w o a b k
-  orders : {o : BinaryOp} {a b k : ValueKind} → IsOrderOperator o → HaveCommonKind w a b k → IsBasic w k basic.Int ⊎ IsBasic w k basic.String → Operates w o a b (Untyped basic.Bool)
+  orders : {o : BinaryOp} {a b k : ValueKind} → IsOrderOperator o → HaveCommonKind w a b k → IsBasic w k basic.Int ⊎ IsBasic w k basic.String →
+      Operates w o a b (Untyped basic.Bool)
   connects : {o : BinaryOp} {a b k : ValueKind} → IsLogic o → HaveCommonKind w a b k → IsBasic w k basic.Bool → Operates w o a b k
   compares : {o : BinaryOp} {a b k : ValueKind} → IsEquality o → HaveCommonKind w a b k → IsComparable w k → Operates w o a b (Untyped basic.Bool)
   compares_with_nil : {o : BinaryOp} {t : PlainType} → IsEquality o → FitsType w Nil t → Operates w o (Typed t) Nil (Untyped basic.Bool)

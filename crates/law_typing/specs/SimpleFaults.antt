@@ -31,7 +31,8 @@ pub data OperandBreaksAt (w : World) (locals : Locals) : ExprTree → ℕ → Ty
 -- a condition breaks a rule at this token: a part of it does, or it is no bool
 pub data ConditionBreaksAt (w : World) (locals : Locals) : ExprTree → ℕ → Type 0 where
   in_condition : {e : ExprTree} {p : ℕ} → ValueBreaksAt w locals e p → ConditionBreaksAt w locals e p
-  no_bool : {e : ExprTree} {k : ValueKind} {a : Bool} → HasMeaning w locals e (Value k a) → (IsBasic w k basic.Bool → ⊥) → ConditionBreaksAt w locals e (place_of e)
+  no_bool : {e : ExprTree} {k : ValueKind} {a : Bool} → HasMeaning w locals e (Value k a) → (IsBasic w k basic.Bool → ⊥) →
+      ConditionBreaksAt w locals e (place_of e)
 
 -- A single right side breaks a rule at this token: a part of it does, or it is neither a value nor a call with several results or none.
 pub data SingleBreaksAt (w : World) (locals : Locals) : ExprTree → ℕ → Type 0 where

@@ -33,9 +33,10 @@ module _ (name : List ℕ) (old new : Documents) (document : Option Document)
     others = λ other apart. rw (another name other apart) at (btree_map_updates_text name old.entries new.entries document updates other);
   }
 
-module _ (name uri : List ℕ) (version : ℤ) (text : List ℕ) (old new : Documents) (document : Document) (holds : HoldsText document uri version (Some text)) where
-  pub opened : IsOnlyChange name (Some document) old new → OpensDocument name uri version text old new
-  opened h = (document, holds, h)
+module _ (name uri : List ℕ) (version : ℤ) (text : List ℕ) (old new : Documents) (document : Document) (holds : HoldsText document uri version (Some text))
+  where
+    pub opened : IsOnlyChange name (Some document) old new → OpensDocument name uri version text old new
+    opened h = (document, holds, h)
 
 module _ (encoding : PositionEncoding) (name : List ℕ) (version : ℤ) (changes : List TextChange) (old new : Documents) (before after : Document)
     (found : Some before ≡ document_at old name) (follows : IsDocumentAfter encoding version changes before after) where

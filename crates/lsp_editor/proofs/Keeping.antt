@@ -1,5 +1,6 @@
 -- What is published of documents, one after another, and what is kept of it.
-use Rattle.std.proofs.Common.{ℕ, ◌≡◌, ◌∙◌, ◌<◌, ◌+◌, ◌||◌, zero, suc, Bool, true, false, arith, cond, List, [], ◌∷◌, ◌++◌, Option, Some, append_assoc, bytes_eq, get_or, length, map, option_map, string_bytes, take, refl, sym, ap, subst}
+use Rattle.std.proofs.Common.{ℕ, ◌≡◌, ◌∙◌, ◌<◌, ◌+◌, ◌||◌, zero, suc, Bool, true, false, arith, cond, List, []}
+use Rattle.std.proofs.Common.{◌∷◌, ◌++◌, Option, Some, append_assoc, bytes_eq, get_or, length, map, option_map, string_bytes, take, refl, sym, ap, subst}
 use Rattle.std.proofs.lemmas.Bool.{true≢false}
 use Rattle.std.proofs.lemmas.List.{append-nil, map-append}
 use Rattle.std.proofs.lemmas.Map.Text.{btree_map_updates_text}
@@ -14,7 +15,8 @@ use Rattle.serde_json.specs.View.{items_view, view}
 use Rattle.serde_json.specs.Written.{has_float, items_have_float}
 use Rattle.serde_json.specs.declared.value.Value.{Value}
 use Rattle.lsp_edits.proofs.Collecting.{take_next}
-use Rattle.lsp_editor.specs.Publications.{IsButPublished, Keeps, KeepsOne, PublicationView, PublishedView, TellsAll, TellsOne, compact_line, compact_lines, kept_after, kept_at, kept_if, publication_of, publication_params, publication_view, published_view}
+use Rattle.lsp_editor.specs.Publications.{IsButPublished, Keeps, KeepsOne, PublicationView, PublishedView, TellsAll, TellsOne, compact_line}
+use Rattle.lsp_editor.specs.Publications.{compact_lines, kept_after, kept_at, kept_if, publication_of, publication_params, publication_view, published_view}
 use Rattle.lsp_editor.specs.declared.editor.Editor.{Editor}
 use Rattle.lsp_editor.specs.declared.editor.Published.{Published}
 use Rattle.lsp_editor.specs.declared.publications.Publication.{Publication}

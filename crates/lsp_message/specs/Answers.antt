@@ -2,7 +2,8 @@
 use Rattle.std.specs.Prelude.{ℕ, ℤ, negsuc, List, codes, Option, None, Some}
 use Rattle.serde_json.specs.Data.{Data, null, negative, number, string, object, no_members, member, unsigned}
 use Rattle.lsp_message.specs.declared.answers.ErrorCode.{ErrorCode}
-use Rattle.lsp_message.specs.declared.answers.ErrorCode.TheVariants.{ParseError, InvalidRequest, MethodNotFound, InvalidParams, InternalError, ServerNotInitialized, RequestFailed}
+use Rattle.lsp_message.specs.declared.answers.ErrorCode.TheVariants.{ParseError, InvalidRequest, MethodNotFound}
+use Rattle.lsp_message.specs.declared.answers.ErrorCode.TheVariants.{InvalidParams, InternalError, ServerNotInitialized, RequestFailed}
 
 -- The number of an error: one below zero for each of these is `negsuc` of one less.
 abbrev pub error_code : ErrorCode → ℤ

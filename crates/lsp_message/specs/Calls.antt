@@ -1,5 +1,6 @@
 -- Which call of JSON-RPC a value makes.
-use Rattle.std.specs.Prelude.{ℕ, ◌≡◌, ◌&&◌, ◌||◌, ◌==◌, Bool, true, false, not, List, codes, Option, None, Some, is_some, option_and_then, option_map, if◌then◌else◌, unwrap_or, ⊤, IsUtf8}
+use Rattle.std.specs.Prelude.{ℕ, ◌≡◌, ◌&&◌, ◌||◌, ◌==◌, Bool, true, false, not, List}
+use Rattle.std.specs.Prelude.{codes, Option, None, Some, is_some, option_and_then, option_map, if◌then◌else◌, unwrap_or, ⊤, IsUtf8}
 use Rattle.std.specs.Borrow.{Bor}
 use Rattle.std.specs.Cmp.Lexicographic.{pointwise}
 use Rattle.serde_json.specs.Data.{Data}

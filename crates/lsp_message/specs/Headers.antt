@@ -1,5 +1,6 @@
 -- The lines of headers.
-use Rattle.std.specs.Prelude.{ℕ, ◌≡◌, ◌≢◌, ◌<◌, ◌^◌, ◌+◌, ◌-◌, ◌==◌, List, [], codes, drop, if◌then◌else◌, length, map, slice_index, take, Option, Some, option_map}
+use Rattle.std.specs.Prelude.{ℕ, ◌≡◌, ◌≢◌, ◌<◌, ◌^◌, ◌+◌, ◌-◌, ◌==◌, List, []}
+use Rattle.std.specs.Prelude.{codes, drop, if◌then◌else◌, length, map, slice_index, take, Option, Some, option_map}
 use Rattle.std.specs.Char.{to_ascii_lowercase}
 use Rattle.std.specs.List.{position}
 use Rattle.std.specs.Str.{IsTrimAscii}

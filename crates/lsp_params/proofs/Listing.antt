@@ -1,5 +1,6 @@
 -- Lists of JSON values, one value after another.
-use Rattle.std.proofs.Common.{ℕ, ◌≡◌, ◌∙◌, ◌<◌, ◌+◌, Bool, true, false, ◌||◌, List, [], ◌∷◌, ◌++◌, Option, None, Some, length, drop, get_or, map, refl, sym, ap, subst, append_assoc}
+use Rattle.std.proofs.Common.{ℕ, ◌≡◌, ◌∙◌, ◌<◌, ◌+◌, Bool, true, false, ◌||◌, List, [], ◌∷◌}
+use Rattle.std.proofs.Common.{◌++◌, Option, None, Some, length, drop, get_or, map, refl, sym, ap, subst, append_assoc}
 use Rattle.std.specs.Prelude.{option_and_then, option_map}
 use Rattle.std.proofs.lemmas.List.{drop_more, map-append}
 use Rattle.serde_json.specs.Data.{Data, Items, item, no_items}
@@ -51,7 +52,8 @@ module _ (whole : Items) (values : List Value) (i : ℕ) (value : Value) (so_far
       sym (here ∙ ap (λ first. option_map (λ l. so_far ++ l) (first_and left first)) (sym e))
 
 -- the views of the changes that are collected
-pub views_next : (changes new : List TextChange) (change : TextChange) → new ≡ changes ++ change ∷ [] → changes_view new ≡ changes_view changes ++ change_view change ∷ []
+pub views_next : (changes new : List TextChange) (change : TextChange) → new ≡ changes ++ change ∷ [] →
+    changes_view new ≡ changes_view changes ++ change_view change ∷ []
 views_next changes new change grown = ap changes_view grown ∙ map-append change_view changes (change ∷ [])
 
 -- the last of the values was passed

@@ -1,5 +1,6 @@
 -- The position one byte further.
-use Rattle.std.proofs.Common.{◌≡◌, ◌∙◌, ◌+◌, ◌-◌, ◌*◌, ◌<◌, ◌≤◌, ℕ, zero, suc, Bool, true, false, cond, ltb, List, length, take, drop, get_or, refl, ap, length-drop, length-take, arith}
+use Rattle.std.proofs.Common.{◌≡◌, ◌∙◌, ◌+◌, ◌-◌, ◌*◌, ◌<◌, ◌≤◌, ℕ, zero, suc, Bool, true}
+use Rattle.std.proofs.Common.{false, cond, ltb, List, length, take, drop, get_or, refl, ap, length-drop, length-take, arith}
 use Rattle.std.specs.List.{slice_range, sum_by}
 use Rattle.std.proofs.lemmas.List.{get_or-drop}
 use Rattle.std.proofs.lemmas.Bool.{cond_both}
@@ -65,7 +66,11 @@ module _ (encoding : PositionEncoding) (text : List ℕ) (n : ℕ) where
   -- elsewhere the byte's units are added
   goes_next : n < length text → is_line_end text n ≡ false
       → editor_position encoding text (suc n)
-      ≡ record { line = (editor_position encoding text n).line; character = (editor_position encoding text n).character + unit_count encoding (get_or text n 0) }
+      ≡ record {
+        line = (editor_position encoding text n).line;
+        character = (editor_position encoding text n).character + unit_count encoding (get_or text n
+            0);
+      }
   unfolding position_of
   goes_next h e = rw e (ap (position_of (ends_before text n)) (more_units encoding text (line_begin text n) n (line_begin_le text n) h))
 
@@ -78,5 +83,9 @@ module _ (encoding : PositionEncoding) (text : List ℕ) (n : ℕ) where
 
   pub step_goes_on : n < length text → is_line_end text n ≡ false
       → editor_position encoding text (n + 1)
-      ≡ record { line = (editor_position encoding text n).line; character = (editor_position encoding text n).character + unit_count encoding (get_or text n 0) }
+      ≡ record {
+        line = (editor_position encoding text n).line;
+        character = (editor_position encoding text n).character + unit_count encoding (get_or text n
+            0);
+      }
   step_goes_on h e = ap (editor_position encoding text) next_is ∙ goes_next h e

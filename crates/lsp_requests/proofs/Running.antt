@@ -1,5 +1,6 @@
 -- Tasks that are acted on, one after another.
-use Rattle.std.proofs.Common.{ℕ, ◌≡◌, ◌∙◌, ◌<◌, ◌≤◌, ◌+◌, Bool, true, false, ◌||◌, Some, inl, inr, List, [], ◌∷◌, ◌++◌, drop, get_or, length, take, refl, sym, ap, subst}
+use Rattle.std.proofs.Common.{ℕ, ◌≡◌, ◌∙◌, ◌<◌, ◌≤◌, ◌+◌, Bool, true, false, ◌||◌, Some, inl}
+use Rattle.std.proofs.Common.{inr, List, [], ◌∷◌, ◌++◌, drop, get_or, length, take, refl, sym, ap, subst}
 use Rattle.std.specs.Prelude.{Ok, Err}
 use Rattle.std.proofs.lemmas.List.{take-append-drop, take_all}
 use Rattle.base_edits.proofs.Steps.{drop_next}

@@ -50,7 +50,8 @@ goes_within moved member places n b h = elim (cases_lt n (length places)) [
   | inr ge ↦ absurd (subst (λ o. IsMovedSpot moved (member n) o b) (get_or_past places n None ge) h)
 ]
 
-pub all_go : (moved : Place → Place) (member : ℕ → Declaration) (places : List (Option Place)) (count : ℕ) (a b : List BoundIdentifier) → length places ≤ count →
+pub all_go : (moved : Place → Place) (member : ℕ → Declaration) (places : List (Option Place)) (count : ℕ) (a b : List BoundIdentifier) →
+    length places ≤ count →
     AddsAll a b (BelowAll (GoesBy moved member places) count) → AddsAll a b (IsMovedSpotOf moved member places)
 all_go moved member places count a b le h =
     all_numbers (GoesBy moved member places) (IsMovedSpotOf moved member places) count a b (λ n x m. (n, m))
@@ -59,7 +60,8 @@ all_go moved member places count a b le h =
 -- The place of the declaration of a number.
 stood : (IsAt : ℕ → Position → Type 0) (p : Package) (places : List (Option Place)) →
     ((n : ℕ) → IsChoice (IsPlacedBy (IsAt n) p) (slice_index_or places n None)) → (moved : Place → Place) (member : ℕ → Declaration) (b : BoundIdentifier) →
-    IsMovedSpotOf moved member places b → (n : ℕ) × ((b.declaration ≡ member n) × ((place : Place) × (IsPlacedBy (IsAt n) p place × (bound_place b ≡ moved place))))
+    IsMovedSpotOf moved member places b → (n : ℕ) × ((b.declaration ≡ member n) × ((place : Place) × (IsPlacedBy (IsAt n) p place × (bound_place b ≡ moved
+    place))))
 stood IsAt p places are moved member b h = at (slice_index_or places h.0 None) (are h.0) h.1
   where
     at : (o : Option Place) → IsChoice (IsPlacedBy (IsAt h.0) p) o → IsMovedSpot moved (member h.0) o b →
@@ -72,7 +74,8 @@ one_stands : (IsAt : Position → Type 0) (p : Package) → ((a b : Position) �
 one_stands IsAt p one x y h k =
     token_once (slice_get p.files k.at.file) k.at.index x y (subst (λ (at : Position). TokenAt p at x) (one h.at k.at h.is_at k.is_at) h.begins) k.begins
 
-goes : (IsAt : Position → Type 0) (p : Package) → ((a b : Position) → IsAt a → IsAt b → a ≡ b) → (moved : Place → Place) (d : Declaration) (b : BoundIdentifier) →
+goes : (IsAt : Position → Type 0) (p : Package) → ((a b : Position) → IsAt a → IsAt b → a ≡ b) → (moved : Place →
+    Place) (d : Declaration) (b : BoundIdentifier) →
     b.declaration ≡ d → (place : Place) → IsPlacedBy IsAt p place → bound_place b ≡ moved place → (o : Option Place) → IsChoice (IsPlacedBy IsAt p) o →
     IsMovedSpot moved d o b
 goes IsAt p one moved d b is place stands at None none = absurd (none place stands)
@@ -188,7 +191,8 @@ all_gone w known moved count a b le h =
     all_numbers (λ n. HasMovedSpot (IsPackageAt w known n) moved) (HasMovedSpot (IsCheckedPackage w known) moved) count a b
     (λ n x g. record {
       place = g.place;
-      declared = own_as (IsPackageAt w known n) (IsCheckedPackage w known) x.declaration (λ p. HasDeclarationAt p x.declaration g.place) (λ p is. is.is_package) g.declared;
+      declared = own_as (IsPackageAt w known n) (IsCheckedPackage w known) x.declaration (λ p. HasDeclarationAt p x.declaration g.place) (λ p is.
+          is.is_package) g.declared;
       goes = g.goes;
     })
     (λ x g.

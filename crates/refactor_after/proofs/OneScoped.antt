@@ -27,7 +27,8 @@ pub one_scoped : (w : Workspace) (p q : Package) → IsScopedIn w p → IsScoped
 one_scoped w p q h k e =
     let names : k.name_of ≡ h.name_of = fun_ext (λ path. one_clause w path (k.name_of path) (h.name_of path) (k.are_names path) (h.are_names path)) in
     let read : AreParsed (package_files w p.path) k.files [] = subst (λ path. AreParsed (package_files w path) k.files []) (sym e) k.parsed in
-    let own : IsPackageOf p.path k.files k.name_of no_export_data q = subst (λ path. IsPackageOf path k.files k.name_of no_export_data q) (sym e) k.is_package in
+    let own : IsPackageOf p.path k.files k.name_of no_export_data q = subst (λ path. IsPackageOf path k.files k.name_of no_export_data q) (sym e)
+    k.is_package in
     let called : IsPackageOf p.path k.files h.name_of no_export_data q = subst (λ n. IsPackageOf p.path k.files n no_export_data q) names own in
     one_package p.path h.files h.name_of no_export_data p q h.is_package
     (package_from p.path k.files h.files h.name_of no_export_data q (one_sources read h.parsed) called)

@@ -32,7 +32,8 @@ use Rattle.refactor_conflict.specs.declared.conflict.Capturer.{Capturer}
 use Rattle.refactor_conflict.specs.declared.conflict.Conflict.{Conflict}
 use Rattle.refactor_after.specs.MembersAfter.{CountsAfter, IsMemberAfter}
 use Rattle.refactor_conflict.specs.BoundAfter.{HasBecome, IsBoundByScopes, IsExportAfter, IsBoundByPackage, SelectsAfter}
-use Rattle.refactor_conflict.specs.Conflicts.{IsCapturer, LostOrCaptured, is_lost, is_captured, LosesMember, IsConflictIn, IsConflict, IsConflictOf, IsOtherMember, IsOtherAt}
+use Rattle.refactor_conflict.specs.Conflicts.{IsCapturer, LostOrCaptured, is_lost, is_captured, LosesMember}
+use Rattle.refactor_conflict.specs.Conflicts.{IsConflictIn, IsConflict, IsConflictOf, IsOtherMember, IsOtherAt}
 use Rattle.refactor_conflict.specs.Conflicts.{IsLostAt, IsLostAtFound, IsLostThere, UsedAfter, IsMemberConflict, IsMemberConflictIn}
 use Rattle.refactor_conflict.specs.Conflicts.{IsFirstConflict, Takes, HoldsBefore}
 use Rattle.refactor_conflict.specs.Staying.{StaysAt}
@@ -132,7 +133,8 @@ pub scope_turned : (w : Workspace) (known : Verdicts) (r : Revision) (p : Packag
 scope_turned w known r p u old was place begins c n = record {
   user = u;
   begins = subst (λ (x : Place). BeginsAt p x.path x.offset u) (sym n.0) begins;
-  turned = by_scope old was (subst (λ (x : Place). LostOrCaptured (HasBecome w known r) (IsCheckedPackage w known) (IsBoundByScopes r x) old c.by) (sym n.0) n.1);
+  turned = by_scope old was (subst (λ (x : Place). LostOrCaptured (HasBecome w known r) (IsCheckedPackage w known) (IsBoundByScopes r x) old c.by) (sym n.0)
+      n.1);
 }
 
 -- Selectors of qualified identifiers.

@@ -8,7 +8,8 @@ use Rattle.base_edits.specs.Revisions.{Revision}
 use Rattle.refs_binding.specs.declared.declaration.Declaration.{Declaration}
 use Rattle.refs_binding.specs.Uses.{IsCheckedPackage}
 use Rattle.refactor_conflict.specs.BoundAfter.{HasBecome, IsBoundByScopes, IsBoundByPackage, IsBoundByMember}
-use Rattle.refactor_conflict.specs.Conflicts.{LostOrCaptured, is_lost, is_captured, LosesMember, ChangesBinding, by_scope, by_package, by_member, by_name, IsConflict}
+use Rattle.refactor_conflict.specs.Conflicts.{LostOrCaptured, is_lost, is_captured, LosesMember, ChangesBinding}
+use Rattle.refactor_conflict.specs.Conflicts.{by_scope, by_package, by_member, by_name, IsConflict}
 use Rattle.refactor_conflict.specs.Staying.{StaysBound, Stays, StaysAt}
 use Rattle.refactor_conflict.specs.declared.conflict.Capturer.{Capturer}
 use Rattle.refactor_conflict.specs.declared.conflict.Conflict.{Conflict}

@@ -51,7 +51,8 @@ module _ (w : Workspace) (sound : ListsFaults w []) (known : Verdicts) (right : 
 
   -- what another package uses is bound behind the package's name
   qualified : (d : ℕ) (place : Place) → (folder place.path ≡ p.path → ⊥) → (x : Package) → IsCheckedPackage w known x → (u : ℕ) →
-      BeginsAt x place.path place.offset u → IsBoundToDeclaration w known x u (Declared p.path d) → BindsQualified (IsCheckedPackage w known) x u (Declared p.path d)
+      BeginsAt x place.path place.offset u → IsBoundToDeclaration w known x u (Declared p.path d) → BindsQualified (IsCheckedPackage w known) x u (Declared
+      p.path d)
   qualified d place outside x also u begins (by_scope b) =
       absurd (outside (sym (begins_in_folder w known x also place.path place.offset u begins) ∙ sym b.0))
   qualified d place outside x also u begins (by_package b) = b

@@ -62,7 +62,14 @@ module _ (w : Workspace) (sound : ListsFaults w []) (known : Verdicts) (right : 
     declares = declares;
     first = λ e also named displaces.
         no_fault_later w sound known right p is (fault_at p.layout d kind.Repeated)
-        (inl (inl (inl (d, declares_within d declares, inr (inl (record { at = refl; repeats = inl (declares, λ counts. counts.first e also named displaces) }))))));
+        (inl (inl (inl (
+          d,
+          declares_within d declares,
+          inr (inl (record {
+            at = refl;
+            repeats = inl (declares, λ counts. counts.first e also named displaces);
+          })),
+        ))));
   }
 
   -- An identifier that a file has begins at a place.

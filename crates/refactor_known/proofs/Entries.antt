@@ -48,7 +48,8 @@ here R old (Some y) new v rest stays comes h = subst (λ o. IsSoFar R old o rest
 here R old None new v rest stays comes h = found_new R old new v rest h (comes refl)
 
 pub next_entry : {X : Type 0} (R : X → X → Type 0) (old : Option X) (table new : BTreeMap (Vec ℕ) X) (key : Vec ℕ) (value : X)
-    (rest : List (Vec ℕ × X)) (name : List ℕ) → AddsRelated R table new key.items value → IsSoFar R old (entry_at table name) (finds name ((key, value) ∷ rest)) →
+    (rest : List (Vec ℕ × X)) (name : List ℕ) → AddsRelated R table new key.items value → IsSoFar R old (entry_at table name) (finds name ((key, value) ∷
+    rest)) →
     IsSoFar R old (entry_at new name) (finds name rest)
 next_entry R old table new key value rest name adds h = elim (cases_Bool (is_eq (slice_cmp nat_cmp name key.items))) [
   | inl is ↦

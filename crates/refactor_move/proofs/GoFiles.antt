@@ -42,7 +42,8 @@ tree_of (tree {e = d} {es = es} {t = t} is rest) e has = ⊎_elim
 
 -- the file of a package is one of the workspace
 
-pub text_of_file : (w : Workspace) (known : Verdicts) (p : Package) → IsCheckedPackage w known p → (rank : ℕ) (f : SourceFile) → slice_get p.files rank ≡ Some f →
+pub text_of_file : (w : Workspace) (known : Verdicts) (p : Package) → IsCheckedPackage w known p → (rank : ℕ) (f : SourceFile) →
+    slice_get p.files rank ≡ Some f →
     get w f.path ≡ Some f.cut.text
 text_of_file w known p is rank f at = source_text w known f (record { inside = p; is_package = is; has = at_rank p.files rank f at })
 

@@ -73,7 +73,8 @@ pub first_name : (ts : List FileParts) (t : FileParts) → Some t ≡ slice_get 
 first_name [] t e = absurd (none-some t (sym e))
 first_name (x ∷ xs) t e = ap (λ (s : FileParts). clause_name (source_of s)) (sym (same_Some t x e))
 
-pub files_are : (w : Workspace) (known : Verdicts) (p : Package) → IsCheckedPackage w known p → (ts : List FileParts) → AreParsed (package_files w p.path) ts [] →
+pub files_are : (w : Workspace) (known : Verdicts) (p : Package) → IsCheckedPackage w known p → (ts : List FileParts) →
+    AreParsed (package_files w p.path) ts [] →
     p.files ≡ map source_of ts
 files_are w known p is ts parsed = same_files w known p.path p is.is_checked ∙ one_sources is.is_checked.parsed parsed
 
@@ -100,7 +101,8 @@ follows_with Known from to last name is named may was = record {
   other = λ e. may.other (named ∙ e ∙ sym is);
 }
 
-pub may_from : (Known : Package → Type 0) (from to last name : List ℕ) → last ≡ last_of from → name ≡ last_of to → Follows Known from to → MayFollowPath last name
+pub may_from : (Known : Package → Type 0) (from to last name : List ℕ) → last ≡ last_of from → name ≡ last_of to → Follows Known from to →
+    MayFollowPath last name
 may_from Known from to last name is named h = record {
   no_main = λ e. h.no_main (sym is ∙ e);
   other = λ e. h.other (sym named ∙ e ∙ is);

@@ -103,7 +103,8 @@ faults_refused snapshot from to found _ h = absurd h
 
 -- the folder that a package gets
 
-asked : (snapshot : Snapshot) (from to : List ℕ) → ArePackagePaths from to → Contains (package_paths snapshot.files) from → NamesMovedPackage snapshot.files from to
+asked : (snapshot : Snapshot) (from to : List ℕ) → ArePackagePaths from to → Contains (package_paths snapshot.files) from →
+    NamesMovedPackage snapshot.files from to
 asked snapshot from to paths has = record { source = paths.source; target = paths.target; is_package = has }
 
 elsewhere : (snapshot : Snapshot) (from to : List ℕ) → ArePackagePaths from to → Contains (package_paths snapshot.files) from → (to ≡ from → ⊥) →
@@ -124,7 +125,8 @@ target_refused snapshot from to paths _ h = absurd h
 
 -- what is planned
 
-pub movable : (snapshot : Snapshot) (from to : List ℕ) → ArePackagePaths from to → RefusesTarget snapshot.files from to (Ok tt) → IsMovable snapshot.files from to
+pub movable : (snapshot : Snapshot) (from to : List ℕ) → ArePackagePaths from to → RefusesTarget snapshot.files from to (Ok tt) →
+    IsMovable snapshot.files from to
 movable snapshot from to paths h = record { beside = beside snapshot from to paths h.0 h.1 h.2; free = h.3 }
 
 in_refused : (snapshot : Snapshot) (from to : List ℕ) → IsMovable snapshot.files from to → (r : Refusal) → PlansMoveTo snapshot from to (Err r) →
@@ -136,7 +138,8 @@ in_refused snapshot from to is TooLarge h = (record { movable = is; sound = h.0 
 in_refused snapshot from to is Memory h = h
 in_refused snapshot from to is _ h = absurd h
 
-pub in_planned : (snapshot : Snapshot) (from to : List ℕ) → ArePackagePaths from to → RefusesTarget snapshot.files from to (Ok tt) → (r : Result Change Refusal) →
+pub in_planned : (snapshot : Snapshot) (from to : List ℕ) → ArePackagePaths from to → RefusesTarget snapshot.files from to (Ok tt) →
+    (r : Result Change Refusal) →
     PlansMoveTo snapshot from to r → PlansMove snapshot from to r
 in_planned snapshot from to paths ok (Ok change) h = (record { movable = movable snapshot from to paths ok; sound = h.0 }, h.1)
 in_planned snapshot from to paths ok (Err r) h = in_refused snapshot from to (movable snapshot from to paths ok) r h

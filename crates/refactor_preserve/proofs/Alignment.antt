@@ -23,7 +23,8 @@ use Rattle.refs_binding.proofs.Units.{numbered, number_within, one_at}
 use Rattle.base_edits.proofs.Ending.{element}
 use Rattle.refs_places.specs.Beginnings.{BeginsAmong}
 use Rattle.refactor_preserve.specs.declared.aligned.Compared.{Compared}
-use Rattle.refactor_preserve.specs.Aligned.{AreCompared, moved_in, old_of, new_of, IsAligned, AreApart, AreApartBelow, AreAlignedBelow, GoInOrder, IsSafeAt, IsSafeIn}
+use Rattle.refactor_preserve.specs.Aligned.{AreCompared, moved_in, old_of, new_of, IsAligned}
+use Rattle.refactor_preserve.specs.Aligned.{AreApart, AreApartBelow, AreAlignedBelow, GoInOrder, IsSafeAt, IsSafeIn}
 use Rattle.refactor_preserve.specs.Aligned.{IsSafeNumber, AreSafe}
 use Rattle.refs_index.specs.FaultlessViews.{view_in}
 use Rattle.refactor_preserve.specs.Steps.{IsBoundBy, KeepsAll, AddsNowhere}
@@ -57,7 +58,8 @@ same_behind bs i j a b sorted apart at also same lt =
     let between : index x.0 ≡ 1 = omega arith in
     apart a x.0 at x.1 (sym (place_cmp_exact (bound_place x.0) place (equal_by (compared place x.0) between)))
 
-pub one_there : (bs : List BoundIdentifier) (i j : ℕ) (a b : BoundIdentifier) → InOrder bs → ((n : ℕ) → n < length bs → AreApart bs n) → slice_get bs i ≡ Some a →
+pub one_there : (bs : List BoundIdentifier) (i j : ℕ) (a b : BoundIdentifier) → InOrder bs → ((n : ℕ) → n < length bs → AreApart bs n) →
+    slice_get bs i ≡ Some a →
     slice_get bs j ≡ Some b → bound_place a ≡ bound_place b → i ≡ j
 one_there bs i j a b sorted apart at also same = elim (cases_lt i j) [
   | inl lt ↦ absurd (same_behind bs i j a b sorted (apart i (slice_get_within bs i a at)) at also same lt)
@@ -83,7 +85,8 @@ at_of xs x h = slice_get_read xs (length xs) h.0 x refl h.1 (sym h.2)
 pub none_aligned : (c : Compared) (old : List BoundIdentifier) → AreAlignedBelow c old 0
 none_aligned c old = record { each = λ n lt. absurd (omega arith) }
 
-pub one_aligned : (c : Compared) (old : List BoundIdentifier) (k : ℕ) (x : BoundIdentifier) → slice_get old k ≡ Some x → IsAligned c x → AreAlignedBelow c old k →
+pub one_aligned : (c : Compared) (old : List BoundIdentifier) (k : ℕ) (x : BoundIdentifier) → slice_get old k ≡ Some x → IsAligned c x →
+    AreAlignedBelow c old k →
     AreAlignedBelow c old (k + 1)
 one_aligned c old k x has is h = record {
   each = λ n lt b at. elim (cases_lt n k) [

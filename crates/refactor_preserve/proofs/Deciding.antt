@@ -72,11 +72,14 @@ same_becoming B A C D moved old new d e (stands place h k) = stands place (old d
 pub same_kept : (w : Workspace) (r : Revision) (a b c d : Verdicts) → AreVerdicts w a → AreVerdicts w b → AreVerdicts r.after c → AreVerdicts r.after d →
     KeepsBindings w a r c → KeepsBindings w b r d
 same_kept w r a b c d right also right_after also_after h =
-    let becomes = same_becoming (IsCheckedPackage w a) (IsCheckedPackage r.after c) (IsCheckedPackage w b) (IsCheckedPackage r.after d) r.moved (same_standing w a b right also)
+    let becomes = same_becoming (IsCheckedPackage w a) (IsCheckedPackage r.after c) (IsCheckedPackage w b) (IsCheckedPackage r.after d) r.moved
+    (same_standing w a b right also)
     (same_standing r.after c d right_after also_after) in
     record {
-      keeps = λ place x is. same_bound r.after c d right_after also_after (r.moved place) (λ e. Corresponds (IsCheckedPackage w a) (IsCheckedPackage r.after c) r.moved x e)
-          (λ e. Corresponds (IsCheckedPackage w b) (IsCheckedPackage r.after d) r.moved x e) (λ e. becomes x e) (h.keeps place x (same_use w b a also right x place is));
+      keeps = λ place x is. same_bound r.after c d right_after also_after (r.moved place) (λ e. Corresponds (IsCheckedPackage w a) (IsCheckedPackage r.after
+          c) r.moved x e)
+          (λ e. Corresponds (IsCheckedPackage w b) (IsCheckedPackage r.after d) r.moved x e) (λ e. becomes x e) (h.keeps place x (same_use w b a also right
+          x place is));
       adds_none = λ place e here is. same_bound w a b right also place (λ x. Corresponds (IsCheckedPackage w a) (IsCheckedPackage r.after c) r.moved x e)
           (λ x. Corresponds (IsCheckedPackage w b) (IsCheckedPackage r.after d) r.moved x e) (λ x. becomes x e)
           (h.adds_none place e (same_identifier w b a also right place here) (same_use r.after d c also_after right_after e (r.moved place) is));

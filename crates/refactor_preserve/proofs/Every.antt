@@ -49,7 +49,8 @@ fails_not P x answer denied is p = false≢true (sym denied ∙ is.1 p)
 abbrev pub Not : (Declaration → Type 0) → BoundIdentifier → Type 0
 Not P b = P b.declaration → ⊥
 
-pub one_has : (P : Declaration → Type 0) (bound : List BoundIdentifier) (k : ℕ) (b : BoundIdentifier) (answer : Bool) → k < length bound → b ≡ get_or bound k b →
+pub one_has : (P : Declaration → Type 0) (bound : List BoundIdentifier) (k : ℕ) (b : BoundIdentifier) (answer : Bool) → k < length bound →
+    b ≡ get_or bound k b →
     answer ≡ true → IsTrue answer ↔ P b.declaration → IsTrue true ↔ HasBound P bound
 one_has P bound k b answer lt is e h = ((λ t. record { one = b; listed = contained bound k b lt is; holds = h.0 e }), (λ p. refl))
 
@@ -82,7 +83,8 @@ module _ (before then : FaultlessView) (moved : Place → Place) where
       ((b : BoundIdentifier) → Contains bound b → IsKept before then moved b) → KeepsAll before then moved
   keeps_all bound each h place d is = h (spot_at d place) ((each (spot_at d place)).1 is)
 
-  pub kept_one : (bound : List BoundIdentifier) → ((b : BoundIdentifier) → Contains bound b ↔ IsBoundInView before b) → KeepsAll before then moved → (b : BoundIdentifier) →
+  pub kept_one : (bound : List BoundIdentifier) → ((b : BoundIdentifier) → Contains bound b ↔ IsBoundInView before b) → KeepsAll before then moved →
+      (b : BoundIdentifier) →
       Contains bound b → IsKept before then moved b
   kept_one bound each h b c = h (bound_place b) b.declaration ((each b).0 c)
 

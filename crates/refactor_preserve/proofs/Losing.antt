@@ -33,15 +33,17 @@ use Rattle.refactor_preserve.proofs.Marked.{IsMarkedFolder, among_use, use_among
 stands_nowhere : (B : Package → Type 0) (d : Declaration) → IsSamePredeclared d d → (place : Place) → IsDeclaredAt B d place → ⊥
 stands_nowhere B d h place at = subst (λ x. IsDeclaredAt B x place) h.one at
 
-module _ (before then : FaultlessView) (moved : Place → Place) (d e : Declaration) (r : Bool) (same : IsTrue r ↔ IsSamePredeclared d e) (denied : r ≡ false) where
-  pub becomes_no_other : IsSamePredeclared d d → Becomes before then moved d e → ⊥
-  becomes_no_other h b = false≢true ((old_nowhere before then moved d e r same denied (stands_nowhere (view_packages before) d h)).1 b)
+module _ (before then : FaultlessView) (moved : Place → Place) (d e : Declaration) (r : Bool) (same : IsTrue r ↔ IsSamePredeclared d e) (denied : r ≡ false)
+  where
+    pub becomes_no_other : IsSamePredeclared d d → Becomes before then moved d e → ⊥
+    becomes_no_other h b = false≢true ((old_nowhere before then moved d e r same denied (stands_nowhere (view_packages before) d h)).1 b)
 
-  pub none_becomes : IsSamePredeclared e e → Becomes before then moved d e → ⊥
-  none_becomes h b = false≢true ((new_nowhere before then moved d e r same denied (stands_nowhere (view_packages then) e h)).1 b)
+    pub none_becomes : IsSamePredeclared e e → Becomes before then moved d e → ⊥
+    none_becomes h b = false≢true ((new_nowhere before then moved d e r same denied (stands_nowhere (view_packages then) e h)).1 b)
 
 -- If no identifier at the place to which an identifier is moved is bound to what its declaration has become, it does not stay bound.
-pub lost_here : (before then : MarkedPackages) (moved : Place → Place) (b : BoundIdentifier) (to : Place) (here : List BoundIdentifier) → to ≡ moved (bound_place b) →
+pub lost_here : (before then : MarkedPackages) (moved : Place → Place) (b : BoundIdentifier) (to : Place) (here : List BoundIdentifier) →
+    to ≡ moved (bound_place b) →
     IsMarkedFolder then to → ((x : BoundIdentifier) → Contains here x ↔ IsBoundThere then to x) →
     (HasBound (λ e. Becomes (view_among before) (view_among then) moved b.declaration e) here → ⊥) →
     IsKept (view_among before) (view_among then) moved b → ⊥

@@ -209,7 +209,8 @@ some_found P Q (Some x) to h = to x.now h
 
 -- The place of a declaration of a marked package.
 pub place_among : (w : Workspace) (known : Verdicts) (marks : List Bool) (all : List (Option DeclaredPlaces)) (n : ℕ) (path : List ℕ) (d : Declaration)
-    (places : DeclaredPlaces) (o : Option (Bor Place)) → AreHeldOf w known marks all → slice_get (package_paths w) n ≡ Some path → declaring_path d ≡ Some path →
+    (places : DeclaredPlaces) (o : Option (Bor Place)) → AreHeldOf w known marks all → slice_get (package_paths w) n ≡ Some path →
+    declaring_path d ≡ Some path →
     slice_get all n ≡ Some (Some places) → ((p : Package) → AreDeclaredIn p places → IsPlaceIn p d o) →
     IfSome o (λ place. IsDeclaredAt (IsCheckedPackage w known) d place.now)
 place_among w known marks all n path d places o are at of has told =

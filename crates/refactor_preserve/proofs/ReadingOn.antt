@@ -113,7 +113,8 @@ one_read wanted some more n lt still own cases old new h marked r =
             ];
       };
       exports = r.exports;
-      bound = told_by_more (λ m b. IsMarked marks m × IsBoundInPackage w known m b) some more n still own cases [] old.gathered.bound.items new.gathered.bound.items
+      bound = told_by_more (λ m b. IsMarked marks m × IsBoundInPackage w known m b) some more n still own cases [] old.gathered.bound.items
+          new.gathered.bound.items
           h.bound (all_as old.gathered.bound.items new.gathered.bound.items (IsBoundInPackage w known n) (λ b. IsMarked marks n × IsBoundInPackage w known n b)
           (λ b x. (marked, x)) (λ b x. x.1) r.bound);
       identifiers = λ t. told_by_more (λ m place. IsMarked marks m × BeginsInPackageAt w known m place) some more n still own cases []
@@ -137,7 +138,8 @@ one_passed wanted some more n still own cases old h unmarked =
             (h.places.each m held at);
       };
       exports = h.exports;
-      bound = told_by_more (λ m b. IsMarked marks m × IsBoundInPackage w known m b) some more n still own cases [] old.gathered.bound.items old.gathered.bound.items
+      bound = told_by_more (λ m b. IsMarked marks m × IsBoundInPackage w known m b) some more n still own cases [] old.gathered.bound.items
+          old.gathered.bound.items
           h.bound (all_none old.gathered.bound.items (λ b. IsMarked marks n × IsBoundInPackage w known n b) (λ b x. unmarked x.0));
       identifiers = λ t. told_by_more (λ m place. IsMarked marks m × BeginsInPackageAt w known m place) some more n still own cases []
           old.gathered.identifiers.items old.gathered.identifiers.items (h.identifiers t)

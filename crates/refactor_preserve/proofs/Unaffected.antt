@@ -41,7 +41,8 @@ module _ (w : Workspace) (known : Verdicts) (place : Place) where
         of_workspace = subst (Contains (package_paths w)) h.of_path h.is_package.of_workspace;
       }
 
-  pub declared_folder : (d : Declaration) (path : List ℕ) → declaring_path d ≡ Some path → IsDeclaredAt (IsCheckedPackage w known) d place → StandsInFolder w path place
+  pub declared_folder : (d : Declaration) (path : List ℕ) → declaring_path d ≡ Some path → IsDeclaredAt (IsCheckedPackage w known) d place →
+      StandsInFolder w path place
   declared_folder (Predeclared n) path e h = absurd h
   declared_folder (Declared q n) path e h = subst (λ p. StandsInFolder w p place) (same_Some q path e) (package_folder q (Declared q n) h)
   declared_folder (Field s) path e h = subst (λ p. StandsInFolder w p place) (same_Some s.package path e) (package_folder s.package (Field s) h)

@@ -38,4 +38,5 @@ module _ (w x : Workspace) (s : FileChanges) (p : List ℕ) (is : IsUnaffected w
   pub declared_then : (before after : Verdicts) → AreVerdicts w before → AreVerdicts x after → (d : Declaration) (place : Place) →
       DeclaresWithin w before p d place → IsDeclaredAt (IsCheckedPackage x after) d (moved s place)
   declared_then before after right also d place h =
-      subst (IsDeclaredAt (IsCheckedPackage x after) d) (sym (stays_put place h.in_closure)) (within_stays w x before after right also p is.same d place h).declared
+      subst (IsDeclaredAt (IsCheckedPackage x after) d) (sym (stays_put place h.in_closure)) (within_stays w x before after right also p is.same d place
+      h).declared

@@ -79,4 +79,5 @@ IsSafeNumber c n = (p : Package) → IsPackageAt c.before.now.packages.now.works
 
 -- Each identifier of the workspace is bound before the change, or no bound identifier begins at the place to which it is moved.
 abbrev pub AreSafe : Compared → Type 0
-AreSafe c = (p : Package) → IsCheckedPackage c.before.now.packages.now.workspace.now.graph (known_in c.before.now.packages.now.workspace.now.findings) p → IsSafeIn c p
+AreSafe c = (p : Package) → IsCheckedPackage c.before.now.packages.now.workspace.now.graph (known_in c.before.now.packages.now.workspace.now.findings) p →
+    IsSafeIn c p

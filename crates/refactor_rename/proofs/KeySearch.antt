@@ -18,7 +18,8 @@ module _ (X K : Type 0) (R : K → K → Ordering) (total : IsTotalOrder R) (exa
   compared k x = R (key x) k
 
   -- the keys rise with the index
-  pub keys_rise : (xs : List X) (i j : ℕ) (d : X) → IsStrictlySortedBy R (map key xs) → i < j → j < length xs → R (key (get_or xs i d)) (key (get_or xs j d)) ≡ Less
+  pub keys_rise : (xs : List X) (i j : ℕ) (d : X) → IsStrictlySortedBy R (map key xs) → i < j → j < length xs →
+      R (key (get_or xs i d)) (key (get_or xs j d)) ≡ Less
   keys_rise xs i j d sorted lt within =
       let first = get_or-map key xs i d (key d) (omega arith) in
       let second = get_or-map key xs j d (key d) within in

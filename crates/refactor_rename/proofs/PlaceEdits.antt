@@ -207,8 +207,14 @@ module _ (ts : List Piece) (size : ℕ) (name : List ℕ) (here : List Place) (r
         | inl nowhere ↦ absurd (nothing_in e nowhere)
         | inr q ↦ (
             let x = q.2 in
-            let i = slice_get_within here q.0 x.place x.has_index in
-            (x.place, ((q.0, i, get_or_from_slice_get here q.0 x.place x.place x.has_index), subst (λ l. ReplacesAt l name x.place.offset e) tokens x.replaces)))
+            let i = slice_get_within here q.0 x.place x.has_index in (
+              x.place,
+              (
+                (q.0, i, get_or_from_slice_get here q.0 x.place x.place x.has_index),
+                subst (λ l. ReplacesAt l name x.place.offset e) tokens
+                    x.replaces,
+              ),
+            ))
       ]),
       (λ q.
           let r = rank_of here q.0 q.1.0 in
@@ -229,7 +235,8 @@ module _ (f : SourceFile) (r : Renamed) (here : List Place) (edits : List Edit) 
       let x = q.1.1 in
       let i = rank_of (tokens_in f.cut) x.token x.is_token in
       let among = (are_in q.0).0 q.1.0 in
-      let is : q.0 ≡ record { path = f.path; offset = x.token.span.start } = place_is q.0 (record { path = f.path; offset = x.token.span.start }) among.1 (sym x.begins) in
+      let is : q.0 ≡ record { path = f.path; offset = x.token.span.start } = place_is q.0 (record { path = f.path; offset = x.token.span.start }) among.1
+      (sym x.begins) in
       (i.0, inr (record { token = x.token; at = i.1; is_name = x.is_name; among = subst (Contains r.places) is among.0; is_edit = x.is_edit }))
 
   place_at : (e : Edit) → (i : ℕ) × IsEditAt f r i e → (p : Place) × (Contains here p × ReplacesAt (tokens_in f.cut) r.name p.offset e)

@@ -154,6 +154,7 @@ module _ (l : Layout) (nested : Nested l) (names : Names) (d : ℕ) (y : List �
     | inr q ↦ precedes_trans l nested e c d u first.declares.may takes.declares.may dec.may first.in_scope takes.in_scope own.binds.in_scope q takes.precedes
   ]
 
-  pub captured_own_use : AllCount l names → (u c e : ℕ) → IsUseInScopes l names d u → WouldTake l names d y u c → BindsAt l names y u e → WouldCapture l names d y u e
+  pub captured_own_use : AllCount l names → (u c e : ℕ) → IsUseInScopes l names d u → WouldTake l names d y u c → BindsAt l names y u e →
+      WouldCapture l names d y u e
   captured_own_use all u c e own takes b =
       own_use own.is_use own.binds b (before_renamed u c e own takes (first_of_bound l nested names all y u e b))

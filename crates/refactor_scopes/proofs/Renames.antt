@@ -77,7 +77,8 @@ module _ (r : ScopeRename) (is : IsScopeRename r) where
       let b = formed.left_inner u i.0 in
       let z : File import.0 ≡ Inner b.0 b.1 b.2 = sym import.1 ∙ b.3 in cc
 
-  pub own_written : WellFormed (layout_in r.table.now) → (u : ℕ) → IsUseInScopes (layout_in r.table.now) names r.declaration u → IsWritten (layout_in r.table.now) u
+  pub own_written : WellFormed (layout_in r.table.now) → (u : ℕ) → IsUseInScopes (layout_in r.table.now) names r.declaration u →
+      IsWritten (layout_in r.table.now) u
   own_written formed u own = (use_identifier u own.is_use, λ import same. use_no_import formed u own.is_use import)
 
   pub named_there : (i : ℕ) → i < length r.named.items → (get_or r.named.items i 0 < size) × (names (get_or r.named.items i 0) ≡ r.name.now)

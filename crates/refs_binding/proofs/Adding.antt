@@ -17,7 +17,8 @@ pub adds_none : (a : List PlaceKey) (P : Place → Type 0) → ((place : Place) 
 adds_none a P none = record { keeps = λ s h. h; holds = λ s h. absurd (none (place_of s) h); only = λ s h. inl h }
 
 -- The added places may be given by an equivalent condition.
-pub adds_as : (a b : List PlaceKey) (P Q : Place → Type 0) → ((place : Place) → P place → Q place) → ((place : Place) → Q place → P place) → AddsPlaces a b P → AddsPlaces a b Q
+pub adds_as : (a b : List PlaceKey) (P Q : Place → Type 0) → ((place : Place) → P place → Q place) → ((place : Place) → Q place → P place) →
+    AddsPlaces a b P → AddsPlaces a b Q
 adds_as a b P Q to from h = record {
   keeps = h.keeps;
   holds = λ s q. h.holds s (from (place_of s) q);
@@ -38,7 +39,8 @@ pub call_adds : {E : Type 0} (a b : List PlaceKey) (P Q : Place → Type 0) (r :
 call_adds a b P Q r to from k = on_ok_weaker r (λ h. adds_as a b P Q to from h) k
 
 -- a place is pushed
-pub adds_one : (a b : List PlaceKey) (s : PlaceKey) (P : Place → Type 0) → b ≡ a ++ s ∷ [] → P (place_of s) → ((t : PlaceKey) → P (place_of t) → s ≡ t) → AddsPlaces a b P
+pub adds_one : (a b : List PlaceKey) (s : PlaceKey) (P : Place → Type 0) → b ≡ a ++ s ∷ [] → P (place_of s) → ((t : PlaceKey) → P (place_of t) → s ≡ t) →
+    AddsPlaces a b P
 adds_one a b s P e p one = record {
   keeps = λ t h. subst (λ l. Contains l t) (sym e) (Contains-append_left a (s ∷ []) t h);
   holds = λ t h. subst (λ l. Contains l t) (sym e) (subst (Contains (a ++ s ∷ [])) (one t h) (Contains-push a s));
@@ -91,7 +93,8 @@ uses_as p K L a b r to from h = call_adds a b (UsesIn p K) (UsesIn p L) r (λ pl
 
 -- the uses of one kind after the other
 pub bound_in : {E : Type 0} (p : Package) (d : Declaration) (name : Option (List ℕ)) (a b c e f : List PlaceKey) (r : Result (Unit {0}) E) →
-    AddsPlaces a b (UsesIn p (λ u. BindsByScope p u d)) → AddsPlaces b c (UsesIn p (QualifiesAs p d name)) → AddsPlaces c e (UsesIn p (λ u. BindsByMember p u d)) →
+    AddsPlaces a b (UsesIn p (λ u. BindsByScope p u d)) → AddsPlaces b c (UsesIn p (QualifiesAs p d name)) →
+    AddsPlaces c e (UsesIn p (λ u. BindsByMember p u d)) →
     OnOk r (AddsPlaces e f (UsesIn p (λ u. DeclaresMember p u d))) →
     OnOk r (AddsPlaces a f (UsesIn p (BindsIn p d name)))
 bound_in p d name a b c e f r scope exported member own =

@@ -27,14 +27,16 @@ use Rattle.refs_binding.proofs.Units.{numbered, number_within}
 pub bound_here : (w : Workspace) (known : Verdicts) (n : ℕ) (b : BoundIdentifier) → IsBoundInPackage w known n b → IsBound w known b
 bound_here w known n b h = record { used_in = h.used_in; is_package = h.is_package.is_package; user = h.bound.0; begins = h.bound.1.0; bound = h.bound.1.1 }
 
-pub bound_somewhere : (w : Workspace) (known : Verdicts) (b : BoundIdentifier) → IsBound w known b → (n : ℕ) × (n < length (package_paths w)) × IsBoundInPackage w known n b
+pub bound_somewhere : (w : Workspace) (known : Verdicts) (b : BoundIdentifier) → IsBound w known b → (n : ℕ) × (n < length (package_paths w)) ×
+    IsBoundInPackage w known n b
 bound_somewhere w known b h =
     let k = numbered w known h.used_in h.is_package in
     (k.0, number_within w known k.0 h.used_in k.1, record { used_in = h.used_in; is_package = k.1; bound = (h.user, (h.begins, h.bound)) })
 
 -- what is bound in the package of a number, in one of some numbers
 
-pub bound_among : (w : Workspace) (known : Verdicts) (IsOf : ℕ → Type 0) (n : ℕ) (b : BoundIdentifier) → IsOf n × IsBoundInPackage w known n b → IsBoundAmong w known IsOf b
+pub bound_among : (w : Workspace) (known : Verdicts) (IsOf : ℕ → Type 0) (n : ℕ) (b : BoundIdentifier) → IsOf n × IsBoundInPackage w known n b →
+    IsBoundAmong w known IsOf b
 bound_among w known IsOf n b h = record { number = n; is_of = h.0; bound = h.1 }
 
 pub bound_in_range : (w : Workspace) (known : Verdicts) (IsOf : ℕ → Type 0) (b : BoundIdentifier) → IsBoundAmong w known IsOf b →
@@ -71,7 +73,8 @@ none_is bs place i sorted found = none_in bs place i (found (rises bs place sort
 
 -- all that was added to nothing, in order
 
-all_added : (P : BoundIdentifier → Type 0) (found sorted : List BoundIdentifier) → AddsAll [] found P → ((b : BoundIdentifier) → Contains sorted b ↔ Contains found b) →
+all_added : (P : BoundIdentifier → Type 0) (found sorted : List BoundIdentifier) → AddsAll [] found P → ((b : BoundIdentifier) →
+    Contains sorted b ↔ Contains found b) →
     (b : BoundIdentifier) → Contains sorted b ↔ P b
 all_added P found sorted added same b = (
   (λ h. elim (added.only b ((same b).0 h)) [
@@ -94,7 +97,8 @@ pub all_among : (w : Workspace) (known : Verdicts) (IsOf : ℕ → Type 0) (foun
 all_among w known IsOf found sorted added order same = record { in_order = order; each = all_added (IsBoundAmong w known IsOf) found sorted added same }
 
 -- one of the bound identifiers that begin at a place
-pub bound_at : (w : Workspace) (known : Verdicts) (bs : List BoundIdentifier) (place : Place) (b : BoundIdentifier) → AreBoundIdentifiers w known bs → Contains bs b ×
+pub bound_at : (w : Workspace) (known : Verdicts) (bs : List BoundIdentifier) (place : Place) (b : BoundIdentifier) → AreBoundIdentifiers w known bs →
+    Contains bs b ×
     (bound_place b ≡ place) → IsUseOf w known b.declaration place
 bound_at w known bs place b are is = subst (IsUseOf w known b.declaration) is.1 ((are.each b).0 is.0)
 

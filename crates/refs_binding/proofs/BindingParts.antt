@@ -130,7 +130,8 @@ one_by_package w known p u path only (Method s) e h k = absurd h
 
 -- an identifier that is bound to one declaration
 
-pub bound_to_one : {E : Type 0} (B : BoundIdentifier → Type 0) (K : Declaration → Type 0) (a b : List BoundIdentifier) (d : Declaration) (r : Result (Unit {0}) E) →
+pub bound_to_one : {E : Type 0} (B : BoundIdentifier → Type 0) (K : Declaration → Type 0) (a b : List BoundIdentifier) (d : Declaration) (r : Result (Unit
+    {0}) E) →
     K d → ((e : Declaration) → K e → e ≡ d) →
     OnOk r (AddsAll a b (λ x. B x × (x.declaration ≡ d))) → OnOk r (AddsAll a b (λ x. B x × K x.declaration))
 bound_to_one B K a b d r is only h =
@@ -215,7 +216,8 @@ abbrev pub NamedAt : Package → List (Option Position) → (ℕ → Declaration
 NamedAt p places member rank b = AtFound p (slice_index_or places rank None) (bound_place b) × (b.declaration ≡ member rank)
 
 -- a rank at which a name stands
-pub found_within : (p : Package) (places : List (Option Position)) (rank : ℕ) (b : BoundIdentifier) → AtFound p (slice_index_or places rank None) (bound_place b) →
+pub found_within : (p : Package) (places : List (Option Position)) (rank : ℕ) (b : BoundIdentifier) → AtFound p (slice_index_or places rank None)
+    (bound_place b) →
     rank < length places
 found_within p places rank b h = elim (cases_lt rank (length places)) [
   | inl lt ↦ lt
@@ -286,7 +288,8 @@ bound_by P p x (inl (inl h)) = (h.0, (h.1.0, elim h.1.1 [ inl y ↦ by_scope y |
 bound_by P p x (inl (inr h)) = (h.0, (h.1.0, by_member h.1.1))
 bound_by P p x (inr h) = (h.0, (h.1.0, by_name h.1.1))
 
-bound_from : (P : Package → Type 0) (p : Package) (x : BoundIdentifier) (u : ℕ) → BeginsAt p (bound_place x).path (bound_place x).offset u → Binds P p u x.declaration →
+bound_from : (P : Package → Type 0) (p : Package) (x : BoundIdentifier) (u : ℕ) → BeginsAt p (bound_place x).path (bound_place x).offset u →
+    Binds P p u x.declaration →
     (BoundIn p (InScopes P p) x ⊎ BoundIn p (BindsByMember p) x) ⊎ BoundIn p (DeclaresMember p) x
 bound_from P p x u begins (by_scope h) = inl (inl (u, (begins, inl h)))
 bound_from P p x u begins (by_package h) = inl (inl (u, (begins, inr h)))

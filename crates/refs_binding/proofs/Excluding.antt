@@ -31,8 +31,10 @@ number_bound p u (Method s) h = absurd h
 
 pub one_by_scope : (p : Package) → WellFormed p.layout → (u : ℕ) (d e : Declaration) → BindsByScope p u d → BindsByScope p u e → d ≡ e
 one_by_scope p w u (Predeclared d) (Predeclared e) h k = ap Predeclared (bound_once p.layout (nests p.layout w) p.names u d e h.1 k.1)
-one_by_scope p w u (Predeclared d) (Declared path e) h k = absurd (k.1 (subst IsPredeclaredNumber (bound_once p.layout (nests p.layout w) p.names u d e h.1 k.2) h.0))
-one_by_scope p w u (Declared path d) (Predeclared e) h k = absurd (h.1 (subst IsPredeclaredNumber (bound_once p.layout (nests p.layout w) p.names u e d k.1 h.2) k.0))
+one_by_scope p w u (Predeclared d) (Declared path e) h k = absurd (k.1 (subst IsPredeclaredNumber (bound_once p.layout (nests p.layout w) p.names u d e h.1
+    k.2) h.0))
+one_by_scope p w u (Declared path d) (Predeclared e) h k = absurd (h.1 (subst IsPredeclaredNumber (bound_once p.layout (nests p.layout w) p.names u e d k.1
+    h.2) k.0))
 one_by_scope p w u (Declared path d) (Declared other e) h k = ap₂ Declared (h.0 ∙ sym k.0) (bound_once p.layout (nests p.layout w) p.names u d e h.2 k.2)
 one_by_scope p w u (Predeclared d) (Field s) h k = absurd k
 one_by_scope p w u (Predeclared d) (Method s) h k = absurd k

@@ -31,7 +31,8 @@ still p n name None not h = λ d k. elim (cases_lt d n) [
 ]
 still p n name (Some d) not h = record { below = let lt = h.below in omega arith; seen = h.seen; named = h.named }
 
-pub same_numbers : (p : Package) (n : ℕ) (numbers : List ℕ → Option ℕ) → (DoesExport p n → ⊥) → ExportNamesBelow p n numbers → ExportNamesBelow p (n + 1) numbers
+pub same_numbers : (p : Package) (n : ℕ) (numbers : List ℕ → Option ℕ) → (DoesExport p n → ⊥) → ExportNamesBelow p n numbers →
+    ExportNamesBelow p (n + 1) numbers
 same_numbers p n numbers not h = λ name. still p n name (numbers name) (λ seen named. not seen) (h name)
 
 pub one_more_number : (p : Package) (n : ℕ) (old new : BTreeMap (Vec ℕ) ℕ) (key : Vec ℕ) → key.items ≡ p.names n →
@@ -56,7 +57,8 @@ found_of_all : (p : Package) (n : ℕ) (name : List ℕ) (o : Option ℕ) → ((
 found_of_all p n name None within h = λ d seen named. h d (record { below = within d seen; seen = seen; named = named })
 found_of_all p n name (Some d) within h = (h.seen, h.named)
 
-pub all_numbers_of : (p : Package) (n : ℕ) (numbers : List ℕ → Option ℕ) → ((d : ℕ) → DoesExport p d → d < n) → ExportNamesBelow p n numbers → AreExportsByName p numbers
+pub all_numbers_of : (p : Package) (n : ℕ) (numbers : List ℕ → Option ℕ) → ((d : ℕ) → DoesExport p d → d < n) → ExportNamesBelow p n numbers →
+    AreExportsByName p numbers
 all_numbers_of p n numbers within h = λ name. found_of_all p n name (numbers name) within (h name)
 
 -- what the package of a path exports under a name

@@ -42,7 +42,8 @@ module _ (w : Workspace) (known : Verdicts) where
   from_package p (Field s) name is u h = absurd h
   from_package p (Method s) name is u h = absurd h
 
-  to_bound : (p : Package) (d : Declaration) (name : Option (List ℕ)) → IsExportedUnder w known d name → (u : ℕ) → BindsIn p d name u → IsBoundToDeclaration w known p u d
+  to_bound : (p : Package) (d : Declaration) (name : Option (List ℕ)) → IsExportedUnder w known d name → (u : ℕ) → BindsIn p d name u →
+      IsBoundToDeclaration w known p u d
   to_bound p d name is u (step.by_scope h) = binding.by_scope h
   to_bound p d name is u (step.by_package h) = binding.by_package (to_package p d name is u h)
   to_bound p d name is u (step.by_member h) = binding.by_member h
@@ -131,7 +132,8 @@ module _ (w : Workspace) (known : Verdicts) where
   by_path p u path behind only (Some (Field s)) h = h
   by_path p u path behind only (Some (Method s)) h = h
 
-  pub behind_none : (p : Package) (u : ℕ) → ((path : List ℕ) → IsQualifiedByPath p u path → ⊥) → (d : Declaration) → BindsQualified (IsCheckedPackage w known) p u d → ⊥
+  pub behind_none : (p : Package) (u : ℕ) → ((path : List ℕ) → IsQualifiedByPath p u path → ⊥) → (d : Declaration) →
+      BindsQualified (IsCheckedPackage w known) p u d → ⊥
   behind_none p u none (Predeclared n) k = k
   behind_none p u none (Declared other n) k = none other k.behind
   behind_none p u none (Field s) k = k

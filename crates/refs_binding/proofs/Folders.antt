@@ -10,7 +10,8 @@ use Rattle.workspace_check.proofs.PackageFiles as checked
 use Rattle.refs_binding.specs.Identifiers.{BeginsAt, NameBegins, file_of}
 use Rattle.refs_binding.specs.Uses.{IsCheckedPackage}
 
-pub file_in_folder : (w : Workspace) (known : Verdicts) (p : Package) → IsCheckedPackage w known p → (rank : ℕ) (f : SourceFile) → slice_get p.files rank ≡ Some f →
+pub file_in_folder : (w : Workspace) (known : Verdicts) (p : Package) → IsCheckedPackage w known p → (rank : ℕ) (f : SourceFile) →
+    slice_get p.files rank ≡ Some f →
     folder f.path ≡ p.path
 file_in_folder w known p is rank f at = checked.file_in_folder w known p.path p is.is_checked rank f at
 

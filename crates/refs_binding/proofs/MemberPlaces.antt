@@ -86,7 +86,8 @@ use_skipped ds p file d x a none = adds_none a (IsMemberUseOf ds p file d x) (λ
 pub use_at : (xs : List FoundUse) (k : ℕ) (x : FoundUse) → k < length xs → x ≡ get_or xs k x → slice_get (map use_of xs) k ≡ Some (use_of x)
 use_at xs k x lt e = slice_get-map use_of xs k ∙ ap (option_map use_of) (slice_get_read xs (length xs) k x refl lt e)
 
-pub one_ranked : (ds : Symbol → plain.Definition) (p : Package) (file : ℕ) (d : Declaration) (uses : List MemberUse) (k : ℕ) (x : MemberUse) (a b : List PlaceKey) →
+pub one_ranked : (ds : Symbol → plain.Definition) (p : Package) (file : ℕ) (d : Declaration) (uses : List MemberUse) (k : ℕ) (x : MemberUse) (a b : List
+    PlaceKey) →
     slice_get uses k ≡ Some x → AddsPlaces a b (IsMemberUseOf ds p file d x) → AddsPlaces a b (IsMemberUseAt ds p file d uses k)
 one_ranked ds p file d uses k x a b at h =
     adds_as a b (IsMemberUseOf ds p file d x) (IsMemberUseAt ds p file d uses k)
@@ -167,7 +168,8 @@ module _ (p : Package) (formed : WellFormed p.layout) (one : HasOneWorld p) (ds 
 
 pub all_members : (p : Package) (formed : WellFormed p.layout) (one : HasOneWorld p) (ds : Symbol → plain.Definition) (are : AreDefinitions p ds)
     (members : List (Vec FoundUse)) →
-    AreMemberUses p (map uses_in members) → (d : Declaration) (n : ℕ) (a b : List PlaceKey) → n ≡ length members → AddsPlaces a b (Below (IsFileUse ds p d members) n) →
+    AreMemberUses p (map uses_in members) → (d : Declaration) (n : ℕ) (a b : List PlaceKey) → n ≡ length members →
+    AddsPlaces a b (Below (IsFileUse ds p d members) n) →
     AddsPlaces a b (UsesIn p (λ u. BindsByMember p u d))
 all_members p formed one ds are members all d n a b e h =
     adds_as a b (Below (IsFileUse ds p d members) n) (UsesIn p (λ u. BindsByMember p u d))

@@ -18,7 +18,8 @@ abbrev pub Begins : Package → Position → Place → Type 0
 Begins p at place = NameBegins (slice_get p.files at.file) at.index place.path place.offset
 
 -- the identifier that stands nowhere
-pub no_identifier : (p : Package) (u : ℕ) (a : List PlaceKey) → is_implied (p.layout.role u) ≡ true → AddsPlaces a a (λ place. BeginsAt p place.path place.offset u)
+pub no_identifier : (p : Package) (u : ℕ) (a : List PlaceKey) → is_implied (p.layout.role u) ≡ true → AddsPlaces a a (λ place. BeginsAt p place.path
+    place.offset u)
 no_identifier p u a implied = adds_none a _ (λ place h. true≢false (sym implied ∙ h.0.1))
 
 -- the identifier whose place was added
@@ -56,7 +57,8 @@ a_token p u at a b r found h =
     (λ place t. token_begins p u at place found.within found.holds t) (begins_token p at) h
 
 -- a token at which none stands
-pub no_token : (p : Package) (at : Position) (a : List PlaceKey) (o : Option ℕ) → o ≡ None → IsFirstBelow (LiesAt p.layout at) p.size o → AddsPlaces a a (AtToken p at)
+pub no_token : (p : Package) (at : Position) (a : List PlaceKey) (o : Option ℕ) → o ≡ None → IsFirstBelow (LiesAt p.layout at) p.size o →
+    AddsPlaces a a (AtToken p at)
 no_token p at a o e h =
     let none : (u : ℕ) → u < p.size → LiesAt p.layout at u → ⊥ = subst (IsFirstBelow (LiesAt p.layout at) p.size) e h in
     adds_none a (AtToken p at) (λ place q. none q.0 q.1.0.0.0 q.1.1)

@@ -28,7 +28,8 @@ ExportNamesBelow p n numbers = (name : List ℕ) → MatchOption (numbers name) 
 
 -- `numbers` has for each name the declaration that the package exports under it, or `None` if there is none.
 abbrev pub AreExportsByName : Package → (List ℕ → Option ℕ) → Type 0
-AreExportsByName p numbers = (name : List ℕ) → MatchOption (numbers name) ((d : ℕ) → DoesExport p d → p.names d ≡ name → ⊥) (λ d. DoesExport p d × (p.names d ≡ name))
+AreExportsByName p numbers = (name : List ℕ) → MatchOption (numbers name) ((d : ℕ) → DoesExport p d → p.names d ≡ name →
+    ⊥) (λ d. DoesExport p d × (p.names d ≡ name))
 
 -- `numbers` has for each name the declaration that the package of the number `n` exports under it.
 abbrev pub AreExportsByNameAt : Workspace → Verdicts → ℕ → BTreeMap (Vec ℕ) ℕ → Type 0

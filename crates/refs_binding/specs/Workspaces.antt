@@ -19,7 +19,8 @@ use Rattle.refs_binding.specs.declared.declaration.Declaration.TheVariants.{Pred
 use Rattle.refs_binding.specs.Identifiers.{HoldsByte}
 use Rattle.refs_binding.specs.Binding.{BindsByMember, DeclaresMember}
 use Rattle.refs_binding.specs.Steps.{UsesIn, BindsIn, IsExportedBy}
-use Rattle.refs_binding.specs.Uses.{IsCheckedPackage, IsFilePackage, HasDeclaration, HasNoIdentifier, HasNoDeclaration, BindsThroughLiteral, IsUseOf, ListsUses, HasFirstFault}
+use Rattle.refs_binding.specs.Uses.{IsCheckedPackage, IsFilePackage, HasDeclaration, HasNoIdentifier}
+use Rattle.refs_binding.specs.Uses.{HasNoDeclaration, BindsThroughLiteral, IsUseOf, ListsUses, HasFirstFault}
 use Rattle.refs_binding.specs.Places.{place_cmp}
 use Rattle.refs_binding.specs.WorkspaceFindings.{WorkspaceFindings}
 
@@ -73,7 +74,8 @@ name_bytes name = name.items
 -- The number of the declaration that the package `number` exports under a name, or `None` if there is none.
 abbrev pub IsExportedNumber : Workspace → Verdicts → (number : ℕ) → (name : List ℕ) → Option ℕ → Type 0
 IsExportedNumber w known number name found =
-    (p : Package) × (IsPackageAt w known number p × MatchOption found ((d : ℕ) → DoesExport p d → p.names d ≡ name → ⊥) (λ d. DoesExport p d × (p.names d ≡ name)))
+    (p : Package) × (IsPackageAt w known number p × MatchOption found ((d : ℕ) → DoesExport p d → p.names d ≡ name →
+    ⊥) (λ d. DoesExport p d × (p.names d ≡ name)))
 
 -- The name under which the package `number` exports its declaration `d`, or `None` if it does not.
 abbrev pub IsExportedName : Workspace → Verdicts → (number d : ℕ) → Option (List ℕ) → Type 0
@@ -87,7 +89,8 @@ BindsMember p u d = BindsByMember p u d ⊎ DeclaresMember p u d
 abbrev pub FindsDeclarationIn : Workspace → Verdicts → Package → List ℕ → ℕ → Result Declaration Refusal → Type 0
 FindsDeclarationIn w known p path offset (Ok d) = (u : ℕ) × (HoldsByte p path offset u × BindsThroughLiteral w known p u d)
 FindsDeclarationIn w known p path offset (Err NoIdentifier) = (u : ℕ) → HoldsByte p path offset u → ⊥
-FindsDeclarationIn w known p path offset (Err NotRenamable) = (u : ℕ) × (HoldsByte p path offset u × ((d : Declaration) → BindsThroughLiteral w known p u d → ⊥))
+FindsDeclarationIn w known p path offset (Err NotRenamable) = (u : ℕ) × (HoldsByte p path offset u × ((d : Declaration) →
+    BindsThroughLiteral w known p u d → ⊥))
 FindsDeclarationIn w known p path offset (Err Memory) = ⊤
 FindsDeclarationIn w known p path offset (Err refusal) = ⊥
 

@@ -14,7 +14,8 @@ use Rattle.types_expr.specs.declared.types.Basic.TheVariants as basic
 use Rattle.types_expr.specs.declared.types.Builtin.{Builtin}
 use Rattle.types_expr.specs.declared.types.Builtin.TheVariants as builtin
 use Rattle.types_expr.specs.Places.{first_token, first_of_type, place_of}
-use Rattle.types_expr.specs.Types.{PlainType, BasicType, Underlying, SliceOf, Struct, ValueKind, Typed, Untyped, Nil, Signature, Meaning, Value, TypeName, Function}
+use Rattle.types_expr.specs.Types.{PlainType, BasicType, Underlying, SliceOf, Struct, ValueKind, Typed}
+use Rattle.types_expr.specs.Types.{Untyped, Nil, Signature, Meaning, Value, TypeName, Function}
 use Rattle.types_expr.specs.Types.{BuiltinName, Package, Results, Broken}
 use Rattle.types_expr.specs.World.{World, Locals, name_meaning, meaning_of_bound, underlying}
 use Rattle.types_expr.specs.Operations.{operate, converts, prefixed, element_of_kind}

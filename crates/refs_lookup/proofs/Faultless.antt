@@ -17,7 +17,8 @@ use Rattle.types_check.specs.Check.{IsLaterFault}
 use Rattle.types_info.proofs.MeaningLists.{slice_get_some}
 use Rattle.workspace_check.specs.Faults.{placed_in}
 use Rattle.workspace_check.specs.FaultLists.{ListsFaults}
-use Rattle.workspace_check.specs.Verdicts.{Verdicts, AreVerdicts, AreStates, IsStateOf, is_missing, is_on_cycle, is_faulty, is_good, IsPackageIn, IsFaultBehindOuter}
+use Rattle.workspace_check.specs.Verdicts.{Verdicts, AreVerdicts, AreStates, IsStateOf, is_missing}
+use Rattle.workspace_check.specs.Verdicts.{is_on_cycle, is_faulty, is_good, IsPackageIn, IsFaultBehindOuter}
 use Rattle.workspace_check.proofs.Closed.{imports_closed}
 use Rattle.workspace_check.proofs.FaultFiles.{in_outer, in_later, identifiers_stand}
 use Rattle.workspace_check.proofs.Members.{cases_contains}

@@ -102,7 +102,8 @@ method_members file (FuncDecl k x s) f r h e = elim h [
   | inr z ↦ absurd z
 ]
 
-in_tree : (files : List SourceFile) (r : RankedSource) (decl : DeclTree) (at : Position) → Holds (ranked_files files) r → Holds r.1.tree.decls decl → r.0 ≡ at.file →
+in_tree : (files : List SourceFile) (r : RankedSource) (decl : DeclTree) (at : Position) → Holds (ranked_files files) r → Holds r.1.tree.decls decl →
+    r.0 ≡ at.file →
     Holds (decl_members decl) at.index →
     IsMemberIn files at
 in_tree files r decl at hr hd e m =

@@ -15,7 +15,8 @@ use Rattle.workspace_check.specs.Verdicts.{Verdicts, AreVerdicts}
 use Rattle.workspace_check.proofs.Members.{one_sorted}
 use Rattle.workspace_check.proofs.OneList.{one_whole_list}
 use Rattle.refs_binding.specs.Identifiers.{HoldsByte}
-use Rattle.refs_binding.specs.Uses.{BindsThroughLiteral, IsUseOf, IsFilePackage, ListsUses, HasNoIdentifier, HasNoDeclaration, HasFileAt, HasFirstFault, AnswersUses}
+use Rattle.refs_binding.specs.Uses.{BindsThroughLiteral, IsUseOf, IsFilePackage, ListsUses}
+use Rattle.refs_binding.specs.Uses.{HasNoIdentifier, HasNoDeclaration, HasFileAt, HasFirstFault, AnswersUses}
 use Rattle.refs_lookup.proofs.OnePlace.{one_asked}
 use Rattle.refs_binding.proofs.PlaceOrder.{place_cmp_total}
 use Rattle.refs_binding.proofs.Alike.{use_for, asked_for, held_for}

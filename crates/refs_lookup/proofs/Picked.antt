@@ -23,7 +23,8 @@ MayUse w (Some k) = IsPackage w k → ⊥
 pub data Picked (w : World) : (before : Option ℕ) → List MemberUse → List Token → (after : Option ℕ) → Type 0 where
   stops : {b : Option ℕ} → Picked w b [] [] b
   passes : {b e : Option ℕ} {us : List MemberUse} {t : Token} {ts : List Token} → Picked w (Some t.place) us ts e → Picked w b us (t ∷ ts) e
-  closes : {b e : Option ℕ} {us : List MemberUse} {t : Token} {ts : List Token} → is_ident_token t.kind ≡ false → Picked w None us ts e → Picked w b us (t ∷ ts) e
+  closes : {b e : Option ℕ} {us : List MemberUse} {t : Token} {ts : List Token} → is_ident_token t.kind ≡ false → Picked w None us ts e →
+      Picked w b us (t ∷ ts) e
   leaves : {b e : Option ℕ} {us : List MemberUse} {d t : Token} {ts : List Token} → d.kind ≡ kind.Dot → Picked w None us ts e → Picked w b us (d ∷ (t ∷ ts)) e
   selects : {b e : Option ℕ} {u : MemberUse} {us : List MemberUse} {d t : Token} {ts : List Token} → MayUse w b → d.kind ≡ kind.Dot → u.place ≡ t.place →
       Picked w None us ts e → Picked w b (u ∷ us) (d ∷ (t ∷ ts)) e

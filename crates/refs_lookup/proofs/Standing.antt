@@ -22,7 +22,8 @@ use Rattle.workspace_check.proofs.MemberFiles.{field_file, function_file}
 use Rattle.workspace_check.proofs.PackageFiles.{package_file, some_tree}
 use Rattle.refs_binding.specs.declared.declaration.Declaration.{Declaration}
 use Rattle.refs_binding.specs.declared.declaration.Declaration.TheVariants.{Predeclared, Declared, Field, Method}
-use Rattle.refs_binding.specs.Binding.{IsPredeclaredNumber, BindsByScope, BindsQualified, BindsByMember, DeclaresMember, by_scope, by_package, by_member, by_name}
+use Rattle.refs_binding.specs.Binding.{IsPredeclaredNumber, BindsByScope, BindsQualified, BindsByMember}
+use Rattle.refs_binding.specs.Binding.{DeclaresMember, by_scope, by_package, by_member, by_name}
 use Rattle.refs_binding.specs.Binding.{IsQualifiedUse, field_place}
 use Rattle.refs_binding.specs.Uses.{IsCheckedPackage, IsBoundToDeclaration}
 use Rattle.refs_lookup.proofs.OnePlace.{names_of}
@@ -81,7 +82,8 @@ module _ (w : Workspace) (known : Verdicts) (p : List ℕ) (c : Package) (is : I
   inside path d e at position place begins =
       record { inside = c; is_package = is; of_path = e; holds = record { at = at; is_at = position; begins = begins } }
 
-  scope_within : (path : List ℕ) (n : ℕ) → c.path ≡ path → (IsPredeclaredNumber n → ⊥) → Counts c.layout c.names n → IsDeclaredWithin w known p (Declared path n)
+  scope_within : (path : List ℕ) (n : ℕ) → c.path ≡ path → (IsPredeclaredNumber n → ⊥) → Counts c.layout c.names n →
+      IsDeclaredWithin w known p (Declared path n)
   scope_within path n e own counts =
       let literal = literal_of c.layout n in
       within (Declared path n) (c.layout.place literal) (identifier_file w known c is literal)

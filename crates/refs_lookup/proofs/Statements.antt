@@ -19,7 +19,8 @@ use Rattle.types_expr.specs.Judge.{Noted, TypeJudged, judge, judge_value, judge_
 use Rattle.types_stmt.specs.Checked.{FoundSoFar, check_items, check_group}
 use Rattle.types_stmt.specs.Sides.{Target, Lefts, values_of, judge_each, rhs, assignable, judge_operand, assigned_one, assigned, no_name, declares, reassigned}
 use Rattle.types_stmt.specs.Sides.{Takes, defined_one, defined, receiving, given_enterings}
-use Rattle.types_stmt.specs.Simple.{without_parentheses, check_condition, check_step, check_update, check_expr_statement, check_assign, check_define, check_simple}
+use Rattle.types_stmt.specs.Simple.{without_parentheses, check_condition, check_step, check_update}
+use Rattle.types_stmt.specs.Simple.{check_expr_statement, check_assign, check_define, check_simple}
 use Rattle.types_stmt.specs.Simple.{check_optional_simple, written_targets, name_targets, check_optional_condition}
 use Rattle.types_stmt.specs.Simple.{check_typed_local, check_untyped_local, check_local_of, check_local}
 use Rattle.types_stmt.specs.Statements.{check_return, check_init, check_for_header, check_statement, check_block, check_statements, check_if, check_else}
@@ -104,7 +105,8 @@ unnamed_pass w ls e =
 defined_pass : (w : World) (ls : Locals) (e : ExprTree) → Passes w (defined_one w ls e).uses (expr_tokens e)
 unfolding defined_one
 defined_pass w ls (Blank p) = pass_none w (expr_tokens (Blank p))
-defined_pass w ls (Name p) = lefts_if w (declares w p) _ (reassigned w ls p) (expr_tokens (Name p)) (pass_none w (expr_tokens (Name p))) (value_pass w ls (Name p))
+defined_pass w ls (Name p) = lefts_if w (declares w p) _ (reassigned w ls p) (expr_tokens (Name p)) (pass_none w (expr_tokens (Name p))) (value_pass w ls
+    (Name p))
 defined_pass w ls e = unnamed_pass w ls e
 
 lefts_pass : (w : World) (es : List (Item ExprTree)) (f : ExprTree → Lefts) → ((e : ExprTree) → Passes w (f e).uses (expr_tokens e)) →
@@ -144,7 +146,8 @@ grows_before w a b us vs f = grows_then w a b b us vs f (grows_none w b vs)
 grows_behind : (w : World) (a b : FoundSoFar) (t : Token) (vs : List Token) → Grows w a b vs → Grows w a b (t ∷ vs)
 grows_behind w a b t vs g = grows_after w a b (t ∷ []) vs g
 
-items_grow : {X : Type 0} (w : World) (check : FoundSoFar → X → FoundSoFar) (k : Kind) (f : X → List Token) → ((s : FoundSoFar) (x : X) → Grows w s (check s x) (f x)) →
+items_grow : {X : Type 0} (w : World) (check : FoundSoFar → X → FoundSoFar) (k : Kind) (f : X → List Token) → ((s : FoundSoFar) (x : X) →
+    Grows w s (check s x) (f x)) →
     (s : FoundSoFar) (xs : List (Item X)) → Grows w s (check_items check s xs) (list_tokens k f xs)
 unfolding check_items all_tokens
 items_grow w check k f h s [] = grows_none w s []
@@ -252,7 +255,8 @@ init_grows : (w : World) (s : FoundSoFar) (i : Option InitTree) → Grows w s (c
 unfolding init_tokens
 init_grows w s None = grows_none w s []
 init_grows w s (Some i) =
-    grows_before w s (check_optional_simple w s i.simple) (tokens_if simple_tokens i.simple) (sign kind.Semicolon i.semicolon ∷ []) (optional_grows w s i.simple)
+    grows_before w s (check_optional_simple w s i.simple) (tokens_if simple_tokens i.simple) (sign kind.Semicolon i.semicolon ∷ []) (optional_grows w s
+    i.simple)
 
 header_grows : (w : World) (s : FoundSoFar) (f : ForTree) → Grows w s (check_for_header w s f) (for_tokens f)
 unfolding check_for_header for_tokens
@@ -304,7 +308,8 @@ mutual
       grows_behind w s a (sign kind.LeftBrace o) (statements_tokens ss ++ (sign kind.RightBrace c ∷ []))
       (grows_before w s a (statements_tokens ss) (sign kind.RightBrace c ∷ []) (statements_grow w results s ss))
 
-  statements_grow : (w : World) (results : List Target) (s : FoundSoFar) (ss : StatementTrees) → Grows w s (check_statements w results s ss) (statements_tokens ss)
+  statements_grow : (w : World) (results : List Target) (s : FoundSoFar) (ss : StatementTrees) → Grows w s (check_statements w results s ss)
+      (statements_tokens ss)
   statements_grow w results s no_statement = grows_none w s []
   statements_grow w results s (statement x p rest) =
       let a = check_statement w results s x in

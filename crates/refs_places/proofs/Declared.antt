@@ -174,7 +174,8 @@ one_in : (p : Package) (d : Declaration) (a b : Place) → HasDeclarationAt p d 
 one_in p d a b h k = token_once (slice_get p.files k.at.file) k.at.index a b
     (subst (λ x. TokenAt p x a) (one_position p d h.at k.at h.is_at k.is_at) h.begins) k.begins
 
-one_under : (w : Workspace) (known : Verdicts) (path : List ℕ) (d : Declaration) (a b : Place) → InPackage (IsCheckedPackage w known) path (λ p. HasDeclarationAt p d a) →
+one_under : (w : Workspace) (known : Verdicts) (path : List ℕ) (d : Declaration) (a b : Place) → InPackage (IsCheckedPackage w known) path (λ p.
+    HasDeclarationAt p d a) →
     InPackage (IsCheckedPackage w known) path (λ p. HasDeclarationAt p d b) → a ≡ b
 one_under w known path d a b h k =
     let same : h.inside ≡ k.inside = one_package w known h.inside k.inside h.is_package k.is_package (h.of_path ∙ sym k.of_path) in

@@ -107,13 +107,15 @@ itself_before place b same e = true≢false (sym e ∙ ap is_lt (ap (λ x. place
 itself_behind : (place : Place) (b : BoundIdentifier) → bound_place b ≡ place → not_behind place b ≡ false → ⊥
 itself_behind place b same e = true≢false (ap not (sym (ap is_gt (ap (λ x. place_cmp x place) same ∙ tied_itself place_cmp_total place))) ∙ e)
 
-in_range : (bs : List BoundIdentifier) (first end k : ℕ) (b : BoundIdentifier) → k < end - first → get_or (slice_range bs first end) k b ≡ get_or bs (first + k) b
+in_range : (bs : List BoundIdentifier) (first end k : ℕ) (b : BoundIdentifier) → k < end - first → get_or (slice_range bs first end) k b ≡ get_or bs (first
+    + k) b
 in_range bs first end k b lt = get_or-take (end - first) (drop first bs) k b lt ∙ get_or-drop first bs k b
 
 size_of : (bs : List BoundIdentifier) (first end : ℕ) → first ≤ end → end ≤ length bs → length (slice_range bs first end) ≡ end - first
 size_of bs first end le within = grind (arith, length-take, length-drop)
 
-pub range_holds : (bs found : List BoundIdentifier) (place : Place) (first end : ℕ) → first ≤ end → found ≡ slice_range bs first end → IsRange bs place first end →
+pub range_holds : (bs found : List BoundIdentifier) (place : Place) (first end : ℕ) → first ≤ end → found ≡ slice_range bs first end →
+    IsRange bs place first end →
     (b : BoundIdentifier) → Contains found b ↔ (Contains bs b × (bound_place b ≡ place))
 range_holds bs found place first end le e h b =
     let size : length (slice_range bs first end) ≡ end - first = size_of bs first end le h.within in

@@ -28,7 +28,8 @@ pub record IsSpelledRank (files : List SourceFile) (name : List ℕ) (places : L
   pub has_rank : slice_get places k ≡ Some at
   pub is_spelled : IsSpelledAt files name at place
 
-pub one_place : (files : List SourceFile) (name : List ℕ) (places : List Position) (k : ℕ) (at : Position) (a b : List PlaceKey) → slice_get places k ≡ Some at →
+pub one_place : (files : List SourceFile) (name : List ℕ) (places : List Position) (k : ℕ) (at : Position) (a b : List PlaceKey) →
+    slice_get places k ≡ Some at →
     AddsPlaces a b (IsSpelledAt files name at) → AddsPlaces a b (IsSpelledRank files name places k)
 one_place files name places k at a b is h =
     adds_as a b (IsSpelledAt files name at) (IsSpelledRank files name places k)

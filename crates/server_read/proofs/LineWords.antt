@@ -33,7 +33,8 @@ pub verb_no_space : (command : Command) → HasNoSpace (verb_of command)
 verb_no_space (OnState Look) = four 108 111 111 107 (omega arith) (omega arith) (omega arith) (omega arith)
 verb_no_space (OnState (Put basis path size body)) = three 112 117 116 (omega arith) (omega arith) (omega arith)
 verb_no_space (OnState (Del basis path)) = three 100 101 108 (omega arith) (omega arith) (omega arith)
-verb_no_space (OnState (Rename basis path offset name)) = six 114 101 110 97 109 101 (omega arith) (omega arith) (omega arith) (omega arith) (omega arith) (omega arith)
+verb_no_space (OnState (Rename basis path offset name)) = six 114 101 110 97 109 101 (omega arith) (omega arith) (omega arith) (omega arith) (omega arith)
+    (omega arith)
 verb_no_space (OnState (Move basis from to)) = four 109 111 118 101 (omega arith) (omega arith) (omega arith) (omega arith)
 verb_no_space (OnState (Undo basis)) = four 117 110 100 111 (omega arith) (omega arith) (omega arith) (omega arith)
 verb_no_space (OnState (Redo basis)) = four 114 101 100 111 (omega arith) (omega arith) (omega arith) (omega arith)
@@ -194,7 +195,8 @@ pub rename_words : (words : List ℕ)
     → (command : Command) → HasWords (codes "rename") words command → ⊥
 rename_words words never command h = only_rename command (λ c. FitsLine c → IsSpaced (args_of c) words → ⊥) h.first never h.fits h.others
 
-pub move_words : (words : List ℕ) → ((basis : ℕ) (from to : List ℕ) → FitsLine (OnState (Move basis from to)) → words ≡ decimal basis ++ 32 ∷ (from ++ 32 ∷ to) → ⊥)
+pub move_words : (words : List ℕ) → ((basis : ℕ) (from to : List ℕ) → FitsLine (OnState (Move basis from to)) →
+    words ≡ decimal basis ++ 32 ∷ (from ++ 32 ∷ to) → ⊥)
     → (command : Command) → HasWords (codes "move") words command → ⊥
 move_words words never command h = only_move command (λ c. FitsLine c → IsSpaced (args_of c) words → ⊥) h.first never h.fits h.others
 

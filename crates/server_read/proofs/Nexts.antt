@@ -1,5 +1,6 @@
 -- The next message, from its line and its body.
-use Rattle.std.proofs.Common.{◌≡◌, ◌≢◌, ℕ, zero, suc, get_or, ◌+◌, ◌≤◌, ◌<◌, List, [], ◌∷◌, ◌++◌, length, take, drop, Option, None, Some, Result, Ok, Err, codes, refl, sym, ap, ◌∙◌}
+use Rattle.std.proofs.Common.{◌≡◌, ◌≢◌, ℕ, zero, suc, get_or, ◌+◌, ◌≤◌, ◌<◌, List, [], ◌∷◌, ◌++◌}
+use Rattle.std.proofs.Common.{length, take, drop, Option, None, Some, Result, Ok, Err, codes, refl, sym, ap, ◌∙◌}
 use Rattle.std.proofs.Common.{inl, inr, append_assoc, arith, le_trans, length-append, length-drop}
 use Rattle.std.proofs.lemmas.Grind.{common_steps}
 use Rattle.std.proofs.lemmas.List.Folds.{prefix_len-append}
@@ -142,7 +143,8 @@ no_message_in_body limits input bytes rest front back said CutShort readable is_
     let h : Says limits (front ++ 10 ∷ []) CutShort (10 ∷ []) = whole (10 ∷ []) in
     absurd (omega (arith, ap length h.1.4))
 
-no_end_at_put : (limits : Limits) (input path : List ℕ) (basis size : ℕ) (after : List ℕ) → input ≢ [] → IsCommandLine (first_line input) (put_line basis path size)
+no_end_at_put : (limits : Limits) (input path : List ℕ) (basis size : ℕ) (after : List ℕ) → input ≢ [] →
+    IsCommandLine (first_line input) (put_line basis path size)
     → Ends limits input after → ⊥
 no_end_at_put limits input path basis size after some put e = elim e [
   | inl over ↦ absurd (some over.0)
@@ -159,7 +161,8 @@ stays_in_body limits input part bytes rest path basis size some readable put all
   message = λ m after says. after_body limits input bytes rest (put_line basis path size) m after readable put e (omega (arith, short)) (rw all says);
   end = λ after ends. absurd (no_end_at_put limits input path basis size after some put (rw all ends));
   no_message = λ front back m is whole.
-      no_message_in_body limits input bytes rest front back (put_line basis path size) m readable put e short (cut_again input part rest front back all is) whole;
+      no_message_in_body limits input bytes rest front back (put_line basis path size) m readable put e short (cut_again input part rest front back all is)
+      whole;
   no_end = λ front back is whole.
       no_end_at_put limits input path basis size (back ++ rest) some put (rw (cut_again input part rest front back all is) (whole (back ++ rest)));
 }

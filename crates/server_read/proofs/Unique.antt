@@ -37,10 +37,13 @@ same_line (OnState Faults) b e = only_faults b (Same (OnState Faults)) e (λ h k
 same_line (OnState Work) b e = only_work b (Same (OnState Work)) e (λ h k f. refl)
 same_line Wait b e = only_wait b (Same Wait) e (λ h k f. refl)
 same_line Status b e = only_status b (Same Status) e (λ h k f. refl)
-same_line (OnState (Object path)) b e = only_object b (Same (OnState (Object path))) e (λ other h k f. ap (λ x. OnState (Object x)) (head_of_two path other [] [] f))
+same_line (OnState (Object path)) b e = only_object b (Same (OnState (Object path))) e (λ other h k f. ap (λ x. OnState (Object x)) (head_of_two path other
+    [] [] f))
 same_line (Log number) b e = only_log b (Same (Log number)) e (λ other h k f. ap (λ x. Log x) (same_basis number other [] [] h k f))
-same_line (OnState (Undo basis)) b e = only_undo b (Same (OnState (Undo basis))) e (λ other h k f. ap (λ x. OnState (Undo x)) (same_basis basis other [] [] h k f))
-same_line (OnState (Redo basis)) b e = only_redo b (Same (OnState (Redo basis))) e (λ other h k f. ap (λ x. OnState (Redo x)) (same_basis basis other [] [] h k f))
+same_line (OnState (Undo basis)) b e = only_undo b (Same (OnState (Undo basis))) e (λ other h k f. ap (λ x. OnState (Undo x)) (same_basis basis other [] []
+    h k f))
+same_line (OnState (Redo basis)) b e = only_redo b (Same (OnState (Redo basis))) e (λ other h k f. ap (λ x. OnState (Redo x)) (same_basis basis other [] []
+    h k f))
 same_line (OnState (Objects basis)) b e = only_objects b (Same (OnState (Objects basis))) e (λ other h k f.
     ap (λ x. OnState (Objects x)) (same_basis basis other [] [] h k f))
 same_line (OnState (Cat path)) b e = only_cat b (Same (OnState (Cat path))) e (λ other h k f. ap (λ x. OnState (Cat x)) (head_of_two path other [] [] f))

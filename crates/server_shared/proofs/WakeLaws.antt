@@ -35,7 +35,13 @@ use Rattle.server_shared.specs.Waking.{HasTable, MayWake, NoWakeMissed}
 
 -- ---- what waits after an event that keeps the files
 -- behind a Take no package waits that did not wait before: its Job is out, and all else stays
-taken_waits : (old : Content) (label : JobLabel) (new : Content) → new ≡ record old { out = record { ticket = old.out.ticket + 1; jobs = old.out.jobs ++ label ∷ [] } } →
+taken_waits : (old : Content) (label : JobLabel) (new : Content) → new ≡ record old {
+  out = record {
+    ticket = old.out.ticket + 1;
+    jobs = old.out.jobs ++
+        label ∷ [];
+  };
+} →
     (p : List ℕ) → WaitsIn new p → WaitsIn old p
 taken_waits old label new is p waits =
     let here = subst (λ (c : Content). WaitsIn c p) is waits in
@@ -54,7 +60,8 @@ delivered_waits old job unit new sized done p waits =
     let n = done.3.0 in
     let within : n < length old.current.finished = subst (λ (k : ℕ). n < k) (sym sized) (slice_get_within paths n job.package done.3.1) in
     let gained : slice_get done.1 n ≡ Some (Some unit) =
-    subst (λ (t : Table). slice_get t n ≡ Some (Some unit)) (sym done.3.2) (set_there old.current.finished n (get_or old.current.finished n None) (Some unit) (slice_get-get_or old.current.finished n None within)) in
+    subst (λ (t : Table). slice_get t n ≡ Some (Some unit)) (sym done.3.2) (set_there old.current.finished n (get_or old.current.finished n None) (Some
+    unit) (slice_get-get_or old.current.finished n None within)) in
     let is_other : job.package ≡ p → ⊥ = λ same. here.unfinished unit (n, done.3.1 ∙ ap (λ (q : List ℕ). Some q) same, gained) in
     record {
       is_package = here.is_package;
@@ -108,7 +115,8 @@ module _ (old new : Machine) (entry : Entry) (longer : new.journal ≡ old.journ
       let limits : new.limits.journal ≡ old.limits.journal = ap (λ (c : Content). c.limits.journal) done.4 in
       let inside : done.2.place < length old.out.jobs = slice_get_within old.out.jobs done.2.place (label_of job) done.2.at in
       let less : length new.out.jobs + 1 ≡ length old.out.jobs =
-      ap (λ (c : Content). length c.out.jobs + 1) done.4 ∙ (ap (λ (o : JobsOut). length o.jobs + 1) done.2.others ∙ length-remove old.out.jobs done.2.place inside) in
+      ap (λ (c : Content). length c.out.jobs + 1) done.4 ∙ (ap (λ (o : JobsOut). length o.jobs + 1) done.2.others ∙ length-remove old.out.jobs done.2.place
+      inside) in
       let room : entries_due new + 2 ≤ new.limits.journal = has.0 in
       (omega (arith, room, limits, less, length_is), (has.1.0, delivered_waits (content old) job unit (content new) sized done has.1.0 has.1.1))
 

@@ -58,7 +58,8 @@ module _ (most : ℕ) where
   back_gains : (old : List Receipt) (job : JobRecord) (new : List Receipt) → GivesJobBack (CallsWith most) old job new → Gains IsWork old new
   back_gains old job new (inl back) = sent_gains old (GiveBack job) new (λ out. refl) back
   back_gains old job new (inr d) =
-      gains_more IsWork old d.2.1 new (works old (Deliver job d.0) d.2.0 d.2.3.0 d.2.1 (λ out. refl) d.2.3.1) (sent_gains d.2.1 (GiveBack job) new (λ out. refl) d.2.4)
+      gains_more IsWork old d.2.1 new (works old (Deliver job d.0) d.2.0 d.2.3.0 d.2.1 (λ out. refl) d.2.3.1) (sent_gains d.2.1 (GiveBack job) new (λ out.
+      refl) d.2.4)
 
   handed_gains : (old : List Receipt) (job : JobRecord) (turn : WorkTurn) (new : List Receipt) → HandsIn (CallsWith most) old job turn new →
       Gains IsWork old new
@@ -77,7 +78,8 @@ module _ (most : ℕ) where
 
 -- A turn of a caller, seen as a turn of what the caller shows. The caller has a name that no step changes.
 module _ {C E : Type 0} (steps : C → Event → Reply → C → Type 0) (shown : E → Event → Reply → E → Type 0) (name : C → ℕ) (show : C → E)
-    (step : (old : C) (event : Event) (reply : Reply) (new : C) → steps old event reply new → (name new ≡ name old) × shown (show old) event reply (show new)) where
+    (step : (old : C) (event : Event) (reply : Reply) (new : C) → steps old event reply new → (name new ≡ name old) × shown (show old) event reply (show
+    new)) where
   called : (old : C) (event : Event) (new : C) → CallsEvent steps old event new → (name new ≡ name old) × CallsEvent shown (show old) event (show new)
   called old event new h = let k = step old event h.0 new h.1 in (k.0, (h.0, k.1))
 

@@ -17,7 +17,8 @@ use Rattle.server_shared.specs.Held.{IsRested, WithHandedIn, jobs_in_hand}
 use Rattle.server_shared.proofs.ShiftLaws.{IsBehind, behind_none, behind_rested, call_shifted, looks_shifted, no_jobs}
 use Rattle.server_socket.specs.SeatStep.{CallsAtSeat}
 use Rattle.server_socket.specs.SeatWait.{WaitsUntilBuilt}
-use Rattle.server_socket.specs.Session.{AccountsForMessages, AnswersAtRest, AnswersAtSeat, ConversesAtSeat, HoldsSession, HoldsSessions, HoldsSome, ServesMessage}
+use Rattle.server_socket.specs.Session.{AccountsForMessages, AnswersAtRest, AnswersAtSeat, ConversesAtSeat}
+use Rattle.server_socket.specs.Session.{HoldsSession, HoldsSessions, HoldsSome, ServesMessage}
 use Rattle.server_socket.proofs.Lifts.{conversed, one_lifted, step_lifted}
 
 -- messages that are answered after one more, or none

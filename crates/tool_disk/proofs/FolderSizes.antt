@@ -1,5 +1,6 @@
 -- The bytes of all files, and the limits on them, after a file was set.
-use Rattle.std.proofs.Common.{◌≡◌, ◌↔◌, ◌+◌, ◌≤◌, ◌∷◌, [], ℕ, Bool, true, false, List, Option, Some, None, cond, length, nat_le, refl, sym, subst, ap, ◌∙◌, arith}
+use Rattle.std.proofs.Common.{◌≡◌, ◌↔◌, ◌+◌, ◌≤◌, ◌∷◌, [], ℕ, Bool, true, false, List}
+use Rattle.std.proofs.Common.{Option, Some, None, cond, length, nat_le, refl, sym, subst, ap, ◌∙◌, arith}
 use Rattle.std.specs.Prelude.{IsTrue, is_some, sum_by}
 use Rattle.std.specs.FinMap.{empty, entries, entries-insert, entries_sorted, find, get, get-entries, insert, is_sorted, len, len-empty, len-insert, put}
 use Rattle.std.specs.FinMap.Entries.{below_all, by_order}

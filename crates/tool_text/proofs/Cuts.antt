@@ -1,5 +1,6 @@
 -- The first part of a text, and the others.
-use Rattle.std.proofs.Common.{◌≡◌, ◌∙◌, ◌+◌, ◌-◌, ◌<◌, ◌≤◌, ◌==◌, ℕ, Bool, true, false, List, [], ◌∷◌, length, length-drop, take, drop, refl, sym, ap, arith, zero, suc, Option, None, Some}
+use Rattle.std.proofs.Common.{◌≡◌, ◌∙◌, ◌+◌, ◌-◌, ◌<◌, ◌≤◌, ◌==◌, ℕ, Bool, true, false, List, []}
+use Rattle.std.proofs.Common.{◌∷◌, length, length-drop, take, drop, refl, sym, ap, arith, zero, suc, Option, None, Some}
 use Rattle.std.specs.Borrow.{Bor}
 use Rattle.std.specs.List.{onto_first, position_or_len}
 use Rattle.tool_text.specs.Parts.{parts, parts_left}

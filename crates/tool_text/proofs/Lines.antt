@@ -1,5 +1,6 @@
 -- The lines of two texts, side by side.
-use Rattle.std.proofs.Common.{◌≡◌, ◌∙◌, ◌+◌, ◌<◌, ℕ, suc, Bool, true, false, List, [], ◌∷◌, ◌++◌, length, take, drop, refl, sym, ap, append_assoc, true≢false, arith}
+use Rattle.std.proofs.Common.{◌≡◌, ◌∙◌, ◌+◌, ◌<◌, ℕ, suc, Bool, true, false, List, []}
+use Rattle.std.proofs.Common.{◌∷◌, ◌++◌, length, take, drop, refl, sym, ap, append_assoc, true≢false, arith}
 use Rattle.std.specs.Prelude.{map, nat_eq}
 use Rattle.std.specs.List.{onto_first, position_or_len}
 use Rattle.tool_text.specs.Diff.{TakesLine, both_lines, lines_of, side_by_side}

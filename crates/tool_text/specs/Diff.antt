@@ -1,5 +1,6 @@
 -- Unified diffs of two texts.
-use Rattle.std.specs.Prelude.{◌≡◌, ◌⊎◌, ◌+◌, ◌-◌, ◌<◌, ◌≤◌, ◌==◌, ℕ, Bool, true, List, [], ◌∷◌, ◌++◌, Some, codes, decimal, drop, map, if◌then◌else◌, length, take, Contains, nat_eq, not, slice_get}
+use Rattle.std.specs.Prelude.{◌≡◌, ◌⊎◌, ◌+◌, ◌-◌, ◌<◌, ◌≤◌, ◌==◌, ℕ, Bool, true, List, [], ◌∷◌}
+use Rattle.std.specs.Prelude.{◌++◌, Some, codes, decimal, drop, map, if◌then◌else◌, length, take, Contains, nat_eq, not, slice_get}
 use Rattle.std.specs.List.{All, AllPairs, count_by, flat_map, ends_with, onto_first, position_or_len}
 use Rattle.std.specs.Cmp.Lexicographic.{pointwise}
 use Rattle.base_files.specs.declared.place.Span.{Span}

@@ -1,5 +1,6 @@
 -- The path of a module in the text of its file `go.mod`.
-use Rattle.std.specs.Prelude.{◌-◌, ◌+◌, ◌==◌, ◌||◌, ◌&&◌, ℕ, Bool, List, [], ◌∷◌, Option, None, Some, codes, drop, if◌then◌else◌, length, nat_eq, nat_lt, not, take}
+use Rattle.std.specs.Prelude.{◌-◌, ◌+◌, ◌==◌, ◌||◌, ◌&&◌, ℕ, Bool, List, [], ◌∷◌}
+use Rattle.std.specs.Prelude.{Option, None, Some, codes, drop, if◌then◌else◌, length, nat_eq, nat_lt, not, take}
 use Rattle.std.specs.List.{prefix_len, slice_index_or, starts_with, suffix_len}
 use Rattle.tool_text.specs.Parts.{parts}
 

@@ -22,7 +22,8 @@ use Rattle.types_declared.specs.Written.{IsTypeOf}
 use Rattle.types_declared.specs.WrittenView.{IsTypeFound}
 use Rattle.types_members.specs.MembersView.{CountsAsField, IsMethodOn, CountsAsMethod}
 use Rattle.types_info.specs.DefinitionsView.{HaveDefinitions}
-use Rattle.types_check.specs.Building.{IsFieldBelow, IsMethodBelow, IsDefinitionBelow, HaveMembersBelow, SetsField, typed_field, received_by_pointer, signed_method}
+use Rattle.types_check.specs.Building.{IsFieldBelow, IsMethodBelow, IsDefinitionBelow, HaveMembersBelow}
+use Rattle.types_check.specs.Building.{SetsField, typed_field, received_by_pointer, signed_method}
 use Rattle.types_check.specs.Building.{SetsMethodOf, ChangesAt, AddsField, IsWrittenFound, typed, untyped}
 use Rattle.types_declared.proofs.ByteKeys.{cases_bytes}
 use Rattle.types_declared.proofs.Mentioning.{get_set_same, get_set_other}
@@ -176,7 +177,8 @@ pub field_changed : (p : Package) (rank : ℕ) (f : PlacedField) (t : WrittenAs)
     x ≡ get_or old f.definition x → HasForm p f.file f.form t →
     SetsField (definition_of x) (definition_of y) (spelled p f.file f.name) (typed_field p rank f t) → AddsField p rank f old (set old f.definition y)
 field_changed p rank f t old x y lt at is s =
-    typed is (changes_set old f.definition x y (λ a b. SetsField (definition_of a) (definition_of b) (spelled p f.file f.name) (typed_field p rank f t)) lt at s)
+    typed is (changes_set old f.definition x y (λ a b. SetsField (definition_of a) (definition_of b) (spelled p f.file f.name) (typed_field p rank f t)) lt
+    at s)
 
 -- a field that counts is added
 pub field_added : (p : Package) (count methods : ℕ) (f : PlacedField) (old new : List Definition) → slice_get (package_fields p) count ≡ Some f →

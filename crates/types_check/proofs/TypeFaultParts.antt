@@ -82,7 +82,8 @@ fault_from_file p one file c ch f h =
     ap (λ s. check_file t.world (is_init s) s.tree) source ∙ ap (λ w. check_file w (is_init ch.source) ch.source.tree) world ∙ sym ch.is in
     record { in_file = h.in_file; at = subst (λ z. Contains z.faults f.token) same t.found; kind = t.kind }
 
-pub faults_of_file : (p : Package) → HasOneWorld p → (file : ℕ) (c : FoundSoFar) (a b : List Fault) → IsChecked p file c → AddsFaults a b (IsAtToken file c.faults) →
+pub faults_of_file : (p : Package) → HasOneWorld p → (file : ℕ) (c : FoundSoFar) (a b : List Fault) → IsChecked p file c →
+    AddsFaults a b (IsAtToken file c.faults) →
     AddsFaults a b (IsTypeFaultIn p file)
 faults_of_file p one file c a b ch h = adds_as a b (IsAtToken file c.faults) (IsTypeFaultIn p file) h (fault_in p file c ch) (fault_from_file p one file c ch)
 
@@ -94,10 +95,12 @@ some_file p n f h = h.2.fault
 own_file : (p : Package) (f : Fault) → IsTypeFault p f → IsFaultBelow (IsTypeFaultIn p) (length p.files) f
 own_file p f h = (f.file, slice_get_within p.files f.file h.source h.in_file, record { in_file = refl; fault = h })
 
-pub all_faults : (p : Package) (n : ℕ) (found : List Fault) → n ≡ length p.files → AddsFaults [] found (IsFaultBelow (IsTypeFaultIn p) n) → HoldsExactly (IsTypeFault p) found
+pub all_faults : (p : Package) (n : ℕ) (found : List Fault) → n ≡ length p.files → AddsFaults [] found (IsFaultBelow (IsTypeFaultIn p) n) →
+    HoldsExactly (IsTypeFault p) found
 all_faults p n found e h =
     lists_from found (IsTypeFault p)
-    (adds_as [] found (IsFaultBelow (IsTypeFaultIn p) n) (IsTypeFault p) h (some_file p n) (λ f t. subst (λ k. IsFaultBelow (IsTypeFaultIn p) k f) (sym e) (own_file p f t)))
+    (adds_as [] found (IsFaultBelow (IsTypeFaultIn p) n) (IsTypeFault p) h (some_file p n) (λ f t. subst (λ k. IsFaultBelow (IsTypeFaultIn p) k f) (sym e)
+    (own_file p f t)))
 
 -- Member uses and entries
 

@@ -13,7 +13,8 @@ use Rattle.types_expr.specs.declared.exports.ExportData.{ExportData}
 use Rattle.types_expr.specs.WorldView.{shared_export_data, known_at}
 use Rattle.types_declared.specs.States.{state_in}
 use Rattle.types_declared.specs.declared.export_tables.ExportTable.{ExportTable}
-use Rattle.types_declared.specs.ExportTablesView.{known_scope, scope_name, export_data_in, export_data_known, no_export_data, HasSameEntry, SetsKnown, CopiesEntry}
+use Rattle.types_declared.specs.ExportTablesView.{known_scope, scope_name, export_data_in, export_data_known}
+use Rattle.types_declared.specs.ExportTablesView.{no_export_data, HasSameEntry, SetsKnown, CopiesEntry}
 use Rattle.types_declared.specs.ExportTablesView.{ComesAfterAll, EndsAt}
 
 abbrev known : List ℕ → List (List ℕ × Option (Arc ExportData Global)) → Option ExportData

@@ -84,8 +84,10 @@ below_from Q i f h = elim (cases_lt h.0 i) [
   | inr ge ↦ inr (let lt : h.0 < i + 1 = h.1 in let e : h.0 ≡ i = omega arith in subst (λ u. Q u f) e h.2)
 ]
 
-pub below_next : (Q : ℕ → Fault → Type 0) (a b c : List Fault) (i : ℕ) → AddsFaults a b (IsFaultBelow Q i) → AddsFaults b c (Q i) → AddsFaults a c (IsFaultBelow Q (i + 1))
-below_next Q a b c i h k = adds_as a c (λ f. IsFaultBelow Q i f ⊎ Q i f) (IsFaultBelow Q (i + 1)) (adds_then a b c (IsFaultBelow Q i) (Q i) h k) (below_to Q i) (below_from Q i)
+pub below_next : (Q : ℕ → Fault → Type 0) (a b c : List Fault) (i : ℕ) → AddsFaults a b (IsFaultBelow Q i) → AddsFaults b c (Q i) →
+    AddsFaults a c (IsFaultBelow Q (i + 1))
+below_next Q a b c i h k = adds_as a c (λ f. IsFaultBelow Q i f ⊎ Q i f) (IsFaultBelow Q (i + 1)) (adds_then a b c (IsFaultBelow Q i) (Q i) h k) (below_to Q
+    i) (below_from Q i)
 
 -- the loop adds the faults of the items at its index
 pub each_step : {X Y : Type 0} (Q : X → Fault → Type 0) (a b c : List Fault) (g : Y → List X) (ys : List Y) (i : ℕ) (y : Y) → i < length ys →

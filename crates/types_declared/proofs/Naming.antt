@@ -13,7 +13,8 @@ use Rattle.types_expr.specs.declared.types.Basic.TheVariants as basic
 use Rattle.types_expr.specs.Types.{PlainType, BasicType, Defined, Meaning, TypeName}
 use Rattle.types_expr.specs.Types.{Pointer as PointerType, Slice as SliceType}
 use Rattle.types_declared.specs.Package.{Package, Export, type_place, package_types, laid_of, symbol_in, spelled}
-use Rattle.types_declared.specs.Written.{BindsToken, DeclaresImport, IsExportOf, IsExportAt, NamesExport, basic_name, DenotesType, predeclared, defined, imported}
+use Rattle.types_declared.specs.Written.{BindsToken, DeclaresImport, IsExportOf, IsExportAt, NamesExport}
+use Rattle.types_declared.specs.Written.{basic_name, DenotesType, predeclared, defined, imported}
 use Rattle.types_declared.specs.Written.{pointer, slice}
 use Rattle.types_declared.specs.WrittenView.{DeclaresPlain}
 use Rattle.types_declared.specs.WrittenView as found
@@ -92,7 +93,8 @@ one_imported p w file q n t u a b =
     ap (type_or t) (sym a.is_type ∙ ap (λ e. e.meaning) (one_export p w file q n a.export b.export a.exported b.exported) ∙ b.is_type)
 
 -- a type expression names at most one type
-pub one_named : (p : Package) → WellFormed p.layout → (file : ℕ) (tree : TypeTree) (t u : PlainType) → DenotesType p file tree t → DenotesType p file tree u → t ≡ u
+pub one_named : (p : Package) → WellFormed p.layout → (file : ℕ) (tree : TypeTree) (t u : PlainType) → DenotesType p file tree t →
+    DenotesType p file tree u → t ≡ u
 one_named p w file (Local n) t u a b = one_local p w file n t u a b
 one_named p w file (Imported q dot n) t u a b = one_imported p w file q n t u (by_export p file q dot n t a) (by_export p file q dot n u b)
 one_named p w file (Pointer s tree) t u a b =

@@ -126,7 +126,8 @@ followed_more links f m g n place within done more i q lt leads =
 
 pub reached_more : (links : List (Vec ℕ)) (Begins : ℕ → Type 0) (f : List ℕ) (m : List Bool) (g : List ℕ) (n : List Bool) (place : ℕ) → place < length f →
     ListsMarks f m →
-    ((q : ℕ) → HasMark m q → IsReachable links Begins q) → AddsMarks f m g n (LinksTo links (get_or f place 0)) → (q : ℕ) → HasMark n q → IsReachable links Begins q
+    ((q : ℕ) → HasMark m q → IsReachable links Begins q) → AddsMarks f m g n (LinksTo links (get_or f place 0)) → (q : ℕ) → HasMark n q →
+    IsReachable links Begins q
 reached_more links Begins f m g n place within listed sound more q k = elim (more.only q k) [
   | inl j ↦ sound q j
   | inr leads ↦ behind (sound (get_or f place 0) (listed.marked place within)) leads

@@ -60,10 +60,12 @@ named_import p file q dot n (Some t) h = imported h
 
 -- A pointer or slice type
 
-no_pointer : (p : Package) (file s : ℕ) (tree : TypeTree) → ((t : PlainType) → DenotesType p file tree t → ⊥) → (t : PlainType) → DenotesType p file (Pointer s tree) t → ⊥
+no_pointer : (p : Package) (file s : ℕ) (tree : TypeTree) → ((t : PlainType) → DenotesType p file tree t → ⊥) → (t : PlainType) →
+    DenotesType p file (Pointer s tree) t → ⊥
 no_pointer p file s tree none _ (pointer {t = t} names) = none t names
 
-no_slice : (p : Package) (file o c : ℕ) (tree : TypeTree) → ((t : PlainType) → DenotesType p file tree t → ⊥) → (t : PlainType) → DenotesType p file (Slice o c tree) t → ⊥
+no_slice : (p : Package) (file o c : ℕ) (tree : TypeTree) → ((t : PlainType) → DenotesType p file tree t → ⊥) → (t : PlainType) →
+    DenotesType p file (Slice o c tree) t → ⊥
 no_slice p file o c tree none _ (slice {t = t} names) = none t names
 
 pub named_pointer : (p : Package) (file s : ℕ) (tree : TypeTree) (o : Option PlainType) → IsNamedBy p file tree o →

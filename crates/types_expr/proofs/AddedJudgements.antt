@@ -55,7 +55,8 @@ pub record Reached (total : Judged) (rest : Judged → Judged) (before now : Fou
   pub adds : AddsJudged so_far before now m
   pub goes_on : rest so_far ≡ total
 
-pub reached_start : (rest : Judged → Judged) {j : Judged} {before now : FoundInFile} {m : Meaning} → AddsJudged j before now m → Reached (rest j) rest before now m
+pub reached_start : (rest : Judged → Judged) {j : Judged} {before now : FoundInFile} {m : Meaning} → AddsJudged j before now m →
+    Reached (rest j) rest before now m
 reached_start rest {j} a = record { so_far = j; adds = a; goes_on = refl }
 
 pub reached_step : {total : Judged} (rest more : Judged → Judged) (rule : Meaning → Judged) {before now new : FoundInFile} {m r : Meaning} →
@@ -86,7 +87,8 @@ reached_list_start total = record {
   goes_on = refl;
 }
 
-pub reached_list_step : {total rest more : JudgedList} (place : ℕ) (j : Judged) {before now new : FoundInFile} {vs : List ListValue} (v : ListValue) {m : Meaning} →
+pub reached_list_step : {total rest more : JudgedList} (place : ℕ) (j : Judged) {before now new : FoundInFile} {vs : List ListValue} (v : ListValue) {m :
+    Meaning} →
     ReachedList total rest before now vs → AddsJudged j now new m → v ≡ record { place = place; kind = value_kind m } → rest ≡ value_before place j more →
     ReachedList total more before new (vs ++ (v ∷ []))
 reached_list_step {total} {rest} {more} place j v c a e r = record {
@@ -114,7 +116,8 @@ reached_list_step {total} {rest} {more} place j v c a e r = record {
       ∙ (ap (λ x. list_then c.so_far x) (sym r) ∙ c.goes_on))));
 }
 
-pub adds_values : {vs : JudgedList} (rule : List ListValue → Judged) {old mid new : FoundInFile} {xs : List ListValue} {r : Meaning} → AddsJudgedList vs old mid xs →
+pub adds_values : {vs : JudgedList} (rule : List ListValue → Judged) {old mid new : FoundInFile} {xs : List ListValue} {r : Meaning} →
+    AddsJudgedList vs old mid xs →
     AddsJudged (rule xs) mid new r → AddsJudged (with_values vs rule) old new r
 adds_values {vs} rule {old} {mid} {new} {xs} {r} a b =
     let b' : AddsJudged (rule vs.values) mid new r = subst (λ (x : List ListValue). AddsJudged (rule x) mid new r) a.values b in

@@ -200,7 +200,8 @@ function_named file (FuncDecl k x s) f h = elim h [
   | inr z ↦ absurd z
 ]
 
-in_ranked : (files : List SourceFile) (sort token file : ℕ) (r : RankedSource) (d : DeclTree) → Holds (ranked_files files) r → Holds r.1.tree.decls d → file ≡ r.0 →
+in_ranked : (files : List SourceFile) (sort token file : ℕ) (r : RankedSource) (d : DeclTree) → Holds (ranked_files files) r → Holds r.1.tree.decls d →
+    file ≡ r.0 →
     DeclNames sort token d → DeclaredAt files sort file token
 in_ranked files sort token file r d hr hd e h =
     let i = holds_ranked 0 files r hr in

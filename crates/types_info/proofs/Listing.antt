@@ -34,7 +34,8 @@ path_kept old new x None e within = refl
 path_kept old new x (Some k) e within = ap (option_map list_path) (ap (λ l. slice_get l k) e ∙ get_before old x k (within k refl))
 
 -- an added list has no position
-listed_before : (old new : List Qualified) (path : List ℕ) → AddsList old new path → (p : List ℕ) (at : Position) → IsListedUnder new p at → IsListedUnder old p at
+listed_before : (old new : List Qualified) (path : List ℕ) → AddsList old new path → (p : List ℕ) (at : Position) → IsListedUnder new p at →
+    IsListedUnder old p at
 listed_before old new path adds p at h =
     let is = h.1 in
     let has : slice_get (old ++ (adds.list ∷ [])) h.0 ≡ Some is.list = ap (λ l. slice_get l h.0) (sym adds.new_is) ∙ is.has_number in

@@ -25,7 +25,8 @@ use Rattle.types_declared.specs.Package.{function_place, type_place, symbol_in}
 use Rattle.types_declared.specs.Written.{BindsToken, DeclaresType, IsBroken, IsTypeOf}
 use Rattle.types_declared.specs.WrittenView.{IsTypeFound}
 use Rattle.types_declared.specs.MeaningOf.{PredeclaredMeans, a_type, a_truth, an_untruth, a_nil, a_function, AreTypesOf, parameter_types, result_types}
-use Rattle.types_declared.specs.MeaningOf.{HasSignature, IsVariable, IsFunction, IsMeaningOf, predeclared, import_name, local, variable, broken_variable, function}
+use Rattle.types_declared.specs.MeaningOf.{HasSignature, IsVariable, IsFunction, IsMeaningOf, predeclared}
+use Rattle.types_declared.specs.MeaningOf.{import_name, local, variable, broken_variable, function}
 use Rattle.types_declared.specs.MeaningOf.{broken_function, definition, broken_definition, IsSignatureOf}
 use Rattle.types_declared.specs.Definitions.{IsFoundSignature}
 use Rattle.types_info.specs.MeaningsView.{IsPredeclaredMeaning}
@@ -109,7 +110,8 @@ signature_match : (p : Package) (f : PlacedFunction) (o : Option Signature) → 
 signature_match p f None h = h
 signature_match p f (Some s) h = h
 
-pub one_signature_found : (p : Package) → WellFormed p.layout → (f : PlacedFunction) (o u : Option Signature) → IsFoundSignature p f o → IsFoundSignature p f u → o ≡ u
+pub one_signature_found : (p : Package) → WellFormed p.layout → (f : PlacedFunction) (o u : Option Signature) → IsFoundSignature p f o →
+    IsFoundSignature p f u → o ≡ u
 one_signature_found p w f o u a b = one_found (HasSignature p f) (one_signature p w f) o u (signature_match p f o a) (signature_match p f u b)
 
 -- Declarations of the package block

@@ -83,7 +83,8 @@ fault_of_field p f k = record {
   at = k.at;
 }
 
-pub all_field_faults : (p : Package) (old new : List Fault) (count : ℕ) → count ≡ length (package_fields p) → AddsFaults old new (IsFaultBelow (IsFieldFault p) count) →
+pub all_field_faults : (p : Package) (old new : List Fault) (count : ℕ) → count ≡ length (package_fields p) →
+    AddsFaults old new (IsFaultBelow (IsFieldFault p) count) →
     AddsFaults old new (IsRepeatedField p)
 all_field_faults p old new count e h =
     adds_as old new (IsFaultBelow (IsFieldFault p) count) (IsRepeatedField p) h (λ f k. repeated_field p k.0 f k.2)
@@ -159,7 +160,8 @@ pub recursion_fault : (p : Package) (rank : ℕ) (x : PlacedType) (b : Bool) →
     IsRecursionFault p rank (record { file = x.file; token = x.spec.name; kind = kind.Recursive })
 recursion_fault p rank x b e h t = record { definition = x; has_rank = e; holds_itself = h.0 t; at = refl }
 
-pub of_recursion_fault : (p : Package) (rank : ℕ) (x : PlacedType) (b : Bool) → slice_get (package_types p) rank ≡ Some x → (b ≡ true) ↔ ContainsType p rank rank →
+pub of_recursion_fault : (p : Package) (rank : ℕ) (x : PlacedType) (b : Bool) → slice_get (package_types p) rank ≡ Some x →
+    (b ≡ true) ↔ ContainsType p rank rank →
     (f : Fault) → IsRecursionFault p rank f →
     (b ≡ true) × (f ≡ record { file = x.file; token = x.spec.name; kind = kind.Recursive })
 of_recursion_fault p rank x b e h f k =
@@ -178,5 +180,6 @@ all_recursion_faults p old new count e h =
     ))
 
 -- the faults of three properties are added
-pub three_added : (P Q R : Fault → Type 0) (a b c : List Fault) → AddsFaults [] a P → AddsFaults a b Q → AddsFaults b c R → AddsFaults [] c (λ f. P f ⊎ (Q f ⊎ R f))
+pub three_added : (P Q R : Fault → Type 0) (a b c : List Fault) → AddsFaults [] a P → AddsFaults a b Q → AddsFaults b c R →
+    AddsFaults [] c (λ f. P f ⊎ (Q f ⊎ R f))
 three_added P Q R a b c h k l = adds_then [] a c P (λ f. Q f ⊎ R f) h (adds_then a b c Q R k l)

@@ -117,7 +117,8 @@ pub noted_method : (p : Package) (f : PlacedFunction) (o : Option ℕ) (d : ℕ)
     name ≡ spelled p f.file f.function.name →
     AddsMemberName old new d name → ((counts ≡ true) ↔ ((old d name ≡ false) × (HasFieldNamed p d name → ⊥))) → AddsMethodName p f o old new counts
 noted_method p f o d name old new counts some e notes says =
-    method {definition = d} some (subst (AddsMemberName old new d) e notes) (subst (λ n. (counts ≡ true) ↔ ((old d n ≡ false) × (HasFieldNamed p d n → ⊥))) e says)
+    method {definition = d} some (subst (AddsMemberName old new d) e notes) (subst (λ n. (counts ≡ true) ↔ ((old d n ≡ false) × (HasFieldNamed p d n →
+    ⊥))) e says)
 
 -- whether a method whose name was added counts
 pub counts_if : (p : Package) (d : ℕ) (name : List ℕ) (noted is_new has : Bool) → is_new ≡ not noted → is_new ≡ true → (has ≡ true) ↔ HasFieldNamed p d name →

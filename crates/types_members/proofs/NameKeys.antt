@@ -36,7 +36,8 @@ sets_name old new key u = record { here = u.1; elsewhere = λ n ne. u.3 (is_at (
 -- a name is added to the set of a definition
 pub notes_in_row : (rows : List (BTreeSet (Bor (List ℕ)))) (definition : ℕ) (old new : BTreeSet (Bor (List ℕ))) (name : List ℕ) → definition < length rows →
     slice_get rows definition ≡ Some old →
-    SetsName (has_name old) (has_name new) name → AddsMemberName (λ d n. row_has (slice_get rows d) n) (λ d n. row_has (slice_get (set rows definition new) d) n)
+    SetsName (has_name old) (has_name new) name → AddsMemberName (λ d n. row_has (slice_get rows d) n) (λ d n. row_has (slice_get (set rows definition new)
+    d) n)
     definition name
 notes_in_row rows definition old new name lt is s =
     let at : slice_get (set rows definition new) definition ≡ Some new = get_set_same rows definition new lt in

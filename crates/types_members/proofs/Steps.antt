@@ -46,7 +46,8 @@ from_own p s e step h = subst (λ t. IsStepFrom p t step) (sym (own_symbol p s e
 pub by_nothing : (p : Package) (file : ℕ) (tree : TypeTree) → ((t : PlainType) → DenotesType p file tree t → ⊥) → IsStepBy p file tree Nothing
 by_nothing p file tree none = λ t u names h. none t names
 
-pub by_type : (p : Package) → WellFormed p.layout → (file : ℕ) (tree : TypeTree) (t : PlainType) → DenotesType p file tree t → (s : NameStep) → IsStepFrom p t s →
+pub by_type : (p : Package) → WellFormed p.layout → (file : ℕ) (tree : TypeTree) (t : PlainType) → DenotesType p file tree t → (s : NameStep) →
+    IsStepFrom p t s →
     IsStepBy p file tree s
 by_type p w file tree t names (Ends u) h = (t, (names, h))
 by_type p w file tree t names (Continues to) h = (subst (DenotesType p file tree) h.0 names, h.1)
@@ -91,7 +92,8 @@ pub record LinksBelow (steps : List NameStep) (links : List (Vec ℕ)) (count : 
   pub holds : (to rank : ℕ) → rank < count → slice_get steps rank ≡ Some (Continues to) → LinksTo links to rank
   pub only : (to rank : ℕ) → LinksTo links to rank → slice_get steps rank ≡ Some (Continues to)
 
-pub no_link : (steps : List NameStep) (links : List (Vec ℕ)) → length links ≡ suc (length steps) → ((a b : ℕ) → LinksTo links a b → ⊥) → LinksBelow steps links 0
+pub no_link : (steps : List NameStep) (links : List (Vec ℕ)) → length links ≡ suc (length steps) → ((a b : ℕ) → LinksTo links a b → ⊥) →
+    LinksBelow steps links 0
 no_link steps links size none = record { size = size; holds = λ to rank lt e. absurd (omega arith); only = λ to rank l. absurd (none to rank l) }
 
 pub next_link : (steps : List NameStep) (old new : List (Vec ℕ)) (rank : ℕ) (s : NameStep) → slice_get steps rank ≡ Some s →

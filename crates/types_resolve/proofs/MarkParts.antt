@@ -13,7 +13,8 @@ use Rattle.go_ast.specs.declared.tree.BlockStmt.{BlockStmt', out-BlockStmt, outs
 use Rattle.go_ast.specs.declared.tree.BlockStmt.{items-the_row-BlockItem, items_shown-the_row-BlockItem-0}
 use Rattle.go_ast.specs.declared.tree.IfStmt.{IfStmt, IfStmt', out-IfStmt, outs-IfStmt'}
 use Rattle.types_declared.specs.Laid.{Laid}
-use Rattle.types_resolve.specs.StatementMarks.{StatementMark, DeclaresName, SomeDeclares, init_marks, statement_marks, statements_marks, block_marks, if_marks, else_marks}
+use Rattle.types_resolve.specs.StatementMarks.{StatementMark, DeclaresName, SomeDeclares, init_marks}
+use Rattle.types_resolve.specs.StatementMarks.{statement_marks, statements_marks, block_marks, if_marks, else_marks}
 
 abbrev pub statement_part : Bool → BlockItem → List StatementMark
 statement_part b x = statement_marks b (stmt_view x.statement)

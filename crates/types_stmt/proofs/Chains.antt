@@ -134,7 +134,8 @@ chain_stands w ls e xs l {start} {place} {m} is_start is_place is =
     ∙ sym (stands_if w ls e (links_in (xs ++ (l ∷ [])))))))
 
 -- a chain without links
-pub bare_adds : (w : World) (ls : Locals) (e : ExprTree) (xs : List Link) {old new : FoundInFile} {m : Meaning} → xs ≡ [] → AddsJudged (judge w ls e) old new m →
+pub bare_adds : (w : World) (ls : Locals) (e : ExprTree) (xs : List Link) {old new : FoundInFile} {m : Meaning} → xs ≡ [] →
+    AddsJudged (judge w ls e) old new m →
     AddsJudged (judge w ls (Chain e (links_in xs))) old new m
 bare_adds w ls e xs is a =
     adds_as a (sym (ap (λ x. judge w ls (Chain e (links_in x))) is ∙

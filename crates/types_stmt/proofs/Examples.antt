@@ -17,7 +17,8 @@ use Rattle.types_expr.specs.Judge.{judge, as_value, value_kind, select, select_m
 use Rattle.types_expr.specs.Judge.{call_builtin, call_of, all_printed, judge_type, named_type, imported_type}
 use Rattle.types_stmt.specs.Checked.{FoundSoFar}
 use Rattle.types_stmt.specs.Sides.{Wants, rhs, values_of, judge_each, given_faults, refused_at, nil_refused, all_refused, assignable, own_type, assigned}
-use Rattle.types_stmt.specs.Sides.{assigned_one, defined, defined_one, no_name, default_type, inferred_type, inferred, with_locals, defined_name, named, ident_place}
+use Rattle.types_stmt.specs.Sides.{assigned_one, defined, defined_one, no_name, default_type}
+use Rattle.types_stmt.specs.Sides.{inferred_type, inferred, with_locals, defined_name, named, ident_place}
 use Rattle.types_stmt.specs.Sides.{first_of_exprs, first_of_idents}
 use Rattle.types_stmt.specs.Simple.{condition_faults, check_condition, step_faults, update_faults, ends_in_call, without_last, may_be_statement, is_statement}
 use Rattle.types_stmt.specs.Simple.{without_parentheses, statement_faults, check_expr_statement, check_step, check_update, check_assign, check_define}
@@ -189,7 +190,8 @@ local_nil : (check_local w start (record {
   values =
       Some (1, item (Name 40) ∷ []);
 })).faults ≡ 40 ∷ []
-unfolding check_local check_typed_local check_untyped_local first_of_idents ident_place named with_locals inferred inferred_type default_type rhs values_of given_faults
+unfolding check_local check_typed_local check_untyped_local first_of_idents ident_place named with_locals inferred inferred_type default_type rhs values_of
+    given_faults
     all_refused refused_at nil_refused judge place_of first_token as_value value_kind
 local_nil = refl
 

@@ -74,7 +74,8 @@ pub record GrownFaults (rest total : List ℕ) (old now : FoundInFile) : Type 0 
   pub faults : now.faults.items ++ rest ≡ old.faults.items ++ total
   pub uses : now.uses.items ≡ old.uses.items
 
-pub grown_faults_step : {rest more total : List ℕ} (places : List ℕ) {old now new : FoundInFile} → GrownFaults rest total old now → AddsFaultsAt places now new →
+pub grown_faults_step : {rest more total : List ℕ} (places : List ℕ) {old now new : FoundInFile} → GrownFaults rest total old now →
+    AddsFaultsAt places now new →
     rest ≡ places ++ more → GrownFaults more total old new
 grown_faults_step {rest} {more} {total} places {old} {now} {new} g a e = record {
   faults = ap (λ x. x ++ more) a.faults ∙ grown now.faults.items places more (ap (λ x. now.faults.items ++ x) (sym e) ∙ g.faults);

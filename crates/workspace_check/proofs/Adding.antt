@@ -30,7 +30,8 @@ use Rattle.workspace_check.proofs.Members.{some_in}
 
 -- one package
 
-elsewhere_by : (all more : ExportTable) (p : List ℕ) (o : Option FoundExportData) → AddsOptional all more p o → (q : List ℕ) → (q ≡ p → ⊥) → HasSameEntry all more q
+elsewhere_by : (all more : ExportTable) (p : List ℕ) (o : Option FoundExportData) → AddsOptional all more p o → (q : List ℕ) → (q ≡ p → ⊥) →
+    HasSameEntry all more q
 elsewhere_by all more p None e q ne = same_known all more e q
 elsewhere_by all more p (Some i) s q ne = s.elsewhere q ne
 
@@ -70,7 +71,8 @@ learns_by w p all more j f fresh whole h may path faults members enterings quali
     has_path = path;
     listed = subst (λ (v : Vec FileFault). AreListedFaults (IsFaultBy w (verdicts_by all) p) v.items) (sym faults) h.listed;
     members = λ e.
-        subst (λ (v : Vec (Vec MemberUse)). AreUsesOf w (verdicts_by all) p v.items) (sym members) (h.uses (sym (ap (λ (v : Vec FileFault). v.items) faults) ∙ e));
+        subst (λ (v : Vec (Vec MemberUse)). AreUsesOf w (verdicts_by all) p v.items) (sym members) (h.uses (sym (ap (λ (v : Vec FileFault). v.items) faults)
+        ∙ e));
     enterings = λ e.
         subst (λ (v : Vec (Vec Entering)). AreEnteringsOf w (verdicts_by all) p v.items) (sym enterings)
         (h.enterings (sym (ap (λ (v : Vec FileFault). v.items) faults) ∙ e));

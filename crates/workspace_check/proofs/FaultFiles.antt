@@ -35,7 +35,8 @@ use Rattle.workspace_check.proofs.PlacedSites.{stands_in_file}
 
 -- a fault of some item
 
-some_item : {X : Type 0} (P : X → Type 0) (Q : X → Fault → Type 0) (xs : List X) (f : Fault) → AllByRecursion P xs → IsOfSomeItem Q xs f → (x : X) × (P x × Q x f)
+some_item : {X : Type 0} (P : X → Type 0) (Q : X → Fault → Type 0) (xs : List X) (f : Fault) → AllByRecursion P xs → IsOfSomeItem Q xs f →
+    (x : X) × (P x × Q x f)
 some_item P Q [] f a h = absurd h
 some_item P Q (x ∷ xs) f a h = elim h [ inl q ↦ (x, (a.0, q)) | inr r ↦ some_item P Q xs f a.1 r ]
 

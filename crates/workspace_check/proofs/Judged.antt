@@ -202,7 +202,8 @@ module _ (w : Workspace) (known : Verdicts) (p : List ℕ) (own : Contains (pack
           };
         }
 
-    pub judged_by : (x : Checked) (j : JudgedPackage) → IsFindingIn p files state name_of export_data_at x → j.export_data ≡ x.export_data → j.members ≡ x.members →
+    pub judged_by : (x : Checked) (j : JudgedPackage) → IsFindingIn p files state name_of export_data_at x → j.export_data ≡ x.export_data →
+        j.members ≡ x.members →
         j.enterings ≡ x.enterings → j.qualified ≡ x.qualified → IsStrictlySortedBy fault_cmp j.faults.items →
         ((y : FileFault) → Contains j.faults.items y ↔ IsSomePlacedFault files x.faults.items y) → IsJudged w known p j
     judged_by x j (outside some lists gone) same_export_data same_members same_enterings same_qualified sorted each =

@@ -103,7 +103,8 @@ module _ (w : Workspace) (verdicts : List (Option KnownVerdict)) (n : ℕ) (p : 
     )
   ]
 
-  pub steady_next : (b : Bool) → (b ≡ true → KeepsExportData verdicts new.export_table n p) → IsGathered new.findings.items n → KeepExportData w verdicts new (set marks n b)
+  pub steady_next : (b : Bool) → (b ≡ true → KeepsExportData verdicts new.export_table n p) → IsGathered new.findings.items n →
+      KeepExportData w verdicts new (set marks n b)
   steady_next b same here m q at_m marked = elim (cases_eq m n) [
     | inl e ↦ (
         let path : p ≡ q = same_Some p q (sym at ∙ subst (λ k. slice_get (package_paths w) k ≡ Some q) e at_m) in

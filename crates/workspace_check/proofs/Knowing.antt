@@ -86,6 +86,7 @@ module _ (w : Workspace) (Is So : ℕ → Type 0) (n : ℕ) (p : List ℕ) (at :
     known_next whole own = record { right = right_next own; fresh = fresh_next; outside = outside_next; whole = whole }
 
   -- one that was judged by what was known of all that it builds on
-  pub learnt_next : (f : Finding) → ((q : List ℕ) → BuildsOn w p q → (k : ℕ) × (Is k × (slice_get (package_paths w) k ≡ Some q))) → LearnsFinding w p f all more →
+  pub learnt_next : (f : Finding) → ((q : List ℕ) → BuildsOn w p q → (k : ℕ) × (Is k × (slice_get (package_paths w) k ≡ Some q))) →
+      LearnsFinding w p f all more →
       AreKnown w So more
   learnt_next f below l = known_next l.elsewhere l.whole (follows (verdicts_by all) (λ q on. (let k = below q on in h.right k.0 q k.1.0 k.1.1)) l.is_verdict)

@@ -64,7 +64,8 @@ module _ (p : Package) where
   all_types : AllByRecursion (λ (t : PlacedType). t.file < length p.files) (package_types p)
   all_types =
       let Q : PlacedType → Type 0 = λ t. t.file < length p.files in
-      all_flat Below Q types_in (λ r lt. all_made Q (decl_types r.0) (types_of (length p.files) r.0 lt) r.1.tree.decls) (ranked_files p.files) (all_ranked p.files)
+      all_flat Below Q types_in (λ r lt. all_made Q (decl_types r.0) (types_of (length p.files) r.0 lt) r.1.tree.decls) (ranked_files p.files) (all_ranked
+      p.files)
 
   all_functions : AllByRecursion (λ (t : PlacedFunction). t.file < length p.files) (package_functions p)
   all_functions =

@@ -72,4 +72,5 @@ known_as all q name e = ap is_unknown e
 pub seen_still : (w : Workspace) (known : Verdicts) (p : List ℕ) (old new : ExportTable) → HasSameEntries old new →
     AreSeen w known p (name_in old) (export_data_in old) → AreSeen w known p (name_in new) (export_data_in new)
 seen_still w known p old new same h q =
-    subst (λ n. IsSeenAs w known p q n (export_data_in new q)) (sym (same.names q)) (subst (IsSeenAs w known p q (name_in old q)) (sym (same.export_table q)) (h q))
+    subst (λ n. IsSeenAs w known p q n (export_data_in new q)) (sym (same.names q)) (subst (IsSeenAs w known p q (name_in old q)) (sym (same.export_table
+    q)) (h q))

@@ -5,7 +5,8 @@ use Rattle.types_declared.specs.Package.{Package, ExportData}
 use Rattle.types_check.specs.Exports.{IsExportData}
 use Rattle.types_info.proofs.OneWorld.{same_tests}
 use Rattle.workspace_check.specs.declared.fault.FileFault.{FileFault}
-use Rattle.workspace_check.specs.Verdicts.{Verdict, Verdicts, IsPackageIn, IsFaultBy, HasExportData, IsVerdictBy, IsVerdict, follows, AreVerdictsBelow, AreVerdicts}
+use Rattle.workspace_check.specs.Verdicts.{Verdict, Verdicts, IsPackageIn, IsFaultBy, HasExportData}
+use Rattle.workspace_check.specs.Verdicts.{IsVerdictBy, IsVerdict, follows, AreVerdictsBelow, AreVerdicts}
 use Rattle.workspace_check.specs.Laws.{IsSameVerdict}
 use Rattle.workspace_check.proofs.Alike.{KnowsAlike, package_as, verdict_as}
 use Rattle.workspace_check.proofs.Closed.{to_package}
@@ -20,7 +21,11 @@ same_export_data w known p i j a b =
 same_by : (w : Workspace) (known : Verdicts) (p : List ℕ) (v u : Verdict) → IsVerdictBy w known p v → IsVerdictBy w known p u → IsSameVerdict v u
 same_by w known p v u a b =
     let tests : v.faulty ≡ u.faulty = same_tests v.faulty u.faulty (λ e. b.has_faults.1 (a.has_faults.0 e)) (λ e. a.has_faults.1 (b.has_faults.0 e)) in
-    record { faulty = tests; export_data = λ e. same_export_data w known p v.export_data u.export_data (a.has_export_data e) (b.has_export_data (sym tests ∙ e)) }
+    record {
+      faulty = tests;
+      export_data = λ e. same_export_data w known p v.export_data u.export_data (a.has_export_data e) (b.has_export_data (sym tests ∙
+          e));
+    }
 
 pub one_verdict : (w : Workspace) (p : List ℕ) (v u : Verdict) → IsVerdict w p v → IsVerdict w p u → IsSameVerdict v u
 one_verdict w p v u (follows a below by) (follows b under so) =

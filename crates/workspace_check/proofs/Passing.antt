@@ -29,7 +29,8 @@ stirred_above w marks above p q (through {q = r} imports rest) i j at_i at_j m =
     let k = number w r (from_package w r q rest) in
     above i k.0 p r at_i k.1 imports (stirred_above w marks above r q rest k.0 j k.1 at_j m)
 
-pub passed_below : (w : Workspace) (s : PassedPackages) (numbers : List ℕ) (n : ℕ) (p : List ℕ) → slice_get (package_paths w) n ≡ Some p → AffectsImporters w s →
+pub passed_below : (w : Workspace) (s : PassedPackages) (numbers : List ℕ) (n : ℕ) (p : List ℕ) → slice_get (package_paths w) n ≡ Some p →
+    AffectsImporters w s →
     ArePassed numbers s → ((q : List ℕ) → BuildsOn w p q → (m : ℕ) × (Contains numbers m × (slice_get (package_paths w) m ≡ Some q))) →
     ArePassedBelow w p n s
 passed_below w s numbers n p at stirs passed below m q at_m on =
@@ -41,7 +42,8 @@ passed_below w s numbers n p at stirs passed below m q at_m on =
     ]
 
 -- one package further
-pub passed_next : (w : Workspace) (xs ys : List ℕ) (n : ℕ) (old new : PassedPackages) → ((m : ℕ) → Contains ys m → Contains xs m ⊎ (n ≡ m)) → PassesPackage w n old new →
+pub passed_next : (w : Workspace) (xs ys : List ℕ) (n : ℕ) (old new : PassedPackages) → ((m : ℕ) → Contains ys m → Contains xs m ⊎ (n ≡ m)) →
+    PassesPackage w n old new →
     ArePassed xs old → ArePassed ys new
 passed_next w xs ys n old new more passes passed m has = elim (more m has) [
   | inl before ↦ passes.kept m (passed m before)

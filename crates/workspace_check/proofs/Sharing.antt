@@ -89,7 +89,8 @@ module _ (w : Workspace) (p : List ℕ) (xs ys : List ℕ) (n : ℕ) (q : List �
 
 -- all packages that p builds on
 
-pub seen_by : (w : Workspace) (p : List ℕ) (all i : ExportTable) (r : List ℕ) → AreNamedEntries all → BuildsOn w p r → IsKnownAs all i r → (o : Option (List ℕ)) →
+pub seen_by : (w : Workspace) (p : List ℕ) (all i : ExportTable) (r : List ℕ) → AreNamedEntries all → BuildsOn w p r → IsKnownAs all i r →
+    (o : Option (List ℕ)) →
     name_in all r ≡ o → IsSeenAs w (verdicts_by all) p r (name_in i r) (export_data_in i r)
 seen_by w p all i r whole on h (Some n) e =
     let is : Some (export_data_in all r).name ≡ name_in i r = ap (λ o. Some (name_or_none o)) e ∙ sym (h.name ∙ e) in

@@ -64,7 +64,8 @@ here state r (j ∷ js) rest i f c h = elim (first_or_later j js i c) [
   | inr later ↦ inr (here state r js rest i f later h)
 ]
 
-past : (state : List ℕ → ImportState) (r : RankedSource) (is : List ImportTree) (rest : List PlacedImport) (f : Fault) → IsOfSomeItem (IsFaultOfImport state) rest f →
+past : (state : List ℕ → ImportState) (r : RankedSource) (is : List ImportTree) (rest : List PlacedImport) (f : Fault) →
+    IsOfSomeItem (IsFaultOfImport state) rest f →
     IsOfSomeItem (IsFaultOfImport state) (map (λ i. (r, i)) is ++ rest) f
 past state r [] rest f h = h
 past state r (j ∷ js) rest f h = inr (past state r js rest f h)

@@ -141,7 +141,8 @@ with_path (p ∷ ps) q (suc k, within, is) =
     (r.0, (suc r.1.0, omega arith, r.1.2), r.2)
 
 -- ---- the packages after the change
-module _ (v w : Workspace) (before fresh packages : List ParsedPackage) (g : LinkTable) (graph : IsGraph v before g) (differs : DiffersOnlyIn (paths_of fresh) v w)
+module _ (v w : Workspace) (before fresh packages : List ParsedPackage) (g : LinkTable) (graph : IsGraph v before g) (differs : DiffersOnlyIn (paths_of
+    fresh) v w)
     (files : All (HasFiles w) fresh) (kept : All (KeepsPath (package_paths v)) fresh) (are : AreReplaced before fresh packages) where
   abbrev among : List ℕ → List (List ℕ) → Bool
   among q ks = list_any (eq_by_cmp path_cmp q) ks

@@ -154,7 +154,8 @@ pub left_all : (paths some : List (List ℕ)) (numbers : List ℕ) → numbers �
 left_all paths some numbers empty j = (
   λ one. inr one,
   λ either.
-      ⊎_elim (λ (has : Contains numbers j). absurd (nothing_in j (subst (λ (l : List ℕ). Contains l j) empty has))) (λ (one : IsOneOf paths some j). one) either,
+      ⊎_elim (λ (has : Contains numbers j). absurd (nothing_in j (subst (λ (l : List ℕ). Contains l j) empty has))) (λ (one : IsOneOf paths some j). one)
+      either,
 )
 
 one_later : (paths : List (List ℕ)) (path : List ℕ) (left : List (List ℕ)) (j : ℕ) → IsOneOf paths left j → IsOneOf paths (path ∷ left) j

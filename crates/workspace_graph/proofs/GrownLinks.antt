@@ -231,7 +231,8 @@ module _ (packages : List ParsedPackage) (links : LinkTable) (place : ℕ) (grow
     )
 
     -- The importers after the insertion are those of the rows after it.
-    pub importers_grown : (noted new : LinkTable) (own importing : List ℕ) → AreImporterRows links (length links) noted → AreGrown place importing own noted new →
+    pub importers_grown : (noted new : LinkTable) (own importing : List ℕ) → AreImporterRows links (length links) noted →
+        AreGrown place importing own noted new →
         length new ≡ length noted + 1 → own ≡ row_of g place → ListsBelow (ImportsAt packages path) (length packages) importing →
         AreFirstImporters g (length g) new
     importers_grown noted new own importing held grown count own_is holds =

@@ -7,7 +7,8 @@ use Rattle.workspace_graph.specs.Imports.{LinkTable}
 use Rattle.workspace_graph.specs.Shifts.{Splits}
 use Rattle.workspace_graph.proofs.Shifted.{passed_one_in, passed_to}
 
-module _ (before : LinkTable) (place : ℕ) (linked : List ℕ) (index number end : ℕ) (growing : IsGrowing before place linked) (passed : Splits linked index number)
+module _ (before : LinkTable) (place : ℕ) (linked : List ℕ) (index number end : ℕ) (growing : IsGrowing before place linked) (passed : Splits linked index
+    number)
     (within : number ≤ length before + 1) (there : index < length linked → end ≡ get_or linked index 0)
     (behind : length linked ≤ index → end ≡ length before + 1) where
   end_from : number ≤ end

@@ -78,7 +78,8 @@ row_added bs ns row are =
     rows_push bs ns row (last_bound bs) are.some refl are.within (λ i lt. are.rising i (length bs - 1) (omega arith) (omega arith))
 
 -- A row appended to the numbers is one more row, by the length of the numbers.
-pub row_ends : (bs ns new row : List ℕ) (g : LinkTable) (end : ℕ) → AreBounds bs ns → rows_of bs ns ≡ g → new ≡ take (last_bound bs) ns ++ row → end ≡ length new →
+pub row_ends : (bs ns new row : List ℕ) (g : LinkTable) (end : ℕ) → AreBounds bs ns → rows_of bs ns ≡ g → new ≡ take (last_bound bs) ns ++ row →
+    end ≡ length new →
     rows_of (bs ++ end ∷ []) new ≡ g ++ row ∷ []
 row_ends bs ns new row g end are view is at =
     let size = length-take-le (last_bound bs) ns are.within in

@@ -29,7 +29,8 @@ use Rattle.workspace_graph.specs.declared.package.ParsedPackage.{ParsedPackage}
 use Rattle.workspace_graph.specs.declared.drafts.Draft.{Draft}
 use Rattle.base_edits.proofs.Held.{mapped_from}
 use Rattle.workspace_graph.proofs.Filled.{set_elsewhere, set_there}
-use Rattle.workspace_graph.proofs.InFolder.{has_held, held, held_none, held_apart, held_fault, held_all, held_final, held_gone, held_same, held_tree, reset_next}
+use Rattle.workspace_graph.proofs.InFolder.{has_held, held, held_none, held_apart, held_fault}
+use Rattle.workspace_graph.proofs.InFolder.{held_all, held_final, held_gone, held_same, held_tree, reset_next}
 use Rattle.workspace_graph.proofs.ChangedFiles.{is_among, resets_none, resets_more}
 use Rattle.workspace_graph.proofs.Numbers.{path_of_package, path_there}
 use Rattle.workspace_graph.proofs.PackagePaths.{none_sorted, one_number}

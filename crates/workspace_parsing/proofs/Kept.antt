@@ -1,5 +1,6 @@
 -- What threads give that promise the shares of a workspace.
-use Rattle.std.proofs.Common.{◌≡◌, ℕ, ◌+◌, ◌<◌, ◌∙◌, ◌⊎◌, List, [], ◌∷◌, ◌++◌, Result, Ok, Err, Some, Vec, arith, length, slice_get, slice_index_or, subst, sym, vec_len, ⊎_elim}
+use Rattle.std.proofs.Common.{◌≡◌, ℕ, ◌+◌, ◌<◌, ◌∙◌, ◌⊎◌, List, [], ◌∷◌, ◌++◌, Result}
+use Rattle.std.proofs.Common.{Ok, Err, Some, Vec, arith, length, slice_get, slice_index_or, subst, sym, vec_len, ⊎_elim}
 use Rattle.std.specs.Prelude.{IfOk}
 use Rattle.std.proofs.lemmas.Option.{slice_get_read, slice_get_within}
 use Rattle.std.specs.PromisedHandle.{KeepsEach}

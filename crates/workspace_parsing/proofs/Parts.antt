@@ -84,7 +84,8 @@ module _ (w : Workspace) (low high : ℕ) (left rest : List Entry) (old new : Wo
     sound = sound;
     whole = λ e has between. ⊎_elim
         (λ (among : Contains left e). ⊎_elim
-        (λ (here : d ≡ e). inr (subst (λ (x : Entry). get new x.0 ≡ Some x.1) here (set_now (subst (λ (x : Entry). is_between low high x.0 ≡ true) (sym here) between))))
+        (λ (here : d ≡ e). inr (subst (λ (x : Entry). get new x.0 ≡ Some x.1) here (set_now (subst (λ (x : Entry). is_between low high x.0 ≡ true) (sym
+        here) between))))
         (λ (later : Contains rest e). inl later)
         (first_or_later d rest e (subst (λ l. Contains l e) is among)))
         (λ (there : get old e.0 ≡ Some e.1). inr (kept e has there))
@@ -93,7 +94,8 @@ module _ (w : Workspace) (low high : ℕ) (left rest : List Entry) (old new : Wo
   }
 
 -- all files were looked at
-pub all_set : (w : Workspace) (low high : ℕ) (left : List Entry) (part : Workspace) → left ≡ [] → IsPartBeside w low high left part → IsPartBetween w low high part
+pub all_set : (w : Workspace) (low high : ℕ) (left : List Entry) (part : Workspace) → left ≡ [] → IsPartBeside w low high left part →
+    IsPartBetween w low high part
 all_set w low high left part none h path =
     elim (is_between low high path) as (λ b. is_between low high path ≡ b → get part path ≡ cond b (get w path) None) [
       | true ↦ λ between. elim (get w path) as (λ o. get w path ≡ o → get part path ≡ o) [

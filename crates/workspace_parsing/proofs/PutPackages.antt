@@ -1,5 +1,6 @@
 -- The packages of a workspace after a text is set: the folder of a Go file is one of them, and those before stay.
-use Rattle.std.proofs.Common.{◌≡◌, ◌⊎◌, ◌+◌, ◌||◌, ℕ, Bool, true, false, List, cond, Option, Some, None, is_some, inl, inr, length, refl, sym, ap, subst, ◌∙◌, ⊎_elim}
+use Rattle.std.proofs.Common.{◌≡◌, ◌⊎◌, ◌+◌, ◌||◌, ℕ, Bool, true, false, List, cond, Option}
+use Rattle.std.proofs.Common.{Some, None, is_some, inl, inr, length, refl, sym, ap, subst, ◌∙◌, ⊎_elim}
 use Rattle.std.specs.Cmp.{tied_itself}
 use Rattle.std.specs.FinMap.{FinMap, contains_key, contains_key-keys, entries, entries_sorted, get, get-insert, insert, keys, len, len-entries, len-insert}
 use Rattle.std.specs.List.{Contains, list_any}

@@ -32,7 +32,8 @@ adds_path old new k is =
 pub adds_none : (P : List ℕ → Type 0) (old : List (List ℕ)) → ((p : List ℕ) → P p → ⊥) → AddsEachPath P old old
 adds_none P old none = record { kept = λ f has. has; each = λ p is. absurd (none p is) }
 
-pub adds_more : (P Q S : List ℕ → Type 0) (a b c : List (List ℕ)) → ((p : List ℕ) → S p → P p ⊎ Q p) → AddsEachPath P a b → AddsEachPath Q b c → AddsEachPath S a c
+pub adds_more : (P Q S : List ℕ → Type 0) (a b c : List (List ℕ)) → ((p : List ℕ) → S p → P p ⊎ Q p) → AddsEachPath P a b → AddsEachPath Q b c →
+    AddsEachPath S a c
 adds_more P Q S a b c cases first second = record {
   kept = λ f has. second.kept f (first.kept f has);
   each = λ p is. ⊎_elim (λ (x : P p). second.kept p (first.each p x)) (λ (y : Q p). second.each p y) (cases p is);

@@ -45,7 +45,8 @@ old_kept s w path one q t o =
 
 -- ---- one path that is dropped
 other_path : (path old q : List ℕ) → (path ≡ q → ⊥) → change_in (dropped (path, old) ∷ []) q ≡ None
-other_path path old q apart = ap (λ b. cond b (Some (dropped (path, old))) None) (false_from_ne_true (pointwise ◌==◌ path q) (λ t. apart ((bytes_decides path q).0 t)))
+other_path path old q apart = ap (λ b. cond b (Some (dropped (path, old))) None) (false_from_ne_true (pointwise ◌==◌ path q) (λ t. apart ((bytes_decides
+    path q).0 t)))
 
 own_path : (path old : List ℕ) → change_in (dropped (path, old) ∷ []) path ≡ Some (dropped (path, old))
 own_path path old = ap (λ b. cond b (Some (dropped (path, old))) None) ((bytes_decides path path).1 refl)

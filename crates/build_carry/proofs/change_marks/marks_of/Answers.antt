@@ -18,7 +18,8 @@ marks_among-requires c =
 
 pub returns-clause-before : goal.returns-clause-before
 returns-clause-before c =
-    subst (λ (w : Workspace). IfOk c.marks_among.result (λ marks. MarkChanges c.args.base.now w marks.before.items)) (ap (λ (x : Change). x.files) c.get.ensures)
+    subst (λ (w : Workspace). IfOk c.marks_among.result (λ marks. MarkChanges c.args.base.now w marks.before.items)) (ap (λ (x : Change). x.files)
+    c.get.ensures)
     c.marks_among.ensures.before
 
 pub returns-clause-after : goal.returns-clause-after

@@ -32,7 +32,8 @@ returns c =
     let own = same_Some _ _ (sym c.package.ensures.path ∙ at) in
     let here : c.deref.result.now ≡ p = c.deref.ensures.value ∙ own in
     let path : c.as_slice.result.now ≡ p = c.as_slice.ensures.value ∙ own in
-    let more : names c.push.new.self.items ≡ names old ++ p ∷ [] = ap names c.in_ok-push.ensures.items ∙ names_push old c.as_slice.result ∙ ap (λ q. names old ++ q ∷ []) path in
+    let more : names c.push.new.self.items ≡ names old ++ p ∷ [] = ap names c.in_ok-push.ensures.items ∙ names_push old c.as_slice.result ∙ ap (λ q. names
+    old ++ q ∷ []) path in
     subst (ListsComing v w (n + 1)) (sym more)
     (listed_new v w n (names old) p at c.requires.listed
     (λ has. false≢true (sym c.if-has_package.false ∙ c.has_package.ensures.1 (subst (Contains (package_paths v)) (sym here) has))))

@@ -26,6 +26,8 @@ returns c =
     let p = get_or (package_paths v) n [] in
     let at : slice_get (package_paths v) n ≡ Some p = slice_get-get_or (package_paths v) n [] c.requires.number in
     let path : c.as_slice.result.now ≡ p = c.as_slice.ensures.value ∙ same_Some _ _ (sym c.package.ensures.path ∙ at) in
-    let more : names c.push.new.self.items ≡ names old ++ p ∷ [] = ap names c.in_ok-push.ensures.items ∙ names_push old c.as_slice.result ∙ ap (λ q. names old ++ q ∷ []) path in
+    let more : names c.push.new.self.items ≡ names old ++ p ∷ [] = ap names c.in_ok-push.ensures.items ∙ names_push old c.as_slice.result ∙ ap (λ q. names
+    old ++ q ∷ []) path in
     subst (ListsDiffering v c.args.after.now (n + 1)) (sym more)
-    (differing_changed v c.args.after.now n (names old) p at c.requires.listed (λ same. false≢true (sym c.if-keeps_files.false ∙ (c.keeps_files.ensures p at).1 same)))
+    (differing_changed v c.args.after.now n (names old) p at c.requires.listed (λ same. false≢true (sym c.if-keeps_files.false ∙ (c.keeps_files.ensures p
+    at).1 same)))

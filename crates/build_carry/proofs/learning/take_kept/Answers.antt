@@ -43,7 +43,8 @@ returns-in-Some-clause-right c =
     let n = c.args.number in
     let p = get_or (package_paths w) n [] in
     let at : slice_get (package_paths w) n ≡ Some p = slice_get-get_or (package_paths w) n [] c.requires.number in
-    known_set w c.args.known.now c.set.new.self n p c.in-Some.verdict at c.set.ensures (c.in_ok-kept.ensures.right p at c.in-Some.verdict c.in-Some.is) c.requires.known
+    known_set w c.args.known.now c.set.new.self n p c.in-Some.verdict at c.set.ensures (c.in_ok-kept.ensures.right p at c.in-Some.verdict c.in-Some.is)
+    c.requires.known
 
 pub returns-in-Some-clause-kept : goal.returns-in-Some-clause-kept
 returns-in-Some-clause-kept c =

@@ -18,16 +18,19 @@ unfolding type_spec_view
 returns-in_default c =
     sym (append-nil c.args.text.now.items)
     ∙ ap (λ o. c.args.text.now.items ++ flat_map (declaration_text (type_in c.args.source.now.packages.now))
-    (type_declarations o (definition_of (world_of c.args.source.now.world) (source_of c.args.source.now).asks (body_view c.args.spec.now.body)))) c.in_default.ensures
+    (type_declarations o (definition_of (world_of c.args.source.now.world) (source_of c.args.source.now).asks (body_view c.args.spec.now.body))))
+    c.in_default.ensures
 
 pub returns-in-None : goal.returns-in-None
 unfolding type_spec_view
 returns-in-None c =
     sym (append-nil c.args.text.now.items)
-    ∙ (ap (λ d. c.args.text.now.items ++ flat_map (declaration_text (type_in c.args.source.now.packages.now)) (type_declarations (Some (global_of c.in-Some.name)) d))
+    ∙ (ap (λ d. c.args.text.now.items ++ flat_map (declaration_text (type_in c.args.source.now.packages.now)) (type_declarations (Some (global_of
+    c.in-Some.name)) d))
     (ap (option_map definition_view) (sym c.in-None.is) ∙ c.in_ok-defined_as.ensures)
     ∙ ap (λ o. c.args.text.now.items ++ flat_map (declaration_text (type_in c.args.source.now.packages.now))
-    (type_declarations o (definition_of (world_of c.args.source.now.world) (source_of c.args.source.now).asks (body_view c.args.spec.now.body)))) c.in-Some.ensures)
+    (type_declarations o (definition_of (world_of c.args.source.now.world) (source_of c.args.source.now).asks (body_view c.args.spec.now.body))))
+    c.in-Some.ensures)
 
 pub returns-in-Some-2 : goal.returns-in-Some-2
 unfolding type_spec_view
@@ -35,8 +38,10 @@ returns-in-Some-2 c =
     on_ok_weaker c.push_type_line.result
     (λ q. q ∙ (ap (λ z. c.args.text.now.items ++ z) (sym
     (append-nil (declaration_text (type_in c.args.source.now.packages.now) (TypeOf (global_of c.in-Some.name) (definition_view c.in-Some-2.definition)))))
-    ∙ (ap (λ d. c.args.text.now.items ++ flat_map (declaration_text (type_in c.args.source.now.packages.now)) (type_declarations (Some (global_of c.in-Some.name)) d))
+    ∙ (ap (λ d. c.args.text.now.items ++ flat_map (declaration_text (type_in c.args.source.now.packages.now)) (type_declarations (Some (global_of
+    c.in-Some.name)) d))
     (ap (option_map definition_view) (sym c.in-Some-2.is) ∙ c.in_ok-defined_as.ensures)
     ∙ ap (λ o. c.args.text.now.items ++ flat_map (declaration_text (type_in c.args.source.now.packages.now))
-    (type_declarations o (definition_of (world_of c.args.source.now.world) (source_of c.args.source.now).asks (body_view c.args.spec.now.body)))) c.in-Some.ensures)))
+    (type_declarations o (definition_of (world_of c.args.source.now.world) (source_of c.args.source.now).asks (body_view c.args.spec.now.body))))
+    c.in-Some.ensures)))
     c.push_type_line.ensures

@@ -21,7 +21,8 @@ returns-in-None c =
     let values = initials_of s (literals_of (option_view var_values_view c.args.spec.now.values)) in
     sym (append-nil c.args.text.now.items)
     ∙ ap (λ ds. c.args.text.now.items ++ flat_map (declaration_text (type_in c.args.source.now.packages.now)) ds)
-    (sym (no_variables s names values) ∙ ap (λ o. variable_declarations s o names values) (ap (option_map type_of) (sym c.in-None.is) ∙ c.in_ok-written_type.ensures))
+    (sym (no_variables s names values) ∙ ap (λ o. variable_declarations s o names values) (ap (option_map type_of) (sym c.in-None.is) ∙
+    c.in_ok-written_type.ensures))
 
 pub returns-in-Some : goal.returns-in-Some
 unfolding global_view
@@ -31,7 +32,8 @@ returns-in-Some c =
     (λ q. q ∙ ap (λ ds. c.args.text.now.items ++ flat_map (declaration_text (type_in c.args.source.now.packages.now)) ds)
     (ap (λ xs. variable_declarations s (Some (type_of c.in-Some.own)) (list_view same_index xs) (initials_of s (list_view basic_view c.literals.result.now)))
     c.deref.ensures.value
-    ∙ (ap (λ ls. variable_declarations s (Some (type_of c.in-Some.own)) (list_view same_index c.args.spec.now.names.items) (initials_of s ls)) c.literals.ensures
+    ∙ (ap (λ ls. variable_declarations s (Some (type_of c.in-Some.own)) (list_view same_index c.args.spec.now.names.items) (initials_of s ls))
+    c.literals.ensures
     ∙ ap (λ o. variable_declarations s o (list_view same_index c.args.spec.now.names.items)
     (initials_of s (literals_of (option_view var_values_view c.args.spec.now.values))))
     (ap (option_map type_of) (sym c.in-Some.is) ∙ c.in_ok-written_type.ensures))))

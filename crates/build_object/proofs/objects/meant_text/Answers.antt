@@ -16,5 +16,6 @@ returns c =
     let all = subst (λ n. PrintsFiles p n o.members.now o.enterings.now o.packages.now o.names.now c.in_ok-push_files.field-0 c.push_head.new.text.items
     c.push_files.new.text.items) (sym (length-map o.unit.files.now source_of)) c.in_ok-push_files.ensures in
     λ files_of uses enter have. subst (IsObjectText p files_of) (sym c.shrink_to_fit.ensures.items)
-    (whole_text p o.members.now o.enterings.now o.packages.now o.names.now c.in_ok-push_files.field-0 c.push_head.new.text.items c.push_files.new.text.items c.requires.names
+    (whole_text p o.members.now o.enterings.now o.packages.now o.names.now c.in_ok-push_files.field-0 c.push_head.new.text.items c.push_files.new.text.items
+    c.requires.names
     head all files_of uses enter have)

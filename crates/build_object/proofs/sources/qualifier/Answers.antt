@@ -11,7 +11,8 @@ returns-then-token-lt2 c = λ path b. let h = late (package_of c.args.unit) c.ar
 pub returns-then-is_name_after_dot : goal.returns-then-is_name_after_dot
 returns-then-is_name_after_dot c =
     let e : c.args.token ≡ suc (suc (c.args.token - 2)) = omega (arith, c.if-token-lt2.false) in
-    behind_by (package_of c.args.unit) c.args.file c.args.token (c.args.token - 2) c.import_at.result e (c.is_name_after_dot.ensures.0 c.if-is_name_after_dot.true)
+    behind_by (package_of c.args.unit) c.args.file c.args.token (c.args.token - 2) c.import_at.result e (c.is_name_after_dot.ensures.0
+    c.if-is_name_after_dot.true)
     c.import_at.ensures
 
 pub returns-else-is_name_after_dot : goal.returns-else-is_name_after_dot

@@ -76,7 +76,8 @@ pub statement-returns-in_ok-turns-in-For : goal.statement-returns-in_ok-turns-in
 unfolding statement_lines stmt_view
 statement-returns-in_ok-turns-in-For t c = on_ok_weaker c.header_init.result
     (λ q. puts_as (for_taken (source_of c.args.scope.source.now) c.args.scope.slots.now.places.items c.args.results
-    (exits_of c.args.marks (length (lines_in c.args.code.now))) _ _ _ c.in-For.is _ _ c.deref-in-For.ensures c.deref-in-For-2.ensures) (puts_then c.in_ok-turns-in-For.ensures q)) c.header_init.ensures
+    (exits_of c.args.marks (length (lines_in c.args.code.now))) _ _ _ c.in-For.is _ _ c.deref-in-For.ensures c.deref-in-For-2.ensures) (puts_then
+    c.in_ok-turns-in-For.ensures q)) c.header_init.ensures
 
 pub turns-block-requires : goal.turns-block-requires
 turns-block-requires t c =

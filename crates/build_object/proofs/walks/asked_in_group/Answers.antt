@@ -18,7 +18,8 @@ use Rattle.build_object.proofs.walks.asked_in_group.Goals as goal
 pub returns-in-Single : goal.returns-in-Single
 unfolding group_view
 returns-in-Single c =
-    let names : TypeSpecTree → List (Option FunctionName) = λ s. asked_names_in c.args.place.path.now (map source_of c.args.place.files.now) (placed_type c.args.place.file s) in
+    let names : TypeSpecTree → List (Option FunctionName) = λ s. asked_names_in c.args.place.path.now (map source_of c.args.place.files.now) (placed_type
+    c.args.place.file s) in
     subst (λ g. FindsRank (option_map function_of) (flat_map names (group_items (group_view type_spec_view g))) c.args.rank c.asked_in_spec.result)
     (sym c.in-Single.is)
     (subst (λ l. FindsRank (option_map function_of) l c.args.rank c.asked_in_spec.result) (sym (append-nil _)) c.asked_in_spec.ensures)

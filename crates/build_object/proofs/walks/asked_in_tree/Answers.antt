@@ -17,7 +17,8 @@ loop-decl-preserved c =
 
 pub returns-in-Ok : goal.returns-in-Ok
 returns-in-Ok c =
-    ap (λ l. slice_get l c.args.rank) (sym (decls_from (decl_asked c.args.place.path.now (map source_of c.args.place.files.now) c.args.place.file) c.file-tree.result.now
+    ap (λ l. slice_get l c.args.rank) (sym (decls_from (decl_asked c.args.place.path.now (map source_of c.args.place.files.now) c.args.place.file)
+    c.file-tree.result.now
     c.deref-decl-items.result.now c.args.tree.now
     c.file-tree.ensures.tree c.deref-decl-items.ensures.value))
     ∙ walked_found (λ d. decl_asked c.args.place.path.now (map source_of c.args.place.files.now) c.args.place.file (decl_view d))
@@ -29,6 +30,7 @@ returns c =
     walked_all (λ d. decl_asked c.args.place.path.now (map source_of c.args.place.files.now) c.args.place.file (decl_view d))
     c.deref-decl-items.result.now c.loop-decl.decl-index c.args.rank c.loop-decl.rest (omega arith)
     c.loop-decl.invariant
-    ∙ ap (λ l. length l + c.loop-decl.rest) (decls_from (decl_asked c.args.place.path.now (map source_of c.args.place.files.now) c.args.place.file) c.file-tree.result.now
+    ∙ ap (λ l. length l + c.loop-decl.rest) (decls_from (decl_asked c.args.place.path.now (map source_of c.args.place.files.now) c.args.place.file)
+    c.file-tree.result.now
     c.deref-decl-items.result.now c.args.tree.now
     c.file-tree.ensures.tree c.deref-decl-items.ensures.value)

@@ -11,7 +11,8 @@ use Rattle.build_object.proofs.walks.position_in_group.Goals as goal
 pub returns-in-Single : goal.returns-in-Single
 unfolding group_view
 returns-in-Single c =
-    subst (λ g. FindsRank (λ n. n) (flat_map spec_positions (group_items (group_view type_spec_view g))) c.args.rank c.position_in_spec.result) (sym c.in-Single.is)
+    subst (λ g. FindsRank (λ n. n) (flat_map spec_positions (group_items (group_view type_spec_view g))) c.args.rank c.position_in_spec.result) (sym
+    c.in-Single.is)
     (subst (λ l. FindsRank (λ n. n) l c.args.rank c.position_in_spec.result) (sym (append-nil _)) c.position_in_spec.ensures)
 
 pub returns-in-Several : goal.returns-in-Several

@@ -36,7 +36,8 @@ returns c =
     let p = c.args.path.now in
     let same = c.export_table.ensures in
     record {
-      checked = IfOk-weaker c.text_by_states.result _ _ (λ made h. subst (λ i. IsCheckResult w (verdicts_by i) p made.checked) same h) c.text_by_states.ensures.checked;
+      checked = IfOk-weaker c.text_by_states.result _ _ (λ made h. subst (λ i. IsCheckResult w (verdicts_by i) p made.checked) same h)
+          c.text_by_states.ensures.checked;
       text = IfOk-weaker c.text_by_states.result _ _ (λ made h right. h (subst (λ i. AreVerdictsBelow w p (verdicts_by i)) (sym same) right))
           c.text_by_states.ensures.text;
     }

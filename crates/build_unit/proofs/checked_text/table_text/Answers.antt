@@ -33,7 +33,8 @@ returns c =
     subst (λ ts. AreParsed (package_files w p) ts []) (sym c.as_slice.ensures.value)
     (parsed_all w c.args.at.number p c.args.of.files.now at c.requires.files c.requires.read) in
     let own = package_in p (map source_of trees) table (export_data_in i) in
-    let here : (state : List ℕ → ImportState) → IsSoundTable c.args.of.files.now.trees.items state (name_in i) table → IsSoundTable trees state (name_in i) table =
+    let here : (state : List ℕ → ImportState) → IsSoundTable c.args.of.files.now.trees.items state (name_in i) table →
+    IsSoundTable trees state (name_in i) table =
     λ state laid. subst (λ ts. IsSoundTable ts state (name_in i) table) (sym c.as_slice.ensures.value) laid in
     let mine : (state : List ℕ → ImportState) → IsSoundTable trees state (name_in i) table → IsPackageOf p trees (name_in i) (export_data_in i) own =
     λ state laid. record { laid = table; is_laid = laid.is_laid; is_package = refl } in

@@ -61,5 +61,6 @@ returns c =
     let compiled : IsCompiled w p (export_data_known p one) text =
     compiled_by w p found.known one f found.faultless files.trees.items files.faulty.items parsed (name_in i) (export_data_in i)
     found.are_seen packages text (c.in_ok-packages.ensures p c.requires.at.has_path) made in
-    IfOk-weaker c.new.result (λ t. t ≡ text) (IsCompiled w p (export_data_known p one)) (λ t is. subst (IsCompiled w p (export_data_known p one)) (sym is) compiled)
+    IfOk-weaker c.new.result (λ t. t ≡ text) (IsCompiled w p (export_data_known p one)) (λ t is. subst (IsCompiled w p (export_data_known p one)) (sym is)
+    compiled)
     c.new.ensures

@@ -8,5 +8,6 @@ use Rattle.history_book.proofs.following.state_after.Goals as goal
 pub invariant_of-state : goal.invariant_of-state
 invariant_of-state c =
     let carried = c.in_ok-finished in
-    subst (λ (x : Change). (length carried.finished ≡ length (package_paths x.files)) × KnowsVerdicts x.files carried.known) (sym c.into_parts-change.ensures.same)
+    subst (λ (x : Change). (length carried.finished ≡ length (package_paths x.files)) × KnowsVerdicts x.files carried.known) (sym
+    c.into_parts-change.ensures.same)
     (carried.ensures.units.size, carried.ensures.known)

@@ -46,7 +46,8 @@ returns-in-Err-clause-planned c =
     let is = c.requires.part in
     let refusal = c.in-Err.refusal in
     let faults = c.refuse_marked-faults.result in
-    let h = planned_in_part r is c.args.proposal.now c.requires.proposed c.as_bytes.result.now c.as_bytes.ensures.value (Err refusal) c.in-Err.ensures.planned in
+    let h = planned_in_part r is c.args.proposal.now c.requires.proposed c.as_bytes.result.now c.as_bytes.ensures.value (Err refusal)
+    c.in-Err.ensures.planned in
     let first = first_marked r is c.args.proposal.now c.requires.proposed c.args.marks.now c.requires.marks faults c.refuse_marked-faults.ensures in
     subst (λ (x : Refusal). PlansAffectedRename a.snapshot.now a.file.now a.offset a.name.now (Err x)) (sym c.after_faults.ensures)
     (refused a.snapshot.now known is.found.findings.right a.file.now a.offset a.name.now is.asked refusal faults h first)

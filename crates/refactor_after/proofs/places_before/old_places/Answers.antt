@@ -8,7 +8,8 @@ use Rattle.refactor_after.proofs.places_before.old_places.Goals as goal
 
 pub returns : goal.returns
 returns c =
-    let P = HasMovedSpot (IsCheckedPackage c.args.packages.now.workspace.now.graph (known_in c.args.packages.now.workspace.now.findings)) (moved c.args.moves.now) in
+    let P = HasMovedSpot (IsCheckedPackage c.args.packages.now.workspace.now.graph (known_in c.args.packages.now.workspace.now.findings)) (moved
+    c.args.moves.now) in
     let added = all_added c.new-old.result.items c.add_all.new.old.items P c.new-old.ensures.items c.in_ok-add_all.ensures in
     record {
       in_order = c.sort.ensures.order;

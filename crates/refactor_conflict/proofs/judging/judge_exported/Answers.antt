@@ -56,7 +56,8 @@ returns-in-Some-clause-stays c =
     let path = c.args.of.now.behind.now in
     let first = c.note_by_package.new.first in
     let begins : BeginsAt p place.path place.offset u = subst (IsChoice (λ (x : Place). BeginsAt p x.path x.offset u)) c.in-Some.is c.in_ok-beginning.ensures in
-    let stays = subst (λ n. OnOk c.note_by_package.result (IsPlaceBefore first place → StaysBound B (IsExportAfter w r path (r.called place n)) old)) c.name.ensures
+    let stays = subst (λ n. OnOk c.note_by_package.result (IsPlaceBefore first place → StaysBound B (IsExportAfter w r path (r.called place n)) old))
+    c.name.ensures
     c.note_by_package.ensures.stays in
     begins_here p u (λ (at : Place). StaysBound B (IsBoundByPackage w r at p u) old) first place c.note_by_package.result begins
     (on_ok_weaker c.note_by_package.result

@@ -30,7 +30,8 @@ returns-clause-takes c =
     let now = c.in_ok-now.now in
     let K = SelectsAfter Known r ds p c.args.used.now.at before place in
     let is : IsDeclarationResult K now =
-    subst (λ n. IsDeclarationResult (IsMemberAfter Known r p.path (new_name_at j.moves.now place n) (λ s. (ds s).underlying) before) now) c.spelling-name.ensures
+    subst (λ n. IsDeclarationResult (IsMemberAfter Known r p.path (new_name_at j.moves.now place n) (λ s. (ds s).underlying) before) now)
+    c.spelling-name.ensures
     c.in_ok-now.ensures in
     call_takes (IsOtherMember Known (λ e. now ≡ Some e) place old) (IsOtherMember Known K place old) c.args.first.now c.note_member.new.first
     c.note_member.result (other_found Known K place old now is (one_member_after (workspace_in j) (known_verdicts j) r p.path
@@ -48,6 +49,7 @@ returns-clause-stays c =
     let now = c.in_ok-now.now in
     let K = SelectsAfter Known r ds p c.args.used.now.at before place in
     let is : IsDeclarationResult K now =
-    subst (λ n. IsDeclarationResult (IsMemberAfter Known r p.path (new_name_at j.moves.now place n) (λ s. (ds s).underlying) before) now) c.spelling-name.ensures
+    subst (λ n. IsDeclarationResult (IsMemberAfter Known r p.path (new_name_at j.moves.now place n) (λ s. (ds s).underlying) before) now)
+    c.spelling-name.ensures
     c.in_ok-now.ensures in
     on_ok_weaker c.note_member.result (λ k ahead. found_so K now is c.args.old.now (k ahead)) c.note_member.ensures.stays

@@ -12,7 +12,11 @@ loop-d-preserved c = λ e lt seen named. elim (cases_lt e c.loop-d.d) [
   | inr ge ↦ (
       let same : e ≡ c.loop-d.d = omega arith in
       let p = package_of c.args.unit in
-      false≢true (sym c.if-is_exported_as.false ∙ c.is_exported_as.ensures.1 (subst (DoesExport p) same seen, subst (λ n. p.names n ≡ c.args.name.now) same named)))
+      false≢true (sym c.if-is_exported_as.false ∙ c.is_exported_as.ensures.1 (
+        subst (DoesExport p) same seen,
+        subst (λ n. p.names n ≡ c.args.name.now) same
+            named,
+      )))
 ]
 
 pub returns : goal.returns

@@ -20,5 +20,6 @@ returns-in-Some c =
     let p = package_of c.args.unit in
     let T : TurnedUses → Type 0 = λ t. TellsTurned p c.args.n c.args.name.now (Some t) in
     subst T (sym c.later.ensures)
-    (later_turns p c.args.n c.args.name.now c.requires.exported c.requires.all_count c.requires.can (c.is_package_level.ensures.0 c.if-not-is_package_level.false)
+    (later_turns p c.args.n c.args.name.now c.requires.exported c.requires.all_count c.requires.can (c.is_package_level.ensures.0
+    c.if-not-is_package_level.false)
     c.in-Some.e c.in-Some.ensures.0 c.in-Some.ensures.1)

@@ -7,4 +7,5 @@ use Rattle.refactor_follow.proofs.imports.first_in.Given as goal
 
 abbrev pub invariant-loop-d : goal.invariant-loop-d
 invariant-loop-d l =
-    IsFirstOfImports (IsCheckedPackage l.at.workspace.now.graph (known_in l.at.workspace.now.findings)) (package_of l.unit) l.new.path.now l.new.name.now l.d l.first
+    IsFirstOfImports (IsCheckedPackage l.at.workspace.now.graph (known_in l.at.workspace.now.findings)) (package_of l.unit) l.new.path.now l.new.name.now
+    l.d l.first

@@ -19,7 +19,8 @@ returns c =
     let of : Symbol = c.in_ok-of.of in
     let path : p.path ≡ of.package = sym (ap (λ (s : Symbol). s.package) c.in_ok-of.ensures ∙ c.path_of.ensures p.path is.has_number) in
     let ranks : of.rank ≡ rank = ap (λ (s : Symbol). s.rank) c.in_ok-of.ensures in
-    judged_both m (IsConflictIn (workspace_before m.of) (verdicts_in m.of) (rename_revision m) p) (FieldsStayOf m p rank) (MethodsStayOf m p rank) (NamesStayOf m p rank)
+    judged_both m (IsConflictIn (workspace_before m.of) (verdicts_in m.of) (rename_revision m) p) (FieldsStayOf m p rank) (MethodsStayOf m p rank)
+    (NamesStayOf m p rank)
     a b e (λ knows place h k. (h, k))
     (subst (λ n. JudgesIn m p (FieldsStayOf m p n) a b) ranks (c.in_ok-judge_fields.ensures edits p is path))
     (subst (λ n. JudgesIn m p (MethodsStayOf m p n) b e) ranks (methods edits p is path))) c.judge_methods.ensures

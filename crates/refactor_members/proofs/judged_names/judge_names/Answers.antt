@@ -19,7 +19,8 @@ loop-rank-init c = λ edits p is.
 pub loop-rank-preserved : goal.loop-rank-preserved
 loop-rank-preserved c = λ edits p is.
     let m = by c.args.m.now edits in
-    judged_next m (IsConflictIn (workspace_before m.of) (verdicts_in m.of) (rename_revision m) p) (NamesStayOf m p) c.loop-rank.rank c.args.first.now c.loop-rank.first
+    judged_next m (IsConflictIn (workspace_before m.of) (verdicts_in m.of) (rename_revision m) p) (NamesStayOf m p) c.loop-rank.rank c.args.first.now
+    c.loop-rank.first
     c.judge_if_concerned.new.first (c.loop-rank.invariant edits p is) (c.in_ok-judge_if_concerned.ensures edits p is (c.own_of-own.ensures p is))
 
 pub returns : goal.returns

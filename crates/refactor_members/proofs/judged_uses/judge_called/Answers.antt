@@ -26,7 +26,8 @@ returns-in-None c = λ edits p k was one stake.
     let ds = definitions_known c.args.of.now.types in
     let Told : List SourceFile → Type 0 = λ fs. IsChoice (λ (place : Place). NameBegins (slice_get fs c.args.file) x.place place.path place.offset) None in
     let none : Told p.files = subst Told k.files (subst (IsChoice _) c.in-None.is c.in_ok-name_beginning.ensures) in
-    judged_none m (IsMemberConflict (packages_before m.of) (rename_revision m) ds p c.args.file x) (UseStays (packages_before m.of) (rename_revision m) ds p c.args.file x)
+    judged_none m (IsMemberConflict (packages_before m.of) (rename_revision m) ds p c.args.file x) (UseStays (packages_before m.of) (rename_revision m) ds p
+    c.args.file x)
     c.args.first.now
     (λ knows place old used. absurd (none place (begins_token p (record { file = c.args.file; index = x.place }) place used.at)))
 

@@ -16,4 +16,5 @@ use Rattle.refactor_members.proofs.judged_uses.judge_file.Given as goal
 abbrev pub invariant-loop-k : goal.invariant-loop-k
 invariant-loop-k l = (s : FileChanges) (p : Package) → HasUsesOf (workspace_before l.m) (verdicts_in l.m) p l.of → AreUsesIn p l.file (map use_of l.uses) →
     Judges (by l.m s) (IsMemberConflictIn (packages_before l.m) (rename_revision (by l.m s)) (definitions_known l.of.types) p l.file (map use_of l.uses))
-    (Below (RankStays (packages_before l.m) (rename_revision (by l.m s)) (definitions_known l.of.types) p l.file (map use_of l.uses)) l.k) l.initial.first l.first
+    (Below (RankStays (packages_before l.m) (rename_revision (by l.m s)) (definitions_known l.of.types) p l.file (map use_of l.uses)) l.k) l.initial.first
+    l.first

@@ -21,7 +21,8 @@ use Rattle.refactor_members.proofs.judged_uses.judge_files.Goals as goal
 pub loop-file-init : goal.loop-file-init
 loop-file-init c = λ edits p known.
     let m = by c.args.m.now edits in
-    judged_begin m (IsConflictIn (workspace_before m.of) (verdicts_in m.of) (rename_revision m) p) (FileStays (workspace_before m.of) (verdicts_in m.of) (rename_revision m) p)
+    judged_begin m (IsConflictIn (workspace_before m.of) (verdicts_in m.of) (rename_revision m) p) (FileStays (workspace_before m.of) (verdicts_in m.of)
+    (rename_revision m) p)
     c.args.first.now
 
 pub loop-file-preserved : goal.loop-file-preserved

@@ -15,6 +15,8 @@ returns c =
     IfOk-weaker c.member.result _ _ (λ found h edits knows.
     let m = by c.args.m.now edits in
     let types : Symbol → Underlying = λ s. (definitions_known c.args.types s).underlying in
-    subst (λ own. IsDeclarationResult (IsMemberAfter (packages_before m.of) (rename_revision m) own m.of.name.now types (type_of c.args.before.now)) found) c.path.ensures
-    (subst (λ d. IsDeclarationResult (IsMemberAfter (packages_before m.of) (rename_revision m) c.path.result.now m.of.name.now d (type_of c.args.before.now)) found)
+    subst (λ own. IsDeclarationResult (IsMemberAfter (packages_before m.of) (rename_revision m) own m.of.name.now types (type_of c.args.before.now)) found)
+    c.path.ensures
+    (subst (λ d. IsDeclarationResult (IsMemberAfter (packages_before m.of) (rename_revision m) c.path.result.now m.of.name.now d (type_of
+    c.args.before.now)) found)
     c.known_world-world.ensures (h edits knows))) c.member.ensures

@@ -28,6 +28,7 @@ returns c =
     let K = IsMemberAfter Known r path m.of.name.now (λ s. (ds s).underlying) t in
     let is = c.in_ok-now.ensures edits knows in (
       takes_as (IsOtherMember Known (λ e. now ≡ Some e) place old) (IsOtherMember Known K place old) c.args.first.now c.note_member.new.first
-          (other_found Known K place old now is (one_member_after (workspace_before m.of) (verdicts_in m.of) r path m.of.name.now (λ s. (ds s).underlying) t)) takes,
+          (other_found Known K place old now is (one_member_after (workspace_before m.of) (verdicts_in m.of) r path m.of.name.now (λ s. (ds s).underlying)
+          t)) takes,
       (λ other ahead same. found_so K now is old (stays (subst (IsPlaceBefore c.note_member.new.first) same ahead))),
     )) c.note_member.ensures.takes c.note_member.ensures.stays

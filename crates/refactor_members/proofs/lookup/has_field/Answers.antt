@@ -11,7 +11,8 @@ pub returns-in-None : goal.returns-in-None
 returns-in-None c = λ edits knows p is e.
     let m = by c.args.m.now edits in (
       (λ yes. absurd (false≢true yes)),
-      (λ k. absurd (has_no_field (workspace_before m.of) (verdicts_in m.of) (rename_revision m) p is c.args.of.now.rank m.of.name.now (c.in-None.ensures p is e) k)),
+      (λ k. absurd (has_no_field (workspace_before m.of) (verdicts_in m.of) (rename_revision m) p is c.args.of.now.rank m.of.name.now (c.in-None.ensures p
+          is e) k)),
     )
 
 pub returns-in-Some : goal.returns-in-Some

@@ -26,6 +26,7 @@ returns-else-may_follow c =
     let last : c.last_of-last.result.now ≡ last_of from = (cc) in
     let named : c.last_of-name.result.now ≡ last_of to = (cc) in (
       (λ t. absurd (false≢true (sym c.if-may_follow.false ∙ t))),
-      (λ h. c.may_follow.ensures.1 (may_from (IsCheckedPackage c.args.workspace.now.graph (known_in c.args.workspace.now.findings)) from to c.last_of-last.result.now
+      (λ h. c.may_follow.ensures.1 (may_from (IsCheckedPackage c.args.workspace.now.graph (known_in c.args.workspace.now.findings)) from to
+          c.last_of-last.result.now
           c.last_of-name.result.now last named h)),
     )

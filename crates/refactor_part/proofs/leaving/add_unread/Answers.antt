@@ -17,4 +17,7 @@ loop-file-preserved c =
 pub returns : goal.returns
 returns c =
     c.loop-file.invariant
-    ∙ ap (λ ts. names c.args.paths.now.items ++ map path_of_unread ts) (take_all c.loop-file.file-index c.args.files.now (omega (arith, c.loop-file-test.false)))
+    ∙ ap (λ ts. names c.args.paths.now.items ++ map path_of_unread ts) (take_all c.loop-file.file-index c.args.files.now (omega (
+      arith,
+      c.loop-file-test.false,
+    )))

@@ -11,6 +11,7 @@ returns c =
     IfOk-weaker c.moved_known.result _ _ (λ rest are. record {
       name = c.in_ok-name.name;
       follows = c.in_ok-name.ensures;
-      moved = all_moved p.path.now c.args.to.now p.workspace.now.graph c.args.after.now p.known.now rest c.in_ok-name.name c.in_ok-swap.swap c.in_ok-swap.ensures _
+      moved = all_moved p.path.now c.args.to.now p.workspace.now.graph c.args.after.now p.known.now rest c.in_ok-name.name c.in_ok-swap.swap
+          c.in_ok-swap.ensures _
           (b.ensures.name ∙ c.bytes.ensures) _ b.ensures.graph _ b.ensures.known are;
     }) c.moved_known.ensures

@@ -22,7 +22,8 @@ returns-in-Err-clause-planned c =
     let is : IsFilePackage w known path unit =
     subst (λ (v : WorkspaceFindings). IsFilePackage v.graph (known_in v.findings) path unit) c.requires.read.same
     (asked read.at.workspace.now.graph (known_in read.at.workspace.now.findings) read.at.number unit path c.requires.read.is_read.unit c.requires.folder) in
-    finds_refused (proposed_snapshot p) path p.offset c.args.name.now (list_of_sound w p.workspace.now.findings sound) known sound.findings.right c.in-Err.refusal
+    finds_refused (proposed_snapshot p) path p.offset c.args.name.now (list_of_sound w p.workspace.now.findings sound) known sound.findings.right
+    c.in-Err.refusal
     (refused w known path p.offset unit is c.in-Err.refusal c.in-Err.ensures)
 
 pub plan_home-requires-clause-has : goal.plan_home-requires-clause-has

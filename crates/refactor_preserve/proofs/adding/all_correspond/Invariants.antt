@@ -8,5 +8,6 @@ use Rattle.refactor_preserve.proofs.Every.{ListsBelow}
 use Rattle.refactor_preserve.proofs.adding.all_correspond.Given as goal
 
 abbrev pub invariant-loop-b : goal.invariant-loop-b
-invariant-loop-b l = ListsBelow (λ (b : BoundIdentifier). HasBound (λ d. Becomes (view_in l.before) (view_in l.then) (moved l.moves) d b.declaration) l.old) l.new
+invariant-loop-b l = ListsBelow (λ (b : BoundIdentifier). HasBound (λ d. Becomes (view_in l.before) (view_in l.then) (moved l.moves) d b.declaration) l.old)
+    l.new
     l.b-index

@@ -28,7 +28,8 @@ loop-low-preserved-then-is_not_after c =
       order = omega arith;
       within = omega arith;
       before = c.loop-low.invariant.before;
-      behind = behind_middle l size placed uses (λ i lt. (at_place (IsUseInScopes l (names_in table) c.args.rename.now.declaration) size uses c.requires.uses i lt).0)
+      behind = behind_middle l size placed uses (λ i lt. (at_place (IsUseInScopes l (names_in table) c.args.rename.now.declaration) size uses
+          c.requires.uses i lt).0)
           c.requires.uses.ascending c.args.start m there (subst Q (placed_at ∙ place_is) (c.is_not_after.ensures.0 c.if-is_not_after.true));
     }
 
@@ -50,7 +51,8 @@ loop-low-preserved c =
     record {
       order = omega arith;
       within = c.loop-low.invariant.within;
-      before = before_middle l size placed uses (λ i lt. (at_place (IsUseInScopes l (names_in table) c.args.rename.now.declaration) size uses c.requires.uses i lt).0)
+      before = before_middle l size placed uses (λ i lt. (at_place (IsUseInScopes l (names_in table) c.args.rename.now.declaration) size uses
+          c.requires.uses i lt).0)
           c.requires.uses.ascending c.args.start m there
           (λ not. false≢true (sym c.if-is_not_after.false ∙ c.is_not_after.ensures.1 (subst Q (sym (placed_at ∙ place_is)) not)));
       behind = c.loop-low.invariant.behind;

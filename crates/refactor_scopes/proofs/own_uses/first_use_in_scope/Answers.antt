@@ -30,7 +30,8 @@ returns-then-n-len c =
     let B : Role → Type 0 = λ v. (q : Position) → Holds (scope_of v) q → IsNotAfter c.scope_start.result q in
     let W : Role → Type 0 = λ v.
     (p q : Position) → Holds (scope_of v) q → IsNotAfter c.scope_start.result p → IsNotAfter p q → Holds (scope_of v) p in
-    none_behind l (length table.sites) (subst P c.identifiers.ensures c.are_laid_out.ensures.placed) (IsUseInScopes l (names_in table) r.declaration) r.uses.items
+    none_behind l (length table.sites) (subst P c.identifiers.ensures c.are_laid_out.ensures.placed) (IsUseInScopes l (names_in table) r.declaration)
+    r.uses.items
     c.requires.read.uses c.args.c c.scope_start.result
     (record { first = subst B c.role.ensures c.scope_start.ensures.first; whole = subst W c.role.ensures c.scope_start.ensures.whole })
     c.count_before-n.result (record { before = c.count_before-n.ensures.before; behind = c.count_before-n.ensures.behind })
@@ -72,7 +73,8 @@ returns-else-in_scope c =
     below_other n (length r.uses.items) c.len.result c.count_before-n.ensures.within (c.len.ensures ∙ r.uses.ok.0) c.if-n-len.false in
     let read = read_at r.uses.items n c.index-u.result.now there c.index-u.ensures in
     let I : ℕ → Type 0 = λ v. InScope l c.args.c v in
-    none_in_scope l (length table.sites) (subst P c.identifiers.ensures c.are_laid_out.ensures.placed) (IsUseInScopes l (names_in table) r.declaration) r.uses.items
+    none_in_scope l (length table.sites) (subst P c.identifiers.ensures c.are_laid_out.ensures.placed) (IsUseInScopes l (names_in table) r.declaration)
+    r.uses.items
     c.requires.read.uses c.args.c c.scope_start.result
     (record { first = subst B c.role.ensures c.scope_start.ensures.first; whole = subst W c.role.ensures c.scope_start.ensures.whole })
     n (record { before = c.count_before-n.ensures.before; behind = c.count_before-n.ensures.behind })

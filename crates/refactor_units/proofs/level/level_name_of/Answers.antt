@@ -54,7 +54,8 @@ returns-in-None-clause-finds c = λ change level.
     let w = c.args.workspace.now.graph in
     let known = known_in c.args.workspace.now.findings in
     let name = c.args.name.now in
-    no_package w known c.in-Declared.home c.in-Declared.n name change (subst (λ (p : List ℕ). Contains (package_paths w) p → ⊥) c.path.ensures c.in-None.ensures)
+    no_package w known c.in-Declared.home c.in-Declared.n name change (subst (λ (p : List ℕ). Contains (package_paths w) p →
+    ⊥) c.path.ensures c.in-None.ensures)
     (subst (λ (e : Declaration). IsLevelOf w known e name change) c.in-Declared.is level)
 
 pub returns-in-Predeclared-clause-finds : goal.returns-in-Predeclared-clause-finds

@@ -21,7 +21,8 @@ returns c =
     let known = known_in c.args.exports.now.workspace.now.findings in
     let p = package_of c.known_of-of.result.unit in
     let is = c.known_of-of.ensures.unit in
-    call_all c.args.bound.now.items c.bind_package.new.bound.items (BoundIn p (IsBoundToDeclaration w known p)) (IsBoundInPackage w known c.args.number) c.bind_package.result
+    call_all c.args.bound.now.items c.bind_package.new.bound.items (BoundIn p (IsBoundToDeclaration w known p)) (IsBoundInPackage w known c.args.number)
+    c.bind_package.result
     (λ b h. record { used_in = p; is_package = is; bound = h })
     (λ b h. subst (λ (x : Package). BoundIn x (IsBoundToDeclaration w known x) b) (one_at w known c.args.number h.used_in p h.is_package is) h.bound)
     c.bind_package.ensures

@@ -16,7 +16,8 @@ returns-in-None c =
     let w = c.args.exports.now.workspace.now.graph in
     let known = known_in c.args.exports.now.workspace.now.findings in
     let p = package_of c.args.unit in
-    bound_to_nothing (λ b. BeginsAt p (bound_place b).path (bound_place b).offset c.args.u) (BindsQualified (IsCheckedPackage w known) p c.args.u) c.args.bound.now.items
+    bound_to_nothing (λ b. BeginsAt p (bound_place b).path (bound_place b).offset c.args.u) (BindsQualified (IsCheckedPackage w known) p c.args.u)
+    c.args.bound.now.items
     (behind_none w known p c.args.u c.in-None.ensures)
 
 pub returns-in-None-2 : goal.returns-in-None-2
@@ -28,7 +29,8 @@ returns-in-None-2 c =
     let o = c.in_ok-exported-in-Some.field-0 in
     let found = by_path w known p c.args.u path c.in-Some.ensures.0 c.in-Some.ensures.1 o
     (subst (λ n. IsDeclarationResult (ExportsAs w known path n) o) c.name.ensures c.in_ok-exported-in-Some.ensures) in
-    bound_to_nothing (λ b. BeginsAt p (bound_place b).path (bound_place b).offset c.args.u) (BindsQualified (IsCheckedPackage w known) p c.args.u) c.args.bound.now.items
+    bound_to_nothing (λ b. BeginsAt p (bound_place b).path (bound_place b).offset c.args.u) (BindsQualified (IsCheckedPackage w known) p c.args.u)
+    c.args.bound.now.items
     (subst (IsDeclarationResult (BindsQualified (IsCheckedPackage w known) p c.args.u)) c.in-None-2.is found)
 
 pub returns-in-Some-2 : goal.returns-in-Some-2
@@ -42,6 +44,7 @@ returns-in-Some-2 c =
     (subst (λ n. IsDeclarationResult (ExportsAs w known path n) o) c.name.ensures c.in_ok-exported-in-Some.ensures) in
     let is : BindsQualified (IsCheckedPackage w known) p c.args.u c.in-Some-2.declaration =
     subst (IsDeclarationResult (BindsQualified (IsCheckedPackage w known) p c.args.u)) c.in-Some-2.is found in
-    bound_to_one (λ b. BeginsAt p (bound_place b).path (bound_place b).offset c.args.u) (BindsQualified (IsCheckedPackage w known) p c.args.u) c.args.bound.now.items
+    bound_to_one (λ b. BeginsAt p (bound_place b).path (bound_place b).offset c.args.u) (BindsQualified (IsCheckedPackage w known) p c.args.u)
+    c.args.bound.now.items
     c.bind_identifier.new.found.items c.in-Some-2.declaration
     c.bind_identifier.result is (λ e k. one_by_package w known p c.args.u path c.in-Some.ensures.1 e c.in-Some-2.declaration k is) c.bind_identifier.ensures

@@ -15,4 +15,5 @@ returns-in-None c =
     c.declaration_by_name.ensures
 
 pub returns-in-Some : goal.returns-in-Some
-returns-in-Some c = inl (subst (IsDeclarationResult (BindsByMember (package_of c.args.of.now.unit) c.args.u)) c.in-Some.is c.in_ok-declaration_by_member.ensures)
+returns-in-Some c = inl (subst (IsDeclarationResult (BindsByMember (package_of c.args.of.now.unit) c.args.u)) c.in-Some.is
+    c.in_ok-declaration_by_member.ensures)

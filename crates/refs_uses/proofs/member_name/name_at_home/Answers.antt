@@ -22,7 +22,8 @@ returns-in-Field c = λ name found p is.
     let w = c.args.workspace.now.graph in
     let s = c.in-Field.symbol in
     let at : slice_get (package_paths w) c.args.home ≡ Some s.package = c.requires ∙ ap home_path c.in-Field.is in
-    let there = package_there w c.args.workspace.now.findings c.has_no_faults.ensures c.args.home (slice_get_within (package_paths w) c.args.home s.package at) in
+    let there = package_there w c.args.workspace.now.findings c.has_no_faults.ensures c.args.home (slice_get_within (package_paths w) c.args.home s.package
+    at) in
     subst (λ d. IsOnlyName p d name) (sym c.in-Field.is)
     (field_named w (known_in c.args.workspace.now.findings) c.has_no_faults.ensures.findings.right there.0 there.1.is_package c.own_of.result.now
     (c.own_of.ensures there.0 there.1) s (same_Some s.package there.0.path (sym at ∙ there.1.has_number)) name
@@ -33,7 +34,8 @@ returns-in-Method c = λ name found p is.
     let w = c.args.workspace.now.graph in
     let s = c.in-Method.symbol in
     let at : slice_get (package_paths w) c.args.home ≡ Some s.package = c.requires ∙ ap home_path c.in-Method.is in
-    let there = package_there w c.args.workspace.now.findings c.has_no_faults.ensures c.args.home (slice_get_within (package_paths w) c.args.home s.package at) in
+    let there = package_there w c.args.workspace.now.findings c.has_no_faults.ensures c.args.home (slice_get_within (package_paths w) c.args.home s.package
+    at) in
     subst (λ d. IsOnlyName p d name) (sym c.in-Method.is)
     (method_named w (known_in c.args.workspace.now.findings) c.has_no_faults.ensures.findings.right there.0 there.1.is_package c.own_of-in-Method.result.now
     (c.own_of-in-Method.ensures there.0 there.1) s (same_Some s.package there.0.path (sym at ∙ there.1.has_number)) name

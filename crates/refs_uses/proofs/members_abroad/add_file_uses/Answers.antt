@@ -10,7 +10,8 @@ use Rattle.refs_uses.proofs.members_abroad.add_file_uses.Goals as goal
 
 pub loop-k-init : goal.loop-k-init
 loop-k-init c = λ w known p is named.
-    below_none (IsMemberUseAt (definitions_known c.args.of.now.types) p c.args.file c.args.sought.now.declaration.now (map use_of c.args.uses.now)) c.args.spots.now.items
+    below_none (IsMemberUseAt (definitions_known c.args.of.now.types) p c.args.file c.args.sought.now.declaration.now (map use_of c.args.uses.now))
+    c.args.spots.now.items
 
 pub loop-k-preserved : goal.loop-k-preserved
 loop-k-preserved c = λ w known p is named.
@@ -28,5 +29,6 @@ pub returns : goal.returns
 returns c = λ w known p is named.
     let uses = map use_of c.args.uses.now in
     let e : c.loop-k.k ≡ length c.args.uses.now = omega arith in
-    all_ranked (definitions_known c.args.of.now.types) p c.args.file c.args.sought.now.declaration.now uses c.loop-k.k c.args.spots.now.items c.loop-k.spots.items
+    all_ranked (definitions_known c.args.of.now.types) p c.args.file c.args.sought.now.declaration.now uses c.loop-k.k c.args.spots.now.items
+    c.loop-k.spots.items
     (e ∙ sym (length-map c.args.uses.now use_of)) (c.loop-k.invariant w known p is named)

@@ -16,4 +16,5 @@ use Rattle.refs_uses.proofs.members_abroad.add_file_uses.Given as goal
 abbrev pub invariant-loop-k : goal.invariant-loop-k
 invariant-loop-k l = (w : Workspace) (known : Verdicts) (p : Package) → IsKnownOf w known p l.of →
     IsNameFound w known l.sought.declaration.now (name_value l.sought.member) →
-    AddsPlaces l.initial.spots.items l.spots.items (Below (IsMemberUseAt (definitions_known l.of.types) p l.file l.sought.declaration.now (map use_of l.uses)) l.k)
+    AddsPlaces l.initial.spots.items l.spots.items (Below (IsMemberUseAt (definitions_known l.of.types) p l.file l.sought.declaration.now (map use_of
+    l.uses)) l.k)

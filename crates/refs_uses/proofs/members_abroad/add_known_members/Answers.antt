@@ -35,6 +35,7 @@ pub returns : goal.returns
 returns c = λ w known p is named.
     let e : c.loop-file.file ≡ length c.args.of.now.members.now = omega arith in
     let formed = layout_formed w known p.path p is.is_package.is_checked in
-    all_members p formed (has_one_world p formed (files_in_order w known p.path p is.is_package.is_checked)) (definitions_known c.args.of.now.types) is.definitions
+    all_members p formed (has_one_world p formed (files_in_order w known p.path p is.is_package.is_checked)) (definitions_known c.args.of.now.types)
+    is.definitions
     c.args.of.now.members.now is.members c.args.sought.now.declaration.now c.loop-file.file c.args.spots.now.items c.loop-file.spots.items e
     (c.loop-file.invariant w known p is named)

@@ -33,7 +33,8 @@ returns c =
     let definitions : AreDefinitions p (definitions_by c.path_of.result.now own c.definitions.result.now) =
     subst (λ i. AreDefinitions p (definitions_by c.path_of.result.now own i)) (sym c.definitions.ensures)
     (subst (λ q. AreDefinitions p (definitions_by q own seen.definitions)) (sym path) (known_definitions p own seen (c.own_of.ensures p is) sees)) in
-    on_ok_weaker c.add_known_members.result (λ adds name. members_used w known n p is c.args.sought.now.declaration.now c.requires.abroad name c.args.spots.now.items
+    on_ok_weaker c.add_known_members.result (λ adds name. members_used w known n p is c.args.sought.now.declaration.now c.requires.abroad name
+    c.args.spots.now.items
     c.add_known_members.new.spots.items (adds w known p (record {
       is_package = is.is_package;
       files = one_sources (c.trees.ensures p.path is.has_number) checked.parsed ∙ sym (ap (λ (x : Package). x.files) checked.is_package.is_package);

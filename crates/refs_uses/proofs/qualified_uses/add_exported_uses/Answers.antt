@@ -16,4 +16,5 @@ returns-in-Declared c =
     let r = c.add_package_uses.result in
     subst (λ d. OnOk r (AddsPlaces a b (UsesIn p (QualifiesAs p d (name_value c.args.name))))) (sym c.in-Declared.is)
     (subst (λ o. OnOk r (AddsPlaces a b (UsesIn p (QualifiesAs p (Declared c.in-Declared.path c.in-Declared.field-1) (name_value o))))) (sym c.in-Some.is)
-    (subst (λ q. OnOk r (AddsPlaces a b (UsesIn p (λ u. IsQualifiedByPath p u q × (p.names u ≡ c.in-Some.name.now))))) c.path.ensures c.add_package_uses.ensures))
+    (subst (λ q. OnOk r (AddsPlaces a b (UsesIn p (λ u. IsQualifiedByPath p u q × (p.names u ≡ c.in-Some.name.now))))) c.path.ensures
+    c.add_package_uses.ensures))

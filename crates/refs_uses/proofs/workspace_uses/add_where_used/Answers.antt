@@ -14,5 +14,6 @@ returns-in-Some c =
     let w = c.args.at.workspace.now.graph in
     let known = known_in c.args.at.workspace.now.findings in
     let name = name_value c.args.sought.now.name in
-    on_ok_weaker c.add_abroad.result (λ adds. subst (λ d. AddsPlaces c.args.spots.now.items c.add_abroad.new.spots.items (IsUseAt w known d name c.args.at.number))
+    on_ok_weaker c.add_abroad.result (λ adds. subst (λ d. AddsPlaces c.args.spots.now.items c.add_abroad.new.spots.items (IsUseAt w known d name
+    c.args.at.number))
     (sym c.in-Some.ensures.is_declaration) (adds c.in-Some.ensures.declared)) c.add_abroad.ensures

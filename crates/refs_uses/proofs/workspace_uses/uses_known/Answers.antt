@@ -19,5 +19,6 @@ returns-in_ok-list_uses_from-in-Ok c =
     let known = known_in c.args.at.workspace.now.findings in
     let p = package_of c.args.of.now.unit in
     tells_uses w known c.has_no_faults.ensures.findings.right c.args.path.now c.args.offset p
-    (asked w known c.args.at.number p c.args.path.now c.requires.unit c.requires.folder) c.in-Ok.declaration c.in_ok-list_uses_from-in-Ok.field-0 c.in-Ok.ensures
+    (asked w known c.args.at.number p c.args.path.now c.requires.unit c.requires.folder) c.in-Ok.declaration c.in_ok-list_uses_from-in-Ok.field-0
+    c.in-Ok.ensures
     c.in_ok-list_uses_from-in-Ok.ensures

@@ -15,5 +15,6 @@ pub returns-in-Err : goal.returns-in-Err
 returns-in-Err g c =
     let sent = c.deliver.ensures in
     let returned = rw c.in-Err.is at sent.2 in
-    let given = subst (λ (job : JobRecord). CallsEvent g.C.Caller.steps c.deliver.new.caller (GiveBack job) c.give_back.new.caller) returned.1 c.give_back.ensures in
+    let given = subst (λ (job : JobRecord). CallsEvent g.C.Caller.steps c.deliver.new.caller (GiveBack job) c.give_back.new.caller) returned.1
+    c.give_back.ensures in
     inr (refl, inr (c.args.built, c.requires, (sent.0, c.deliver.new.caller, returned.0, sent.1, given)))

@@ -8,7 +8,8 @@ use Rattle.tool_text.proofs.go_mod.comment_start.Goals as goal
 
 -- no comment begins at this byte
 no_comment : (line rest : List ℕ) (byte : ℕ) → line ≡ byte ∷ rest → starts_with nat_eq line (47 ∷ 47 ∷ []) ≡ false → comment_start line ≡ 1 + comment_start rest
-no_comment line rest byte e h = let starts : starts_with nat_eq (byte ∷ rest) (47 ∷ 47 ∷ []) ≡ false = ap (λ l. starts_with nat_eq l (47 ∷ 47 ∷ [])) (sym e) ∙ h in
+no_comment line rest byte e h = let starts : starts_with nat_eq (byte ∷ rest) (47 ∷ 47 ∷ []) ≡ false = ap (λ l. starts_with nat_eq l (47 ∷ 47 ∷ [])) (sym e)
+    ∙ h in
     ap comment_start e ∙ rw starts refl
 
 pub loop-at-preserved : goal.loop-at-preserved

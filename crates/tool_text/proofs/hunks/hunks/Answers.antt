@@ -27,5 +27,9 @@ returns c = record {
   within = c.loop-first.invariant.hunks;
   ordered = c.loop-first.invariant.ordered;
   others = λ number h. let end = c.loop-first-test.false in
-      all_covered _ _ (record { start = 0; end = 0 }) _ _ (omega arith) c.loop-first.invariant.others c.loop-first.invariant.even number (omega (arith, h, end));
+      all_covered _ _ (record { start = 0; end = 0 }) _ _ (omega arith) c.loop-first.invariant.others c.loop-first.invariant.even number (omega (
+        arith,
+        h,
+        end,
+      ));
 }

@@ -8,7 +8,8 @@ use Rattle.tool_threads.proofs.together.note_first.Goals as goal
 pub note_part-requires : goal.note_part-requires
 note_part-requires g c =
     let w = c.args.graph.now in
-    let named = subst (λ thread. thread.promise.graph.value ≡ w) (sym c.remove-thread.ensures.value) (c.requires.threads 0 c.remove-thread.result c.requires.some) in
+    let named = subst (λ thread. thread.promise.graph.value ≡ w) (sym c.remove-thread.ensures.value) (c.requires.threads 0 c.remove-thread.result
+    c.requires.some) in
     record { part = subst (λ (v : Workspace). GiveVerdictsOf v c.join-part.result) named c.join-part.ensures; room = c.requires.room; known = c.requires.known }
 
 pub returns-clause-threads : goal.returns-clause-threads

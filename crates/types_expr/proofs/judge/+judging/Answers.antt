@@ -14,8 +14,10 @@ use Rattle.types_expr.specs.WorldView.{world_of}
 use Rattle.types_expr.specs.Lists.{links_in, operands_in, arguments_in, elements_in}
 use Rattle.types_expr.specs.Found.{meaning_of, locals_of, list_value, seen_of}
 use Rattle.types_expr.proofs.Items.{next_item}
-use Rattle.types_expr.proofs.AddedJudgements.{ReachedList, reached_list_end, argued_at, reached_start, reached_step, reached_end, reached_list_start, reached_list_step}
-use Rattle.types_expr.proofs.AddedJudgements.{adds_then, adds_meaning, adds_values, ReachedElements, reached_elements_start, reached_element, reached_elements_end}
+use Rattle.types_expr.proofs.AddedJudgements.{ReachedList, reached_list_end, argued_at, reached_start}
+use Rattle.types_expr.proofs.AddedJudgements.{reached_step, reached_end, reached_list_start, reached_list_step}
+use Rattle.types_expr.proofs.AddedJudgements.{adds_then, adds_meaning, adds_values}
+use Rattle.types_expr.proofs.AddedJudgements.{ReachedElements, reached_elements_start, reached_element, reached_elements_end}
 use Rattle.types_expr.proofs.AddedJudgements.{reached_elements_as, adds_literal}
 use Rattle.types_expr.proofs.Equations.{ok_map, adds_as, list_as, number_judged, text_judged, name_judged, blank_judged, composite_judged, paren_judged}
 use Rattle.types_expr.proofs.Equations.{prefix_judged, address_judged, chain_found, binary_found, selector_judged, index_judged, call_judged, links_step}
@@ -168,7 +170,8 @@ judge-returns-in_ok-meaning-in-NamedBinary t c =
     (operands_in c.deref-in-NamedBinary.result.now) =
     named_binary_found w ls n c.in-NamedBinary.rest c.in-NamedBinary.is _ c.deref-in-NamedBinary.ensures.value in
     ok_map c.binary-in-NamedBinary.result (λ m a. adds_as e (a.after _ _
-    (adds_then (as_value n) (adds_meaning c.args.found.now c.in_ok-own-in-NamedBinary.ensures) c.in_ok-meaning-in-NamedBinary.ensures))) c.binary-in-NamedBinary.ensures
+    (adds_then (as_value n) (adds_meaning c.args.found.now c.in_ok-own-in-NamedBinary.ensures) c.in_ok-meaning-in-NamedBinary.ensures)))
+    c.binary-in-NamedBinary.ensures
 
 pub elements-loop-element-preserved : goal.elements-loop-element-preserved
 elements-loop-element-preserved t c =

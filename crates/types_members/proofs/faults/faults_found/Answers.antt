@@ -13,5 +13,6 @@ returns c =
     lists_from c.add_recursive.new.found.items (IsMemberFault p)
     (three_added (IsRepeatedField p) (IsRepeatedMethod p) (IsRecursive p) c.add_fields.new.found.items c.add_methods.new.found.items
     c.add_recursive.new.found.items
-    (subst (λ z. AddsFaults z c.add_fields.new.found.items (IsRepeatedField p)) c.new-found.ensures.items c.in_ok-add_fields.ensures) c.in_ok-add_methods.ensures
+    (subst (λ z. AddsFaults z c.add_fields.new.found.items (IsRepeatedField p)) c.new-found.ensures.items c.in_ok-add_fields.ensures)
+    c.in_ok-add_methods.ensures
     c.in_ok-add_recursive.ensures)

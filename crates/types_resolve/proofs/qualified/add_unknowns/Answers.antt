@@ -21,4 +21,5 @@ pub returns : goal.returns
 returns g c =
     let e : c.loop-u.u ≡ length c.args.table.now.sites = omega arith in
     subst (λ n. AddsFaults c.args.found.now.items c.loop-u.found.items
-    (IsFaultBelow (IsQualifiedFault (map source_of c.args.files.now) (g.E.Exports.exported c.args.exports.now) (laid_in c.args.table.now)) n)) e c.loop-u.invariant
+    (IsFaultBelow (IsQualifiedFault (map source_of c.args.files.now) (g.E.Exports.exported c.args.exports.now) (laid_in c.args.table.now)) n)) e
+    c.loop-u.invariant

@@ -13,7 +13,8 @@ pub returns-in-Chain-clause-found : goal.returns-in-Chain-clause-found
 unfolding without_parentheses
 returns-in-Chain-clause-found t c =
     ok_map c.judge_chain.result (λ a q. adds_as q (ap (λ x. judge (world_of c.args.scope.world.now) (locals_of c.args.scope.locals.now)
-    (without_parentheses x)) (chain_is c.in-Chain.first c.in-Chain.links c.in-Chain.is _ _ c.deref.ensures c.deref-in-Chain.ensures.value))) c.judge_chain.ensures.found
+    (without_parentheses x)) (chain_is c.in-Chain.first c.in-Chain.links c.in-Chain.is _ _ c.deref.ensures c.deref-in-Chain.ensures.value)))
+    c.judge_chain.ensures.found
 
 pub returns-in-Chain-clause-stands : goal.returns-in-Chain-clause-stands
 returns-in-Chain-clause-stands t c =

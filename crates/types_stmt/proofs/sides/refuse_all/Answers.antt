@@ -16,7 +16,8 @@ each-preserved c =
     c.each.invariant c.in_ok-refuse.ensures
     (ap (λ vs. refused_notes (giving c.args.own (world_of c.args.world.now)) (map list_value vs) (map target_of (drop c.each.i c.args.targets.now)))
     (next_item _ _ _ c.each-test.true c.index-values-i.is)
-    ∙ (ap (λ ts. refused_notes (giving c.args.own (world_of c.args.world.now)) (map list_value (c.index-values-i.result ∷ drop (c.each.i + 1) c.args.values.now))
+    ∙ (ap (λ ts. refused_notes (giving c.args.own (world_of c.args.world.now)) (map list_value (c.index-values-i.result ∷ drop (c.each.i + 1)
+    c.args.values.now))
     (map target_of ts)) (next_item _ _ _ c.if-i-targets.true c.index-targets-i.is)
     ∙ all_refused_step (giving c.args.own (world_of c.args.world.now)) (list_value c.index-values-i.result) (map list_value (drop
     (c.each.i + 1) c.args.values.now))

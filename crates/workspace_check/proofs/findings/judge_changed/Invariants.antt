@@ -7,5 +7,6 @@ use Rattle.workspace_check.proofs.Passing.{ArePassed}
 use Rattle.workspace_check.proofs.findings.judge_changed.Given as goal
 
 abbrev pub invariant-loop-number : goal.invariant-loop-number
-invariant-loop-number l = AreAllGathered l.graph (take l.number-index l.order) l.all × KeepExportData l.graph l.earlier.verdicts.items l.all l.steady.marks.items
+invariant-loop-number l = AreAllGathered l.graph (take l.number-index l.order) l.all × KeepExportData l.graph l.earlier.verdicts.items l.all
+    l.steady.marks.items
     × AffectsImporters l.graph l.steady × ArePassed (take l.number-index l.order) l.steady

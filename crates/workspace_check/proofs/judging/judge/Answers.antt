@@ -28,4 +28,5 @@ returns-else-is_empty c =
     let n = c.args.number in
     IfOk-weaker c.judge_unread.result (λ j. (x : Workspace) → (m : ℕ) → (known : Verdicts) → IsPackage x m c.package-files.result.now →
     OfPackage x m (λ p. IsJudged x known p j))
-    (λ j. OfPackage w n (λ p. IsJudged w (verdicts_by c.args.all.now) p j)) (λ j h. h w n (verdicts_by c.args.all.now) c.package-files.ensures) c.judge_unread.ensures
+    (λ j. OfPackage w n (λ p. IsJudged w (verdicts_by c.args.all.now) p j)) (λ j h. h w n (verdicts_by c.args.all.now) c.package-files.ensures)
+    c.judge_unread.ensures

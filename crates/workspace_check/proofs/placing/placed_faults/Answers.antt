@@ -17,5 +17,6 @@ loop-fault-preserved c = λ f.
 
 pub returns : goal.returns
 returns c = λ f.
-    subst (λ l. Contains c.loop-fault.found.items f ↔ IsSomePlacedFault c.args.files.now l f) (take_all c.loop-fault.fault-index c.args.faults.now (omega arith))
+    subst (λ l. Contains c.loop-fault.found.items f ↔ IsSomePlacedFault c.args.files.now l f) (take_all c.loop-fault.fault-index c.args.faults.now (omega
+    arith))
     (c.loop-fault.invariant f)

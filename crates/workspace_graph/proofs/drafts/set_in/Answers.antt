@@ -34,7 +34,8 @@ returns-in-Some c =
     ap (λ (ds : List Draft). slice_get (draft_paths ds) n) (sym c.deref.ensures.value) ∙ c.in-Some.ensures ∙ ap Some c.folder.ensures in
     let found = found_at old n b path named c.index_mut.ensures.value in
     on_ok_weaker c.set_path.result
-    (λ sets. sets_one c.args.known.files.now path old c.requires.sorted c.requires.drafts n b a (set old n a) found.0 refl (sym c.is_go.ensures ∙ c.if-is_go.true)
+    (λ sets. sets_one c.args.known.files.now path old c.requires.sorted c.requires.drafts n b a (set old n a) found.0 refl (sym c.is_go.ensures ∙
+    c.if-is_go.true)
     found.1 sets)
     c.set_path.ensures
 

@@ -2,7 +2,8 @@
 use Rattle.std.proofs.Common.{arith}
 use Rattle.workspace_graph.proofs.GrownStops.{stop_at_end, stop_at_place}
 use Rattle.workspace_graph.proofs.grown.next_stop.Goals as goal
-use Rattle.workspace_graph.proofs.grown.next_stop.Goals.{else-number-growing-via-then-number-growing+else-growing-end, else-number-growing-via-else-number-growing}
+use Rattle.workspace_graph.proofs.grown.next_stop.Goals.{else-number-growing-via-then-number-growing+else-growing-end}
+use Rattle.workspace_graph.proofs.grown.next_stop.Goals.{else-number-growing-via-else-number-growing}
 
 pub returns-then-growing-end : goal.returns-then-growing-end
 returns-then-growing-end c =

@@ -20,4 +20,9 @@ add_share-requires c =
     }
 
 pub returns : goal.returns
-returns c = all_files c.args.files.now c.loop-number.graph c.loop-number.number (omega (arith, c.loop-number-test.false, c.loop-number.auto.number-end, c.requires.size)) c.loop-number.invariant
+returns c = all_files c.args.files.now c.loop-number.graph c.loop-number.number (omega (
+  arith,
+  c.loop-number-test.false,
+  c.loop-number.auto.number-end,
+  c.requires.size,
+)) c.loop-number.invariant

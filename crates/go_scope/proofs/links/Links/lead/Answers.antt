@@ -42,7 +42,11 @@ returns-in_ok-insert-in-Some-clause-outer c =
     let l = layout_of c.args.identifiers.now in
     let B = block_of (l.role c.args.d) in
     let outer : outer_of B ≡ _ = ap outer_of (sym (c.block.ensures ∙ ap block_of c.role_at.ensures)) ∙ sym c.outer.ensures ∙ c.in-Some.is in
-    outer_with l (numerals c.args.names.now) c.args.d c.args.self.now.outer c.insert.new.self (record { name = c.number_at-name.result; block = c.in-Some.block })
+    outer_with l (numerals c.args.names.now) c.args.d c.args.self.now.outer c.insert.new.self (record {
+      name = c.number_at-name.result;
+      block =
+          c.in-Some.block;
+    })
     c.requires.leads (ap (λ n. n ∷ []) (sym c.number_at-name.ensures)) (sym (block_back B c.in-Some.block outer))
     (λ q. c.in_ok-insert-in-Some.ensures.updates.0 q)
     c.requires.linked.outer

@@ -39,7 +39,8 @@ returns-clause-moves c =
     } in
     let left = taken_last h.later.items c.pop.new.self.items c.pop.result c.unwrap-waking.result c.pop.ensures.items c.unwrap-waking.ensures in
     let steps = subst (λ (t : FileChanges). StepsForth h.ways t c.went_forth.new.self) c.take_up.ensures c.went_forth.ensures in
-    goes_forth h new c.requires.keeps c.args.moving c.unwrap-waking.result (c.replace-left.ensures.after ∙ c.wake.ensures) refl refl refl steps c.requires.has left
+    goes_forth h new c.requires.keeps c.args.moving c.unwrap-waking.result (c.replace-left.ensures.after ∙ c.wake.ensures) refl refl refl steps
+    c.requires.has left
     c.push_reserved.ensures.items
 
 pub returns-clause-keeps : goal.returns-clause-keeps
@@ -56,5 +57,6 @@ returns-clause-keeps c =
     } in
     let left = taken_last h.later.items c.pop.new.self.items c.pop.result c.unwrap-waking.result c.pop.ensures.items c.unwrap-waking.ensures in
     let steps = subst (λ (t : FileChanges). StepsForth h.ways t c.went_forth.new.self) c.take_up.ensures c.went_forth.ensures in
-    keeps_forth h new c.requires.keeps c.args.moving c.unwrap-waking.result (c.replace-left.ensures.after ∙ c.wake.ensures) refl refl refl steps c.requires.has left
+    keeps_forth h new c.requires.keeps c.args.moving c.unwrap-waking.result (c.replace-left.ensures.after ∙ c.wake.ensures) refl refl refl steps
+    c.requires.has left
     c.push_reserved.ensures.items

@@ -11,7 +11,8 @@ prepare-requires c = fits_last c.args.files.now c.args.self.now.ahead c.in-Some.
 pub returns-clause-done : goal.returns-clause-done
 returns-clause-done c =
     let w : Workspace = c.args.files.now in
-    let way = one_last c.args.self.now.ahead c.went_forth.new.self.ahead c.in-Some.way.now c.went_forth.ensures.way c.in-Some.ensures c.went_forth.ensures.ahead in
+    let way = one_last c.args.self.now.ahead c.went_forth.new.self.ahead c.in-Some.way.now c.went_forth.ensures.way c.in-Some.ensures
+    c.went_forth.ensures.ahead in
     record {
       undo = c.commit-undo.result;
       steps = c.went_forth.ensures;
@@ -22,6 +23,7 @@ returns-clause-done c =
 pub returns-clause-stands : goal.returns-clause-stands
 returns-clause-stands c =
     let w : Workspace = c.args.files.now in
-    let way = one_last c.args.self.now.ahead c.went_forth.new.self.ahead c.in-Some.way.now c.went_forth.ensures.way c.in-Some.ensures c.went_forth.ensures.ahead in
+    let way = one_last c.args.self.now.ahead c.went_forth.new.self.ahead c.in-Some.way.now c.went_forth.ensures.way c.in-Some.ensures
+    c.went_forth.ensures.ahead in
     stands_forth c.args.self.now c.went_forth.new.self c.commit-undo.result w c.commit-undo.new.files c.requires c.went_forth.ensures
     (c.commit-undo.ensures.done ∙ c.in_ok-prepared.ensures.made ∙ ap (λ (x : FileChanges). edited x w) way) c.commit-undo.ensures.back

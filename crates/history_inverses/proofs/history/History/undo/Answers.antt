@@ -11,7 +11,8 @@ prepare-requires c = fits_last c.args.files.now c.args.self.now.behind c.in-Some
 pub returns-clause-done : goal.returns-clause-done
 returns-clause-done c =
     let w : Workspace = c.args.files.now in
-    let way = one_last c.args.self.now.behind c.went_back.new.self.behind c.in-Some.way.now c.went_back.ensures.way c.in-Some.ensures c.went_back.ensures.behind in
+    let way = one_last c.args.self.now.behind c.went_back.new.self.behind c.in-Some.way.now c.went_back.ensures.way c.in-Some.ensures
+    c.went_back.ensures.behind in
     record {
       redo = c.commit-redo.result;
       steps = c.went_back.ensures;
@@ -22,6 +23,7 @@ returns-clause-done c =
 pub returns-clause-stands : goal.returns-clause-stands
 returns-clause-stands c =
     let w : Workspace = c.args.files.now in
-    let way = one_last c.args.self.now.behind c.went_back.new.self.behind c.in-Some.way.now c.went_back.ensures.way c.in-Some.ensures c.went_back.ensures.behind in
+    let way = one_last c.args.self.now.behind c.went_back.new.self.behind c.in-Some.way.now c.went_back.ensures.way c.in-Some.ensures
+    c.went_back.ensures.behind in
     stands_back c.args.self.now c.went_back.new.self c.commit-redo.result w c.commit-redo.new.files c.requires c.went_back.ensures
     (c.commit-redo.ensures.done ∙ c.in_ok-prepared.ensures.made ∙ ap (λ (x : FileChanges). edited x w) way) c.commit-redo.ensures.back

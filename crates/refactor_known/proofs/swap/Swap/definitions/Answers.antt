@@ -7,4 +7,5 @@ use Rattle.refactor_known.proofs.Lists.{all_moved}
 use Rattle.refactor_known.proofs.swap.Swap.definitions.Goals as goal
 
 pub returns : goal.returns
-returns c = all_moved definition_of (moved_definition (map_of c.args.self.now)) c.args.definitions.now c.loop-definition.moved.items c.loop-definition.definition-index (omega arith) c.loop-definition.invariant
+returns c = all_moved definition_of (moved_definition (map_of c.args.self.now)) c.args.definitions.now c.loop-definition.moved.items
+    c.loop-definition.definition-index (omega arith) c.loop-definition.invariant

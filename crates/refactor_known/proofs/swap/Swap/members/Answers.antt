@@ -7,4 +7,5 @@ use Rattle.refactor_known.proofs.Lists.{all_moved}
 use Rattle.refactor_known.proofs.swap.Swap.members.Goals as goal
 
 pub returns : goal.returns
-returns c = all_moved uses_in (map (moved_use (map_of c.args.self.now))) c.args.members.now c.loop-uses.moved.items c.loop-uses.uses-index (omega arith) c.loop-uses.invariant
+returns c = all_moved uses_in (map (moved_use (map_of c.args.self.now))) c.args.members.now c.loop-uses.moved.items c.loop-uses.uses-index (omega arith)
+    c.loop-uses.invariant

@@ -7,4 +7,5 @@ use Rattle.refactor_known.proofs.Lists.{all_moved}
 use Rattle.refactor_known.proofs.swap.Swap.types.Goals as goal
 
 pub returns : goal.returns
-returns c = all_moved type_of (moved_type (map_of c.args.self.now)) c.args.types.now c.loop-own.moved.items c.loop-own.own-index (omega arith) c.loop-own.invariant
+returns c = all_moved type_of (moved_type (map_of c.args.self.now)) c.args.types.now c.loop-own.moved.items c.loop-own.own-index (omega arith)
+    c.loop-own.invariant

@@ -12,7 +12,8 @@ returns-in-Ok c = (
     no_worker = refl;
     at_limit = refl;
     of_book = subst (λ (m : Machine). AreBookNumbers m c.book_numbers-book.result) c.self.view_is
-        (of_book c.self.inside.book c.in-Ok.snapshot _ _ c.book_numbers-book.result c.in-Ok.ensures c.begun-chapter.ensures (search rules) c.book_numbers-book.ensures);
+        (of_book c.self.inside.book c.in-Ok.snapshot _ _ c.book_numbers-book.result c.in-Ok.ensures c.begun-chapter.ensures (search rules)
+        c.book_numbers-book.ensures);
   },
   refl,
 )

@@ -15,7 +15,14 @@ pub returns-then-length-room : goal.returns-then-length-room
 returns-then-length-room c =
     let was = c.args.self.now in (
       λ t. absurd (false≢true t),
-      λ fit. absurd (omega (arith, bytes_then was.files c.args.path.now c.args.text.now, fit.total, c.room_at-room.ensures.room, c.len-length.ensures, c.if-length-room.true)),
+      λ fit. absurd (omega (
+        arith,
+        bytes_then was.files c.args.path.now c.args.text.now,
+        fit.total,
+        c.room_at-room.ensures.room,
+        c.len-length.ensures,
+        c.if-length-room.true,
+      )),
     )
 
 pub returns-then-count-self : goal.returns-then-count-self

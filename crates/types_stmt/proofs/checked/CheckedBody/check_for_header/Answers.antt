@@ -26,4 +26,5 @@ returns-in_ok-check_optional_condition-in-Clauses c =
     (c.in_ok-check_optional_condition-in-Clauses.ensures ∙
     ap (λ s. check_optional_condition (world_of c.args.world.now) s (option_view expr_view c.in-Clauses.condition))
     c.in_ok-check_optional_simple-in-Clauses.ensures) ∙
-    ap (λ v. check_for_header (world_of c.args.world.now) (checked_of c.args.self.now) (for_view v)) (sym c.in-Clauses.is))) c.check_optional_simple-in-Clauses.ensures
+    ap (λ v. check_for_header (world_of c.args.world.now) (checked_of c.args.self.now) (for_view v)) (sym c.in-Clauses.is)))
+    c.check_optional_simple-in-Clauses.ensures

@@ -15,7 +15,8 @@ below-requires c = record {
 
 pub returns-clause-built_on : goal.returns-clause-built_on
 returns-clause-built_on c =
-    IfOk-weaker c.below.result _ _ (λ found is. subst (λ (g : LinkTable). IsBuiltOnList g c.args.number found.built_on) c.self.view_is is) c.below.ensures.built_on
+    IfOk-weaker c.below.result _ _ (λ found is. subst (λ (g : LinkTable). IsBuiltOnList g c.args.number found.built_on) c.self.view_is is)
+    c.below.ensures.built_on
 
 pub returns-clause-back : goal.returns-clause-back
 returns-clause-back c =
