@@ -254,7 +254,8 @@ pub joined_binary : (h : Bool) (k : ℕ) (e : _) (os : _) → let x = expr.Binar
 joined_binary h k e os w strong each some = record { expr = binary_grouped h k e os w strong each some; same = binary_strength h k e os w strong each some }
 
 pub joined_name : (h : Bool) (k n : ℕ) (os : _) → let x = expr.NamedBinary n os in
-    IsExprIn h (expr_view (expr.Name n)) → k < strength_of (expr_view (expr.Name n)) → Each (IsOperandOf h k) os.items → os.items ≢ [] → IsBinaryOf h k (expr_view x)
+    IsExprIn h (expr_view (expr.Name n)) → k < strength_of (expr_view (expr.Name n)) → Each (IsOperandOf h k) os.items → os.items ≢ [] →
+    IsBinaryOf h k (expr_view x)
 unfolding expr_view HasNoNamedLiteral
 joined_name h k n os w strong each some =
     let same = items_hidden-the_row-Operand-1 os in
@@ -265,7 +266,24 @@ joined_name h k n os w strong each some =
       same = whole.1;
     }
 
+-- an expression that is no binary one binds more strongly than each operator
+pub unary_strength : (h : Bool) (e : ExprTree) → IsUnary h e → strength_of e ≡ 6
+unary_strength h (tree.Number n) w = refl
+unary_strength h (tree.Text n) w = refl
+unary_strength h (tree.Name n) w = refl
+unary_strength h (tree.Blank n) w = refl
+unary_strength h (tree.Composite l) w = refl
+unary_strength h (tree.Paren o e c) w = refl
+unary_strength h (tree.Prefix op p e) w = refl
+unary_strength h (tree.Address p l) w = refl
+unary_strength h (tree.Chain e ls) w = refl
+unary_strength h (tree.Binary e os) w = clash (sym w.single)
+
 -- lists of items
+
+pub push_some : {X : Type 0} (xs : List X) (x : X) → xs ++ x ∷ [] ≡ [] → ⊥
+push_some [] x e = cc
+push_some (y ∷ ys) x e = cc
 
 pub each_push : {X : Type 0} (P : X → Type 0) (xs : List X) (x : X) → Each P xs → P x → Each P (xs ++ (x ∷ []))
 each_push P [] x w h = (h, tt)

@@ -11,7 +11,7 @@ use Rattle.std.proofs.Common.{Result, Ok, Err}
 use Rattle.std.specs.Result.{IsErrAnd}
 use Rattle.go_parser.specs.declared.parse_error.ParseError.{ParseError}
 use Rattle.go_parser.specs.declared.parse_error.ParseError.TheVariants.{Memory, Fault}
-use Rattle.go_parser.specs.Parsing.{Leads, Continued, Read, Fails, Passes, Parses, Gives, Continues}
+use Rattle.go_parser.specs.Parsing.{Leads, LeadsTo, Continued, ContinuedTo, Read, Fails, Passes, Parses, Gives, Continues, ContinuesTo}
 use Rattle.go_ast.specs.Flatten.{sign}
 use Rattle.go_parser.proofs.KindTests.{is_only}
 
@@ -197,10 +197,14 @@ pub read_on : {xs ys : List GrammarSymbol} {a b : List Token} {d : ℕ} {ts mid 
     Read xs a d ts d mid → Continued ys a b d mid rest → Read (xs ++ ys) b d ts d rest
 read_on {xs = xs} {ys = ys} {d = d} {ts = ts} p c = record {
   text = p.text ∙ c.text;
-  passes = record { runs = λ after o r. subst (λ s. ParserRun d s ts o) (sym (append_assoc xs ys after)) (p.passes.runs (ys ++ after) o (c.passes.runs after o r)) };
+  passes = record {
+    runs = λ after o r. subst (λ s. ParserRun d s ts o) (sym (append_assoc xs ys after)) (p.passes.runs (ys ++ after) o (c.passes.runs after
+        o r));
+  };
 }
 
-pub read_through : {x y : List GrammarSymbol} {a : List Token} {d e : ℕ} {ts rest : List Token} → Leads x y [] d ts d ts → Read y a d ts e rest → Read x a d ts e rest
+pub read_through : {x y : List GrammarSymbol} {a : List Token} {d e : ℕ} {ts rest : List Token} → Leads x y [] d ts d ts → Read y a d ts e rest →
+    Read x a d ts e rest
 read_through l r = record { text = r.text; passes = record { runs = λ after o t. l.leads after o (r.passes.runs after o t) } }
 
 -- a last call that continues after tokens that have been parsed
@@ -210,7 +214,8 @@ pub tail_on : {Y : Type 0} {xs : List GrammarSymbol} (ys : List GrammarSymbol) {
 tail_on ys spelled rest mid (Ok y) p c = read_on p c
 tail_on ys spelled rest mid (Err e) p c = fails_after p c
 
-pub tail_through : {Y : Type 0} {x : List GrammarSymbol} (y : List GrammarSymbol) (spelled rest : Y → List Token) {d : ℕ} {ts : List Token} (r : Result Y ParseError) →
+pub tail_through : {Y : Type 0} {x : List GrammarSymbol} (y : List GrammarSymbol) (spelled rest : Y → List Token) {d : ℕ} {ts : List Token} (r : Result Y
+    ParseError) →
     Leads x y [] d ts d ts → Parses y spelled rest d ts r → Parses x spelled rest d ts r
 tail_through y spelled rest (Ok v) l p = read_through l p
 tail_through y spelled rest (Err e) l p = fails_leads l p
@@ -235,3 +240,32 @@ continued_by {begun = begun} {x = x} {rest = rest} r e = record {
   text = ap (λ y. begun ++ y) r.text ∙ (sym (append_assoc begun x rest) ∙ ap (λ y. y ++ rest) e);
   passes = r.passes;
 }
+
+-- from symbols to symbols, after tokens that have been parsed
+
+pub leads_first : {s : GrammarSymbol} {ss : List GrammarSymbol} {a : List Token} {d e : ℕ} {ts rest : List Token} →
+    Read (s ∷ []) a d ts e rest → Leads (s ∷ ss) ss a d ts e rest
+leads_first {ss = ss} r = record { text = r.text; leads = λ after o t. r.passes.runs (ss ++ after) o t }
+
+pub continued_here : {ss : List GrammarSymbol} {begun : List Token} {d : ℕ} {ts : List Token} → ContinuedTo ss ss begun begun d ts ts
+continued_here = record { text = refl; leads = λ after o r. r }
+
+pub continued_led : {from to : List GrammarSymbol} {begun x spelled : List Token} {d : ℕ} {ts rest : List Token} →
+    Leads from to x d ts d rest → begun ++ x ≡ spelled → ContinuedTo from to begun spelled d ts rest
+continued_led {begun = begun} {x = x} {rest = rest} l e = record {
+  text = ap (λ y. begun ++ y) l.text ∙ (sym (append_assoc begun x rest) ∙ ap (λ y. y ++ rest) e);
+  leads = l.leads;
+}
+
+-- a last call that goes on from symbols to symbols
+pub tail_continued : {Y : Type 0} {x y : List GrammarSymbol} (z : List GrammarSymbol) {a b : List Token} (spelled rest : Y → List Token) {d : ℕ}
+    {ts mid : List Token} (r : Result Y ParseError) →
+    ContinuedTo x y a b d ts mid → ContinuesTo y z b spelled rest d mid r → ContinuesTo x z a spelled rest d ts r
+tail_continued z spelled rest (Ok v) p q = record { text = p.text ∙ q.text; leads = λ after o t. p.leads after o (q.leads after o t) }
+tail_continued z spelled rest (Err e) p f = record { stops = λ k n same after. p.leads after _ (f.stops k n same after) }
+
+pub tail_led : {Y : Type 0} {s : GrammarSymbol} (ss to : List GrammarSymbol) {a : List Token} (spelled rest : Y → List Token) {d : ℕ} {ts mid : List Token}
+    (r : Result Y ParseError) →
+    Read (s ∷ []) a d ts d mid → ContinuesTo ss to a spelled rest d mid r → LeadsTo (s ∷ ss) to spelled rest d ts r
+tail_led ss to spelled rest (Ok v) p q = record { text = p.text ∙ q.text; leads = λ after o t. p.passes.runs (ss ++ after) o (q.leads after o t) }
+tail_led ss to spelled rest (Err e) p f = fails_later p f

@@ -27,6 +27,29 @@ strength_some binary.GreaterEqual = lit≤ tt
 strength_some binary.And = lit≤ tt
 strength_some binary.Or = lit≤ tt
 
+strength_most : (op : BinaryOp) → strength op ≤ 5
+strength_most binary.Multiply = lit≤ tt
+strength_most binary.Divide = lit≤ tt
+strength_most binary.Remainder = lit≤ tt
+strength_most binary.Add = lit≤ tt
+strength_most binary.Subtract = lit≤ tt
+strength_most binary.Equal = lit≤ tt
+strength_most binary.NotEqual = lit≤ tt
+strength_most binary.Less = lit≤ tt
+strength_most binary.LessEqual = lit≤ tt
+strength_most binary.Greater = lit≤ tt
+strength_most binary.GreaterEqual = lit≤ tt
+strength_most binary.And = lit≤ tt
+strength_most binary.Or = lit≤ tt
+
+strength_if_most : (o : Option BinaryOp) → strength_if o ≤ 5
+strength_if_most None = lit≤ tt
+strength_if_most (Some op) = strength_most op
+
+pub strength_at_most : (ts : List Token) → strength_at ts ≤ 5
+strength_at_most [] = lit≤ tt
+strength_at_most (t ∷ ts) = strength_if_most (binary_of t.kind)
+
 none_weak : (o : Option BinaryOp) → strength_if o < 1 → is_some o ≡ false
 none_weak None h = refl
 none_weak (Some op) h = absurd (let g = strength_some op in omega (arith, g, h))

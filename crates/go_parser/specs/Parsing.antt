@@ -53,7 +53,8 @@ pub record Leads (from to : List GrammarSymbol) (spelled : List Token) (d : ℕ)
   pub leads : (after : List GrammarSymbol) → (o : Outcome) → ParserRun e (to ++ after) rest o → ParserRun d (from ++ after) ts o
 
 -- the parsed value has the tokens over which the machine goes from some symbols to others; a fault is where it stops
-abbrev pub LeadsTo : {Y : Type 0} → List GrammarSymbol → List GrammarSymbol → (Y → List Token) → (Y → List Token) → ℕ → List Token → Result Y ParseError → Type 0
+abbrev pub LeadsTo : {Y : Type 0} → List GrammarSymbol → List GrammarSymbol → (Y → List Token) → (Y → List Token) → ℕ → List Token → Result Y ParseError →
+    Type 0
 LeadsTo from to spelled rest d ts = Gives (λ y. Leads from to (spelled y) d ts d (rest y)) from d ts
 
 -- the tokens `begun`, taken before, and those taken by the symbols are together `spelled`
@@ -64,6 +65,16 @@ pub record Continued (symbols : List GrammarSymbol) (begun spelled : List Token)
 -- the parsed value has the tokens `begun` and those taken by the symbols; a fault is where the machine stops
 abbrev pub Continues : {Y : Type 0} → List GrammarSymbol → List Token → (Y → List Token) → (Y → List Token) → ℕ → List Token → Result Y ParseError → Type 0
 Continues symbols begun spelled rest d ts = Gives (λ y. Continued symbols begun (spelled y) d ts (rest y)) symbols d ts
+
+-- the tokens `begun`, taken before, and those over which the machine goes from some symbols to others are together `spelled`
+pub record ContinuedTo (from to : List GrammarSymbol) (begun spelled : List Token) (d : ℕ) (ts : List Token) (rest : List Token) : Type 0 where
+  pub text : begun ++ ts ≡ spelled ++ rest
+  pub leads : (after : List GrammarSymbol) → (o : Outcome) → ParserRun d (to ++ after) rest o → ParserRun d (from ++ after) ts o
+
+-- the parsed value has the tokens `begun` and those over which the machine goes from some symbols to others; a fault is where it stops
+abbrev pub ContinuesTo : {Y : Type 0} → List GrammarSymbol → List GrammarSymbol → List Token → (Y → List Token) → (Y → List Token) → ℕ → List Token →
+    Result Y ParseError → Type 0
+ContinuesTo from to begun spelled rest d ts = Gives (λ y. ContinuedTo from to begun (spelled y) d ts (rest y)) from d ts
 
 -- an optional separator of this kind is taken from the tokens ts, and rest are left
 abbrev pub Separates : Kind → Option ℕ → List Token → List Token → Type 0

@@ -3,7 +3,7 @@ ghost use Rattle.std.specs.Prelude.{◌≡◌, ◌≢◌, ◌∷◌, ◌≤◌, 
 ghost use Rattle.go_ast.specs.Grammar.{A, Expression, Unary, Binaries, Links, Arguments, Address, Elements, ElementList, slice_type, is};
 ghost use Rattle.go_ast.specs.Grammar as grammar;
 ghost use Rattle.go_parser.specs.Machine.{at};
-ghost use Rattle.go_parser.specs.Parsing.{Parses, LeadsTo, LeadsBy, Continues, list_rest};
+ghost use Rattle.go_parser.specs.Parsing.{Parses, LeadsTo, LeadsBy, Continues, ContinuesTo, list_rest};
 ghost use Rattle.go_ast.specs.Flatten.{sign, all_tokens};
 ghost use Rattle.go_parser.specs.Spelling.{type_spelled, expr_spelled, literal_spelled, link_spelled, operand_spelled, expr_item_spelled, element_spelled};
 ghost use Rattle.go_parser.specs.Strength.{strength_at};
@@ -50,20 +50,67 @@ fn binary(
     ensures grouped { IfOk result (λ x. IsExprIn header (expr_view x.0)) }
     ensures strong { IfOk result (λ x. strength ≤ strength_of (expr_view x.0)) }
 {
-    if strength > 5 {
-        return unary(alloc, tokens, depth, header);
+    let (first, rest) = unary(alloc, tokens, depth, header)?;
+    if strength_at(rest) < strength {
+        return Ok((first, rest));
     }
-    let (first, rest) = binary(alloc, tokens, depth, header, strength + 1)?;
+    binary_rest(alloc, first, rest, depth, header, strength)
+}
+
+/// Parses the binary operators of precedence `strength` or higher that follow `first`, with their operands. Those of the highest precedence
+/// come first, so what follows them is of a lower one.
+#[cycle(expression)]
+fn binary_rest(
+    alloc: Global,
+    first: Expr,
+    tokens: &[Token],
+    depth: u32,
+    header: bool,
+    strength: u32,
+) -> Parsed<'_, Expr>
+    requires least { 1 ≤ strength }
+    requires formed { IsExprIn header (expr_view first) }
+    requires weaker { strength_at tokens.now < strength_of (expr_view first) }
+    requires strong { strength ≤ strength_of (expr_view first) }
+    ensures exact { ContinuesTo (A (Binaries header) ∷ []) (A (Binaries header) ∷ []) (expr_spelled first) (λ x. expr_spelled x.0) (λ x. x.1.now) depth tokens.now result }
+    ensures ends { IfOk result (λ x. strength_at x.1.now < strength) }
+    ensures grouped { IfOk result (λ x. IsExprIn header (expr_view x.0)) }
+    ensures strong { IfOk result (λ x. strength ≤ strength_of (expr_view x.0)) }
+{
+    let next = strength_at(tokens);
+    if next < strength {
+        return Ok((first, tokens));
+    }
+    let (whole, rest) = binary_level(alloc, first, tokens, depth, header, next)?;
+    binary_rest(alloc, whole, rest, depth, header, strength)
+}
+
+/// Parses the binary operators of one precedence that follow `first`, with their operands.
+#[cycle(expression)]
+fn binary_level(
+    alloc: Global,
+    first: Expr,
+    tokens: &[Token],
+    depth: u32,
+    header: bool,
+    strength: u32,
+) -> Parsed<'_, Expr>
+    requires least { 1 ≤ strength }
+    requires next { strength_at tokens.now ≡ strength }
+    requires formed { IsExprIn header (expr_view first) }
+    requires stronger { strength < strength_of (expr_view first) }
+    ensures exact { ContinuesTo (A (Binaries header) ∷ []) (A (Binaries header) ∷ []) (expr_spelled first) (λ x. expr_spelled x.0) (λ x. x.1.now) depth tokens.now result }
+    ensures ends { IfOk result (λ x. strength_at x.1.now < strength) }
+    ensures grouped { IfOk result (λ x. IsBinaryOf header strength (expr_view x.0)) }
+    ensures shorter { IfOk result (λ x. length x.1.now < length tokens.now) }
+{
     let mut operands = Vec::new(alloc);
-    let mut rest = rest;
+    let mut rest = tokens;
     'operators: while strength_at(rest) == strength {
         let ((op, at), after) = binary_operator(rest, depth)?;
         let (value, after) = binary(alloc, after, depth, header, strength + 1)?;
         push(&mut operands, Operand { op, at, value })?;
         rest = after;
-    }
-    if operands.is_empty() {
-        return Ok((first, rest));
     }
     let whole = joined(alloc, first, operands)?;
     Ok((whole, rest))

@@ -20,6 +20,7 @@ fn kind_of_keyword(keyword: Keyword) -> Kind
         Keyword::Func => Kind::Func,
         Keyword::If => Kind::If,
         Keyword::Import => Kind::Import,
+        Keyword::Interface => Kind::Interface,
         Keyword::Package => Kind::Package,
         Keyword::Return => Kind::Return,
         Keyword::Struct => Kind::Struct,
@@ -110,8 +111,8 @@ fn kind_at(pieces: &Pieces, place: usize) -> Kind
 pub(crate) fn kinds_of(alloc: Global, pieces: &Pieces) -> Result<Vec<Token>, AllocError>
     ensures { IfOk result (λ tokens. tokens.items ≡ kinds_of pieces.now) }
 {
-    let mut tokens = Vec::new(alloc);
     let count = pieces.tokens().len();
+    let mut tokens = Vec::with_capacity(alloc, count)?;
     for place in 0..count {
         let kind = kind_at(pieces, place);
         let number = short_number(place)?;

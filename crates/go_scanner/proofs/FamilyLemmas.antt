@@ -12,7 +12,7 @@ use borrow.Author.Tests.{eqb-true}
 use Rattle.ucd_category.proofs.Computing.{ucd_category}
 use Rattle.go_scanner.specs.declared.piece.Class.{Class}
 use Rattle.go_scanner.specs.declared.piece.Class.TheVariants as class
-use Rattle.go_scanner.specs.Characters.{is_ascii_word, is_letter, is_decimal_number, continues_name}
+use Rattle.go_scanner.specs.Characters.{is_ascii_word, is_ascii_letter, is_ascii_mark, is_letter, is_decimal_number, continues_name}
 use Rattle.go_scanner.specs.Words.{IsWord}
 use Rattle.go_scanner.specs.Keywords.{keyword_spelling}
 use Rattle.go_scanner.specs.Operators.{operator_spelling}
@@ -48,10 +48,14 @@ pub ascii_letter : (c : ℕ) → c < 128 → is_letter c ≡ starts_word c
 ascii_letter c small = same (is_letter c) (starts_word c)
     (at_below (λ c. cond (is_letter c) (starts_word c) (cond (starts_word c) false true)) 128 c letters_of_ascii small)
 
--- below 128, ASCII letters, digits and `_` may continue a name
-ascii_words : all_below (λ b. cond (is_ascii_word b) (continues_name b) true) 128 ≡ true
+-- below 128, ASCII letters, digits and `_` may continue a name, and nothing else
+words_of_ascii : all_below (λ b. cond (continues_name b) (is_ascii_word b) (cond (is_ascii_word b) false true)) 128 ≡ true
 unfolding all_below is_letter is_decimal_number ucd_category
-ascii_words = refl
+words_of_ascii = refl
+
+pub ascii_continues : (b : ℕ) → b < 128 → continues_name b ≡ is_ascii_word b
+ascii_continues b small = same (continues_name b) (is_ascii_word b)
+    (at_below (λ b. cond (continues_name b) (is_ascii_word b) (cond (is_ascii_word b) false true)) 128 b words_of_ascii small)
 
 -- a byte that begins a word, or a number
 word_of_ascii : all_below (λ b. cond (starts_word b) (eqb (family_of b) 4) true) 128 ≡ true
@@ -69,8 +73,29 @@ pub ascii_word_small : (b : ℕ) → is_ascii_word b ≡ true → b < 128
 ascii_word_small b is = ⊎_elim (λ (small : b < 128). small) (λ (large : 128 ≤ b). grind (arith, nat_tests)) (cases_lt b 128)
 
 pub ascii_word_continues : (b : ℕ) → is_ascii_word b ≡ true → continues_name b ≡ true
-ascii_word_continues b is = if_true (is_ascii_word b) (continues_name b)
-    (at_below (λ b. cond (is_ascii_word b) (continues_name b) true) 128 b ascii_words (ascii_word_small b is)) is
+ascii_word_continues b is = ascii_continues b (ascii_word_small b is) ∙ is
+
+-- an ASCII letter begins a name, and an ASCII character that no name has doesn't continue one
+pub ascii_letter_small : (b : ℕ) → is_ascii_letter b ≡ true → b < 128
+ascii_letter_small b is = ⊎_elim (λ (small : b < 128). small) (λ (large : 128 ≤ b). grind (arith, nat_tests)) (cases_lt b 128)
+
+letters_begin : all_below (λ b. cond (is_ascii_letter b) (is_letter b) true) 128 ≡ true
+unfolding all_below is_letter ucd_category
+letters_begin = refl
+
+pub ascii_letter_is : (b : ℕ) → is_ascii_letter b ≡ true → is_letter b ≡ true
+ascii_letter_is b is = if_true (is_ascii_letter b) (is_letter b)
+    (at_below (λ b. cond (is_ascii_letter b) (is_letter b) true) 128 b letters_begin (ascii_letter_small b is)) is
+
+mark_parts : (word : Bool) (b : ℕ) → cond word false (ltb b 128) ≡ true → (word ≡ false) × (b < 128)
+mark_parts true b is = absurd (false≢true is)
+mark_parts false b is = (refl, ltb-true b 128 is)
+
+pub ascii_mark_small : (b : ℕ) → is_ascii_mark b ≡ true → b < 128
+ascii_mark_small b is = (mark_parts (is_ascii_word b) b is).1
+
+pub ascii_mark_ends : (b : ℕ) → is_ascii_mark b ≡ true → continues_name b ≡ false
+ascii_mark_ends b is = let parts = mark_parts (is_ascii_word b) b is in ascii_continues b parts.1 ∙ parts.0
 
 pub word_family : (b : ℕ) → starts_word b ≡ true → family_of b ≡ 4
 word_family b starts =

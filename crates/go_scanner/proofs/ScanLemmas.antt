@@ -1,15 +1,20 @@
 -- The invariant of the scanner's loop, and its step by one piece.
 use Rattle.std.proofs.Common.{◌≡◌, ℕ, ◌+◌, ◌≤◌, Bool, true, false, nat_eq, List, [], ◌∷◌, ◌++◌, length, drop, Option, Some, None, refl, ap, sym, ◌∙◌}
-use Rattle.std.proofs.Common.{append_assoc, append-nil}
+use Rattle.std.proofs.Common.{◌<◌, append_assoc, append-nil, arith, get_or, length-drop}
 use Rattle.std.specs.List.{starts_with}
+use Rattle.std.specs.Prelude.{slice_index}
+use Rattle.std.proofs.lemmas.List.{drop_more}
 use Rattle.go_scanner.specs.declared.piece.Class.{Class}
+use Rattle.go_scanner.specs.declared.piece.Class.TheVariants.{Blank}
 use Rattle.go_scanner.specs.declared.piece.Piece.{Piece}
 use Rattle.go_scanner.specs.Cuts.{CutsUpTo, IsWellEncoded, mark_of, mark_len, byte_order_mark}
 use Rattle.go_scanner.specs.CutText.{IsCutText}
 use Rattle.go_scanner.specs.Pieces.{Stands}
+use Rattle.go_scanner.specs.Trivia.{is_blank}
 use Rattle.go_scanner.specs.Tokens.{tokens_of, tokens_due, semicolon, AddsTokensOf}
 use Rattle.go_scanner.proofs.CutLemmas.{CutsUpTo-push}
-use Rattle.go_scanner.proofs.TokenLemmas.{end_due, end_plain}
+use Rattle.go_scanner.proofs.TokenLemmas.{trivia_stays, end_due, end_plain}
+use Rattle.go_scanner.proofs.FrontLemmas.{blank_stands}
 
 -- the pieces cut the text up to an offset; the tokens found, with the semicolon that is due, are theirs, whatever follows
 pub record Scanned (text : List ℕ) (pieces found : List Piece) (due : Option ℕ) (at : ℕ) : Type 0 where
@@ -44,6 +49,15 @@ scanned_more text pieces found more due next at size class rest before rest_is s
       cut = CutsUpTo-push text pieces at class size rest before.cut rest_is stands;
       so_far = λ others. goes others ∙ before.so_far (p ∷ others) ∙ ap (tokens_of text) (sym (append_assoc pieces (p ∷ []) others));
     }
+
+pub scanned_blank : (text : List ℕ) (pieces found : List Piece) (due : Option ℕ) (at : ℕ) → Scanned text pieces found due at → at < length text →
+    is_blank (get_or text at 0) ≡ true →
+    Scanned text (pieces ++ (record { class = Blank; span = record { start = at; end = at + 1 } }) ∷ []) found due (at + 1)
+scanned_blank text pieces found due at before fits is =
+    let first : slice_index (drop at text) 0 ≡ get_or text at 0 = ap (λ l. slice_index l 0) (drop_more text at 0 fits) in
+    scanned_more text pieces found found due due at 1 Blank (drop at text) before refl
+    (blank_stands (drop at text) (omega (arith, length-drop at text, fits)) (ap is_blank first ∙ is)) (omega (arith, fits))
+    (trivia_stays text found due (record { class = Blank; span = record { start = at; end = at + 1 } }) refl refl)
 
 whole : (text : List ℕ) (pieces found : List Piece) (due : Option ℕ) (at : ℕ) (tokens : List Piece) → IsWellEncoded text →
     Scanned text pieces found due at → at ≡ length text → found ++ tokens_due text due [] ≡ tokens → IsCutText text pieces tokens

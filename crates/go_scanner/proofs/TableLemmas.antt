@@ -88,7 +88,7 @@ keyword_listed kw.Go = record { place = 11; is = refl; fits = lit< tt }
 keyword_listed kw.Goto = record { place = 12; is = refl; fits = lit< tt }
 keyword_listed kw.If = record { place = 13; is = refl; fits = lit< tt }
 keyword_listed kw.Import = record { place = 14; is = refl; fits = lit< tt }
-keyword_listed kw.ExportData = record { place = 15; is = refl; fits = lit< tt }
+keyword_listed kw.Interface = record { place = 15; is = refl; fits = lit< tt }
 keyword_listed kw.Map = record { place = 16; is = refl; fits = lit< tt }
 keyword_listed kw.Package = record { place = 17; is = refl; fits = lit< tt }
 keyword_listed kw.Range = record { place = 18; is = refl; fits = lit< tt }

@@ -1,8 +1,8 @@
 -- The keywords of Go and their spellings.
-use Rattle.std.specs.Prelude.{ℕ, Bool, List, [], ◌∷◌, filter, slice_index, ◌==◌, ◌&&◌, ◌||◌, nat_le}
+use Rattle.std.specs.Prelude.{ℕ, Bool, false, List, [], ◌∷◌, filter, slice_index, ◌==◌, ◌||◌, if◌then◌else◌}
 use Rattle.go_scanner.specs.declared.keywords.Keyword.{Keyword}
 use Rattle.go_scanner.specs.declared.keywords.Keyword.TheVariants.{Break, Case, Chan, Const, Continue, Default, Defer, Else, Fallthrough, For, Func, Go, Goto}
-use Rattle.go_scanner.specs.declared.keywords.Keyword.TheVariants.{If, Import, ExportData, Map, Package, Range, Return, Select, Struct, Switch, «Type», Var}
+use Rattle.go_scanner.specs.declared.keywords.Keyword.TheVariants.{If, Import, Interface, Map, Package, Range, Return, Select, Struct, Switch, «Type», Var}
 
 -- the bytes of a keyword
 abbrev pub keyword_spelling : Keyword → List ℕ
@@ -21,7 +21,7 @@ keyword_spelling Go = 103 ∷ 111 ∷ []  -- go
 keyword_spelling Goto = 103 ∷ 111 ∷ 116 ∷ 111 ∷ []  -- goto
 keyword_spelling If = 105 ∷ 102 ∷ []  -- if
 keyword_spelling Import = 105 ∷ 109 ∷ 112 ∷ 111 ∷ 114 ∷ 116 ∷ []  -- import
-keyword_spelling ExportData = 105 ∷ 110 ∷ 116 ∷ 101 ∷ 114 ∷ 102 ∷ 97 ∷ 99 ∷ 101 ∷ []  -- export_data
+keyword_spelling Interface = 105 ∷ 110 ∷ 116 ∷ 101 ∷ 114 ∷ 102 ∷ 97 ∷ 99 ∷ 101 ∷ []  -- interface
 keyword_spelling Map = 109 ∷ 97 ∷ 112 ∷ []  -- map
 keyword_spelling Package = 112 ∷ 97 ∷ 99 ∷ 107 ∷ 97 ∷ 103 ∷ 101 ∷ []  -- package
 keyword_spelling Range = 114 ∷ 97 ∷ 110 ∷ 103 ∷ 101 ∷ []  -- range
@@ -34,13 +34,19 @@ keyword_spelling Var = 118 ∷ 97 ∷ 114 ∷ []  -- var
 
 -- all keywords, by alphabet
 abbrev pub all_keywords : List Keyword
-all_keywords = Break ∷ Case ∷ Chan ∷ Const ∷ Continue ∷ Default ∷ Defer ∷ Else ∷ Fallthrough ∷ For ∷ Func ∷ Go ∷ Goto ∷ If ∷ Import ∷ ExportData ∷ Map ∷
+all_keywords = Break ∷ Case ∷ Chan ∷ Const ∷ Continue ∷ Default ∷ Defer ∷ Else ∷ Fallthrough ∷ For ∷ Func ∷ Go ∷ Goto ∷ If ∷ Import ∷ Interface ∷ Map ∷
     Package ∷ Range ∷ Return ∷ Select ∷ Struct ∷ Switch ∷ «Type» ∷ Var ∷ []
 
 -- the keywords among `ks` that begin with the byte `first`
 abbrev pub keywords_with : ℕ → List Keyword → List Keyword
 keywords_with first ks = filter (λ k. slice_index (keyword_spelling k) 0 == first) ks
 
--- some keyword begins with the byte b: b to g, i, m, p, r to t, v
-abbrev pub may_begin : ℕ → Bool
-may_begin b = (nat_le 98 b && nat_le b 103) || (b == 105 || (b == 109 || (b == 112 || ((nat_le 114 b && nat_le b 116) || b == 118))))
+-- some keyword begins with these two bytes
+abbrev pub may_begin : ℕ → ℕ → Bool
+may_begin first second = if first == 98 then second == 114 else (if first == 99 then second == 97 || (second == 104 || second == 111) else
+    (if first == 100 then second == 101 else (if first == 101 then second == 108 else
+    (if first == 102 then second == 97 || (second == 111 || second == 117) else (if first == 103 then second == 111 else
+    (if first == 105 then second == 102 || (second == 109 || second == 110) else (if first == 109 then second == 97 else
+    (if first == 112 then second == 97 else (if first == 114 then second == 97 || second == 101 else
+    (if first == 115 then second == 101 || (second == 116 || second == 119) else (if first == 116 then second == 121 else
+    (if first == 118 then second == 97 else false))))))))))))

@@ -1,5 +1,5 @@
 -- The operators and punctuation of Go and their spellings.
-use Rattle.std.specs.Prelude.{ℕ, List, [], ◌∷◌, filter, slice_index, ◌==◌}
+use Rattle.std.specs.Prelude.{ℕ, Bool, List, [], ◌∷◌, filter, slice_index, ◌==◌, ◌&&◌, ◌||◌}
 use Rattle.go_scanner.specs.declared.operators.Operator.{Operator}
 use Rattle.go_scanner.specs.declared.operators.Operator.TheVariants.{ShiftLeftAssign, ShiftRightAssign, Ellipsis, AndNotAssign, AddAssign, AndAssign}
 use Rattle.go_scanner.specs.declared.operators.Operator.TheVariants.{LogicalAnd, Equal, NotEqual, SubtractAssign, OrAssign, LogicalOr, LessEqual}
@@ -69,3 +69,8 @@ all_operators = ShiftLeftAssign ∷ ShiftRightAssign ∷ Ellipsis ∷ AndNotAssi
 -- the operators among `os` that begin with the byte `first`
 abbrev pub operators_with : ℕ → List Operator → List Operator
 operators_with first os = filter (λ o. slice_index (operator_spelling o) 0 == first) os
+
+-- an operator of two or three bytes may begin with these two: the second one is `-`, `=` or `^`, or it is the first one again
+abbrev pub may_join : ℕ → ℕ → Bool
+may_join first second = (second == 45 || (second == 61 || second == 94)) ||
+    (second == first && (first == 38 || (first == 43 || (first == 46 || (first == 60 || (first == 62 || first == 124))))))

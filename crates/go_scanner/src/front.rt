@@ -1,9 +1,11 @@
-//! Scans one piece: the class and length of the piece at the start of some bytes, by their first byte.
+//! Scans one piece: the class and length of the piece at the start of some bytes, by their first byte. All is inlined, so that no result
+//! is copied through memory: that took half of the time.
 ghost use Rattle.std.specs.Prelude.{◌≡◌, ◌<◌, ℕ, length, MatchBool, MatchOption, slice_index, true};
 ghost use Rattle.std.specs.Char.{is_digit};
 ghost use Rattle.bstr.specs.Find.{OccursAt};
 ghost use Rattle.bstr.specs.Utf8.{decoded};
 ghost use Rattle.go_scanner.specs.Families.{IsFront, starts_word, begins_with_letter, MayBeOperator};
+ghost use Rattle.go_scanner.specs.Characters.{is_ascii_letter};
 ghost use Rattle.go_scanner.specs.Pieces.{Stands, spoils_number, IsFraction};
 ghost use Rattle.go_scanner.specs.declared.piece.Class.TheVariants.{Name};
 ghost use Rattle.go_scanner.specs.Trivia.{is_blank, line_opening, comment_opening};
@@ -16,38 +18,53 @@ use crate::piece::Class;
 use crate::refusal::TextFault;
 use crate::strings::{raw_string, string};
 use crate::trivia::{general_comment_len, line_comment_len};
-use crate::words::name_run;
+use crate::words::{is_ascii_mark, name_run};
 use base_files::FaultKind;
 use bstr::decode_utf8;
 
 /// A fault of this kind at the first byte.
+#[inline(always)]
 fn fault(kind: FaultKind) -> Result<(Class, usize), TextFault>
     ensures { result ≡ Err (record { offset = 0; kind = kind }) }
 {
     Err(TextFault { offset: 0, kind })
 }
 
-/// Whether the first character is a letter.
+/// Whether a byte is an ASCII letter or `_`.
+fn is_ascii_letter(byte: u8) -> bool
+    ensures { result ≡ is_ascii_letter byte }
+{
+    matches!(byte, b'_' | b'a'..=b'z' | b'A'..=b'Z')
+}
+
+/// Whether the first character is a letter. One of ASCII needs no table.
 fn begins_with_letter(bytes: &[u8]) -> bool
     ensures { result ≡ begins_with_letter bytes.now }
 {
-    match decode_utf8(bytes).0 {
-        Some(first) => is_letter(first),
-        None => false,
+    match bytes {
+        [first, ..] if is_ascii_letter(*first) => true,
+        _ => match decode_utf8(bytes).0 {
+            Some(first) => is_letter(first),
+            None => false,
+        },
     }
 }
 
-/// Whether the first character may not follow a number: `.`, a letter or a digit, as in `12ab`.
+/// Whether the first character may not follow a number: `.`, a letter or a digit, as in `12ab`. One of ASCII that no name has needs no table.
 fn spoils_number(bytes: &[u8]) -> bool
     ensures { result ≡ spoils_number (decoded bytes.now).char }
 {
-    match decode_utf8(bytes).0 {
-        Some(first) => first == '.' || continues_name(first),
-        None => false,
+    match bytes {
+        [first, ..] if is_ascii_mark(*first) => *first == b'.',
+        _ => match decode_utf8(bytes).0 {
+            Some(first) => first == '.' || continues_name(first),
+            None => false,
+        },
     }
 }
 
 /// Scans one space, tab or carriage return.
+#[inline(always)]
 fn blank(bytes: &[u8]) -> Result<(Class, usize), TextFault>
     requires some { 0 < length bytes.now }
     requires first { is_blank (slice_index bytes.now 0) ≡ true }
@@ -57,6 +74,7 @@ fn blank(bytes: &[u8]) -> Result<(Class, usize), TextFault>
 }
 
 /// Scans one newline.
+#[inline(always)]
 fn newline(bytes: &[u8]) -> Result<(Class, usize), TextFault>
     requires some { 0 < length bytes.now }
     requires first { slice_index bytes.now 0 ≡ 10 }
@@ -66,6 +84,7 @@ fn newline(bytes: &[u8]) -> Result<(Class, usize), TextFault>
 }
 
 /// Scans a name or a keyword.
+#[inline(always)]
 fn word(bytes: &[u8]) -> Result<(Class, usize), TextFault>
     requires some { 0 < length bytes.now }
     requires first { starts_word (slice_index bytes.now 0) ≡ true }
@@ -82,6 +101,7 @@ fn word(bytes: &[u8]) -> Result<(Class, usize), TextFault>
 }
 
 /// Scans an integer literal. Refuses one of 2^63 or more, and one that a letter, a digit or `.` follows.
+#[inline(always)]
 fn number(bytes: &[u8]) -> Result<(Class, usize), TextFault>
     requires some { 0 < length bytes.now }
     requires first { is_digit (slice_index bytes.now 0) 10 ≡ true }
@@ -98,6 +118,7 @@ fn number(bytes: &[u8]) -> Result<(Class, usize), TextFault>
 }
 
 /// Scans a comment from `//` to the end of its line.
+#[inline(always)]
 fn line_comment(bytes: &[u8]) -> Result<(Class, usize), TextFault>
     requires { OccursAt bytes.now line_opening 0 }
     ensures { IsFront bytes.now result }
@@ -106,6 +127,7 @@ fn line_comment(bytes: &[u8]) -> Result<(Class, usize), TextFault>
 }
 
 /// Scans a comment from `/*` to the first `*/`. Refuses one without an end.
+#[inline(always)]
 fn general_comment(bytes: &[u8]) -> Result<(Class, usize), TextFault>
     requires { OccursAt bytes.now comment_opening 0 }
     ensures { IsFront bytes.now result }
@@ -124,6 +146,7 @@ fn is_fraction(bytes: &[u8]) -> bool
 }
 
 /// Scans the longest operator. Refuses a byte that begins no piece, and a fraction such as `.5`.
+#[inline(always)]
 fn operator(bytes: &[u8]) -> Result<(Class, usize), TextFault>
     requires { MayBeOperator bytes.now }
     ensures { IsFront bytes.now result }
@@ -138,6 +161,7 @@ fn operator(bytes: &[u8]) -> Result<(Class, usize), TextFault>
 }
 
 /// Scans the piece at the start of some bytes: its class and length, or the rule that is broken there.
+#[inline(always)]
 pub fn front(bytes: &[u8]) -> Result<(Class, usize), TextFault>
     requires { 0 < length bytes.now }
     ensures { IsFront bytes.now result }

@@ -1,7 +1,9 @@
 //! The keywords of Go, and which keyword some bytes spell (Go specification, "Keywords").
-ghost use Rattle.std.specs.Prelude.{◌≡◌, find, slice_index};
+ghost use Rattle.std.specs.Prelude.{◌≡◌, find};
 ghost use Rattle.std.specs.Str.{bytes_eq};
 ghost use Rattle.go_scanner.specs.Keywords.{keyword_spelling, all_keywords, keywords_with, may_begin};
+
+use crate::leading_bytes::{first_byte, second_byte};
 
 /// A keyword of Go.
 #[derive(Clone, Copy, Debug, PartialEq, Eq)]
@@ -21,7 +23,7 @@ pub enum Keyword {
     Goto,
     If,
     Import,
-    ExportData,
+    Interface,
     Map,
     Package,
     Range,
@@ -51,7 +53,7 @@ impl Keyword {
         Keyword::Goto,
         Keyword::If,
         Keyword::Import,
-        Keyword::ExportData,
+        Keyword::Interface,
         Keyword::Map,
         Keyword::Package,
         Keyword::Range,
@@ -83,7 +85,7 @@ impl Keyword {
             Keyword::Goto => b"goto",
             Keyword::If => b"if",
             Keyword::Import => b"import",
-            Keyword::ExportData => b"interface",
+            Keyword::Interface => b"interface",
             Keyword::Map => b"map",
             Keyword::Package => b"package",
             Keyword::Range => b"range",
@@ -97,11 +99,26 @@ impl Keyword {
     }
 }
 
-/// Whether a keyword may begin with this byte.
-fn may_begin(first: u8) -> bool
-    ensures { result ≡ may_begin first }
+/// Whether a keyword may begin with these two bytes.
+fn may_begin(first: u8, second: u8) -> bool
+    ensures { result ≡ may_begin first second }
 {
-    matches!(first, b'b'..=b'g' | b'i' | b'm' | b'p' | b'r'..=b't' | b'v')
+    match first {
+        b'b' => second == b'r',
+        b'c' => matches!(second, b'a' | b'h' | b'o'),
+        b'd' => second == b'e',
+        b'e' => second == b'l',
+        b'f' => matches!(second, b'a' | b'o' | b'u'),
+        b'g' => second == b'o',
+        b'i' => matches!(second, b'f' | b'm' | b'n'),
+        b'm' => second == b'a',
+        b'p' => second == b'a',
+        b'r' => matches!(second, b'a' | b'e'),
+        b's' => matches!(second, b'e' | b't' | b'w'),
+        b't' => second == b'y',
+        b'v' => second == b'a',
+        _ => false,
+    }
 }
 
 /// The keywords that begin with this byte, or all keywords where none does.
@@ -120,7 +137,7 @@ fn starting_with(first: u8) -> &'static [Keyword]
         b'e' => &[Keyword::Else],
         b'f' => &[Keyword::Fallthrough, Keyword::For, Keyword::Func],
         b'g' => &[Keyword::Go, Keyword::Goto],
-        b'i' => &[Keyword::If, Keyword::Import, Keyword::ExportData],
+        b'i' => &[Keyword::If, Keyword::Import, Keyword::Interface],
         b'm' => &[Keyword::Map],
         b'p' => &[Keyword::Package],
         b'r' => &[Keyword::Range, Keyword::Return],
@@ -128,16 +145,6 @@ fn starting_with(first: u8) -> &'static [Keyword]
         b't' => &[Keyword::Type],
         b'v' => &[Keyword::Var],
         _ => &Keyword::ALL,
-    }
-}
-
-/// The first byte, or 0 where there is none.
-fn first_byte(bytes: &[u8]) -> u8
-    ensures { result ≡ slice_index bytes.now 0 }
-{
-    match bytes {
-        [first, ..] => *first,
-        [] => 0,
     }
 }
 
@@ -156,7 +163,7 @@ pub fn keyword_of(bytes: &[u8]) -> Option<Keyword>
     ensures { result ≡ find (λ k. bytes_eq (keyword_spelling k) bytes.now) all_keywords }
 {
     let first = first_byte(bytes);
-    if !may_begin(first) {
+    if !may_begin(first, second_byte(bytes)) {
         return None;
     }
     first_among(bytes, starting_with(first))

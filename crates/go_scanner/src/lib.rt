@@ -11,6 +11,7 @@ mod front;
 mod integers;
 mod keywords;
 pub mod laws;
+mod leading_bytes;
 mod operators;
 mod piece;
 mod pieces;

@@ -1,7 +1,9 @@
 //! The operators and punctuation of Go, and which operator some bytes begin with.
-ghost use Rattle.std.specs.Prelude.{◌≡◌, nat_eq, find, slice_index};
+ghost use Rattle.std.specs.Prelude.{◌≡◌, ◌∷◌, [], Some, IfSome, nat_eq, find};
 ghost use Rattle.std.specs.List.{starts_with};
-ghost use Rattle.go_scanner.specs.Operators.{operator_spelling, all_operators, operators_with};
+ghost use Rattle.go_scanner.specs.Operators.{operator_spelling, all_operators, operators_with, may_join};
+
+use crate::leading_bytes::{first_byte, second_byte};
 
 /// An operator or punctuation mark.
 #[derive(Clone, Copy, Debug, PartialEq, Eq)]
@@ -219,14 +221,55 @@ fn starting_with(first: u8) -> &'static [Operator]
     }
 }
 
-/// The first byte, or 0 where there is none.
-fn first_byte(bytes: &[u8]) -> u8
-    ensures { result ≡ slice_index bytes.now 0 }
+/// Whether an operator of two or three bytes may begin with these two. The second one is `-`, `=` or `^`, or it is the first one again.
+fn may_join(first: u8, second: u8) -> bool
+    ensures { result ≡ may_join first second }
 {
-    match bytes {
-        [first, ..] => *first,
-        [] => 0,
+    matches!(second, b'-' | b'=' | b'^')
+        || second == first && matches!(first, b'&' | b'+' | b'.' | b'<' | b'>' | b'|')
+}
+
+/// The operator of this one byte, if there is one.
+fn one_byte_operator(first: u8) -> Option<Operator>
+    ensures { IfSome result (λ operator. operator_spelling operator ≡ first ∷ []) }
+{
+    Some(match first {
+        b'+' => Operator::Add,
+        b'&' => Operator::And,
+        b'(' => Operator::LeftParen,
+        b')' => Operator::RightParen,
+        b'-' => Operator::Subtract,
+        b'|' => Operator::Or,
+        b'<' => Operator::Less,
+        b'[' => Operator::LeftBracket,
+        b']' => Operator::RightBracket,
+        b'*' => Operator::Multiply,
+        b'^' => Operator::Xor,
+        b'>' => Operator::Greater,
+        b'{' => Operator::LeftBrace,
+        b'}' => Operator::RightBrace,
+        b'/' => Operator::Divide,
+        b'=' => Operator::Assign,
+        b',' => Operator::Comma,
+        b';' => Operator::Semicolon,
+        b'%' => Operator::Remainder,
+        b'!' => Operator::Not,
+        b'.' => Operator::Period,
+        b':' => Operator::Colon,
+        b'~' => Operator::Tilde,
+        _ => return None,
+    })
+}
+
+/// The operator of the first byte alone, where no operator of more bytes may begin. `None` leaves open which operator begins.
+fn short_operator(bytes: &[u8]) -> Option<Operator>
+    ensures { IfSome result (λ operator. find (λ o. starts_with nat_eq bytes.now (operator_spelling o)) all_operators ≡ Some operator) }
+{
+    let first = first_byte(bytes);
+    if may_join(first, second_byte(bytes)) {
+        return None;
     }
+    one_byte_operator(first)
 }
 
 /// The first operator, among these, with which the bytes begin.
@@ -243,5 +286,8 @@ fn first_among(bytes: &[u8], operators: &[Operator]) -> Option<Operator>
 pub fn operator_at(bytes: &[u8]) -> Option<Operator>
     ensures { result ≡ find (λ o. starts_with nat_eq bytes.now (operator_spelling o)) all_operators }
 {
-    first_among(bytes, starting_with(first_byte(bytes)))
+    match short_operator(bytes) {
+        Some(operator) => Some(operator),
+        None => first_among(bytes, starting_with(first_byte(bytes))),
+    }
 }

@@ -12,6 +12,7 @@ use crate::pieces::Pieces;
 use crate::refusal::{ScanRefusal, TextFault};
 use crate::tokens::{add_piece, keep_semicolon};
 use crate::trail::Trail;
+use crate::trivia::is_blank;
 use base_files::{FaultKind, FileText, Span};
 use std::alloc::Global;
 
@@ -32,7 +33,7 @@ fn mark(text: &[u8]) -> (Trail<Piece>, usize)
     (nothing.and(&mark), 3)
 }
 
-/// The pieces and tokens of a text, or its first fault.
+/// The pieces and tokens of a text, or its first fault. Blanks are the most frequent pieces, and add no token.
 fn cut(alloc: Global, text: &[u8]) -> Result<(Trail<Piece>, Vec<CompactPiece>), ScanRefusal>
     ensures cut { IfOk result (λ found. IsCutText text.now found.0.items found.1.items) }
     ensures refused { IfErr result (IsRefusalOfCut text.now) }
@@ -45,6 +46,14 @@ fn cut(alloc: Global, text: &[u8]) -> Result<(Trail<Piece>, Vec<CompactPiece>), 
     let mut due = None;
     let (mut pieces, mut at) = mark(text);
     while at < text.len() {
+        if is_blank(text[at]) {
+            let end = at + 1;
+            let span = Span { start: at, end };
+            let class = Class::Blank;
+            pieces = pieces.and(&Piece { class, span });
+            at = end;
+            continue;
+        }
         match front(&text[at..]) {
             Ok((class, size)) => {
                 let end = at + size;

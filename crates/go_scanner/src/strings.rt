@@ -136,6 +136,7 @@ fn parts_end(bytes: &[u8]) -> usize
 }
 
 /// Scans an interpreted string literal. The fault of a bad escape is at its backslash, that of an open string at its quote.
+#[inline(always)]
 pub fn string(bytes: &[u8]) -> Result<(Class, usize), TextFault>
     requires some { 0 < length bytes.now }
     requires first { slice_index bytes.now 0 ≡ 34 }
@@ -157,6 +158,7 @@ pub fn string(bytes: &[u8]) -> Result<(Class, usize), TextFault>
 }
 
 /// Scans a raw string literal. Refuses one without a closing quote.
+#[inline(always)]
 pub fn raw_string(bytes: &[u8]) -> Result<(Class, usize), TextFault>
     requires some { 0 < length bytes.now }
     requires first { slice_index bytes.now 0 ≡ 96 }

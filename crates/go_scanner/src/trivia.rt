@@ -1,10 +1,17 @@
-//! Scans comments.
-ghost use Rattle.std.specs.Prelude.{MatchOption};
+//! Scans blanks and comments.
+ghost use Rattle.std.specs.Prelude.{◌≡◌, MatchOption};
 ghost use Rattle.bstr.specs.Find.{OccursAt};
 ghost use Rattle.go_scanner.specs.Pieces.{IsLongest};
-ghost use Rattle.go_scanner.specs.Trivia.{line_opening, comment_opening, IsLineComment, IsGeneralComment, IsOpenComment};
+ghost use Rattle.go_scanner.specs.Trivia.{is_blank, line_opening, comment_opening, IsLineComment, IsGeneralComment, IsOpenComment};
 
 use memchr::{memchr, memmem};
+
+/// Whether a byte is a space, a tab or a carriage return.
+pub fn is_blank(byte: u8) -> bool
+    ensures { result ≡ is_blank byte }
+{
+    matches!(byte, b' ' | b'\t' | b'\r')
+}
 
 /// The length of the line comment at the start, without its newline.
 pub fn line_comment_len(bytes: &[u8]) -> usize

@@ -3,10 +3,10 @@ use Rattle.std.proofs.Common.{subst, length, vec_len, ◌∷◌, ◌++◌, ◌<�
 use Rattle.std.proofs.lemmas.List.{nil_from_length}
 use Rattle.std.proofs.lemmas.Bool.{eqb-true}
 use Rattle.go_ast.specs.declared.syntax.Kind.TheVariants as kind
-use Rattle.go_ast.specs.Grammar.{A, Close, Links, Elements, ElementList, MoreElements, Arguments, MoreArguments}
+use Rattle.go_ast.specs.Grammar.{A, Close, Binaries, Links, Elements, ElementList, MoreElements, Arguments, MoreArguments}
 use Rattle.go_parser.specs.Machine.{first, later, last}
 use Rattle.go_parser.specs.Parsing.{list_rest}
-use Rattle.go_ast.specs.Flatten.{sign, prefix_kind, all_tokens, expr_tokens, type_tokens}
+use Rattle.go_ast.specs.Flatten.{sign, binary_kind, prefix_kind, all_tokens, expr_tokens, type_tokens}
 use Rattle.go_ast.specs.View.{expr_view, literal_view}
 use Rattle.go_ast.specs.WellFormed.{IsExpr, IsExprIn, IsLiteral, strength_of}
 use Rattle.go_parser.specs.Grouping.{Each, IsLink, IsUnary, IsOperand, IsOperandOf, is_slice, is_literal_type, literal_type_of}
@@ -14,15 +14,17 @@ use Rattle.go_ast.specs.declared.tree.Element.{Element}
 use Rattle.go_ast.specs.declared.tree.ExprItem.{ExprItem}
 use Rattle.go_parser.proofs.Grouping.{so_far_none, so_far_push, each_push, composite_grouped, name_grouped, prefix_grouped, address_grouped, paren_grouped}
 use Rattle.go_parser.proofs.Grouping.{literal_wf, literal_typed, selector_wf, index_wf, call_wf}
-use Rattle.go_parser.proofs.Grouping.{IsSeparatedSoFar, named_not_in_header, not_zero, operator_strength}
+use Rattle.go_parser.proofs.Grouping.{IsSeparatedSoFar, named_not_in_header, not_zero, operator_strength, unary_strength, push_some}
 use Rattle.go_parser.specs.Spelling.{expr_spelled, literal_spelled, link_spelled, operand_spelled, expr_item_spelled, element_spelled}
 use Rattle.go_parser.proofs.MachineSteps.{exits, fails_first, fails_later, fails_rule, fails_leads, fails_more, fails_after, read_then, read_rule}
 use Rattle.go_parser.proofs.MachineSteps.{read_to_close, read_as, read_on, read_led, read_through, leads_here, leads_then, leads_close, leads_rule, leads_on}
 use Rattle.go_parser.proofs.MachineSteps.{leads_as, leads_after, leads_to_end, tail_rule, tail_on, tail_through, continued_by}
+use Rattle.go_parser.proofs.MachineSteps.{leads_first, continued_here, continued_led, tail_continued, tail_led}
 use Rattle.go_parser.proofs.Lists.{list_separated, list_ends, leads_rest}
 use Rattle.go_parser.proofs.Passages.{unary_literal, unary_name, address_name, address_slice, element_key, element_value}
-use Rattle.go_parser.proofs.Lengths.{expr_some, element_some, read_no_longer, read_shorter, leads_no_longer, leads_shorter, separator_no_longer}
-use Rattle.go_parser.proofs.Strengths.{some_operator, as_expression}
+use Rattle.go_parser.proofs.Lengths.{some_here, expr_some, element_some, read_no_longer, read_shorter, leads_no_longer, leads_shorter, separator_no_longer}
+use Rattle.go_parser.proofs.Strengths.{some_operator, strength_at_most, as_expression}
+use Rattle.go_parser.specs.Strength.{strength_at}
 use Rattle.go_parser.proofs.Spelled.{all_tokens_push, no_tokens, none_tokens, name_tokens, composite_tokens, address_tokens, paren_tokens, prefix_tokens}
 use Rattle.go_parser.proofs.Spelled.{selector_tokens, index_tokens, call_tokens, literal_row_tokens}
 use Rattle.go_parser.proofs.expressions.+expression.Goals as goal
@@ -51,31 +53,75 @@ addressed-returns-clause-exact t c = tail_rule _ _ _ _ _ _ c.literal-2.result
 pub expression-returns-clause-exact : goal.expression-returns-clause-exact
 expression-returns-clause-exact t c = as_expression c.args.header _ _ _ _ c.binary.result c.binary.ensures.exact c.binary.ensures.ends
 
-pub binary-operators-init : goal.binary-operators-init
-binary-operators-init t c = record {
+pub binary-returns-in_err-first-clause-exact : goal.binary-returns-in_err-first-clause-exact
+binary-returns-in_err-first-clause-exact t c = exits _ _ _ _ c.in_err-first.field-0.0 c.from_residual.result c.from_residual.ensures.1
+    (fails_first c.in_err-first.ensures.exact)
+
+pub binary-returns-then-strength_at-strength-clause-exact : goal.binary-returns-then-strength_at-strength-clause-exact
+binary-returns-then-strength_at-strength-clause-exact t c = leads_first c.in_ok-first.ensures.exact
+
+pub binary-returns-then-strength_at-strength-clause-strong : goal.binary-returns-then-strength_at-strength-clause-strong
+binary-returns-then-strength_at-strength-clause-strong t c = omega (arith, unary_strength c.args.header _ c.in_ok-first.ensures.grouped, c.requires.most)
+
+pub binary-binary_rest-requires : goal.binary-binary_rest-requires
+binary-binary_rest-requires t c =
+    let unary = c.in_ok-first.ensures in
+    let six = unary_strength c.args.header _ unary.grouped in
+    let fewer = read_shorter (expr_some c.in_ok-first.first) unary.exact in (
+      omega (arith, c.decreases, fewer),
+      (c.requires.least, (unary.grouped.expr, (omega (arith, six, strength_at_most c.in_ok-first.rest.now), omega (arith, six, c.requires.most)))),
+    )
+
+pub binary-returns-clause-exact : goal.binary-returns-clause-exact
+binary-returns-clause-exact t c = tail_led (A (Binaries c.args.header) ∷ []) (A (Binaries c.args.header) ∷ []) _ _ c.binary_rest.result
+    c.in_ok-first.ensures.exact c.binary_rest.ensures.exact
+
+pub binary_rest-returns-then-next-strength-clause-exact : goal.binary_rest-returns-then-next-strength-clause-exact
+binary_rest-returns-then-next-strength-clause-exact t c = continued_here
+
+pub binary_rest-returns-in_err-whole-clause-exact : goal.binary_rest-returns-in_err-whole-clause-exact
+binary_rest-returns-in_err-whole-clause-exact t c = exits _ _ _ _ c.in_err-whole.field-0.0 c.from_residual.result c.from_residual.ensures.1
+    c.in_err-whole.ensures.exact
+
+pub binary_rest-binary_rest-requires : goal.binary_rest-binary_rest-requires
+binary_rest-binary_rest-requires t c =
+    let level = c.in_ok-whole.ensures in (
+      omega (arith, c.decreases, level.shorter),
+      (c.requires.least, (level.grouped.expr, (omega (arith, level.ends, level.grouped.same), omega (arith, level.grouped.same, c.if-next-strength.false)))),
+    )
+
+pub binary_rest-returns-clause-exact : goal.binary_rest-returns-clause-exact
+binary_rest-returns-clause-exact t c = tail_continued (A (Binaries c.args.header) ∷ []) _ _ c.binary_rest.result c.in_ok-whole.ensures.exact
+    c.binary_rest.ensures.exact
+
+pub binary_level-operators-init : goal.binary_level-operators-init
+binary_level-operators-init t c = record {
   leads = leads_as leads_here
       (sym (none_tokens operand_spelled) ∙ ap (all_tokens operand_spelled) (sym c.new-operands.ensures.items));
   kept = refl;
   grouped =
       subst (Each (IsOperandOf c.args.header c.args.strength)) (sym c.new-operands.ensures.items) tt;
-  weaker = c.in_ok-first.ensures.ends;
+  weaker = omega (arith, c.requires.next);
+  begun = λ none. refl;
+  further = λ some. absurd (some c.new-operands.ensures.items);
   shorter = omega arith;
 }
 
-pub binary-returns-in_err-op-clause-exact : goal.binary-returns-in_err-op-clause-exact
-binary-returns-in_err-op-clause-exact t c = exits _ _ _ _ c.in_err-op.field-0.0 c.from_residual-in_err-op.result c.from_residual-in_err-op.ensures.1
-    (fails_leads (leads_on c.in_ok-first.ensures.exact c.operators.invariant.leads)
+pub binary_level-returns-in_err-op-clause-exact : goal.binary_level-returns-in_err-op-clause-exact
+binary_level-returns-in_err-op-clause-exact t c = exits _ _ _ _ c.in_err-op.field-0.0 c.from_residual.result c.from_residual.ensures.1
+    (fails_leads c.operators.invariant.leads
     (fails_rule (first (some_operator c.operators.rest.now (omega (arith, c.strength_at.ensures, c.operators-test.true, c.requires.least))))
     (fails_first c.in_err-op.ensures)))
 
-pub binary-returns-in_err-value-clause-exact : goal.binary-returns-in_err-value-clause-exact
-binary-returns-in_err-value-clause-exact t c = exits _ _ _ _ c.in_err-value.field-0.0 c.from_residual-in_err-value.result c.from_residual-in_err-value.ensures.1
-    (fails_leads (leads_on c.in_ok-first.ensures.exact c.operators.invariant.leads)
+pub binary_level-returns-in_err-value-clause-exact : goal.binary_level-returns-in_err-value-clause-exact
+binary_level-returns-in_err-value-clause-exact t c = exits _ _ _ _ c.in_err-value.field-0.0 c.from_residual-in_err-value.result
+    c.from_residual-in_err-value.ensures.1
+    (fails_leads c.operators.invariant.leads
     (fails_rule (first (some_operator c.operators.rest.now (omega (arith, c.strength_at.ensures, c.operators-test.true, c.requires.least))))
     (fails_later c.in_ok-op.ensures c.in_err-value.ensures.exact)))
 
-pub binary-operators-preserved : goal.binary-operators-preserved
-binary-operators-preserved t c = record {
+pub binary_level-operators-preserved : goal.binary_level-operators-preserved
+binary_level-operators-preserved t c = record {
   leads = leads_as (leads_on c.operators.invariant.leads
       (leads_rule (first (some_operator c.operators.rest.now (omega (arith, c.strength_at.ensures, c.operators-test.true, c.requires.least))))
       (leads_then c.in_ok-op.ensures c.in_ok-value.ensures.exact)))
@@ -89,19 +135,18 @@ binary-operators-preserved t c = record {
         expr = c.in_ok-value.ensures.grouped;
       }));
   weaker = c.in_ok-value.ensures.ends;
+  begun = λ none. absurd (push_some _ _ (sym c.in_ok-push.ensures.items ∙ none));
+  further = λ some. omega (
+    arith,
+    read_shorter (some_here (sign (binary_kind c.in_ok-op.op) c.in_ok-op.at) []) c.in_ok-op.ensures,
+    leads_no_longer c.in_ok-value.ensures.exact,
+    c.operators.invariant.shorter,
+  );
   shorter = omega (arith, read_no_longer c.in_ok-op.ensures, leads_no_longer c.in_ok-value.ensures.exact, c.operators.invariant.shorter);
 }
 
-pub binary-returns-then-is_empty-clause-exact : goal.binary-returns-then-is_empty-clause-exact
-binary-returns-then-is_empty-clause-exact t c = leads_as (leads_on c.in_ok-first.ensures.exact c.operators.invariant.leads)
-    (ap (λ x. expr_spelled c.in_ok-first.first ++ x)
-    (no_tokens operand_spelled c.operators.operands.items
-    (nil_from_length c.operators.operands.items
-    (sym c.operators.operands.ok.0 ∙ eqb-true (vec_len c.operators.operands) 0 (sym c.is_empty.ensures ∙ c.if-is_empty.true)))) ∙
-    (append-nil _ ∙ ap expr_tokens (sym c.operators.invariant.kept)))
-
-pub binary-returns-clause-exact : goal.binary-returns-clause-exact
-binary-returns-clause-exact t c = leads_as (leads_on c.in_ok-first.ensures.exact c.operators.invariant.leads)
+pub binary_level-returns-clause-exact : goal.binary_level-returns-clause-exact
+binary_level-returns-clause-exact t c = continued_led c.operators.invariant.leads
     (ap (λ x. x ++ all_tokens operand_spelled c.operators.operands.items) (ap expr_tokens (sym c.operators.invariant.kept)) ∙
     sym c.in_ok-whole.ensures.tokens)
 
@@ -532,17 +577,12 @@ chain-returns-clause-grouped t c = c.in_ok-whole.ensures.grouped c.args.header
     (subst (IsOperand c.args.header) (sym c.links.invariant.kept) c.requires) c.links.invariant.grouped
     (λ e. not_zero (vec_len c.links.links) (sym c.is_empty.ensures ∙ c.if-is_empty.false) (c.links.links.ok.0 ∙ ap length e))
 
-pub binary-returns-clause-grouped : goal.binary-returns-clause-grouped
-binary-returns-clause-grouped t c = (c.in_ok-whole.ensures.grouped c.args.header c.args.strength
-    (subst (IsExprIn c.args.header) (sym c.operators.invariant.kept) c.in_ok-first.ensures.grouped)
-    (subst (λ x. c.args.strength < strength_of x) (sym c.operators.invariant.kept) (let s = c.in_ok-first.ensures.strong in omega (arith, s)))
-    c.operators.invariant.grouped
-    (λ e. not_zero (vec_len c.operators.operands) (sym c.is_empty.ensures ∙ c.if-is_empty.false) (c.operators.operands.ok.0 ∙ ap length e))).expr
+pub binary_level-returns-clause-grouped : goal.binary_level-returns-clause-grouped
+binary_level-returns-clause-grouped t c = c.in_ok-whole.ensures.grouped c.args.header c.args.strength
+    (subst (IsExprIn c.args.header) (sym c.operators.invariant.kept) c.requires.formed)
+    (subst (λ x. c.args.strength < strength_of x) (sym c.operators.invariant.kept) c.requires.stronger) c.operators.invariant.grouped
+    (λ none. omega (arith, ap strength_at (c.operators.invariant.begun none), c.requires.next, c.strength_at.ensures, c.operators-test.false))
 
-pub binary-returns-clause-strong : goal.binary-returns-clause-strong
-binary-returns-clause-strong t c = let s = (c.in_ok-whole.ensures.grouped c.args.header c.args.strength
-    (subst (IsExprIn c.args.header) (sym c.operators.invariant.kept) c.in_ok-first.ensures.grouped)
-    (subst (λ x. c.args.strength < strength_of x) (sym c.operators.invariant.kept) (let s = c.in_ok-first.ensures.strong in omega (arith, s)))
-    c.operators.invariant.grouped
-    (λ e. not_zero (vec_len c.operators.operands) (sym c.is_empty.ensures ∙ c.if-is_empty.false) (c.operators.operands.ok.0 ∙ ap length e))).same in
-    omega (arith, s)
+pub binary_level-returns-clause-shorter : goal.binary_level-returns-clause-shorter
+binary_level-returns-clause-shorter t c = c.operators.invariant.further
+    (λ none. omega (arith, ap strength_at (c.operators.invariant.begun none), c.requires.next, c.strength_at.ensures, c.operators-test.false))

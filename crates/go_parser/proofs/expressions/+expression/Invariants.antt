@@ -1,5 +1,5 @@
 -- The invariants of the loops of `expressions::expression`.
-use Rattle.std.proofs.Common.{◌≡◌, ◌∷◌, ◌≤◌, ◌<◌, ◌+◌, ◌*◌, ◌-◌, [], length}
+use Rattle.std.proofs.Common.{◌≡◌, ◌≢◌, ◌∷◌, ◌≤◌, ◌<◌, ◌+◌, ◌*◌, ◌-◌, [], length}
 use Rattle.go_ast.specs.Grammar.{A, Binaries, Links, Arguments, ElementList}
 use Rattle.go_ast.specs.declared.syntax.Kind.TheVariants as kind
 use Rattle.go_parser.specs.Parsing.{Leads, list_rest}
@@ -37,8 +37,14 @@ decreases-operand l = 16 * length l.tokens.now + 3
 abbrev pub decreases-unary : goal.decreases-unary
 decreases-unary l = 16 * length l.tokens.now + 4
 
+abbrev pub decreases-binary_level : goal.decreases-binary_level
+decreases-binary_level l = 16 * length l.tokens.now + 1
+
+abbrev pub decreases-binary_rest : goal.decreases-binary_rest
+decreases-binary_rest l = 16 * length l.tokens.now + 2
+
 abbrev pub decreases-binary : goal.decreases-binary
-decreases-binary l = 16 * length l.tokens.now + (11 - l.strength)
+decreases-binary l = 16 * length l.tokens.now + 10
 
 abbrev pub decreases-expression : goal.decreases-expression
 decreases-expression l = 16 * length l.tokens.now + 11
@@ -49,17 +55,19 @@ decreases-element l = 16 * length l.tokens.now + 12
 abbrev pub decreases-arguments : goal.decreases-arguments
 decreases-arguments l = 16 * length l.tokens.now + 12
 
-abbrev pub invariant-binary-operators : goal.invariant-binary-operators
-invariant-binary-operators l = record {
-  leads : Leads (A (Binaries l.header) ∷ []) (A (Binaries l.header) ∷ []) (all_tokens operand_spelled l.operands.items) l.depth l.initial.rest l.depth l.rest;
-  kept : expr_view l.first ≡ expr_view l.initial.first;
+abbrev pub invariant-binary_level-operators : goal.invariant-binary_level-operators
+invariant-binary_level-operators l = record {
+  leads : Leads (A (Binaries l.header) ∷ []) (A (Binaries l.header) ∷ []) (all_tokens operand_spelled l.operands.items) l.depth l.fn.tokens l.depth l.rest;
+  kept : expr_view l.first ≡ expr_view l.fn.first;
   grouped : Each (IsOperandOf l.header l.strength) l.operands.items;
   weaker : strength_at l.rest < l.strength + 1;
-  shorter : length l.rest ≤ length l.initial.rest;
+  begun : l.operands.items ≡ [] → l.rest ≡ l.fn.tokens;
+  further : l.operands.items ≢ [] → length l.rest < length l.fn.tokens;
+  shorter : length l.rest ≤ length l.fn.tokens;
 }
 
-abbrev pub decreases-binary-operators : goal.decreases-binary-operators
-decreases-binary-operators l = length l.rest
+abbrev pub decreases-binary_level-operators : goal.decreases-binary_level-operators
+decreases-binary_level-operators l = length l.rest
 
 abbrev pub invariant-chain-links : goal.invariant-chain-links
 invariant-chain-links l = record {

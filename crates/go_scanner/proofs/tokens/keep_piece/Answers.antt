@@ -1,7 +1,6 @@
 -- The end lies a length behind the start.
 use Rattle.std.proofs.Common.{◌≡◌, ◌+◌, ◌-◌, ◌∷◌, ◌++◌, [], ◌∙◌, arith}
 use Rattle.std.proofs.lemmas.Result.{on_ok_weaker}
-use Rattle.go_scanner.specs.declared.piece.Piece.{Piece}
 use Rattle.go_scanner.proofs.tokens.keep_piece.Goals as goal
 
 pub returns : goal.returns

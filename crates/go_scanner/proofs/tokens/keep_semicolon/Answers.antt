@@ -1,5 +1,5 @@
 -- A semicolon ends where it begins.
-use Rattle.std.proofs.Common.{◌∷◌, ◌++◌, [], ap, ◌∙◌, zero-add}
+use Rattle.std.proofs.Common.{◌∷◌, ◌++◌, [], ◌∙◌, zero-add}
 use Rattle.std.proofs.lemmas.Result.{on_ok_weaker}
 use Rattle.go_scanner.specs.declared.operators.Operator.TheVariants.{Semicolon}
 use Rattle.go_scanner.specs.declared.piece.Class.TheVariants.{Operator}

@@ -3,6 +3,7 @@ use Rattle.std.proofs.Common.{◌≡◌, ◌+◌, Some, drop, arith, sym, ap, �
 use Rattle.std.proofs.lemmas.List.{take_rest}
 use Rattle.bstr.specs.Utf8.{decoded}
 use Rattle.go_scanner.specs.Words.{NameRunSoFar}
+use Rattle.go_scanner.proofs.AsciiLemmas.{mark_stops}
 use Rattle.go_scanner.proofs.WordLemmas.{run_grows, run_stops, char_some}
 use Rattle.go_scanner.proofs.words.name_run.Goals as goal
 
@@ -25,6 +26,10 @@ loop-n-smaller c = omega (arith, (grown c).fits, char_some (drop c.loop-n.n c.ar
 
 pub loop-n-preserved : goal.loop-n-preserved
 loop-n-preserved c = grown c
+
+pub returns-then-is_ascii_mark : goal.returns-then-is_ascii_mark
+returns-then-is_ascii_mark c = run_stops _ _ c.loop-n.invariant
+    (mark_stops c.args.bytes.now c.loop-n.n c.loop-n-test.true (sym c.is_ascii_mark.ensures ∙ c.if-is_ascii_mark.true))
 
 pub returns-in_default : goal.returns-in_default
 returns-in_default c =
