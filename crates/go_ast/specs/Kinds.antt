@@ -23,6 +23,7 @@ kind_of_keyword word.For = kind.For
 kind_of_keyword word.Func = kind.Func
 kind_of_keyword word.If = kind.If
 kind_of_keyword word.Import = kind.Import
+kind_of_keyword word.Interface = kind.Interface
 kind_of_keyword word.Package = kind.Package
 kind_of_keyword word.Return = kind.Return
 kind_of_keyword word.Struct = kind.Struct

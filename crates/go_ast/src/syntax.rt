@@ -1,7 +1,7 @@
 //! The kinds of tokens that the grammar distinguishes, and the operators.
 
 /// The kind of a token in the grammar. `Blank` is the identifier `_`, `Text` a string literal, and `Other` each keyword and operator that
-/// the grammar does not use. No token of a text has the kind `Interface` yet: the keyword is of the kind `Other`.
+/// the grammar does not use.
 #[derive(Clone, Copy, PartialEq, Eq, Debug)]
 pub enum Kind {
     Name,
