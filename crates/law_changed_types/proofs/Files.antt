@@ -5,7 +5,7 @@ use Rattle.std.proofs.lemmas.List.{length-map}
 use Rattle.go_ast.specs.Tree.{Item, TypeTree, ExprTree, InitTree, ForTree, forever, while, clauses, StatementTree, Empty, Var, Simple, Inner, If, For, Break}
 use Rattle.go_ast.specs.Tree.{Continue, Return, BlockTree, block, StatementTrees, no_statement, statement, IfTree, if_tree, ElseTree, no_else, else_if}
 use Rattle.go_ast.specs.Tree.{else_block, FuncTree, ReceiverTree, ParamTree, ResultTree, no_result, one_result, DeclTree, VarDecl, TypeDecl, FuncDecl}
-use Rattle.go_ast.specs.Tree.{FileTree, GlobalTree, TypeSpecTree, BasicTree, Integer, String, FieldTree, BodyTree, Other}
+use Rattle.go_ast.specs.Tree.{FileTree, GlobalTree, TypeSpecTree, BasicTree, Integer, String, FieldTree, BodyTree, Other, MethodTree}
 use Rattle.go_ast.specs.Tree as tree
 use Rattle.types_expr.specs.Types.{PlainType}
 use Rattle.types_expr.specs.World.{no_locals, World}
@@ -20,13 +20,13 @@ use Rattle.types_stmt.specs.Headers.{check_param, ResultsJudged, with_result, ju
 use Rattle.types_stmt.specs.Headers.{check_function}
 use Rattle.types_stmt.specs.Declarations.{literal_value, first_name, literal_faults, value_faults, global_faults, field_faults, body_faults, check_global}
 use Rattle.types_stmt.specs.Declarations.{check_type, check_decl, check_decls, check_file}
-use Rattle.types_stmt.specs.Declarations.{global_enterings, literal_enterings, value_enterings}
+use Rattle.types_stmt.specs.Declarations.{asked_faults, param_faults, global_enterings, literal_enterings, value_enterings}
 use Rattle.law_rename.specs.Renumbered.{items_by, ident_by, basic_by, type_by, exprs_by, values_by, local_by, init_by, for_by, statement_by, item_by, expr_by}
 use Rattle.law_rename.specs.Renumbered.{block_by, statements_by, if_by, else_by, global_by, field_by, body_by, type_spec_by, receiver_by, param_by, result_by}
-use Rattle.law_rename.specs.Renumbered.{func_by, decl_by, renumbered}
+use Rattle.law_rename.specs.Renumbered.{func_by, decl_by, renumbered, method_by}
 use Rattle.law_changed_types.specs.Renumbering.{IsRenumberedCheck, renumbered_noted, renumbered_uses}
 use Rattle.law_changed_types.specs.Renumbers.{StatementsRenumber, FilesRenumber}
-use Rattle.law_changed_types.proofs.Renumber.{Renumber, new, the_renumber, new_is, ap2, ap3, if_maps, two, giving_numbers}
+use Rattle.law_changed_types.proofs.Renumber.{Renumber, new, the_renumber, new_is, ap2, ap3, if_maps, two, giving_numbers, three}
 use Rattle.law_changed_types.proofs.RenumberedTokensRules.{list_value, list_values, all_whole_stays}
 use Rattle.law_changed_types.proofs.Literals.{type_found, written_found, named_type_found}
 use Rattle.law_changed_types.proofs.Places.{names_begin}
@@ -301,11 +301,28 @@ field_faults_found m (i ∷ is) =
     ap2 (λ (t : TypeJudged) (fs : List ℕ). t.faults ++ fs) (written_found m i.value.type_use) (field_faults_found m is)
     ∙ two m.to (judge_type m.old i.value.type_use).faults (field_faults m.old is)
 
+param_faults_found : (m : Renumber) (is : List (Item ParamTree)) →
+    param_faults (new m) (items_by m.to (param_by m.to) is) ≡ map m.to (param_faults m.old is)
+unfolding param_faults
+param_faults_found m [] = refl
+param_faults_found m (i ∷ is) =
+    ap2 (λ (t : TypeJudged) (fs : List ℕ). t.faults ++ fs) (written_found m i.value.type_use) (param_faults_found m is)
+    ∙ two m.to (judge_type m.old i.value.type_use).faults (param_faults m.old is)
+
+asked_faults_found : (m : Renumber) (is : List (Item MethodTree)) →
+    asked_faults (new m) (items_by m.to (method_by m.to) is) ≡ map m.to (asked_faults m.old is)
+unfolding asked_faults
+asked_faults_found m [] = refl
+asked_faults_found m (i ∷ is) =
+    ap3 (λ (ps : List ℕ) (r : ResultsJudged) (fs : List ℕ). ps ++ (r.faults ++ fs)) (param_faults_found m i.value.params) (results_are m i.value.result)
+    (asked_faults_found m is)
+    ∙ three m.to (param_faults m.old i.value.params) (judge_results m.old i.value.result).faults (asked_faults m.old is)
+
 body_faults_found : (m : Renumber) (b : BodyTree) → body_faults (new m) (body_by m.to b) ≡ map m.to (body_faults m.old b)
 unfolding body_faults
 body_faults_found m (Other t) = ap (λ (x : TypeJudged). x.faults) (written_found m t)
 body_faults_found m (tree.Struct p o fs c) = field_faults_found m fs
-body_faults_found m (tree.Interface p o ms c) = refl
+body_faults_found m (tree.Interface p o ms c) = asked_faults_found m ms
 
 decl_found : (m : Renumber) (before after : ℕ → Bool) → ((token : ℕ) → after (m.to token) ≡ before token) → (s z : FoundSoFar) → Same m s z → (d : DeclTree) →
     Same m (check_decl m.old before s d) (check_decl (new m) after z (decl_by m.to d))

@@ -6,7 +6,7 @@ use Rattle.base_lemmas.proofs.Elements.{first_in, later_in}
 use Rattle.go_ast.specs.Tree.{Item, TypeTree, ExprTree, InitTree, ForTree, forever, while, clauses, StatementTree, Empty, Var, Simple, Inner, If, For, Break}
 use Rattle.go_ast.specs.Tree.{Continue, Return, BlockTree, block, StatementTrees, no_statement, statement, IfTree, if_tree, ElseTree, no_else, else_if}
 use Rattle.go_ast.specs.Tree.{else_block, FuncTree, ReceiverTree, ParamTree, ResultTree, no_result, one_result, DeclTree, VarDecl, TypeDecl, FuncDecl}
-use Rattle.go_ast.specs.Tree.{FileTree, GlobalTree, TypeSpecTree, BasicTree, Integer, String, FieldTree, BodyTree, Other}
+use Rattle.go_ast.specs.Tree.{FileTree, GlobalTree, TypeSpecTree, BasicTree, Integer, String, FieldTree, BodyTree, Other, MethodTree}
 use Rattle.go_ast.specs.Tree as tree
 use Rattle.types_expr.specs.Types.{PlainType, BasicType, Defined, Pointer, Slice, takes_no_methods}
 use Rattle.types_expr.specs.World.{no_locals, World}
@@ -21,7 +21,7 @@ use Rattle.types_stmt.specs.Headers.{check_param, ResultsJudged, with_result, ju
 use Rattle.types_stmt.specs.Headers.{check_function}
 use Rattle.types_stmt.specs.Declarations.{literal_value, first_name, literal_faults, value_faults, global_faults, field_faults, body_faults, check_global}
 use Rattle.types_stmt.specs.Declarations.{check_type, check_decl, check_decls, check_file}
-use Rattle.types_stmt.specs.Declarations.{global_enterings, literal_enterings, value_enterings}
+use Rattle.types_stmt.specs.Declarations.{asked_faults, param_faults, global_enterings, literal_enterings, value_enterings}
 use Rattle.law_changed_types.specs.MemberUses.{AgreesOnInit}
 use Rattle.law_changed_types.specs.Moved.{moved_type, moved_locals, moved_target, moved_checked, moved_noted}
 use Rattle.law_changed_types.specs.Moves.{StatementsMove, FilesMove}
@@ -303,11 +303,23 @@ field_faults_stay m [] = refl
 field_faults_stay m (i ∷ is) =
     ap2 (λ (t : TypeJudged) (fs : List ℕ). t.faults ++ fs) (type_moves m i.value.type_use) (field_faults_stay m is)
 
+param_faults_stay : (m : Move) (is : List (Item ParamTree)) → param_faults m.new is ≡ param_faults m.old is
+unfolding param_faults
+param_faults_stay m [] = refl
+param_faults_stay m (i ∷ is) =
+    ap2 (λ (t : TypeJudged) (fs : List ℕ). t.faults ++ fs) (type_moves m i.value.type_use) (param_faults_stay m is)
+
+asked_faults_stay : (m : Move) (is : List (Item MethodTree)) → asked_faults m.new is ≡ asked_faults m.old is
+unfolding asked_faults
+asked_faults_stay m [] = refl
+asked_faults_stay m (i ∷ is) = ap3 (λ (ps : List ℕ) (r : ResultsJudged) (fs : List ℕ). ps ++ (r.faults ++ fs)) (param_faults_stay m i.value.params)
+    (results_move m i.value.result) (asked_faults_stay m is)
+
 body_faults_stay : (m : Move) (b : BodyTree) → body_faults m.new b ≡ body_faults m.old b
 unfolding body_faults
 body_faults_stay m (Other t) = ap (λ (z : TypeJudged). z.faults) (type_moves m t)
 body_faults_stay m (tree.Struct p o fs c) = field_faults_stay m fs
-body_faults_stay m (tree.Interface p o ms c) = refl
+body_faults_stay m (tree.Interface p o ms c) = asked_faults_stay m ms
 
 global_found : (m : Move) (s : FoundSoFar) (g : GlobalTree) → IsMoved m s (check_global m.old s g) (check_global m.new (moved_checked m.path s) g)
 global_found m s g = part s s.locals (global_faults m.old g) (global_enterings m.old g) _ (λ h.

@@ -13,8 +13,8 @@ use Rattle.types_stmt.specs.Simple.{condition_faults, step_faults, update_faults
 use Rattle.types_stmt.specs.Statements.{returned, returning}
 use Rattle.types_stmt.specs.Headers.{may_receive, receiver_or_fault, receiver_base, judge_receiver, check_receiver, check_optional_receiver, check_param}
 use Rattle.types_stmt.specs.Headers.{judge_types, judge_results}
-use Rattle.types_stmt.specs.Declarations.{literal_faults, value_faults, global_faults, literal_enterings, value_enterings, field_faults}
-use Rattle.types_stmt.specs.Declarations.{body_faults, check_global, check_type}
+use Rattle.types_stmt.specs.Declarations.{literal_faults, value_faults, global_faults, literal_enterings, value_enterings, field_faults, param_faults}
+use Rattle.types_stmt.specs.Declarations.{asked_faults, body_faults, check_global, check_type}
 use Rattle.law_changed_types.proofs.Agreement.{Members, with_members}
 
 pub same_condition : (v : World) (m : Members) (place : ℕ) (k : Option ValueKind) →
@@ -64,5 +64,5 @@ unfolding global_faults value_faults literal_faults all_refused refused_at misfi
 same_global v m s g = refl
 
 pub same_type_spec : (v : World) (m : Members) (s : FoundSoFar) (t : TypeSpecTree) → check_type (with_members v m) s t ≡ check_type v s t
-unfolding body_faults field_faults judge_type imported_type
+unfolding body_faults field_faults asked_faults param_faults judge_results judge_types judge_type imported_type
 same_type_spec v m s t = refl

@@ -1,4 +1,4 @@
--- In a workspace without faults the functions have arities by their names.
+-- In a workspace without faults the functions, and the methods that interfaces ask for, have arities by their names.
 use Rattle.std.proofs.Common.{ℕ, zero, suc, ◌≡◌, ◌+◌, ◌<◌, ◌≤◌, ◌⊎◌, inl, inr, Bool, true, false, if◌then◌else◌, List, [], ◌∷◌, ap, sym, subst, refl, ◌∙◌}
 use Rattle.std.proofs.Common.{arith}
 use Rattle.std.specs.Prelude.{Contains, Option, Some, None, slice_get, bytes_eq, codes}
@@ -8,8 +8,9 @@ use Rattle.std.proofs.lemmas.Option.{none-some, same_Some}
 use Rattle.base_files.specs.Packages.{package_paths}
 use Rattle.base_files.specs.Workspace.{Workspace}
 use Rattle.go_ast.specs.SourceFile.{SourceFile, spelling_of}
-use Rattle.go_ast.specs.Tree.{ReceiverTree}
-use Rattle.types_declared.specs.Package.{Package, PlacedFunction, package_functions, spelled_at}
+use Rattle.go_ast.specs.Tree.{Item, ReceiverTree, ParamTree, ResultTree}
+use Rattle.types_declared.specs.Definitions.{PlacedField, WrittenForm, OfType, OfSignature, package_fields}
+use Rattle.types_declared.specs.Package.{Package, PlacedFunction, package_types, package_functions, spelled_at}
 use Rattle.types_declared.proofs.ByteKeys.{cases_bytes}
 use Rattle.workspace_check.specs.FaultLists.{ListsFaults}
 use Rattle.workspace_check.specs.Verdicts.{Verdicts, AreVerdicts, IsPackageIn}
@@ -18,13 +19,14 @@ use Rattle.workspace_check.proofs.OneList.{checked_package}
 use Rattle.workspace_check.proofs.OnePackage.{one_checked}
 use Rattle.build_object.specs.Lines.{GlobalName, FunctionName, Plain, Method, Initializer}
 use Rattle.build_object.specs.Names.{spelled_in, is_named_init, is_initializer, name_of_receiver, function_named, function_behind, initializers_with}
-use Rattle.build_object.specs.Names.{functions_behind, function_names}
+use Rattle.build_object.specs.Names.{functions_behind, function_names, name_of_type, all_asked_names}
 use Rattle.law_faultless.specs.Stack.{Arity}
 use Rattle.refs_binding.specs.Uses.{IsCheckedPackage}
 use Rattle.law_faultless.proofs.PackageWorlds.{own_package}
-use Rattle.law_faultless.specs.Arities.{written_arity, AreArities}
+use Rattle.law_faultless.specs.Arities.{written_arity, asked_arity, AreArities}
+use Rattle.law_faultless.proofs.AskedMembers.{IsAskedBy, asked_is}
 use Rattle.law_faultless.proofs.FunctionsSettled.{IsInFile, in_file_of, called_as, behind_at}
-use Rattle.law_faultless.proofs.Names.{plain_apart, methods_apart}
+use Rattle.law_faultless.proofs.Names.{plain_apart, methods_apart, asked_apart, receives_no_interface}
 
 -- Two names are equal or not.
 
@@ -85,23 +87,69 @@ unfolding choose
 passed (inl p) a b h = absurd (h p)
 passed (inr n) a b h = refl
 
-found : List FunctionName → List PlacedFunction → FunctionName → Arity
-found [] fs name = no_arity
-found (n ∷ ns) [] name = no_arity
-found (n ∷ ns) (f ∷ fs) name = choose (cases_function n name) (written_arity f.function) (found ns fs name)
+-- by the names of functions, or else `other`
+found : List FunctionName → List PlacedFunction → FunctionName → Arity → Arity
+found [] fs name other = other
+found (n ∷ ns) [] name other = other
+found (n ∷ ns) (f ∷ fs) name other = choose (cases_function n name) (written_arity f.function) (found ns fs name other)
 
-found_at : (ns : List FunctionName) (fs : List PlacedFunction) (name : FunctionName) (rank : ℕ) (f : PlacedFunction) → slice_get ns rank ≡ Some name →
-    slice_get fs rank ≡ Some f →
-    ((r : ℕ) (g : PlacedFunction) → r < rank → slice_get ns r ≡ Some name → slice_get fs r ≡ Some g → ⊥) → found ns fs name ≡ written_arity f.function
+found_at : (other : Arity) (ns : List FunctionName) (fs : List PlacedFunction) (name : FunctionName) (rank : ℕ) (f : PlacedFunction) →
+    slice_get ns rank ≡ Some name → slice_get fs rank ≡ Some f →
+    ((r : ℕ) (g : PlacedFunction) → r < rank → slice_get ns r ≡ Some name → slice_get fs r ≡ Some g → ⊥) → found ns fs name other ≡ written_arity f.function
 unfolding found
-found_at [] fs name rank f e k first = absurd (none-some name e)
-found_at (n ∷ ns) [] name rank f e k first = absurd (none-some f k)
-found_at (n ∷ ns) (g ∷ gs) name zero f e k first =
-    chosen (cases_function n name) (written_arity g.function) (found ns gs name) (same_Some n name e) ∙
+found_at other [] fs name rank f e k first = absurd (none-some name e)
+found_at other (n ∷ ns) [] name rank f e k first = absurd (none-some f k)
+found_at other (n ∷ ns) (g ∷ gs) name zero f e k first =
+    chosen (cases_function n name) (written_arity g.function) (found ns gs name other) (same_Some n name e) ∙
     ap (λ (z : PlacedFunction). written_arity z.function) (same_Some g f k)
-found_at (n ∷ ns) (g ∷ gs) name (suc rank) f e k first =
-    passed (cases_function n name) (written_arity g.function) (found ns gs name) (λ same. first 0 g (omega arith) (ap (λ z. Some z) same) refl) ∙
-    found_at ns gs name rank f e k (λ r h less at there. first (suc r) h (omega arith) at there)
+found_at other (n ∷ ns) (g ∷ gs) name (suc rank) f e k first =
+    passed (cases_function n name) (written_arity g.function) (found ns gs name other) (λ same. first 0 g (omega arith) (ap (λ z. Some z) same) refl) ∙
+    found_at other ns gs name rank f e k (λ r h less at there. first (suc r) h (omega arith) at there)
+
+none_found : (other : Arity) (ns : List FunctionName) (fs : List PlacedFunction) (name : FunctionName) →
+    ((r : ℕ) (g : PlacedFunction) → slice_get ns r ≡ Some name → slice_get fs r ≡ Some g → ⊥) → found ns fs name other ≡ other
+unfolding found
+none_found other [] fs name none = refl
+none_found other (n ∷ ns) [] name none = refl
+none_found other (n ∷ ns) (g ∷ gs) name none =
+    passed (cases_function n name) (written_arity g.function) (found ns gs name other) (λ same. none 0 g (ap (λ z. Some z) same) refl) ∙
+    none_found other ns gs name (λ r h at there. none (suc r) h at there)
+
+-- by the names of methods that interfaces ask for
+
+cases_asked : (o : Option FunctionName) (name : FunctionName) → (o ≡ Some name) ⊎ (o ≡ Some name → ⊥)
+cases_asked None name = inr (λ e. none-some name e)
+cases_asked (Some n) name = elim (cases_function n name) [
+  | inl e ↦ inl (ap (λ (z : FunctionName). Some z) e)
+  | inr other ↦ inr (λ e. other (same_Some n name e))
+]
+
+form_arity : WrittenForm → Arity
+form_arity (OfType t) = no_arity
+form_arity (OfSignature ps r) = asked_arity ps r
+
+found_asked : List (Option FunctionName) → List PlacedField → FunctionName → Arity
+found_asked [] fs name = no_arity
+found_asked (o ∷ os) [] name = no_arity
+found_asked (o ∷ os) (f ∷ fs) name = choose (cases_asked o name) (form_arity f.form) (found_asked os fs name)
+
+asked_at : (os : List (Option FunctionName)) (fs : List PlacedField) (name : FunctionName) (rank : ℕ) (f : PlacedField) →
+    slice_get os rank ≡ Some (Some name) → slice_get fs rank ≡ Some f →
+    ((r : ℕ) (g : PlacedField) → r < rank → slice_get os r ≡ Some (Some name) → slice_get fs r ≡ Some g → ⊥) →
+    found_asked os fs name ≡ form_arity f.form
+unfolding found_asked
+asked_at [] fs name rank f e k first = absurd (none-some (Some name) e)
+asked_at (o ∷ os) [] name rank f e k first = absurd (none-some f k)
+asked_at (o ∷ os) (g ∷ gs) name zero f e k first =
+    chosen (cases_asked o name) (form_arity g.form) (found_asked os gs name) (same_Some o (Some name) e) ∙
+    ap (λ (z : PlacedField). form_arity z.form) (same_Some g f k)
+asked_at (o ∷ os) (g ∷ gs) name (suc rank) f e k first =
+    passed (cases_asked o name) (form_arity g.form) (found_asked os gs name) (λ same. first 0 g (omega arith) (ap (λ z. Some z) same) refl) ∙
+    asked_at os gs name rank f e k (λ r h less at there. first (suc r) h (omega arith) at there)
+
+form_is : (form : WrittenForm) (ps : List (Item ParamTree)) (r : ResultTree) → form ≡ OfSignature ps r → form_arity form ≡ asked_arity ps r
+unfolding form_arity
+form_is form ps r e = ap form_arity e
 
 -- of two functions the later one is behind as many `init`
 
@@ -171,6 +219,17 @@ module _ (path : List ℕ) (files : List SourceFile) where
       let z : Method (name_of_receiver path files ff r) n ≡ Method (name_of_receiver path files fg t) m = e in
       let owner : name_of_receiver path files ff r ≡ name_of_receiver path files fg t = cc in
       let name : n ≡ m = cc in q r t refl refl (ap (λ (x : GlobalName). x.name) owner) name
+
+  -- a method's name tells its receiver
+  as_method : (A : Type 0) (b : Bool) (j file : ℕ) (r : Option ReceiverTree) (n : List ℕ) (owner : GlobalName) (m : List ℕ) →
+      (if b then Initializer path j else function_named path files file r n) ≡ Method owner m →
+      ((x : ReceiverTree) → r ≡ Some x → spelled_in files file x.type_name ≡ owner.name → A) → A
+  as_method A true j file r n owner m e k = let z : ⊥ = cc in absurd z
+  as_method A false j file None n owner m e k =
+      let g : GlobalName = record { path = path; name = n } in let z : Plain g ≡ Method owner m = e in let never : ⊥ = cc in absurd never
+  as_method A false j file (Some r) n owner m e k =
+      let z : Method (name_of_receiver path files file r) n ≡ Method owner m = e in
+      let same : name_of_receiver path files file r ≡ owner = cc in k r refl (ap (λ (x : GlobalName). x.name) same)
 
 -- in a workspace without faults
 module _ (w : Workspace) (sound : ListsFaults w []) (known : Verdicts) (right : AreVerdicts w known) where
@@ -248,9 +307,29 @@ module _ (w : Workspace) (sound : ListsFaults w []) (known : Verdicts) (right : 
       path_if p.path (is_named_init f.function.receiver given) b.0 (function_named p.path p.files f.file f.function.receiver given)
       (path_named p.path p.files f.file f.function.receiver given)
 
+  asked_path : (p : Package) (f : PlacedField) (name : FunctionName) → IsAskedBy p.path p.files (package_types p) f name → path_of name ≡ p.path
+  unfolding path_of
+  asked_path p f name x = ap path_of x.called
+
+  -- no function is called as a method that an interface asks for
+  no_function : (p : Package) → IsCheckedPackage w known p → (rank : ℕ) (g : PlacedFunction) → slice_get (package_functions p) rank ≡ Some g →
+      (f : PlacedField) (name : FunctionName) → IsAskedBy p.path p.files (package_types p) f name →
+      slice_get (function_names p.path p.files) rank ≡ Some name → ⊥
+  no_function p is rank g has f name x e =
+      let b = behind_at p.path p.files 0 (package_functions p) rank g has in
+      let given = spelled_in p.files g.file g.function.name in
+      let same : called_as p.path p.files g.file g.function.receiver given b.0 ≡ name =
+      same_Some (function_behind p.path p.files b.0 g) name (sym b.1 ∙ e) in
+      as_method p.path p.files ⊥ (is_named_init g.function.receiver given) b.0 g.file g.function.receiver given
+      (name_of_type p.path p.files x.definition) (spelled_in p.files f.file f.name) (same ∙ x.called)
+      (λ r received owned.
+      receives_no_interface w sound known right p is rank g has r received f.definition x.definition x.is_definition owned x.of_interface.0
+      x.of_interface.1.0 x.of_interface.1.1.0 x.of_interface.1.1.1.0 x.of_interface.1.1.1.1)
+
   in_package : (q : List ℕ) → Contains (package_paths w) q ⊎ (Contains (package_paths w) q → ⊥) → FunctionName → Arity
   in_package q (inl has) name =
-      let c = (checked_package w sound q has).checked in found (function_names c.path c.files) (package_functions c) name
+      let c = (checked_package w sound q has).checked in
+      found (function_names c.path c.files) (package_functions c) name (found_asked (all_asked_names c.path c.files) (package_fields c) name)
   in_package q (inr none) name = no_arity
 
   arity_of : FunctionName → Arity
@@ -259,20 +338,32 @@ module _ (w : Workspace) (sound : ListsFaults w []) (known : Verdicts) (right : 
   in_own : (p : Package) → IsCheckedPackage w known p → (q : List ℕ) → q ≡ p.path →
       (d : Contains (package_paths w) q ⊎ (Contains (package_paths w) q → ⊥)) → (name : FunctionName) →
       in_package q d name ≡ found (function_names p.path p.files) (package_functions p) name
+      (found_asked (all_asked_names p.path p.files) (package_fields p) name)
   unfolding in_package
   in_own p is q e (inl has) name =
       let x = checked_package w sound q has in
       let mine = own_package w sound known right p is in
       let same : x.checked ≡ p = one_checked w sound.known q x.checked p x.is_package (subst (λ z. IsPackageIn w sound.known z p) (sym e) mine.is_checked) in
-      ap (λ (c : Package). found (function_names c.path c.files) (package_functions c) name) same
+      ap (λ (c : Package). found (function_names c.path c.files) (package_functions c) name
+      (found_asked (all_asked_names c.path c.files) (package_fields c) name)) same
   in_own p is q e (inr none) name = absurd (none (subst (Contains (package_paths w)) (sym e) is.of_workspace))
 
   pub arities_are : (arity : FunctionName → Arity) × AreArities w known arity
   unfolding arity_of
   arities_are = (
     arity_of,
-    λ p is rank name f e k.
-        in_own p is (path_of name) (path_is p rank name f e k) (cases_contains (package_paths w) (path_of name)) name ∙
-        found_at (function_names p.path p.files) (package_functions p) name rank f e k
-        (λ r g less at there. apart p is r rank g f less there k name at e),
+    record {
+      functions = λ p is rank name f e k.
+          in_own p is (path_of name) (path_is p rank name f e k) (cases_contains (package_paths w) (path_of name)) name ∙
+          found_at (found_asked (all_asked_names p.path p.files) (package_fields p) name) (function_names p.path p.files) (package_functions p) name rank f e k
+          (λ r g less at there. apart p is r rank g f less there k name at e);
+      asked = λ p is rank name f ps r e k form.
+          let x = asked_is p rank name f e k in
+          in_own p is (path_of name) (asked_path p f name x) (cases_contains (package_paths w) (path_of name)) name ∙
+          (none_found (found_asked (all_asked_names p.path p.files) (package_fields p) name) (function_names p.path p.files) (package_functions p) name
+          (λ n g at there. no_function p is n g there f name x at) ∙
+          (asked_at (all_asked_names p.path p.files) (package_fields p) name rank f e k
+          (λ n g less at there. asked_apart w sound known right p is n rank g f name less there k (asked_is p n name g at there) x) ∙
+          form_is f.form ps r form));
+    },
   )

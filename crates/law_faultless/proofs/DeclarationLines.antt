@@ -1,5 +1,5 @@
 -- Each definition of a declaration of a file has its line.
-use Rattle.std.proofs.Common.{ℕ, suc, ◌≡◌, ◌+◌, List, [], ◌∷◌, ◌++◌, length, map, Option, Some, sym, subst, refl, arith}
+use Rattle.std.proofs.Common.{ℕ, suc, ◌≡◌, ◌+◌, inl, inr, List, [], ◌∷◌, ◌++◌, length, map, Option, Some, sym, subst, refl, ◌∙◌, arith}
 use Rattle.std.proofs.Common.{length-append, append_assoc}
 use Rattle.std.specs.Prelude.{⊤, slice_get}
 use Rattle.std.specs.List.{AllByRecursion, flat_map}
@@ -21,13 +21,16 @@ use Rattle.law_typing.specs.Declarations.{one_function, DeclsAreTyped, no_decl, 
 use Rattle.law_typing.specs.Names.{IsType}
 use Rattle.law_typing.specs.Sequences.{PartRule, InTurn, no_item, then_item, InGroup, alone, together}
 use Rattle.types_declared.specs.Files.{group_items}
-use Rattle.types_declared.specs.Package.{Package, PlacedVariable, placed_type, variables_of, decl_functions}
+use Rattle.types_declared.specs.Package.{Package, PlacedType, PlacedVariable, placed_type, package_types, variables_of, decl_types, decl_functions}
 use Rattle.types_info.specs.Worlds.{is_init}
+use Rattle.types_info.proofs.DeclKinds.{Holds, held_left, held_right}
 use Rattle.workspace_check.specs.FaultLists.{ListsFaults}
 use Rattle.workspace_check.specs.Verdicts.{Verdicts, AreVerdicts}
+use Rattle.workspace_check.proofs.OnePackage.{files_in_order}
 use Rattle.refs_binding.specs.Uses.{IsCheckedPackage}
 use Rattle.build_object.specs.Lines.{FunctionName}
-use Rattle.build_object.specs.Objects.{ObjectDeclaration, Initial, type_declarations, definition_of, declared_type, known_variable, first_initial, other_initials}
+use Rattle.build_object.specs.Objects.{ObjectDeclaration, Initial, type_declarations, definition_of}
+use Rattle.build_object.specs.Objects.{declared_type, known_variable, first_initial, other_initials}
 use Rattle.build_object.specs.Objects.{variable_declarations, literals_of, initials_of, global_variables}
 use Rattle.build_object.specs.Objects.{declared_by, names_behind, declared_in, names_behind_all, others_of}
 use Rattle.build_object.specs.Source.{Source}
@@ -35,6 +38,7 @@ use Rattle.build_object.specs.Sources.{IsSourceOf}
 use Rattle.build_unit.specs.Units.{AreFilesBelow}
 use Rattle.law_faultless.proofs.TypesBound.{Kept}
 use Rattle.law_faultless.specs.Lines.{Placed, OfType, OfVariable, OfFunction, placed_by, name_in, HaveLines, type_line, variable_line, function_line}
+use Rattle.law_faultless.proofs.AskedLines.{asked_known}
 use Rattle.law_faultless.proofs.KnownGlobals.{global_named}
 use Rattle.law_faultless.proofs.PrintedTypes.{HasType, found_type, printed, body_known, function_printed}
 
@@ -144,33 +148,37 @@ module _ (w : Workspace) (sound : ListsFaults w []) (known : Verdicts) (right : 
       (global_lined g has.0 kept.0 names (xs ++ rest) (lines ++ tail) (globals_lined gs has.1 kept.1 names rest tail h))
 
   -- type definitions
-  types_lined : (ts : List TypeSpecTree) → AllByRecursion (λ t. BodyIsTyped v t.body) ts →
-      AllByRecursion (λ t. AllByRecursion (Kept p file) (type_spec_sites code t)) ts → (names : List FunctionName)
+  types_lined : (ts : List TypeSpecTree) → ((z : PlacedType) → Holds (map (placed_type file) ts) z → Holds (package_types p) z) →
+      AllByRecursion (λ t. BodyIsTyped v t.body) ts → AllByRecursion (λ t. AllByRecursion (Kept p file) (type_spec_sites code t)) ts →
+      (names : List FunctionName)
       (rest : List Placed) (tail : List ObjectDeclaration) → Lines names rest tail →
       Lines names (map (λ t. OfType (placed_type file t)) ts ++ rest) (flat_map (declared_type s) ts ++ tail)
   unfolding type_spec_sites
-  types_lined [] typed kept names rest tail h = h
-  types_lined (t ∷ ts) typed kept names rest tail h =
+  types_lined [] held typed kept names rest tail h = h
+  types_lined (t ∷ ts) held typed kept names rest tail h =
       let xs = map (λ (z : TypeSpecTree). OfType (placed_type file z)) ts ++ rest in
       let lines = flat_map (declared_type s) ts in
-      let k = body_known w sound known right p is files_of below file f at v source.world t.body typed.0 in
+      let rising = files_in_order w known p.path p is.is_checked in
+      let k = body_known w sound known right p is files_of below file f at v source.world (name_in p file t.name) s.asks t.body
+      (λ m member. source.asks m.value.name ∙ asked_known p rising file (placed_type file t) (held (placed_type file t) (inl refl)) refl m member) typed.0 in
       subst (λ z. Lines names (OfType (placed_type file t) ∷ xs) ((type_declarations z (definition_of v s.asks t.body) ++ lines) ++ tail))
       (sym (global_named w sound known right p is files_of file f s source t.name (kept.0.0 refl)))
-      (subst (λ z. Lines names (OfType (placed_type file t) ∷ xs) ((type_declarations (Some (name_in p file t.name)) z ++ lines) ++ tail)) (sym (k.is_known s.asks))
-      (type_line k.defines (types_lined ts typed.1 kept.1 names rest tail h)))
+      (subst (λ z. Lines names (OfType (placed_type file t) ∷ xs) ((type_declarations (Some (name_in p file t.name)) z ++ lines) ++ tail)) (sym k.is_known)
+      (type_line k.defines (types_lined ts (λ z i. held z (inr i)) typed.1 kept.1 names rest tail h)))
 
   -- a declaration
-  decl_lined : (d : DeclTree) {before after : Locals} → DeclIsTyped v (is_init f) before d after → AllByRecursion (Kept p file) (decl_sites code d) →
+  decl_lined : (d : DeclTree) {before after : Locals} → ((z : PlacedType) → Holds (decl_types file d) z → Holds (package_types p) z) →
+      DeclIsTyped v (is_init f) before d after → AllByRecursion (Kept p file) (decl_sites code d) →
       (names : List FunctionName) → HasName names d → (rest : List Placed) (tail : List ObjectDeclaration) → Lines (names_behind names d) rest tail →
       Lines names (placed_by file d ++ rest) (declared_by s names d ++ tail)
   unfolding decl_sites declared_by
-  decl_lined _ (variables {g = g} typed) kept names has rest tail h =
+  decl_lined _ held (variables {g = g} typed) kept names has rest tail h =
       globals_lined (group_items g) (group_parts (GlobalIsTyped v) (λ x. HasType v x.type_use) (global_type v) typed)
       (part_sites (Kept p file) (global_sites code) g kept) names rest tail h
-  decl_lined _ (types {g = g} typed) kept names has rest tail h =
-      types_lined (group_items g) (group_parts (TypeIsTyped v) (λ t. BodyIsTyped v t.body) (spec_body v) typed)
+  decl_lined _ held (types {g = g} typed) kept names has rest tail h =
+      types_lined (group_items g) held (group_parts (TypeIsTyped v) (λ t. BodyIsTyped v t.body) (spec_body v) typed)
       (part_sites (Kept p file) (type_spec_sites code) g kept) names rest tail h
-  decl_lined _ (one_function {before} {after} {p = k} {c} {f = g} typed) kept names has rest tail h =
+  decl_lined _ held (one_function {before} {after} {p = k} {c} {f = g} typed) kept names has rest tail h =
       let name = has.0 in
       let others = has.1.0 in
       subst (λ z. Lines (others_of z) rest tail → Lines z (OfFunction (record { file = file; function = g }) ∷ rest) (declared_by s z (FuncDecl k g c) ++ tail))
@@ -179,13 +187,14 @@ module _ (w : Workspace) (sound : ListsFaults w []) (known : Verdicts) (right : 
       (function_printed w sound known right p is files_of below file f at v source.world s refl name (is_init f g.name) before after g typed) behind) h
 
   -- the declarations of a file
-  pub decls_lined : (ds : List DeclTree) {before after : Locals} → DeclsAreTyped v (is_init f) before ds after →
+  pub decls_lined : (ds : List DeclTree) {before after : Locals} →
+      ((z : PlacedType) → Holds (flat_map (decl_types file) ds) z → Holds (package_types p) z) → DeclsAreTyped v (is_init f) before ds after →
       AllByRecursion (Kept p file) (flat_map (decl_sites code) ds) → (names : List FunctionName) (k : ℕ) →
       length names ≡ length (flat_map (decl_functions file) ds) + k → (rest : List Placed) (tail : List ObjectDeclaration) →
       Lines (names_behind_all names ds) rest tail → Lines names (flat_map (placed_by file) ds ++ rest) (declared_in s names ds ++ tail)
   unfolding declared_in names_behind_all
-  decls_lined _ no_decl kept names k long rest tail h = h
-  decls_lined _ (also_decl {d = d} {ds} typed more) kept names k long rest tail h =
+  decls_lined _ held no_decl kept names k long rest tail h = h
+  decls_lined _ held (also_decl {d = d} {ds} typed more) kept names k long rest tail h =
       let xs = flat_map (placed_by file) ds in
       let behind = names_behind names d in
       let lines = declared_in s behind ds in
@@ -194,8 +203,10 @@ module _ (w : Workspace) (sound : ListsFaults w []) (known : Verdicts) (right : 
       let all : length names ≡ length (decl_functions file d ++ flat_map (decl_functions file) ds) + k = long in
       let e = enough file names d (later + k) (omega (arith, all, both)) in
       together_lined names (placed_by file d) xs rest (declared_by s names d) lines tail
-      (decl_lined d typed (all_front (Kept p file) (decl_sites code d) (flat_map (decl_sites code) ds) kept) names e.has_name (xs ++ rest) (lines ++ tail)
-      (decls_lined ds more (all_back (Kept p file) (decl_sites code d) (flat_map (decl_sites code) ds) kept) behind k e.left rest tail h))
+      (decl_lined d (λ z i. held z (held_left (decl_types file d) (flat_map (decl_types file) ds) z i)) typed (all_front (Kept p file) (decl_sites code d)
+      (flat_map (decl_sites code) ds) kept) names e.has_name (xs ++ rest) (lines ++ tail)
+      (decls_lined ds (λ z i. held z (held_right (decl_types file d) (flat_map (decl_types file) ds) z i)) more (all_back (Kept p file) (decl_sites code d)
+      (flat_map (decl_sites code) ds) kept) behind k e.left rest tail h))
 
 -- the names that are left behind declarations
 pub names_left : (file : ℕ) (ds : List DeclTree) (names : List FunctionName) (k : ℕ) → length names ≡ length (flat_map (decl_functions file) ds) + k →

@@ -2,8 +2,8 @@
 use Rattle.std.proofs.Common.{ℕ, ◌≡◌, List, [], ◌∷◌, ◌++◌, Bool, true, false, Option, Some, None, if◌then◌else◌, refl}
 use Rattle.std.specs.Prelude.{codes, bytes_eq}
 use Rattle.std.specs.List.{flat_map}
-use Rattle.go_ast.specs.Tree.{Item, Group, TypeTree, ReceiverTree, ParamTree, ResultTree, FuncTree, GlobalTree, FieldTree, BodyTree, TypeSpecTree}
-use Rattle.go_ast.specs.Tree.{DeclTree, ImportTree, ImportsTree, single, several}
+use Rattle.go_ast.specs.Tree.{Item, Group, TypeTree, ReceiverTree, ParamTree, ResultTree, FuncTree, GlobalTree, FieldTree, MethodTree, BodyTree}
+use Rattle.go_ast.specs.Tree.{TypeSpecTree, DeclTree, ImportTree, ImportsTree, single, several}
 use Rattle.go_ast.specs.Tree as tree
 use Rattle.go_scope.specs.declared.model.Block.{Block}
 use Rattle.go_scope.specs.declared.model.Block.TheVariants.{Package}
@@ -14,13 +14,14 @@ use Rattle.go_scope.specs.ExpressionSites.{sites_if, list_sites, type_sites}
 use Rattle.go_scope.specs.StatementSites.{ident_sites, group_sites, separated_sites, open_of, block_sites}
 use Rattle.go_scope.specs.FileSites.{global_name, member_name, spec_sites, global_sites, field_sites, body_sites, type_spec_sites, receiver_sites}
 use Rattle.go_scope.specs.FileSites.{param_sites, result_sites, func_block, func_role, func_sites, import_name, import_purpose, import_sites, imports_sites}
-use Rattle.go_scope.specs.FileSites.{decl_sites}
+use Rattle.go_scope.specs.FileSites.{method_block, method_sites, decl_sites}
 use Rattle.types_expr.specs.Types.{PlainType}
 use Rattle.types_expr.specs.World.{World, Locals}
 use Rattle.law_typing.specs.Sequences.{PartRule, InTurn, no_item, then_item, InGroup, alone, together}
 use Rattle.law_typing.specs.Declarations.{ParamIsTyped, a_param, AreTypes, no_type_left, also_type, AreResults, none_written, one_written}
 use Rattle.law_typing.specs.Declarations.{several_written, FunctionIsTyped, a_function, GlobalIsTyped, without_values, with_literals}
-use Rattle.law_typing.specs.Declarations.{FieldsAreTyped, no_field_left, also_field, BodyIsTyped, another_type, a_struct, TypeIsTyped}
+use Rattle.law_typing.specs.Declarations.{FieldsAreTyped, no_field_left, also_field, BodyIsTyped, another_type, a_struct, an_interface, TypeIsTyped}
+use Rattle.law_typing.specs.Declarations.{AskedAreTyped, no_param_left, also_param, MethodsAreTyped, no_method_left, also_method}
 use Rattle.law_typing.specs.Declarations.{a_definition_of, DeclIsTyped, variables, types, one_function}
 use Rattle.law_faultless.specs.StatementAsking.{FunctionAsks, in_body}
 use Rattle.law_faultless.specs.MemberLinks.{IsLinked}
@@ -80,7 +81,8 @@ func_linked : (w : World) (U : ℕ → Type 0) (n : ℕ) (r : Option ReceiverTre
 func_linked w U n None name = name_linked w U n (bytes_eq name (codes "init"))
 func_linked w U n (Some r) name = tt
 
-function_links : (w : World) (is_init : Bool) (U : ℕ → Type 0) (s : TokenSpellings) {before after : Locals} {f : FuncTree} → Tells w U (FunctionAsks w before f) →
+function_links : (w : World) (is_init : Bool) (U : ℕ → Type 0) (s : TokenSpellings) {before after : Locals} {f : FuncTree} →
+    Tells w U (FunctionAsks w before f) →
     FunctionIsTyped w is_init before f after → AreLinked w U (func_sites s f)
 unfolding func_sites
 function_links w is_init U s g (a_function {f} {ts} r p rs keeps body) =
@@ -115,7 +117,27 @@ global_links w U s before x after (without_values i e) =
 global_links w U s before x after (with_literals i e literals taken) =
     linked_append w U (list_sites (global_name s) x.names) (type_sites s x.type_use) (names_links w U s x.names) (type_links w U s i)
 
-fields_links : (w : World) (U : ℕ → Type 0) (s : TokenSpellings) {is : List (Item FieldTree)} → FieldsAreTyped w is → AreLinked w U (list_sites (field_sites s) is)
+asked_links : (w : World) (U : ℕ → Type 0) (s : TokenSpellings) (b : Block) (q : ℕ) {is : List (Item ParamTree)} → AskedAreTyped w is →
+    AreLinked w U (list_sites (param_sites s b q) is)
+unfolding param_sites
+asked_links w U s b q no_param_left = tt
+asked_links w U s b q (also_param {i} {is} h more) =
+    linked_append w U (param_sites s b q i.value) (list_sites (param_sites s b q) is)
+    (linked_append w U (list_sites (ident_sites s (Declaring b q)) i.value.names) (type_sites s i.value.type_use)
+    (idents_links w U s b q i.value.names) (type_links w U s h)) (asked_links w U s b q more)
+
+methods_links : (w : World) (U : ℕ → Type 0) (s : TokenSpellings) {is : List (Item MethodTree)} → MethodsAreTyped w is →
+    AreLinked w U (list_sites (method_sites s) is)
+unfolding method_sites
+methods_links w U s no_method_left = tt
+methods_links w U s (also_method {i} {is} ps r more) =
+    let params = list_sites (param_sites s (method_block s i.value) i.value.rparen) i.value.params in
+    linked_append w U (method_sites s i.value) (list_sites (method_sites s) is)
+    (tt, linked_append w U params (result_sites s i.value.result) (asked_links w U s (method_block s i.value) i.value.rparen ps) (results_links w U s r))
+    (methods_links w U s more)
+
+fields_links : (w : World) (U : ℕ → Type 0) (s : TokenSpellings) {is : List (Item FieldTree)} → FieldsAreTyped w is →
+    AreLinked w U (list_sites (field_sites s) is)
 unfolding field_sites
 fields_links w U s no_field_left = tt
 fields_links w U s (also_field {i} {is} h more) =
@@ -127,6 +149,7 @@ body_links : (w : World) (U : ℕ → Type 0) (s : TokenSpellings) {x : BodyTree
 unfolding body_sites
 body_links w U s (another_type i) = type_links w U s i
 body_links w U s (a_struct h) = fields_links w U s h
+body_links w U s (an_interface h) = methods_links w U s h
 
 spec_links : (w : World) (U : ℕ → Type 0) (s : TokenSpellings) (before : Locals) (x : TypeSpecTree) (after : Locals) → TypeIsTyped w before x after →
     AreLinked w U (type_spec_sites s x)

@@ -259,7 +259,7 @@ module _ (w : Workspace) (sound : ListsFaults w []) (known : Verdicts) (right : 
       let stands : LiesAt c.layout (function_place f) d = subst (λ (y : PlacedFunction). LiesAt c.layout (function_place y) d) item declares.stands in
       let name = function_is w known c.path c is.is_checked d rank f level x.1.1.1 stands in
       let plain_function = is_plain w known c.path c is.is_checked d rank f level x.1.1.1 stands in
-      let written = arities c is rank (Plain (record { path = c.path; name = c.names d })) f name x.1.1.1 in
+      let written = arities.functions c is rank (Plain (record { path = c.path; name = c.names d })) f name x.1.1.1 in
       let signed = signature_arity c f s (subst (HasSignature c f) same signature) in
       written ∙ signed ∙ ap (λ (o : Option ReceiverTree).
       let a : Arity = record { parameters = with_receiver o (length s.parameters); results = length s.results } in a) plain_function.0

@@ -13,7 +13,7 @@ use Rattle.go_scope.proofs.Regions.{Each}
 use Rattle.types_expr.specs.Types.{PlainType, Typed, Value}
 use Rattle.types_expr.specs.World.{World, Locals, declared}
 use Rattle.law_typing.specs.Names.{NameMeans, a_local, a_bound}
-use Rattle.law_faultless.specs.ResolvedNames.{may_be_local, IsOwnLocal, IsEarlierLocal, IsResolved, AreResolved}
+use Rattle.law_faultless.specs.ResolvedNames.{may_be_local, HoldsTokens, IsOwnLocal, IsEarlierLocal, IsResolved, AreResolved}
 use Rattle.law_faultless.proofs.Lists.{contained, all_held}
 use Rattle.law_faultless.proofs.Named.{IsNamed, AreNamed}
 
@@ -152,3 +152,14 @@ abroad_known w ls (x ∷ xs) h = ((λ own. absurd (true≢false (sym own.1 ∙ h
 pub abroad_past : (w : World) (ls : Locals) (A xs : List Site) → AllKnown w ls A → AllByRecursion (λ x. may_be_local x.role ≡ false) xs →
     AllKnown w ls (past A xs)
 abroad_past w ls A xs a h = known_past w ls ls A xs (λ n k. k) a (abroad_known w ls xs h)
+
+-- what declares no local whose scope holds a token
+abbrev pub IsShut : Site → Type 0
+IsShut x = may_be_local x.role ≡ true → HoldsTokens x.role → ⊥
+
+shut_known : (w : World) (ls : Locals) (xs : List Site) → AllByRecursion IsShut xs → AllByRecursion (Known w ls) xs
+shut_known w ls [] h = tt
+shut_known w ls (x ∷ xs) h = ((λ own. absurd (h.0 own.1 own.2)), shut_known w ls xs h.1)
+
+pub shut_past : (w : World) (ls : Locals) (A xs : List Site) → AllKnown w ls A → AllByRecursion IsShut xs → AllKnown w ls (past A xs)
+shut_past w ls A xs a h = known_past w ls ls A xs (λ n k. k) a (shut_known w ls xs h)

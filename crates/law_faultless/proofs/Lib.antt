@@ -35,6 +35,7 @@ pub mod Spellings
 pub mod Numbers
 pub mod WrittenNames
 pub mod PackageWorlds
+pub mod MembersWritten
 pub mod Declared
 pub mod Meant
 pub mod MeaningfulNames
@@ -66,7 +67,9 @@ pub mod Reaching
 pub mod SlotsSettled
 pub mod AskedNames
 pub mod OwnLocals
-pub mod FieldForms
+pub mod TypesApart
+pub mod AskedMembers
+pub mod AskedLines
 pub mod MembersSettled
 pub mod FunctionsSettled
 pub mod SettledQuestions

@@ -4,7 +4,7 @@ use Rattle.types_expr.specs.declared.types.Builtin.{Builtin}
 use Rattle.types_expr.specs.declared.types.Builtin.TheVariants as builtin
 use Rattle.types_expr.specs.declared.symbol.Symbol.{Symbol}
 use Rattle.types_expr.specs.Types.{PlainType, Pointer, ValueKind, Typed, Signature, Meaning, Value, TypeName, Function, BuiltinName, Package, Results, Broken}
-use Rattle.types_expr.specs.Types.{is_pointer, points, AFieldOf}
+use Rattle.types_expr.specs.Types.{is_pointer, points, AFieldOf, AMethodOf}
 use Rattle.types_expr.specs.World.{World, Locals, Means, Member, AField, AMethod, underlying}
 use Rattle.law_typing.specs.Fits.{FitInTurn, no_values, then_fits}
 use Rattle.law_typing.specs.Names.{NameMeans, a_local, a_bound}
@@ -14,14 +14,16 @@ use Rattle.law_typing.specs.Links.{nothing, one, several, CallGives, function, c
 use Rattle.build_object.specs.Lines.{FunctionName, CodeLine, line_if_known}
 use Rattle.build_object.specs.Lines as line
 use Rattle.build_object.specs.Source.{Source}
-use Rattle.build_object.specs.Operands.{CodeOperand, Mode, Values, Called, Converts, Predeclared, Qualifies, function_mode, name_operand, unqualified}
-use Rattle.build_object.specs.Operands.{export_operand, field_operand, receiver_lines, method_operand, member_operand, typed_selector, selected_by, selected, indexed}
-use Rattle.build_object.specs.Operands.{counted, calling, left_by_call, called, builtin_results}
+use Rattle.build_object.specs.Operands.{CodeOperand, Mode, Values, Called, CalledAsked}
+use Rattle.build_object.specs.Operands.{Converts, Predeclared, Qualifies, function_mode, name_operand, unqualified}
+use Rattle.build_object.specs.Operands.{export_operand, field_operand, receiver_lines, method_operand}
+use Rattle.build_object.specs.Operands.{asked_mode, asked_operand, member_operand, typed_selector}
+use Rattle.build_object.specs.Operands.{selected_by, selected, indexed, counted, calling, left_by_call, called, builtin_results}
 use Rattle.law_faultless.specs.Stack.{Arity, ChangesHeight}
 use Rattle.law_faultless.specs.Questions.{OfExport, OfMember}
 use Rattle.law_faultless.specs.QuestionAnswers.{IsKnown, IsNamedWith, method_arity, MemberIsKnown, IsAnswered}
 use Rattle.law_faultless.proofs.StackParts.{Turns, none_turns, turns_as, turns_joined, turns_over, line_turns, known_turns}
-use Rattle.law_faultless.proofs.OperandStack.{IsOneValue, IsHead, IsCallee, Stands, name_stands, with_line, two_lines}
+use Rattle.law_faultless.proofs.OperandStack.{IsOneValue, IsHead, IsCallMode, by_call, by_asking, IsCallee, Stands, name_stands, with_line, two_lines}
 
 -- Selectors
 
@@ -55,7 +57,21 @@ method_callee : (arity : FunctionName → Arity) (lines : List CodeLine) (name :
 method_callee arity lines name f t c = record {
   name = c.0;
   received = true;
+  mode = Called true c.0 (length f.results);
+  is_call = by_call;
   head = record { is = ap (λ z. function_mode z true (length f.results)) c.1.0; value = t };
+  takes = ap (λ (z : Arity). z.parameters) c.1.1;
+  gives = ap (λ (z : Arity). z.results) c.1.1;
+}
+
+asked_callee : (arity : FunctionName → Arity) (o : CodeOperand) (name : Option FunctionName) (f : Signature) → IsOneValue arity o →
+    IsNamedWith arity name (method_arity f) → IsCallee arity (asked_operand o name (length f.results)) f
+asked_callee arity o name f v c = record {
+  name = c.0;
+  received = true;
+  mode = CalledAsked c.0 (length f.results);
+  is_call = by_asking;
+  head = record { is = ap (λ z. asked_mode z (length f.results)) c.1.0; value = v.value };
   takes = ap (λ (z : Arity). z.parameters) c.1.1;
   gives = ap (λ (z : Arity). z.results) c.1.1;
 }
@@ -73,6 +89,11 @@ member_field : (arity : FunctionName → Arity) (s : Source) (o : CodeOperand) (
     IsOneValue arity o → IsOneValue arity (member_operand s o t (Some (AField f (AFieldOf u))))
 unfolding member_operand
 member_field arity s o t u f k v = field_value arity o (points (underlying s.world t)) (s.position f) k v
+
+member_asked : (arity : FunctionName → Arity) (s : Source) (o : CodeOperand) (t : PlainType) (m : Symbol) (f : Signature) →
+    MemberIsKnown arity s (Some (AField m (AMethodOf f))) → IsOneValue arity o → IsCallee arity (member_operand s o t (Some (AField m (AMethodOf f)))) f
+unfolding member_operand
+member_asked arity s o t m f k v = asked_callee arity o (s.asked m) f v k
 
 member_method : (arity : FunctionName → Arity) (s : Source) (o : CodeOperand) (t : PlainType) (m : Symbol) (on_pointer : Bool) (f : Signature) →
     MemberIsKnown arity s (Some (AMethod m on_pointer f)) → IsOneValue arity o →
@@ -95,12 +116,23 @@ method_selected arity s slots n o t m on_pointer f e v k =
     subst (λ z. IsCallee arity z f) (sym (selected_member s slots n o t (Some (AMethod m on_pointer f)) v.mode k.0 e))
     (member_method arity s o t m on_pointer f (subst (λ z. MemberIsKnown arity s z) e k.1) v)
 
+asked_selected : (arity : FunctionName → Arity) (s : Source) (slots : List ℕ) (n : ℕ) (o : CodeOperand) (t : PlainType) (m : Symbol) (f : Signature) →
+    s.world.member n t ≡ Some (AField m (AMethodOf f)) → IsOneValue arity o → IsAnswered arity s slots (OfMember n t) → IsCallee arity (selected s slots n o) f
+asked_selected arity s slots n o t m f e v k =
+    subst (λ z. IsCallee arity z f) (sym (selected_member s slots n o t (Some (AField m (AMethodOf f))) v.mode k.0 e))
+    (member_asked arity s o t m f (subst (λ z. MemberIsKnown arity s z) e k.1) v)
+
+call_unqualified : {mode : Mode} {received : Bool} {name : FunctionName} {results : ℕ} → IsCallMode mode received name results → unqualified mode ≡ mode
+call_unqualified by_call = refl
+call_unqualified by_asking = refl
+
 -- a name behind the name of a package
 behind_head : (arity : FunctionName → Arity) (xs : List CodeLine) (o : CodeOperand) (mode : Mode) (n : ℕ) → unqualified mode ≡ mode →
     Turns arity 0 0 xs → IsHead arity o mode n → IsHead arity (export_operand xs o) mode n
 behind_head arity xs o mode n e t h = record { is = ap unqualified h.is ∙ e; value = turns_joined arity 0 0 n xs o.value t h.value }
 
-behind_stands : (arity : FunctionName → Arity) (xs : List CodeLine) (o : CodeOperand) (m : Meaning) → (m ≡ Package → ⊥) → Turns arity 0 0 xs → Stands arity o m →
+behind_stands : (arity : FunctionName → Arity) (xs : List CodeLine) (o : CodeOperand) (m : Meaning) → (m ≡ Package → ⊥) → Turns arity 0 0 xs →
+    Stands arity o m →
     Stands arity (export_operand xs o) m
 behind_stands arity xs o (Value k a) other t v = record {
   mode = ap unqualified v.mode;
@@ -112,7 +144,9 @@ behind_stands arity xs o (TypeName u) other t h = behind_head arity xs o Convert
 behind_stands arity xs o (Function f) other t c = record {
   name = c.name;
   received = c.received;
-  head = behind_head arity xs o (Called c.received c.name (length f.results)) (counted c.received 0) refl t c.head;
+  mode = c.mode;
+  is_call = c.is_call;
+  head = behind_head arity xs o c.mode (counted c.received 0) (call_unqualified c.is_call) t c.head;
   takes = c.takes;
   gives = c.gives;
 }
@@ -140,7 +174,7 @@ pub selected_stands : (arity : FunctionName → Arity) (s : Source) (slots : Lis
     Stands arity (selected s slots n o) r
 selected_stands arity s slots locals n o (field {t} {u} {a} {s = f} e other) v k p = field_selected arity s slots n o t u f e v (k t a refl)
 selected_stands arity s slots locals n o (field_through_pointer {t} {u} {a = a} {s = f} e i) v k p = field_selected arity s slots n o t u f e v (k t a refl)
-selected_stands arity s slots locals n o (asked {t} {a} e) v k p = absurd (subst (MemberIsKnown arity s) e (k t a refl).1)
+selected_stands arity s slots locals n o (asked {t} {a} {s = m} {signature = f} e) v k p = asked_selected arity s slots n o t m f e v (k t a refl)
 selected_stands arity s slots locals n o (method {t} {a} {s = m} {signature = f} e) v k p = method_selected arity s slots n o t m false f e v (k t a refl)
 selected_stands arity s slots locals n o (method_on_pointer {t} {a} {s = m} {signature = f} e) v k p =
     method_selected arity s slots n o (Pointer t) m true f e v (k (Pointer t) a refl)
@@ -151,14 +185,16 @@ selected_stands arity s slots locals n o (of_package {m = m} h) v k p =
 
 -- Indexes
 
-pub indexed_value : (arity : FunctionName → Arity) (o : CodeOperand) (i : List CodeLine) → IsOneValue arity o → Turns arity 0 1 i → IsOneValue arity (indexed o i)
+pub indexed_value : (arity : FunctionName → Arity) (o : CodeOperand) (i : List CodeLine) → IsOneValue arity o → Turns arity 0 1 i →
+    IsOneValue arity (indexed o i)
 indexed_value arity o i v t = record {
   mode = refl;
   value = two_lines arity o.value i line.Index v.value t (line_turns arity line.Index 2 1 refl refl (λ at i m. m));
   address = two_lines arity o.value i line.IndexAddress v.value t (line_turns arity line.IndexAddress 2 1 refl refl (λ at i m. m));
 }
 
-pub index_stands : (arity : FunctionName → Arity) (w : World) (o : CodeOperand) (i : List CodeLine) {m r : Meaning} {k : ValueKind} → Indexes w m k r → Stands arity o m →
+pub index_stands : (arity : FunctionName → Arity) (w : World) (o : CodeOperand) (i : List CodeLine) {m r : Meaning} {k : ValueKind} → Indexes w m k r →
+    Stands arity o m →
     Turns arity 0 1 i → Stands arity (indexed o i) r
 index_stands arity w o i (element e h) v t = indexed_value arity o i v t
 
@@ -213,24 +249,42 @@ function_line arity name false n results takes gives =
     turns_as arity (line.Call name n ∷ []) (let e : n ≡ 0 + n = omega arith in e) refl (line_turns arity (line.Call name n) n results refl gives
     (λ at i m. (sym takes, subst (λ z. ChangesHeight at i n z) (sym gives) m)))
 
-function_call : (arity : FunctionName → Arity) (o : CodeOperand) (n : ℕ) (arguments : List CodeLine) (f : Signature) (c : IsCallee arity o f) →
-    n ≡ length f.parameters →
-    Turns arity (counted c.received 0 + n) (length f.results) (calling n (Called c.received c.name (length f.results)))
-function_call arity o n arguments f c e = function_line arity c.name c.received n (length f.results) (c.takes ∙ ap (λ z. counted c.received z) (sym e)) c.gives
+-- the line of a call of a method that an interface asks for
+asked_line : (arity : FunctionName → Arity) (name : FunctionName) (n results : ℕ) → (arity name).parameters ≡ suc n → (arity name).results ≡ results →
+    Turns arity (1 + n) results (calling n (CalledAsked name results))
+unfolding calling
+asked_line arity name n results takes gives =
+    turns_as arity (line.CallAsked name (suc n) ∷ []) (let e : suc n ≡ 1 + n = omega arith in e) refl
+    (line_turns arity (line.CallAsked name (suc n)) (suc n) results refl gives
+    (λ at i m. (sym takes, subst (λ z. ChangesHeight at i (suc n) z) (sym gives) m)))
 
-gives_stands : (arity : FunctionName → Arity) (o : CodeOperand) (n : ℕ) (arguments : List CodeLine) (f : Signature) (c : IsCallee arity o f) (ts : List PlainType)
+call_line : (arity : FunctionName → Arity) (n : ℕ) {mode : Mode} {received : Bool} {name : FunctionName} {results : ℕ} → IsCallMode mode received name results →
+    (arity name).parameters ≡ counted received n → (arity name).results ≡ results → Turns arity (counted received 0 + n) results (calling n mode)
+call_line arity n (by_call {received} {name} {results}) takes gives = function_line arity name received n results takes gives
+call_line arity n (by_asking {name} {results}) takes gives = asked_line arity name n results takes gives
+
+call_leaves : {mode : Mode} {received : Bool} {name : FunctionName} {results : ℕ} → IsCallMode mode received name results → left_by_call mode ≡ results
+unfolding left_by_call
+call_leaves by_call = refl
+call_leaves by_asking = refl
+
+function_call : (arity : FunctionName → Arity) (o : CodeOperand) (n : ℕ) (arguments : List CodeLine) (f : Signature) (c : IsCallee arity o f) →
+    n ≡ length f.parameters → Turns arity (counted c.received 0 + n) (length f.results) (calling n c.mode)
+function_call arity o n arguments f c e = call_line arity n c.is_call (c.takes ∙ ap (λ z. counted c.received z) (sym e)) c.gives
+
+gives_stands : (arity : FunctionName → Arity) (o : CodeOperand) (n : ℕ) (arguments : List CodeLine) (f : Signature) (c : IsCallee arity o f) (ts : List
+    PlainType)
     {r : Meaning} → f.results ≡ ts → ResultsMean ts r → n ≡ length f.parameters → Turns arity 0 n arguments →
     Stands arity (called o n arguments) r
-unfolding left_by_call
 gives_stands arity o n arguments f c ts e nothing k t =
-    call_results arity o n (counted c.received 0) 0 arguments (Called c.received c.name (length f.results)) c.head t
-    (turns_as arity (calling n (Called c.received c.name (length f.results))) refl (ap length e) (function_call arity o n arguments f c k)) (ap length e)
+    call_results arity o n (counted c.received 0) 0 arguments c.mode c.head t
+    (turns_as arity (calling n c.mode) refl (ap length e) (function_call arity o n arguments f c k)) (call_leaves c.is_call ∙ ap length e)
 gives_stands arity o n arguments f c ts e one k t =
-    call_value arity o n (counted c.received 0) arguments (Called c.received c.name (length f.results)) c.head t
-    (turns_as arity (calling n (Called c.received c.name (length f.results))) refl (ap length e) (function_call arity o n arguments f c k)) (ap length e)
+    call_value arity o n (counted c.received 0) arguments c.mode c.head t
+    (turns_as arity (calling n c.mode) refl (ap length e) (function_call arity o n arguments f c k)) (call_leaves c.is_call ∙ ap length e)
 gives_stands arity o n arguments f c ts e (several {t = u} {u = v} {ts = us}) k t =
-    call_results arity o n (counted c.received 0) (length (u ∷ v ∷ us)) arguments (Called c.received c.name (length f.results)) c.head t
-    (turns_as arity (calling n (Called c.received c.name (length f.results))) refl (ap length e) (function_call arity o n arguments f c k)) (ap length e)
+    call_results arity o n (counted c.received 0) (length (u ∷ v ∷ us)) arguments c.mode c.head t
+    (turns_as arity (calling n c.mode) refl (ap length e) (function_call arity o n arguments f c k)) (call_leaves c.is_call ∙ ap length e)
 
 builtin_line : (arity : FunctionName → Arity) (b : Builtin) (n left : ℕ) → builtin_results b ≡ left → Turns arity (0 + n) left (calling n (Predeclared b))
 unfolding calling
@@ -248,7 +302,8 @@ builtin_none : (arity : FunctionName → Arity) (o : CodeOperand) (b : Builtin) 
 unfolding left_by_call
 builtin_none arity o b n arguments e h t = call_results arity o n 0 0 arguments (Predeclared b) h t (builtin_line arity b n 0 e) e
 
-converted : (arity : FunctionName → Arity) (o : CodeOperand) (arguments : List CodeLine) (n : ℕ) → n ≡ 1 → IsHead arity o Converts 0 → Turns arity 0 n arguments →
+converted : (arity : FunctionName → Arity) (o : CodeOperand) (arguments : List CodeLine) (n : ℕ) → n ≡ 1 → IsHead arity o Converts 0 →
+    Turns arity 0 n arguments →
     IsOneValue arity (called o n arguments)
 unfolding calling left_by_call
 converted arity o arguments n e h t = call_value arity o n 0 arguments Converts h t (turns_as arity [] (let z : 1 ≡ 0 + n = omega arith in z) refl

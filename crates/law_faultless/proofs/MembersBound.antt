@@ -3,14 +3,13 @@ use Rattle.std.proofs.Common.{ℕ, suc, ◌≡◌, ◌+◌, inl, inr, List, [], 
 use Rattle.std.specs.Prelude.{Some, slice_get}
 use Rattle.base_files.specs.Workspace.{Workspace}
 use Rattle.go_ast.specs.SourceFile.{SourceFile}
-use Rattle.go_ast.specs.Tree.{Item, FieldTree, BodyTree, Other, Struct, Interface, DeclTree, VarDecl, TypeDecl, FuncDecl}
+use Rattle.go_ast.specs.Tree.{Item, FieldTree, MethodTree, BodyTree, Other, Struct, Interface, DeclTree, VarDecl, TypeDecl, FuncDecl}
 use Rattle.go_scope.specs.declared.model.Purpose.TheVariants as purpose
 use Rattle.go_scope.specs.declared.model.Role.TheVariants.{NotLexical}
 use Rattle.types_declared.specs.Files.{RankedSource, ranked_files, group_items}
-use Rattle.types_declared.specs.Definitions.{PlacedField, body_fields, fields_from, package_fields, OfType}
+use Rattle.types_declared.specs.Definitions.{PlacedField, body_fields, fields_from, package_fields, OfType, OfSignature}
 use Rattle.types_declared.specs.Package.{Package, PlacedType, PlacedFunction, placed_type, decl_types, decl_functions, types_in, functions_in, package_types}
 use Rattle.types_declared.specs.Package.{package_functions, spelled}
-use Rattle.types_stmt.specs.Declarations.{body_faults}
 use Rattle.types_info.proofs.DeclKinds.{Holds, held_left, held_right, held_flat, held_map}
 use Rattle.workspace_check.specs.FaultLists.{ListsFaults}
 use Rattle.workspace_check.specs.Verdicts.{Verdicts, AreVerdicts}
@@ -22,7 +21,6 @@ use Rattle.law_faultless.proofs.GlobalsDecided.{held_ranked, held_number}
 use Rattle.law_faultless.proofs.LinksBound.{at_number}
 use Rattle.law_faultless.proofs.WholeBound.{method_of}
 use Rattle.law_faultless.proofs.Bound.{source_at}
-use Rattle.law_faultless.proofs.FieldForms.{WritesNoFault, type_fine}
 use Rattle.law_faultless.proofs.MembersDeclared.{IsFieldIn, IsMemberIn, members_in}
 use Rattle.law_faultless.proofs.PackageWorlds.{have_worlds}
 
@@ -35,11 +33,13 @@ IsMember ds i = (d : DeclTree) × (Holds ds d × IsMemberIn d i)
 abbrev IsNamed : (file i : ℕ) → List PlacedField → Type 0
 IsNamed file i fs = (f : PlacedField) × (Holds fs f × ((f.file ≡ file) × (f.name ≡ i)))
 
-body_named : (definition file i : ℕ) (b : BodyTree) → WritesNoFault b → IsFieldIn b i → IsNamed file i (body_fields definition file b)
-unfolding body_faults
-body_named definition file i (Other t) fine h = absurd h
-body_named definition file i (Interface k o ms c) fine h = let e = fine.1 in let z : ⊥ = cc in absurd z
-body_named definition file i (Struct k o fs c) fine h =
+body_named : (definition file i : ℕ) (b : BodyTree) → IsFieldIn b i → IsNamed file i (body_fields definition file b)
+body_named definition file i (Other t) h = absurd h
+body_named definition file i (Interface k o ms c) h =
+    let asked : Item MethodTree → PlacedField =
+    λ y. record { definition = definition; file = file; name = y.value.name; form = OfSignature y.value.params y.value.result } in
+    (asked h.0, (held_map asked ms h.0 h.1.0, (refl, h.1.1)))
+body_named definition file i (Struct k o fs c) h =
     let x = h.0 in
     let n = h.1.1.0 in
     let one : Item FieldTree → Item ℕ → PlacedField =
@@ -57,15 +57,14 @@ more_named file i fs gs h = (h.0, (held_right fs gs h.0 h.1.0, h.1.1))
 first_named : (file i : ℕ) (fs gs : List PlacedField) → IsNamed file i fs → IsNamed file i (fs ++ gs)
 first_named file i fs gs h = (h.0, (held_left fs gs h.0 h.1.0, h.1.1))
 
-fields_named : (rank i : ℕ) (ds : List PlacedType) (d : PlacedType) → Holds ds d → WritesNoFault d.spec.body → IsFieldIn d.spec.body i →
+fields_named : (rank i : ℕ) (ds : List PlacedType) (d : PlacedType) → Holds ds d → IsFieldIn d.spec.body i →
     IsNamed d.file i (fields_from rank ds)
-fields_named rank i [] d h fine f = absurd h
-fields_named rank i (e ∷ ds) d h fine f = elim h [
+fields_named rank i [] d h f = absurd h
+fields_named rank i (e ∷ ds) d h f = elim h [
   | inl same ↦ subst (λ (z : PlacedType). IsNamed z.file i (fields_from rank (e ∷ ds))) same
       (first_named e.file i (body_fields rank e.file e.spec.body) (fields_from (suc rank) ds)
-      (body_named rank e.file i e.spec.body (subst (λ (z : PlacedType). WritesNoFault z.spec.body) (sym same) fine)
-      (subst (λ (z : PlacedType). IsFieldIn z.spec.body i) (sym same) f)))
-  | inr later ↦ more_named d.file i (body_fields rank e.file e.spec.body) (fields_from (suc rank) ds) (fields_named (suc rank) i ds d later fine f)
+      (body_named rank e.file i e.spec.body (subst (λ (z : PlacedType). IsFieldIn z.spec.body i) (sym same) f)))
+  | inr later ↦ more_named d.file i (body_fields rank e.file e.spec.body) (fields_from (suc rank) ds) (fields_named (suc rank) i ds d later f)
 ]
 
 ranked_here : (p : Package) (file : ℕ) (s : SourceFile) → slice_get p.files file ≡ Some s → Holds (ranked_files p.files) (file, s)
@@ -89,7 +88,7 @@ module _ (w : Workspace) (sound : ListsFaults w []) (known : Verdicts) (right : 
       let there : Holds (package_types p) d =
       held_flat types_in (ranked_files p.files) r d (ranked_here p file s at)
       (held_flat (decl_types file) s.tree.decls (TypeDecl k g c) d i (held_map (placed_type file) (group_items g) h.0 h.1.0)) in
-      let f = fields_named 0 index (package_types p) d there (type_fine w sound known right p is d there) h.1.1 in
+      let f = fields_named 0 index (package_types p) d there h.1.1 in
       let n = held_number (package_fields p) f.0 f.1.0 in
       field_bound w sound known right p is n.0 f.0 n.1 u (stands.1, sym f.1.1.0, sym f.1.1.1) unbound
   by_decl s at (FuncDecl k x c) i h =

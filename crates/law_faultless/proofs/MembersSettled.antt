@@ -3,13 +3,14 @@ use Rattle.std.proofs.Common.{ℕ, suc, ◌≡◌, ◌+◌, ◌<◌, inl, inr, B
 use Rattle.std.proofs.Common.{refl, ◌∙◌, arith}
 use Rattle.std.specs.Prelude.{Contains, Option, Some, None, slice_get}
 use Rattle.std.specs.List.{flat_map}
+use Rattle.std.specs.Option.{option_flatten}
 use Rattle.std.proofs.Common.{length-append}
 use Rattle.std.proofs.lemmas.List.{length-map}
 use Rattle.std.proofs.lemmas.Option.{none-some, slice_get_within}
 use Rattle.base_files.specs.Workspace.{Workspace}
 use Rattle.base_files.specs.Packages.{package_paths, package_files}
 use Rattle.go_ast.specs.SourceFile.{SourceFile, spelling_of}
-use Rattle.go_ast.specs.Tree.{Item, TypeTree, FieldTree, BodyTree, Other, Struct, Interface, ReceiverTree, MethodTree}
+use Rattle.go_ast.specs.Tree.{Item, TypeTree, FieldTree, BodyTree, Other, Struct, Interface, ReceiverTree, MethodTree, ParamTree, ResultTree}
 use Rattle.workspace_graph.specs.Packages.{IsInClosure, itself}
 use Rattle.workspace_graph.specs.Parsed.{AreParsed}
 use Rattle.types_expr.specs.declared.symbol.Symbol.{Symbol}
@@ -18,7 +19,7 @@ use Rattle.types_expr.specs.World.{Definition, Field, Method, is_seen, seen_fiel
 use Rattle.types_expr.specs.World.{owner}
 use Rattle.types_expr.specs.World.{field_of, method_of, a_method, first_member, member_by}
 use Rattle.types_expr.specs.WorldView.{no_definition}
-use Rattle.types_declared.specs.MeaningOf.{AreTypesOf, HasSignature, parameter_types, result_types}
+use Rattle.types_declared.specs.MeaningOf.{AreTypesOf, IsSignatureOf, HasSignature, parameter_types, result_types}
 use Rattle.types_declared.specs.Definitions.{PlacedField, body_fields, fields_from, package_fields, WrittenForm, HasForm}
 use Rattle.types_declared.specs.Definitions.{IsFoundField, IsFoundMethod, IsFoundSignature, IsDefinition, AreDefinitions}
 use Rattle.types_declared.specs.Definitions.{OfType, OfSignature}
@@ -34,7 +35,7 @@ use Rattle.workspace_check.proofs.OneList.{checked_package}
 use Rattle.workspace_check.proofs.OnePackage.{one_sources, all_read}
 use Rattle.build_object.specs.Lines.{FunctionName}
 use Rattle.build_object.specs.Names.{names_of_fields, body_positions, type_positions, field_positions, initializers_with}
-use Rattle.build_object.specs.Names.{functions_behind, function_names, function_name, position_of_field}
+use Rattle.build_object.specs.Names.{functions_behind, function_names, function_name, position_of_field, all_asked_names, name_of_asked}
 use Rattle.build_object.specs.Source.{Source}
 use Rattle.build_object.specs.Sources.{IsSourceOf}
 use Rattle.build_object.proofs.NameParts.{positions_length}
@@ -46,8 +47,8 @@ use Rattle.refs_binding.proofs.Alike.{package_for}
 use Rattle.law_faultless.proofs.Fine.{seen_export_data}
 use Rattle.build_unit.specs.Units.{AreFilesSeen, within, beyond, AreFilesBelow}
 use Rattle.law_faultless.proofs.PackageWorlds.{have_all_worlds}
-use Rattle.law_faultless.specs.Arities.{with_receiver, written_arity, AreArities}
-use Rattle.law_faultless.proofs.FieldForms.{field_form}
+use Rattle.law_faultless.specs.Arities.{with_receiver, written_arity, asked_arity, AreArities}
+use Rattle.law_faultless.proofs.AskedMembers.{asked_has}
 
 -- as many places as fields
 
@@ -111,6 +112,15 @@ signature_arity p f s h =
     ap (λ n. let a : Arity = record { parameters = with_receiver f.function.receiver n; results = length (result_types f.function.result) } in a) ps ∙
     ap (λ n. let a : Arity = record { parameters = with_receiver f.function.receiver (length s.parameters); results = n } in a) rs
 
+-- so does a method that an interface asks for
+asked_signature : (p : Package) (file : ℕ) (ps : List (Item ParamTree)) (r : ResultTree) (g : Signature) → IsSignatureOf p file ps r g →
+    asked_arity ps r ≡ method_arity g
+asked_signature p file ps r g h =
+    let params = types_long p file (parameter_types ps) g.parameters h.parameters in
+    let results = types_long p file (result_types r) g.results h.results in
+    ap (λ n. let a : Arity = record { parameters = suc n; results = length (result_types r) } in a) params ∙
+    ap (λ n. let a : Arity = record { parameters = suc (length g.parameters); results = n } in a) results
+
 -- files
 
 pub read_files : (w : Workspace) (known : Verdicts) (p q : List ℕ) (files : List SourceFile) → AreFilesSeen w p q files → IsInClosure w p q → (c : Package) →
@@ -135,8 +145,12 @@ method_seen own None m e = absurd (none-some m e)
 method_seen own (Some n) m e = seen_one (is_seen own n.symbol n.exported) n m e
 
 module _ (files_of : List ℕ → List SourceFile) (arity : FunctionName → Arity) where
+  abbrev IsWrittenSettled : WrittenAs → Symbol → Type 0
+  IsWrittenSettled (AFieldOf t) y = IsKnown (position_of_field files_of y)
+  IsWrittenSettled (AMethodOf g) y = IsNamedWith arity (name_of_asked files_of y) (method_arity g)
+
   abbrev HasFields : Definition → Type 0
-  HasFields d = (name : List ℕ) (f : Field) → d.field name ≡ Some f → WrittenIsKnown f.form (position_of_field files_of f.symbol)
+  HasFields d = (name : List ℕ) (f : Field) → d.field name ≡ Some f → IsWrittenSettled f.form f.symbol
 
   abbrev HasMethods : Definition → Type 0
   HasMethods d = (name : List ℕ) (m : Method) → d.method name ≡ Some m → (s : Signature) → m.signature ≡ Some s →
@@ -149,14 +163,27 @@ module _ (files_of : List ℕ → List SourceFile) (arity : FunctionName → Ari
   nothing_called d f m = ((λ name x e. absurd (none-some x (sym (f name) ∙ e))), λ name x e. absurd (none-some x (sym (m name) ∙ e)))
 
   module _ (w : Workspace) (known : Verdicts) (arities : AreArities w known arity) (c : Package) (is : IsCheckedPackage w known c)
-      (same : files_of c.path ≡ c.files)
-      (fields : (rank : ℕ) (f : PlacedField) → slice_get (package_fields c) rank ≡ Some f → (t : TypeTree) × (f.form ≡ OfType t)) where
-    -- what is written with a type is a field
-    of_type : (file : ℕ) (form : WrittenForm) (tree : TypeTree) (t : WrittenAs) (position : Option ℕ) → form ≡ OfType tree → HasForm c file form t →
-        IsKnown position → WrittenIsKnown t position
-    of_type file (OfType x) tree (AFieldOf t) position e h known = known
-    of_type file (OfType x) tree (AMethodOf s) position e h known = absurd h
-    of_type file (OfSignature ps r) tree t position e h known = cc
+      (same : files_of c.path ≡ c.files) where
+    -- a field by its type, and a method that an interface asks for by its signature
+    by_form : (file : ℕ) (form : WrittenForm) (t : WrittenAs) (y : Symbol) → HasForm c file form t → IsKnown (position_of_field files_of y) →
+        ((ps : List (Item ParamTree)) (r : ResultTree) → form ≡ OfSignature ps r → (g : Signature) → IsSignatureOf c file ps r g →
+        IsNamedWith arity (name_of_asked files_of y) (method_arity g)) → IsWrittenSettled t y
+    by_form file (OfType x) (AFieldOf t) y h position asked = position
+    by_form file (OfType x) (AMethodOf g) y h position asked = absurd h
+    by_form file (OfSignature ps r) (AFieldOf t) y h position asked = absurd h
+    by_form file (OfSignature ps r) (AMethodOf g) y h position asked = asked ps r refl g h
+
+    asked_called : (rank : ℕ) (f : PlacedField) → slice_get (package_fields c) rank ≡ Some f → (ps : List (Item ParamTree)) (r : ResultTree) →
+        f.form ≡ OfSignature ps r → (g : Signature) → IsSignatureOf c f.file ps r g →
+        IsNamedWith arity (name_of_asked files_of (symbol_in c rank)) (method_arity g)
+    asked_called rank f has ps r form g signed =
+        let n = asked_has c rank f ps r has form in (
+          n.0,
+          (
+            ap (λ (fs : List SourceFile). option_flatten (slice_get (all_asked_names c.path fs) rank)) same ∙ ap option_flatten n.1,
+            arities.asked c is rank n.0 f ps r n.1 has form ∙ asked_signature c f.file ps r g signed,
+          ),
+        )
 
     field_placed : (definition : ℕ) (name : List ℕ) (f : Field) → IsFoundField c definition name (Some f) → IsKnown (position_of_field files_of f.symbol)
     field_placed definition name f x =
@@ -169,11 +196,11 @@ module _ (files_of : List ℕ → List SourceFile) (arity : FunctionName → Ari
           ap (λ (fs : List SourceFile). slice_get (field_positions fs) rank) same ∙ n.1,
         )
 
-    field_called : (definition : ℕ) (name : List ℕ) (f : Field) → IsFoundField c definition name (Some f) →
-        WrittenIsKnown f.form (position_of_field files_of f.symbol)
+    field_called : (definition : ℕ) (name : List ℕ) (f : Field) → IsFoundField c definition name (Some f) → IsWrittenSettled f.form f.symbol
     field_called definition name f x =
-        let o = fields f.symbol.rank x.0 x.1.0.is_field.has_rank in
-        of_type x.0.file x.0.form o.0 f.form (position_of_field files_of f.symbol) o.1 x.1.1 (field_placed definition name f x)
+        by_form x.0.file x.0.form f.form f.symbol x.1.1 (field_placed definition name f x)
+        (λ ps r form g signed. subst (λ (y : Symbol). IsNamedWith arity (name_of_asked files_of y) (method_arity g)) (sym x.1.2)
+        (asked_called f.symbol.rank x.0 x.1.0.is_field.has_rank ps r form g signed))
 
     method_called : (definition : ℕ) (name : List ℕ) (m : Method) (s : Signature) → IsFoundMethod c definition name (Some m) → m.signature ≡ Some s →
         IsNamedWith arity (function_name files_of m.symbol) (method_arity s)
@@ -182,7 +209,7 @@ module _ (files_of : List ℕ → List SourceFile) (arity : FunctionName → Ari
         let own = x.1.is_method in
         let n = named_function c rank x.0 own.has_rank in
         let signature : HasSignature c x.0 s = subst (IsFoundSignature c x.0) e x.2 in
-        let written = arities c is rank n.0 x.0 n.1 own.has_rank in
+        let written = arities.functions c is rank n.0 x.0 n.1 own.has_rank in
         let received = ap (λ (o : Option ReceiverTree).
         let a : Arity = record { parameters = with_receiver o (length s.parameters); results = length s.results } in a) own.received in
         subst (λ (y : Symbol). IsNamedWith arity (function_name files_of y) (method_arity s)) (sym x.4) (
@@ -211,12 +238,16 @@ module _ (files_of : List ℕ → List SourceFile) (arity : FunctionName → Ari
   -- a member of a value
 
   module _ (s : Source) (position : (symbol : Symbol) → s.position symbol ≡ position_of_field files_of symbol)
-      (function : (symbol : Symbol) → s.function symbol ≡ function_name files_of symbol) (defs : Symbol → Definition)
+      (function : (symbol : Symbol) → s.function symbol ≡ function_name files_of symbol)
+      (asked : (symbol : Symbol) → s.asked symbol ≡ name_of_asked files_of symbol) (defs : Symbol → Definition)
       (called : (symbol : Symbol) → AreCalled (defs symbol)) (own name : List ℕ) where
-    found_field : (o : Option Symbol) (f : Field) → field_of defs own name o ≡ Some f → WrittenIsKnown f.form (s.position f.symbol)
+    written_known : (t : WrittenAs) (y : Symbol) → IsWrittenSettled t y → WrittenIsKnown arity s y t
+    written_known (AFieldOf u) y k = subst IsKnown (sym (position y)) k
+    written_known (AMethodOf g) y k = subst (λ z. IsNamedWith arity z (method_arity g)) (sym (asked y)) k
+
+    found_field : (o : Option Symbol) (f : Field) → field_of defs own name o ≡ Some f → WrittenIsKnown arity s f.symbol f.form
     found_field None f e = absurd (none-some f e)
-    found_field (Some y) f e =
-        subst (WrittenIsKnown f.form) (sym (position f.symbol)) ((called y).0 name f (field_seen own ((defs y).field name) f e))
+    found_field (Some y) f e = written_known f.form f.symbol ((called y).0 name f (field_seen own ((defs y).field name) f e))
 
     found_method : (o : Option Symbol) (m : Method) → method_of defs own name o ≡ Some m → (g : Signature) → m.signature ≡ Some g →
         IsNamedWith arity (s.function m.symbol) (method_arity g)
@@ -229,7 +260,7 @@ module _ (files_of : List ℕ → List SourceFile) (arity : FunctionName → Ari
     signed_known m h None e = tt
     signed_known m h (Some g) e = h g e
 
-    first_known : (f : Option Field) (m : Option Method) → ((x : Field) → f ≡ Some x → WrittenIsKnown x.form (s.position x.symbol)) →
+    first_known : (f : Option Field) (m : Option Method) → ((x : Field) → f ≡ Some x → WrittenIsKnown arity s x.symbol x.form) →
         ((x : Method) → m ≡ Some x → (g : Signature) → x.signature ≡ Some g → IsNamedWith arity (s.function x.symbol) (method_arity g)) →
         MemberIsKnown arity s (first_member f m)
     first_known (Some f) m h k = h f refl
@@ -265,8 +296,7 @@ module _ (w : Workspace) (sound : ListsFaults w []) (known : Verdicts) (right : 
         let c = x.checked in
         let path : c.path ≡ q = ap (λ (y : Package). y.path) x.is_package.is_package.is_package in
         let same : files_of c.path ≡ c.files = ap files_of path ∙ read_files w sound.known p.path q (files_of q) (below q) on.imported c x.is_package in
-        export_data_called files_of arity w known arities c (other_package q has) same (field_form w sound known right c (other_package q has))
-        (sound.known q).export_data x.is_export_data rank
+        export_data_called files_of arity w known arities c (other_package q has) same (sound.known q).export_data x.is_export_data rank
         (slice_get (package_types c) rank) refl
     seen_called q _ _ (unseen away) rank =
         nothing_called files_of arity (no_definition (record { «package» = q; rank = rank })) (λ name. refl) (λ name. refl)
@@ -277,7 +307,7 @@ module _ (w : Workspace) (sound : ListsFaults w []) (known : Verdicts) (right : 
           let same : files_of p.path ≡ p.files =
           read_files w known p.path p.path (files_of p.path) (below p.path) (itself is.of_workspace) p is.is_checked in
           subst (λ q. AreCalled files_of arity (defs (record { «package» = q; rank = y.rank }))) e
-          (own_called files_of arity w known arities p is same (field_form w sound known right p is) defs are y.rank (slice_get (package_types p) y.rank) refl)
+          (own_called files_of arity w known arities p is same defs are y.rank (slice_get (package_types p) y.rank) refl)
       | inr other ↦
           let i = seen_export_data w sound known right (have_all_worlds w sound known right) p is y.package in
           subst (AreCalled files_of arity) (sym (are.imported y.package y.rank (λ e. other (sym e))))
@@ -289,5 +319,5 @@ module _ (w : Workspace) (sound : ListsFaults w []) (known : Verdicts) (right : 
     members_known file f s source n t =
         let judged : IsWorldOf p file f s.world = source.world in
         subst (MemberIsKnown arity s) (sym (judged.member n t))
-        (by_type files_of arity s source.position source.function judged.definitions (all_called judged.definitions judged.are_definitions) p.path
+        (by_type files_of arity s source.position source.function source.asked judged.definitions (all_called judged.definitions judged.are_definitions) p.path
         (spelling_of f n) t)

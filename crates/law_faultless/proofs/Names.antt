@@ -1,4 +1,4 @@
--- In a workspace without faults no two functions of a package are called alike.
+-- In a workspace without faults no two functions of a package are called alike, nor two methods that interfaces ask for, nor one of each.
 use Rattle.std.proofs.Common.{ℕ, ◌≡◌, ◌+◌, ◌<◌, inl, inr, false, if◌then◌else◌, List, [], ◌∷◌, ◌++◌, map, ap, sym, subst}
 use Rattle.std.proofs.Common.{refl, ◌∙◌, arith}
 use Rattle.std.specs.Prelude.{Option, Some, None, slice_get, bytes_eq, codes}
@@ -10,7 +10,8 @@ use Rattle.base_files.specs.Workspace.{Workspace}
 use Rattle.base_files.specs.declared.fault_kind.FaultKind.TheVariants as fault_kind
 use Rattle.types_declared.specs.declared.fault.Fault.{Fault}
 use Rattle.go_ast.specs.SourceFile.{SourceFile, spelling_of}
-use Rattle.go_ast.specs.Tree.{Item, Group, single, several, TypeSpecTree, ReceiverTree, FuncTree, DeclTree, VarDecl, TypeDecl, FuncDecl, FileTree}
+use Rattle.go_ast.specs.Tree.{Item, Group, single, several, TypeSpecTree, Interface, MethodTree, ReceiverTree, FuncTree, DeclTree, VarDecl, TypeDecl}
+use Rattle.go_ast.specs.Tree.{FuncDecl, FileTree}
 use Rattle.go_scope.specs.declared.model.Block.TheVariants.{Universe, File}
 use Rattle.go_scope.specs.declared.model.Block.TheVariants.{Package as PackageBlock}
 use Rattle.go_scope.specs.declared.model.Position.{Position}
@@ -25,25 +26,43 @@ use Rattle.go_scope.specs.Site.{Site, TokenSpellings, site}
 use Rattle.go_scope.specs.Table.{LiesAt}
 use Rattle.types_declared.specs.Files.{ranked_files, group_items}
 use Rattle.law_tokens.proofs.Ordered.{one_stands}
-use Rattle.types_declared.specs.Definitions.{IsMethodOf}
+use Rattle.types_expr.specs.Types.{Defined, TypeName, Underlying, takes_no_methods}
+use Rattle.types_expr.specs.Types.{Interface as InterfaceOf}
+use Rattle.types_expr.specs.World.{World, Means, BrokenType}
+use Rattle.types_expr.specs.Judge.{members_of}
+use Rattle.types_stmt.specs.Headers.{judge_receiver}
+use Rattle.types_stmt.specs.Declarations.{check_file}
+use Rattle.types_declared.specs.Definitions.{PlacedField, package_fields, IsFieldOf, IsMethodOf, HasUnderlying, IsUnderlyingOf}
+use Rattle.types_declared.specs.Definitions as by_definition
+use Rattle.types_declared.specs.MeaningOf as meant
 use Rattle.types_declared.specs.Package.{Package, PlacedType, PlacedFunction, placed_type, decl_types, types_in, package_types, package_functions}
-use Rattle.types_declared.specs.Package.{type_place, function_place, spelled}
-use Rattle.types_declared.specs.Written.{BindsToken, DeclaresType}
+use Rattle.types_declared.specs.Package.{type_place, function_place, spelled, spelled_at, symbol_in}
+use Rattle.types_declared.specs.Written.{BindsToken, DeclaresType, IsBroken}
+use Rattle.types_declared.proofs.OneUnderlying.{one_underlying}
 use Rattle.types_declared.proofs.Ranking.{one_rank}
+use Rattle.types_info.specs.Worlds.{IsWorldOf, is_bound, by_scope, is_init}
 use Rattle.types_info.proofs.DeclKinds.{Holds, holds_got, holds_flat, holds_map, holds_ranked}
+use Rattle.types_info.proofs.OneMeaning.{one_name}
 use Rattle.workspace_check.specs.FaultLists.{ListsFaults}
 use Rattle.workspace_check.specs.Verdicts.{Verdicts, AreVerdicts}
-use Rattle.workspace_check.proofs.OnePackage.{files_in_order}
+use Rattle.workspace_check.proofs.OnePackage.{layout_formed, files_in_order}
+use Rattle.build_object.specs.Lines.{GlobalName, FunctionName, Method}
+use Rattle.build_object.specs.Names.{spelled_in, name_of_type}
 use Rattle.refs_binding.specs.Uses.{IsCheckedPackage}
 use Rattle.refs_lookup.proofs.Faultless.{no_fault_later}
 use Rattle.refs_lookup.proofs.MembersApart.{one_function}
 use Rattle.law_faultless.proofs.Lists.{all_flat}
 use Rattle.law_faultless.proofs.Scoped.{in_order}
-use Rattle.law_faultless.proofs.TypesBound.{Kept, all_kept}
+use Rattle.law_faultless.proofs.TypesApart.{one_type_place}
+use Rattle.law_faultless.proofs.TypesBound.{Kept, all_kept, received_takes}
+use Rattle.law_faultless.proofs.AskedMembers.{IsAskedBy}
+use Rattle.law_faultless.proofs.Fine.{world_unbroken}
+use Rattle.law_faultless.proofs.NoFaults.{no_fault_in}
+use Rattle.law_faultless.proofs.Sound.{receiver_sound}
 use Rattle.law_faultless.proofs.WholeBound.{method_of}
 use Rattle.law_faultless.proofs.Declared.{may_within}
 use Rattle.law_faultless.proofs.MeaningfulNames.{declared_counts}
-use Rattle.law_faultless.proofs.PackageWorlds.{have_worlds}
+use Rattle.law_faultless.proofs.PackageWorlds.{have_worlds, have_all_worlds}
 use Rattle.law_faultless.proofs.FunctionsSettled.{IsInFile, in_file_of, function_kept, function_name_kept, no_import_role, spelled_told}
 
 -- the name of a type definition is one of the identifiers of its file
@@ -96,9 +115,9 @@ receiver_kept K s f r e h =
     (all_back K (ident_sites s (Declaring b o) r.name) (site s r.type_name Use ∷ []) own_front).0
 
 -- where a type is defined
-record IsTypeInFile (p : Package) (t : PlacedType) : Type 0 where
-  source : SourceFile
-  in_file : slice_get p.files t.file ≡ Some source
+pub record IsTypeInFile (p : Package) (t : PlacedType) : Type 0 where
+  pub source : SourceFile
+  pub in_file : slice_get p.files t.file ≡ Some source
   keyword : ℕ
   group : Group TypeSpecTree
   semicolon : ℕ
@@ -121,7 +140,7 @@ type_in_decl p file s at (TypeDecl k g c) held t h =
       in_group = subst (λ z. Holds (group_items g) z) (ap (λ (z : PlacedType). z.spec) x.1.1) x.1.0;
     }
 
-type_in_file : (p : Package) (rank : ℕ) (t : PlacedType) → slice_get (package_types p) rank ≡ Some t → IsTypeInFile p t
+pub type_in_file : (p : Package) (rank : ℕ) (t : PlacedType) → slice_get (package_types p) rank ≡ Some t → IsTypeInFile p t
 type_in_file p rank t e =
     let r = holds_flat types_in (ranked_files p.files) t (holds_got (package_types p) rank t e) in
     let d = holds_flat (decl_types r.0.0) r.0.1.tree.decls t r.1.1 in
@@ -154,6 +173,110 @@ module _ (w : Workspace) (sound : ListsFaults w []) (known : Verdicts) (right : 
       let lt = may_within w known p.path p is.is_checked d c.declares.may in
       let same : u.0 ≡ d = one_stands p.layout p.size (in_order w known p.path p is.is_checked) (type_place t) u.0 d u.1.0 lt u.1.1.0 declares.stands in
       ap (λ n. block_of (p.layout.role n)) (sym same) ∙ ap block_of u.1.1.1
+
+  -- the identifier that declares a type
+  pub record HasOwnName (t : PlacedType) : Type 0 where
+    pub number : ℕ
+    pub within : number < p.size
+    pub stands : LiesAt p.layout (type_place t) number
+    pub level : IsPackageLevel p.layout number
+    declares : Declares p.layout p.names number
+    named : p.names number ≡ spelled_in p.files t.file t.spec.name
+
+  pub own_name : (rank : ℕ) (t : PlacedType) → slice_get (package_types p) rank ≡ Some t → HasOwnName t
+  own_name rank t has =
+      let there = type_in_file p rank t has in
+      let source : TokenSpellings = record { rank = t.file; spell = spelling_of there.source } in
+      let kept = type_kept (Kept p t.file) source there.source.tree there.keyword there.group there.semicolon
+      (all_kept w known p.path p is.is_checked t.file there.source there.in_file) there.in_tree t.spec there.in_group in
+      let u = kept refl in
+      let role : p.layout.role u.0 ≡ Declaring PackageBlock 0 = u.1.1.1 in
+      let outer : (g : ℕ) → block_of (p.layout.role u.0) ≡ File g → ⊥ = λ g e. (let z : PackageBlock ≡ File g = sym (ap block_of role) ∙ e in cc) in
+      let at : slice_get p.files (p.layout.place u.0).file ≡ Some there.source = ap (slice_get p.files) u.1.1.0.1 ∙ there.in_file in
+      let spelt : spelled_in p.files t.file t.spec.name ≡ spelling_of there.source t.spec.name =
+      ap (λ (o : Option SourceFile). spelled_at o t.spec.name) there.in_file in
+      record {
+        number = u.0;
+        within = u.1.0;
+        stands = u.1.1.0;
+        level = ap block_of role;
+        declares = record { may = ap may_declare role; is_new = λ left. absurd (true≢false (sym left ∙ ap is_left_name role)) };
+        named = spelled_told w known p.path p is.is_checked u.0 u.1.0 (ap is_implied role) outer there.source at ∙
+            (ap (spelling_of there.source) u.1.1.0.2 ∙ sym spelt);
+      }
+
+  -- two types that are called alike are one
+  same_type : (a b n m : ℕ) (t s : PlacedType) → slice_get (package_types p) a ≡ Some t → slice_get (package_types p) b ≡ Some s →
+      LiesAt p.layout (type_place t) n → LiesAt p.layout (type_place s) m → n ≡ m → a ≡ b
+  same_type a b n m t s has also x y one =
+      let there : LiesAt p.layout (type_place t) m = subst (LiesAt p.layout (type_place t)) one x in
+      let place : type_place t ≡ type_place s =
+      ap (λ (k : ℕ). let at : Position = record { file = k; index = t.spec.name } in at) (sym there.1 ∙ y.1) ∙
+      ap (λ (k : ℕ). let at : Position = record { file = s.file; index = k } in at) (sym there.2 ∙ y.2) in
+      one_type_place p.files (files_in_order w known p.path p is.is_checked) a b t s has also place
+
+  types_one : (a b : ℕ) (t s : PlacedType) → slice_get (package_types p) a ≡ Some t → slice_get (package_types p) b ≡ Some s →
+      spelled_in p.files t.file t.spec.name ≡ spelled_in p.files s.file s.spec.name → (a ≡ b → ⊥) → ⊥
+  types_one a b t s has also same none =
+      let x = own_name a t has in
+      let y = own_name b s also in
+      declared_counts w sound known right p is x.number x.within x.declares (λ c.
+      declared_counts w sound known right p is y.number y.within y.declares (λ k.
+      let one : x.number ≡ y.number = once x.number y.number c k x.level y.level (x.named ∙ same ∙ sym y.named) in
+      none (same_type a b x.number y.number t s has also x.stands y.stands one)))
+
+  -- two methods that interfaces ask for
+  pub asked_apart : (a b : ℕ) (f g : PlacedField) (name : FunctionName) → a < b → slice_get (package_fields p) a ≡ Some f →
+      slice_get (package_fields p) b ≡ Some g → IsAskedBy p.path p.files (package_types p) f name → IsAskedBy p.path p.files (package_types p) g name → ⊥
+  asked_apart a b f g name less has also x y =
+      let z : Method (name_of_type p.path p.files x.definition) (spelled_in p.files f.file f.name) ≡
+      Method (name_of_type p.path p.files y.definition) (spelled_in p.files g.file g.name) = sym x.called ∙ y.called in
+      let owner : name_of_type p.path p.files x.definition ≡ name_of_type p.path p.files y.definition = cc in
+      let named : spelled_in p.files f.file f.name ≡ spelled_in p.files g.file g.name = cc in
+      types_one f.definition g.definition x.definition y.definition x.is_definition y.is_definition (ap (λ (n : GlobalName). n.name) owner) (λ one.
+      let first : IsFieldOf p g.definition (spelled p g.file g.name) a f = record { has_rank = has; of_struct = one; named = named } in
+      let at : Fault = record { file = g.file; token = g.name; kind = fault_kind.Repeated } in
+      no_fault_later w sound known right p is at
+      (inr (
+        (λ h inner. no_fault_later w sound known right p is h (inl inner)),
+        inl (inl (record {
+          definition = g.definition;
+          name = spelled p g.file g.name;
+          rank = b;
+          field = g;
+          is_field = record { has_rank = also; of_struct = refl; named = refl };
+          displaced = λ counting. counting.first a f less first;
+          at = refl;
+        })),
+      )))
+
+  -- no receiver names an interface
+  no_interface : (file : ℕ) (s : SourceFile) (v : World) → IsWorldOf p file s v → (r : ReceiverTree) → (judge_receiver v r).faults ≡ [] → (d rank : ℕ) →
+      BindsToken p file r.type_name d → IsPackageLevel p.layout d → DeclaresType p d rank → (t : PlacedType) → slice_get (package_types p) rank ≡ Some t →
+      (k o : ℕ) (ms : List (Item MethodTree)) (c : ℕ) → t.spec.body ≡ Interface k o ms c → ⊥
+  no_interface file s v judged r fine d rank binds level declares t has k o ms c body =
+      let n = r.type_name in
+      let formed = layout_formed w known p.path p is.is_checked in
+      let rising = files_in_order w known p.path p is.is_checked in
+      let unbroken = world_unbroken w sound known right (have_all_worlds w sound known right) p is file s v judged in
+      let whole : IsBroken p rank → ⊥ = λ broken. unbroken.types n
+      (one_name p formed rising file n (v.bound n) BrokenType (judged.names n) (is_bound (by_scope binds (meant.broken_definition level declares broken)))) in
+      let means : v.bound n ≡ Means (TypeName (Defined (symbol_in p rank))) =
+      one_name p formed rising file n (v.bound n) (Means (TypeName (Defined (symbol_in p rank)))) (judged.names n)
+      (is_bound (by_scope binds (meant.definition level declares whole))) in
+      let takes = received_takes v r (symbol_in p rank) means fine in
+      let defined = (judged.are_definitions.own rank t has).underlying in
+      interface_takes (v.definition (symbol_in p rank)) ((judged.definitions (symbol_in p rank)).underlying) (judged.definition (symbol_in p rank))
+      (of_interface rank ((judged.definitions (symbol_in p rank)).underlying) (by_definition.interface has body) defined) takes
+    where
+      of_interface : (rank : ℕ) (u : Underlying) → HasUnderlying p (Defined (symbol_in p rank)) (InterfaceOf (symbol_in p rank)) → IsUnderlyingOf p rank u →
+          u ≡ InterfaceOf (symbol_in p rank)
+      of_interface rank u known_one (by_definition.has {u = x} h) =
+          one_underlying p (layout_formed w known p.path p is.is_checked) (Defined (symbol_in p rank)) x (InterfaceOf (symbol_in p rank)) h known_one
+      of_interface rank _ known_one (by_definition.has_none none) = absurd (none (InterfaceOf (symbol_in p rank)) known_one)
+
+      interface_takes : (a b : Underlying) → a ≡ b → b ≡ InterfaceOf (symbol_in p rank) → takes_no_methods a ≡ false → ⊥
+      interface_takes a b e f h = true≢false (ap takes_no_methods (sym (e ∙ f)) ∙ h)
 
   module _ (rank : ℕ) (f : PlacedFunction) (has : slice_get (package_functions p) rank ≡ Some f) where
     abbrev there : IsInFile p f
@@ -232,6 +355,32 @@ module _ (w : Workspace) (sound : ListsFaults w []) (known : Verdicts) (right : 
       own_type m =
           let same : m.1.receiver ≡ r = same_Some m.1.receiver r (sym m.1.received ∙ e) in
           of_type m.1.declaration (subst (λ (z : ReceiverTree). BindsToken p f.file z.type_name m.1.declaration) same m.1.binds)
+
+      -- the receiver's type is no interface
+      pub receives_no_interface : (b : ℕ) (t : PlacedType) → slice_get (package_types p) b ≡ Some t →
+          spelled_in p.files f.file r.type_name ≡ spelled_in p.files t.file t.spec.name →
+          (k o : ℕ) (ms : List (Item MethodTree)) (c : ℕ) → t.spec.body ≡ Interface k o ms c → ⊥
+      receives_no_interface b t at same k o ms c body =
+          let m = owned in
+          let of_m = own_type m in
+          let level = type_level m.1.declaration m.0 of_m.counts m.1.of_type in
+          let y = own_name b t at in
+          let own : m.1.receiver ≡ r = same_Some m.1.receiver r (sym m.1.received ∙ e) in
+          let spelt : spelled_in p.files f.file r.type_name ≡ spelling_of there.source r.type_name =
+          ap (λ (o : Option SourceFile). spelled_at o r.type_name) there.in_file in
+          declared_counts w sound known right p is y.number y.within y.declares (λ counts.
+          let one : m.1.declaration ≡ y.number =
+          once m.1.declaration y.number of_m.counts counts level y.level (of_m.named ∙ (sym spelt ∙ (same ∙ sym y.named))) in
+          let item = m.1.of_type in
+          let rank_is : m.0 ≡ b = same_type m.0 b m.1.declaration y.number item.item t item.has_rank at item.stands y.stands one in
+          let v = have_worlds w sound known right p is f.file there.source there.in_file in
+          let fine = receiver_sound v.0 (is_init there.source) there.source.tree
+          (no_fault_in w sound known right p is f.file (members_of (check_file v.0 (is_init there.source) there.source.tree).uses)
+          (record { source = there.source; in_file = there.in_file; world = v.0; judged_by = v.1; found = refl })) there.keyword there.semicolon f.function
+          there.in_tree r e in
+          no_interface f.file there.source v.0 v.1 r fine m.1.declaration m.0
+          (subst (λ (z : ReceiverTree). BindsToken p f.file z.type_name m.1.declaration) own m.1.binds) level item t
+          (subst (λ n. slice_get (package_types p) n ≡ Some t) (sym rank_is) at) k o ms c body)
 
   -- two of them
 

@@ -18,7 +18,7 @@ use Rattle.build_object.specs.Lines.{FunctionName, CodeLine, line_if_known}
 use Rattle.build_object.specs.Lines as line
 use Rattle.build_object.specs.Source.{Source}
 use Rattle.build_object.specs.Numbering.{slot_of}
-use Rattle.build_object.specs.Operands.{CodeOperand, Mode, Values, Called, Converts, Predeclared, Qualifies, plain, mode_alone, local_operand}
+use Rattle.build_object.specs.Operands.{CodeOperand, Mode, Values, Called, CalledAsked, Converts, Predeclared, Qualifies, plain, mode_alone, local_operand}
 use Rattle.build_object.specs.Operands.{function_mode, plain_function, value_name, named_meaning, bound_name, name_operand, prefixed, operated, counted}
 use Rattle.build_object.specs.Operands.{value_count}
 use Rattle.law_faultless.specs.Stack.{Arity, ChangesHeight, LineObeys}
@@ -37,11 +37,18 @@ pub record IsHead (arity : FunctionName → Arity) (o : CodeOperand) (mode : Mod
   pub is : o.mode ≡ mode
   pub value : Turns arity 0 n o.value
 
--- a function, with its receiver where it is a method
+-- the mode of a function or method with this name and so many results; `received`: a receiver, or the value of an interface, is on the stack
+pub data IsCallMode : Mode → (received : Bool) → FunctionName → (results : ℕ) → Type 0 where
+  by_call : {received : Bool} {name : FunctionName} {results : ℕ} → IsCallMode (Called received name results) received name results
+  by_asking : {name : FunctionName} {results : ℕ} → IsCallMode (CalledAsked name results) true name results
+
+-- a function, with its receiver where it is a method, or a method that an interface asks for
 pub record IsCallee (arity : FunctionName → Arity) (o : CodeOperand) (f : Signature) : Type 0 where
   pub name : FunctionName
   pub received : Bool
-  pub head : IsHead arity o (Called received name (length f.results)) (counted received 0)
+  pub mode : Mode
+  pub is_call : IsCallMode mode received name (length f.results)
+  pub head : IsHead arity o mode (counted received 0)
   pub takes : (arity name).parameters ≡ counted received (length f.parameters)
   pub gives : (arity name).results ≡ length f.results
 
@@ -109,6 +116,8 @@ plain_callee : (arity : FunctionName → Arity) (name : Option FunctionName) (f 
 plain_callee arity name f c = record {
   name = c.0;
   received = false;
+  mode = Called false c.0 (length f.results);
+  is_call = by_call;
   head = record { is = ap (λ z. function_mode z false (length f.results)) c.1.0; value = none_turns arity 0 };
   takes = ap (λ (z : Arity). z.parameters) c.1.1;
   gives = ap (λ (z : Arity). z.results) c.1.1;
@@ -136,7 +145,8 @@ name_stands arity s slots locals n (a_bound {m} e h) k =
 
 -- Operators
 
-pub with_line : (arity : FunctionName → Arity) (xs : List CodeLine) (l : CodeLine) → Turns arity 0 1 xs → Turns arity 1 1 (l ∷ []) → Turns arity 0 1 (xs ++ (l ∷ []))
+pub with_line : (arity : FunctionName → Arity) (xs : List CodeLine) (l : CodeLine) → Turns arity 0 1 xs → Turns arity 1 1 (l ∷ []) →
+    Turns arity 0 1 (xs ++ (l ∷ []))
 with_line arity xs l f g = turns_joined arity 0 1 1 xs (l ∷ []) f g
 
 pub prefixed_value : (arity : FunctionName → Arity) (o : PrefixOp) (x : List CodeLine) → Turns arity 0 1 x → IsOneValue arity (prefixed o x)

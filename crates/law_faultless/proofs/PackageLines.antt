@@ -9,8 +9,11 @@ use Rattle.go_ast.specs.SourceFile.{SourceFile, spelling_of}
 use Rattle.go_scope.specs.FileSites.{imports_sites, decl_sites, file_sites}
 use Rattle.go_scope.specs.Site.{TokenSpellings as Spelled}
 use Rattle.law_typing.specs.Declarations.{FileIsTyped, a_file}
-use Rattle.types_declared.specs.Package.{Package, PlacedFunction, functions_in, decl_functions, declared_functions}
+use Rattle.types_declared.specs.Files.{ranked_files}
+use Rattle.types_declared.specs.Package.{Package, PlacedType, PlacedFunction, decl_types, types_in, package_types, functions_in, decl_functions}
+use Rattle.types_declared.specs.Package.{declared_functions}
 use Rattle.types_info.specs.Worlds.{is_init}
+use Rattle.types_info.proofs.DeclKinds.{Holds, held_flat}
 use Rattle.workspace_check.specs.FaultLists.{ListsFaults}
 use Rattle.workspace_check.specs.Verdicts.{Verdicts, AreVerdicts}
 use Rattle.refs_binding.specs.Uses.{IsCheckedPackage}
@@ -21,6 +24,7 @@ use Rattle.build_object.specs.Source.{Source}
 use Rattle.build_object.specs.Sources.{IsSourceOf, IsObjectOf}
 use Rattle.build_unit.specs.Units.{AreFilesBelow}
 use Rattle.law_faultless.proofs.Bound.{file_typed}
+use Rattle.law_faultless.proofs.GlobalsDecided.{held_ranked}
 use Rattle.law_faultless.proofs.TypesBound.{Kept, all_kept}
 use Rattle.law_faultless.specs.Lines.{Placed, placed_by, placed_in_file, HaveLines, none_left, HasEachLine, ObjectsHaveLines, TextsHaveLines}
 use Rattle.law_faultless.proofs.DeclarationLines.{decls_lined, names_left}
@@ -32,6 +36,14 @@ module _ (w : Workspace) (sound : ListsFaults w []) (known : Verdicts) (right : 
   IsFileAt : ℕ → SourceFile → Source → Type 0
   IsFileAt file f s = (slice_get p.files file ≡ Some f) × IsSourceOf p files_of file f s
 
+  -- the types of a file are types of the package
+  types_here : (file : ℕ) (f : SourceFile) → slice_get p.files file ≡ Some f → (z : PlacedType) → Holds (flat_map (decl_types file) f.tree.decls) z →
+      Holds (package_types p) z
+  types_here file f at z h =
+      let r = held_ranked 0 p.files file f at in
+      let same : r.0 ≡ file = let e : r.0 ≡ 0 + file = r.1.0 in omega (arith, e) in
+      held_flat types_in (ranked_files p.files) (r.0, f) z r.1.1 (subst (λ k. Holds (flat_map (decl_types k) f.tree.decls) z) (sym same) h)
+
   file_lined : (file : ℕ) (f : SourceFile) (s : Source) → IsFileAt file f s → FileIsTyped s.world (is_init f) f.tree → (names : List FunctionName) (k : ℕ) →
       length names ≡ length (flat_map (decl_functions file) f.tree.decls) + k → (rest : List Placed) (tail : List ObjectDeclaration) →
       HaveLines p files_of (names_behind_all names f.tree.decls) rest tail →
@@ -40,7 +52,8 @@ module _ (w : Workspace) (sound : ListsFaults w []) (known : Verdicts) (right : 
   file_lined file f s here (a_file typed) names k long rest tail h =
       let kept = all_kept w known p.path p is.is_checked file f here.0 in
       let code = let z : Spelled = record { rank = file; spell = spelling_of f } in z in
-      decls_lined w sound known right p is files_of below file f here.0 s here.1 f.tree.decls typed
+      decls_lined w sound known right p is files_of below file f here.0 s here.1 f.tree.decls
+      (types_here file f here.0) typed
       (all_back (Kept p file) (flat_map (imports_sites code) f.tree.imports) (flat_map (decl_sites code) f.tree.decls) kept.1) names k long rest tail h
 
   files_lined : (n : ℕ) (ss : List Source) (fs : List SourceFile) → length ss ≡ length fs →

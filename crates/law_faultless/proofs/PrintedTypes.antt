@@ -1,36 +1,40 @@
 -- The types that a file writes are printed, none of them left out.
-use Rattle.std.proofs.Common.{ℕ, ◌≡◌, List, [], ◌∷◌, ◌++◌, map, Option, Some, ap, sym, subst, refl, ◌∙◌}
+use Rattle.std.proofs.Common.{ℕ, ◌≡◌, inl, inr, List, [], ◌∷◌, ◌++◌, map, Option, Some, ap, sym, subst, refl, ◌∙◌}
 use Rattle.std.specs.Prelude.{slice_get, option_map, option_to_list}
 use Rattle.std.specs.List.{AllByRecursion, flat_map}
 use Rattle.std.proofs.lemmas.List.Concat.{flat_map-append}
 use Rattle.base_files.specs.Workspace.{Workspace}
 use Rattle.base_lemmas.proofs.EachElement.{all_append}
 use Rattle.go_ast.specs.SourceFile.{SourceFile}
-use Rattle.go_ast.specs.Tree.{Item, TypeTree, FieldTree, BodyTree, ReceiverTree, ParamTree, ResultTree, FuncTree}
+use Rattle.go_ast.specs.Tree.{Item, TypeTree, FieldTree, MethodTree, BodyTree, ReceiverTree, ParamTree, ResultTree, FuncTree}
 use Rattle.types_expr.specs.Types.{PlainType, Defined}
 use Rattle.types_expr.specs.World.{World, Locals}
 use Rattle.types_expr.specs.Judge.{TypeJudged, judge_type, named_type}
 use Rattle.types_stmt.specs.Headers.{starred}
 use Rattle.law_typing.specs.Declarations.{ReceiverIsTyped, a_receiver, ParamIsTyped, a_param, AreTypes, no_type_left, also_type, AreResults, none_written}
 use Rattle.law_typing.specs.Declarations.{one_written, several_written, FieldsAreTyped, no_field_left, also_field, BodyIsTyped, another_type, a_struct}
+use Rattle.law_typing.specs.Declarations.{an_interface, AskedAreTyped, no_param_left, also_param, MethodsAreTyped, no_method_left, also_method}
 use Rattle.law_typing.specs.Declarations.{FunctionIsTyped, a_function, IsBehindStar, no_star, a_star}
 use Rattle.law_typing.specs.Names.{IsType}
 use Rattle.law_typing.specs.Sequences.{InTurn, no_item, then_item, IfPresent, absent, present}
 use Rattle.law_typing.proofs.Headers.{star_true}
 use Rattle.law_typing.proofs.Naming.{type_true}
 use Rattle.types_declared.specs.MeaningOf.{parameter_types, result_types}
-use Rattle.types_declared.specs.Package.{Package}
+use Rattle.types_declared.specs.Package.{Package, spelled}
 use Rattle.types_info.specs.Worlds.{IsWorldOf}
+use Rattle.types_info.proofs.DeclKinds.{Holds}
 use Rattle.workspace_check.specs.FaultLists.{ListsFaults}
 use Rattle.workspace_check.specs.Verdicts.{Verdicts, AreVerdicts}
 use Rattle.refs_binding.specs.Uses.{IsCheckedPackage}
-use Rattle.build_object.specs.Lines.{FunctionName}
-use Rattle.build_object.specs.Objects.{ObjectDefinition, SameAs, Fields, definition_of, field_types, written, all_written, receiver_type, received_type, function_of}
+use Rattle.build_object.specs.Lines.{GlobalName, FunctionName, Method}
+use Rattle.build_object.specs.Objects.{ObjectDefinition, SameAs, Fields, Asks, object_asked, asked_methods, definition_of, field_types, written, all_written}
+use Rattle.build_object.specs.Objects.{receiver_type, received_type, function_of}
 use Rattle.build_object.specs.Source.{Source}
 use Rattle.build_unit.specs.Units.{AreFilesBelow}
 use Rattle.law_faultless.specs.Lines.{IsTypeNamed, JudgesFile, IsPrinted, AreTypesPrinted, written_fields}
-use Rattle.law_faultless.specs.Lines.{IsDefinedAs, IsReceived, BeginWithReceiver, without, with_one}
+use Rattle.law_faultless.specs.Lines.{AreAskedLines, IsDefinedAs, IsReceived, BeginWithReceiver, without, with_one}
 use Rattle.law_faultless.specs.Lines.{HasTypes}
+use Rattle.law_faultless.proofs.AskedLines.{methods_of}
 use Rattle.law_faultless.proofs.NamedTypes.{named_type as name_named, written_named}
 
 -- a written type has a type
@@ -71,6 +75,12 @@ fields_typed v (also_field {i = i} {is} {t} h more) =
     all_append (HasType v) (map (λ n. i.value.type_use) i.value.names) (written_fields is)
     (each_name (HasType v) i.value.type_use i.value.names (t, h)) (fields_typed v more)
 
+asked_typed : (v : World) {is : List (Item ParamTree)} → AskedAreTyped v is → AllByRecursion (HasType v) (parameter_types is)
+asked_typed v no_param_left = tt
+asked_typed v (also_param {i = i} {is} {t} h more) =
+    all_append (HasType v) (map (λ n. i.value.type_use) i.value.names) (parameter_types is)
+    (each_name (HasType v) i.value.type_use i.value.names (t, h)) (asked_typed v more)
+
 -- the types of fields are those that are written
 one_each : (v : World) (x : TypeTree) (ns : List (Item ℕ)) → flat_map (λ n. written v x) ns ≡ all_written v (map (λ n. x) ns)
 one_each v x [] = refl
@@ -106,21 +116,42 @@ module _ (w : Workspace) (sound : ListsFaults w []) (known : Verdicts) (right : 
       subst (λ z. AreTypesPrinted p files_of file (x ∷ xs) (z ++ all_written v xs)) (sym (written_one v x h.0.0 h.0.1))
       (printed x h.0.0 h.0.1, all_printed xs h.1)
 
-  -- what a type is defined as
-  pub record IsKnownAs (b : BodyTree) : Type 0 where
-    pub definition : ObjectDefinition
-    pub is_known : (asks : ℕ → Option FunctionName) → definition_of v asks b ≡ Some definition
-    pub defines : IsDefinedAs p files_of file b definition
+  -- what an interface asks for, where the names of its methods are known
+  module _ (of : GlobalName) (asks : ℕ → Option FunctionName) where
+    abbrev AreNamed : List (Item MethodTree) → Type 0
+    AreNamed ms = (m : Item MethodTree) → Holds ms m → asks m.value.name ≡ Some (Method of (spelled p file m.value.name))
 
-  pub body_known : (b : BodyTree) → BodyIsTyped v b → IsKnownAs b
-  unfolding definition_of
-  body_known _ (another_type {x} {t} i) =
-      record { definition = SameAs t; is_known = λ asks. ap (option_map SameAs) (found_type v x t i); defines = printed x t i }
-  body_known _ (a_struct {is = fs} h) = record {
-    definition = Fields (field_types v fs);
-    is_known = λ asks. refl;
-    defines = subst (λ ts. AreTypesPrinted p files_of file (written_fields fs) ts) (sym (fields_written v fs)) (all_printed (written_fields fs) (fields_typed v h));
-  }
+    methods_lined : (ms : List (Item MethodTree)) → AreNamed ms → MethodsAreTyped v ms → AreAskedLines p files_of of file ms (asked_methods v asks ms)
+    methods_lined _ named no_method_left = tt
+    methods_lined _ named (also_method {i} {is} params results more) =
+        let m = i.value in
+        subst (λ z. AreAskedLines p files_of of file (i ∷ is) (object_asked v m z ++ asked_methods v asks is)) (sym (named i (inl refl))) (
+          record {
+            named = refl;
+            are_parameters = all_printed (parameter_types m.params) (asked_typed v params);
+            are_results = all_printed (result_types m.result) (results_typed v results);
+          },
+          methods_lined is (λ n h. named n (inr h)) more,
+        )
+
+    -- what a type is defined as
+    pub record IsKnownAs (b : BodyTree) : Type 0 where
+      pub definition : ObjectDefinition
+      pub is_known : definition_of v asks b ≡ Some definition
+      pub defines : IsDefinedAs p files_of of file b definition
+
+    pub body_known : (b : BodyTree) → AreNamed (methods_of b) → BodyIsTyped v b → IsKnownAs b
+    unfolding definition_of
+    body_known _ named (another_type {x} {t} i) =
+        record { definition = SameAs t; is_known = ap (option_map SameAs) (found_type v x t i); defines = printed x t i }
+    body_known _ named (a_struct {is = fs} h) = record {
+      definition = Fields (field_types v fs);
+      is_known = refl;
+      defines = subst (λ ts. AreTypesPrinted p files_of file (written_fields fs) ts) (sym (fields_written v fs)) (all_printed (written_fields fs)
+          (fields_typed v h));
+    }
+    body_known _ named (an_interface {is = ms} h) =
+        record { definition = Asks (asked_methods v asks ms); is_known = refl; defines = methods_lined ms named h }
 
   -- the types of a function
   received_one : {before after : Locals} {r : ReceiverTree} → ReceiverIsTyped v before r after →

@@ -25,6 +25,7 @@ use Rattle.go_scope.specs.Scopes.{Holds as HoldsPlace, scope_for}
 use Rattle.go_scope.specs.Site.{Site, TokenSpellings, or_blank}
 use Rattle.go_scope.specs.Table.{LiesAt, IsFoundAt}
 use Rattle.go_scope.specs.Trees.{AreRising}
+use Rattle.go_scope.proofs.Regions.{inner_to}
 use Rattle.law_tokens.specs.Order.{StandInOrder}
 use Rattle.law_tokens.specs.Tokens.{identifiers_among}
 use Rattle.law_tokens.proofs.Covering.{Pairs, file_pairs}
@@ -49,7 +50,7 @@ use Rattle.refs_lookup.proofs.OnePlace.{names_of, laid_of, same_layout, same_siz
 use Rattle.refs_lookup.proofs.Apart.{all_as}
 use Rattle.refs_lookup.proofs.BoundUsedMembers.{file_at}
 use Rattle.law_faultless.specs.NameMeanings.{MeansSomething, HaveMeanings}
-use Rattle.law_faultless.specs.ResolvedNames.{may_be_local, IsEarlierLocal, IsResolved, AreResolved, IsBlankAt}
+use Rattle.law_faultless.specs.ResolvedNames.{may_be_local, HoldsTokens, IsEarlierLocal, IsResolved, AreResolved, IsBlankAt}
 use Rattle.law_faultless.specs.Unbroken.{IsUnbroken}
 use Rattle.law_faultless.proofs.BegunScopes.{file_begins}
 use Rattle.law_faultless.proofs.LinksBound.{source_is}
@@ -119,6 +120,11 @@ local_role (LeftName (File g) start) f a c m i b = let z : ⊥ = cc in absurd z
 local_role (Implied block start) f a c m i b = absurd (true≢false i)
 local_role Use f a c m i b = absurd (true≢false (sym m))
 local_role (NotLexical p) f a c m i b = absurd (true≢false (sym m))
+
+tokens_held : (r : Role) (f a c : ℕ) → block_of r ≡ Inner f a c → start_of r < c → HoldsTokens r
+tokens_held (Declaring (Inner g d e) start) f a c b h = let same : e ≡ c = inner_to g d e f a c b in let lt : start < c = h in omega arith
+tokens_held (LeftName (Inner g d e) start) f a c b h = let same : e ≡ c = inner_to g d e f a c b in let lt : start < c = h in omega arith
+tokens_held r f a c b h = tt
 
 identified : (s : TokenSpellings) (xs : List Site) (ts : List Token) → Pairs s xs ts → AllByRecursion (λ x. is_implied x.role ≡ false) xs
 identified s [] ts p = tt
@@ -327,6 +333,7 @@ module _ (w : Workspace) (known : Verdicts) (path : List ℕ) (p : Package) (h :
             let own_name = own_bound d f a c block b.counts there in
             let index : (p.layout.place u).index ≡ i = stands.2 in
             let start : start_of (p.layout.role d) ≤ (p.layout.place u).index = inside.1 in
+            let end : (p.layout.place u).index < c = inside.2 in
             let first : (p.layout.place d).index < start_of (p.layout.role d) = begun.0 in
             let place : y.0.place.index ≡ (p.layout.place d).index = y.1.1.0 in
             let role = y.1.1.1 in
@@ -334,7 +341,11 @@ module _ (w : Workspace) (known : Verdicts) (path : List ℕ) (p : Package) (h :
             inr (record {
               local = y.0;
               among = before y.0 y.1.0 (omega arith);
-              own = (ap v.bound place ∙ own_name ∙ ap Local (sym place), ap may_be_local role ∙ local);
+              own = (
+                ap v.bound place ∙ own_name ∙ ap Local (sym place),
+                ap may_be_local role ∙ local,
+                subst HoldsTokens (sym role) (tokens_held (p.layout.role d) f a c block (omega arith)),
+              );
               bound = e ∙ ap Local (sym at ∙ sym place);
               begun = omega arith;
             })

@@ -3,8 +3,8 @@ use Rattle.std.proofs.Common.{ℕ, ◌≡◌, inl, inr, Bool, List, [], ◌∷�
 use Rattle.std.specs.List.{AllByRecursion, flat_map}
 use Rattle.std.proofs.lemmas.Option.{none-some, same_Some}
 use Rattle.base_lemmas.proofs.EachElement.{all_append}
-use Rattle.go_ast.specs.Tree.{Item, Group, single, several, TypeTree, ReceiverTree, ParamTree, ResultTree, FuncTree, GlobalTree, FieldTree, BodyTree}
-use Rattle.go_ast.specs.Tree.{TypeSpecTree, DeclTree, FileTree}
+use Rattle.go_ast.specs.Tree.{Item, Group, single, several, TypeTree, ReceiverTree, ParamTree, ResultTree, FuncTree, GlobalTree, FieldTree}
+use Rattle.go_ast.specs.Tree.{MethodTree, BodyTree, TypeSpecTree, DeclTree, FileTree}
 use Rattle.go_ast.specs.Tree as tree
 use Rattle.types_declared.specs.Files.{group_items}
 use Rattle.types_expr.specs.World.{World, no_locals}
@@ -12,12 +12,13 @@ use Rattle.types_expr.specs.Judge.{judge_type}
 use Rattle.types_stmt.specs.Checked.{FoundSoFar, fault_if, check_items, check_group}
 use Rattle.types_stmt.specs.Headers.{judge_receiver, check_receiver, check_optional_receiver, check_param, judge_types, judge_results, is_bad_init}
 use Rattle.types_stmt.specs.Headers.{check_signature, check_function}
-use Rattle.types_stmt.specs.Declarations.{global_faults, value_faults, field_faults, body_faults, check_global, check_type, check_decl, check_decls, check_file}
+use Rattle.types_stmt.specs.Declarations.{global_faults, value_faults, field_faults, param_faults, asked_faults, body_faults, check_global, check_type}
+use Rattle.types_stmt.specs.Declarations.{check_decl, check_decls, check_file}
 use Rattle.law_typing.proofs.Judgements.{empty_first, empty_second}
 use Rattle.law_typing.proofs.Statements.{block_first}
 use Rattle.law_typing.proofs.Declarations.{decl_settled}
 use Rattle.types_declared.specs.MeaningOf.{result_types}
-use Rattle.types_declared.specs.Written.{written_types}
+use Rattle.types_declared.specs.Written.{signature_types, asked_types, written_types}
 use Rattle.types_info.proofs.DeclKinds.{Holds}
 
 -- the Types that are written in a declaration, before the body of a function
@@ -45,7 +46,7 @@ module _ {X : Type 0} (check : FoundSoFar → X → FoundSoFar) (F : X → List 
   group_first (single x) s h = (empty_second s.faults (F x) (sym (one s x) ∙ h), tt)
   group_first (several o is c) s h = (items_first is s h).1
 
--- variables and definitions
+-- variables and fields
 
 variables_sound : (w : World) (gs : List GlobalTree) → AllByRecursion (λ g. global_faults w g ≡ []) gs → AllByRecursion (IsSound w) (map (λ g. g.type_use) gs)
 unfolding global_faults
@@ -59,18 +60,6 @@ fields_sound w [] h = tt
 fields_sound w (f ∷ fs) h =
     let x = (judge_type w f.value.type_use).faults in
     (empty_first x (field_faults w fs) h, fields_sound w fs (empty_second x (field_faults w fs) h))
-
-body_sound : (w : World) (b : BodyTree) → body_faults w b ≡ [] → AllByRecursion (IsSound w) (written_types b)
-unfolding body_faults
-body_sound w (tree.Other x) h = (h, tt)
-body_sound w (tree.Struct p o fs c) h = fields_sound w fs h
-body_sound w (tree.Interface p o ms c) h = let z : ⊥ = cc in absurd z
-
-definitions_sound : (w : World) (ts : List TypeSpecTree) → AllByRecursion (λ t. body_faults w t.body ≡ []) ts →
-    AllByRecursion (IsSound w) (flat_map (λ t. written_types t.body) ts)
-definitions_sound w [] h = tt
-definitions_sound w (t ∷ ts) h =
-    all_append (IsSound w) (written_types t.body) (flat_map (λ x. written_types x.body) ts) (body_sound w t.body h.0) (definitions_sound w ts h.1)
 
 -- functions
 
@@ -101,6 +90,40 @@ unfolding judge_results
 results_first w tree.no_result h = tt
 results_first w (tree.one_result x) h = (empty_first (judge_type w x).faults [] h, tt)
 results_first w (tree.results o is c) h = types_first w is h
+
+-- definitions
+
+asked_params_sound : (w : World) (is : List (Item ParamTree)) → param_faults w is ≡ [] → AllByRecursion (IsSound w) (map (λ i. i.value.type_use) is)
+unfolding param_faults
+asked_params_sound w [] h = tt
+asked_params_sound w (i ∷ is) h =
+    let x = (judge_type w i.value.type_use).faults in
+    (empty_first x (param_faults w is) h, asked_params_sound w is (empty_second x (param_faults w is) h))
+
+asked_sound : (w : World) (ms : List (Item MethodTree)) → asked_faults w ms ≡ [] → AllByRecursion (IsSound w) (asked_types ms)
+unfolding asked_faults
+asked_sound w [] h = tt
+asked_sound w (m ∷ ms) h =
+    let params = param_faults w m.value.params in
+    let results = (judge_results w m.value.result).faults in
+    let later = asked_faults w ms in
+    let behind = empty_second params (results ++ later) h in
+    all_append (IsSound w) (signature_types m.value.params m.value.result) (asked_types ms)
+    (all_append (IsSound w) (map (λ i. i.value.type_use) m.value.params) (result_types m.value.result)
+    (asked_params_sound w m.value.params (empty_first params (results ++ later) h)) (results_first w m.value.result (empty_first results later behind)))
+    (asked_sound w ms (empty_second results later behind))
+
+body_sound : (w : World) (b : BodyTree) → body_faults w b ≡ [] → AllByRecursion (IsSound w) (written_types b)
+unfolding body_faults
+body_sound w (tree.Other x) h = (h, tt)
+body_sound w (tree.Struct p o fs c) h = fields_sound w fs h
+body_sound w (tree.Interface p o ms c) h = asked_sound w ms h
+
+definitions_sound : (w : World) (ts : List TypeSpecTree) → AllByRecursion (λ t. body_faults w t.body ≡ []) ts →
+    AllByRecursion (IsSound w) (flat_map (λ t. written_types t.body) ts)
+definitions_sound w [] h = tt
+definitions_sound w (t ∷ ts) h =
+    all_append (IsSound w) (written_types t.body) (flat_map (λ x. written_types x.body) ts) (body_sound w t.body h.0) (definitions_sound w ts h.1)
 
 record Header (w : World) (f : FuncTree) : Type 0 where
   received : (r : ReceiverTree) → f.receiver ≡ Some r → (judge_receiver w r).faults ≡ []

@@ -1,14 +1,16 @@
 -- A file in which no fault of types is found keeps the typing rules, where all its names are known.
-use Rattle.std.proofs.Common.{ℕ, suc, ◌≡◌, ◌⊎◌, inl, inr, Bool, true, false, List, [], ◌∷◌, ◌++◌, Option, Some, None, ap, sym, subst, refl, ◌∙◌, if◌then◌else◌}
+use Rattle.std.proofs.Common.{ℕ, suc, ◌≡◌, ◌<◌, ◌⊎◌, inl, inr, Bool, true, false, List, [], ◌∷◌, ◌++◌, Option, Some, None, ap, sym, subst, refl, ◌∙◌, arith}
+use Rattle.std.proofs.Common.{if◌then◌else◌}
 use Rattle.std.specs.Prelude.{codes, bytes_eq}
 use Rattle.std.specs.List.{All, AllByRecursion, flat_map}
+use Rattle.std.proofs.lemmas.Bool.{true≢false}
 use Rattle.std.proofs.lemmas.List.Elements.{All-head, All-tail}
 use Rattle.base_lemmas.proofs.EachElement.{all_append}
 use Rattle.go_ast.specs.declared.syntax.Kind.TheVariants as kind
 use Rattle.go_ast.specs.Flatten.{sign, tokens_if, all_tokens, list_tokens, receiver_tokens, param_tokens, result_tokens, block_tokens, func_tokens}
 use Rattle.go_ast.specs.Flatten.{imports_tokens, decl_tokens, flatten}
-use Rattle.go_ast.specs.Tree.{Item, Group, single, several, TypeTree, ReceiverTree, ParamTree, ResultTree, FuncTree}
-use Rattle.go_ast.specs.Tree.{GlobalTree, FieldTree, BodyTree, TypeSpecTree, ImportTree, ImportsTree, DeclTree, FileTree}
+use Rattle.go_ast.specs.Tree.{Item, Group, single, several, IdentTree, TypeTree, ReceiverTree, ParamTree, ResultTree, FuncTree}
+use Rattle.go_ast.specs.Tree.{GlobalTree, FieldTree, MethodTree, BodyTree, TypeSpecTree, ImportTree, ImportsTree, DeclTree, FileTree}
 use Rattle.go_ast.specs.Tree as tree
 use Rattle.go_ast.specs.WellFormed.{IsDecl, IsFunc, IsFile}
 use Rattle.go_scope.specs.declared.model.Block.{Block}
@@ -20,7 +22,7 @@ use Rattle.go_scope.specs.ExpressionSites.{sites_if, list_sites, type_sites}
 use Rattle.go_scope.specs.StatementSites.{ident_sites, group_sites, separated_sites, open_of, block_sites}
 use Rattle.go_scope.specs.FileSites.{global_name, member_name, spec_sites, global_sites, field_sites, body_sites, type_spec_sites, receiver_sites}
 use Rattle.go_scope.specs.FileSites.{param_sites, result_sites, func_block, func_role, func_sites, import_name, import_purpose, import_sites, imports_sites}
-use Rattle.go_scope.specs.FileSites.{decl_sites, file_sites}
+use Rattle.go_scope.specs.FileSites.{method_block, method_sites, decl_sites, file_sites}
 use Rattle.types_expr.specs.Types.{PlainType}
 use Rattle.types_expr.specs.World.{World, Locals, no_locals}
 use Rattle.types_stmt.specs.Checked.{FoundSoFar, check_items, check_group}
@@ -28,28 +30,30 @@ use Rattle.types_stmt.specs.Sides.{Wants}
 use Rattle.types_stmt.specs.Headers.{check_optional_receiver, check_param, judge_types, judge_results, check_signature, check_function}
 use Rattle.types_stmt.specs.Declarations.{check_global, check_type, check_decl, check_decls, check_file}
 use Rattle.law_typing.proofs.Naming.{type_true}
-use Rattle.law_typing.specs.Sequences.{PartRule, Excuse, InTurn, no_item, then_item, InGroup, alone, together, IfPresent, absent, present, ExcusedInTurn}
+use Rattle.law_typing.specs.Sequences.{PartRule, Excuse, InTurn, no_item, then_item, IfPresent, absent, present, ExcusedInTurn}
 use Rattle.law_typing.specs.Sequences.{this_item, later_item, ExcusedInGroup, excused_alone, excused_together, ExcusedIfPresent, excused_present}
 use Rattle.law_typing.specs.Statements.{BlockIsTyped}
 use Rattle.law_typing.specs.Declarations.{ReceiverIsTyped, a_receiver, ParamIsTyped, a_param, AreTypes, no_type_left, also_type, AreResults}
-use Rattle.law_typing.specs.Declarations.{none_written, one_written, several_written, FunctionIsTyped, a_function, GlobalIsTyped, BodyIsTyped}
-use Rattle.law_typing.specs.Declarations.{another_type, a_struct, TypeIsTyped, a_definition_of, DeclIsTyped, types}
+use Rattle.law_typing.specs.Declarations.{none_written, one_written, several_written, FunctionIsTyped, a_function, GlobalIsTyped}
+use Rattle.law_typing.specs.Declarations.{TypeIsTyped, DeclIsTyped}
 use Rattle.law_typing.specs.Declarations.{one_function, DeclsAreTyped, no_decl, also_decl, FileIsTyped, a_file}
 use Rattle.law_typing.specs.Excused.{ReceiverIsExcused, of_broken, ParamIsExcused, param_of_broken, AnyIsBrokenType, this_type, later_type}
 use Rattle.law_typing.specs.Excused.{ResultIsExcused, one_broken, one_of_several, FunctionIsExcused, in_receiver, in_params, in_result, in_body}
 use Rattle.law_typing.specs.Excused.{GlobalIsExcused, global_of_broken, FieldIsBroken, this_field, later_field, BodyIsBroken, other_broken}
+use Rattle.law_typing.specs.Excused.{AskedIsBroken, this_param, later_param, MethodIsBroken, in_asked, in_asked_result, later_method, in_interface}
 use Rattle.law_typing.specs.Excused.{in_struct, TypeIsExcused, in_type_body, DeclIsExcused, in_variables, in_types}
 use Rattle.law_typing.proofs.PartOutcomes.{IsAt, items_true}
 use Rattle.law_typing.proofs.Statements.{AreTargets}
 use Rattle.law_typing.proofs.Headers.{receiver_true, param_true, function_settled}
 use Rattle.law_typing.proofs.Declarations.{decl_settled}
 use Rattle.law_typing.proofs.TypedNotExcused.{block_not}
+use Rattle.refs_lookup.proofs.Apart.{all_as}
 use Rattle.law_faultless.proofs.Sound.{decls_first}
 use Rattle.law_faultless.proofs.NumberedTokens.{Strung, strung_split}
 use Rattle.law_faultless.specs.Unbroken.{IsUnbroken}
 use Rattle.law_faultless.proofs.Named.{no_broken_type}
 use Rattle.law_faultless.specs.ResolvedNames.{AreResolved, may_be_local}
-use Rattle.law_faultless.proofs.KnownLocals.{past, resolved_left, resolved_right, AllKnown, known_none, known_past, abroad_past}
+use Rattle.law_faultless.proofs.KnownLocals.{past, resolved_left, resolved_right, AllKnown, known_none, known_past, abroad_past, IsShut, shut_past}
 use Rattle.law_faultless.proofs.Simples.{ident_declares, idents_declare, as_all_known, as_locals_kept}
 use Rattle.law_faultless.proofs.Bodies.{Outcome, known_join, block_typed}
 
@@ -101,9 +105,19 @@ module _ (w : World) (u : IsUnbroken w) where
   no_field (this_field b) = no_broken_type w u b
   no_field (later_field more) = no_field more
 
+  no_asked : {is : List (Item ParamTree)} → AskedIsBroken w is → ⊥
+  no_asked (this_param b) = no_broken_type w u b
+  no_asked (later_param more) = no_asked more
+
+  no_method : {is : List (Item MethodTree)} → MethodIsBroken w is → ⊥
+  no_method (in_asked b) = no_asked b
+  no_method (in_asked_result b) = no_result b
+  no_method (later_method more) = no_method more
+
   no_body : {b : BodyTree} → BodyIsBroken w b → ⊥
   no_body (other_broken b) = no_broken_type w u b
   no_body (in_struct f) = no_field f
+  no_body (in_interface m) = no_method m
 
   no_spec : (ls : Locals) (x : TypeSpecTree) → TypeIsExcused w ls x → ⊥
   no_spec ls x (in_type_body b) = no_body b
@@ -145,37 +159,61 @@ field_abroad s x = abroad_append (list_sites (member_name s) x.names) (type_site
 pub fields_abroad : (s : TokenSpellings) (fs : List (Item FieldTree)) → Abroad (list_sites (field_sites s) fs)
 fields_abroad s fs = list_abroad (field_sites s) (field_abroad s) fs
 
-body_abroad : (w : World) (s : TokenSpellings) {b : BodyTree} → BodyIsTyped w b → Abroad (body_sites s b)
-unfolding body_sites
-body_abroad w s (another_type {x = x} i) = type_abroad s x
-body_abroad w s (a_struct {is = fs} h) = fields_abroad s fs
-
-spec_abroad : (w : World) (s : TokenSpellings) {before : Locals} {x : TypeSpecTree} {after : Locals} → TypeIsTyped w before x after →
-    Abroad (type_spec_sites s x)
-unfolding type_spec_sites
-spec_abroad w s (a_definition_of h) = (refl, body_abroad w s h)
-
-specs_abroad : (w : World) (s : TokenSpellings) {before after : Locals} {is : List (Item TypeSpecTree)} → InTurn TypeSpecTree (TypeIsTyped w) before is after →
-    Abroad (list_sites (type_spec_sites s) is)
-specs_abroad w s no_item = tt
-specs_abroad w s (then_item {i = i} {is = is} h more) =
-    abroad_append (type_spec_sites s i.value) (list_sites (type_spec_sites s) is) (spec_abroad w s h) (specs_abroad w s more)
-
-definitions_abroad : (w : World) (s : TokenSpellings) {before after : Locals} {g : Group TypeSpecTree} → InGroup TypeSpecTree (TypeIsTyped w) before g after →
-    Abroad (spec_sites (type_spec_sites s) g)
-unfolding group_sites separated_sites
-definitions_abroad w s (alone h) = spec_abroad w s h
-definitions_abroad w s (together h) = specs_abroad w s h
-
-typed_abroad : (w : World) (is_init : ℕ → Bool) (s : TokenSpellings) {before after : Locals} {k c : ℕ} {g : Group TypeSpecTree} →
-    DeclIsTyped w is_init before (tree.TypeDecl k g c) after → Abroad (spec_sites (type_spec_sites s) g)
-typed_abroad w is_init s (types h) = definitions_abroad w s h
-
 pub result_abroad : (s : TokenSpellings) (r : ResultTree) → Abroad (result_sites s r)
 unfolding result_sites
 result_abroad s tree.no_result = tt
 result_abroad s (tree.one_result x) = type_abroad s x
 result_abroad s (tree.results o is c) = list_abroad (type_sites s) (type_abroad s) is
+
+-- Type definitions: a parameter of a method that an interface asks for declares a local, but nothing is bound to it.
+
+abbrev Shut : List Site → Type 0
+Shut xs = AllByRecursion IsShut xs
+
+shut_append : (xs ys : List Site) → Shut xs → Shut ys → Shut (xs ++ ys)
+shut_append xs ys a b = all_append IsShut xs ys a b
+
+shut_if : (xs : List Site) → Abroad xs → Shut xs
+shut_if xs h = all_as (λ (x : Site). may_be_local x.role ≡ false) IsShut (λ x e may held. true≢false (sym may ∙ e)) xs h
+
+list_shut : {X : Type 0} (f : X → List Site) → ((x : X) → Shut (f x)) → (is : List (Item X)) → Shut (list_sites f is)
+list_shut f one [] = tt
+list_shut f one (i ∷ is) = shut_append (f i.value) (list_sites f is) (one i.value) (list_shut f one is)
+
+asked_ident : (s : TokenSpellings) (o c : ℕ) (x : IdentTree) → Shut (ident_sites s (Declaring (blocks.Inner s.rank o c) c) x)
+asked_ident s o c (tree.Named i) = ((λ may held. let lt : c < c = held in omega arith), tt)
+asked_ident s o c (tree.Underscore i) = ((λ may held. true≢false (sym may)), tt)
+
+asked_param : (s : TokenSpellings) (o c : ℕ) (x : ParamTree) → Shut (param_sites s (blocks.Inner s.rank o c) c x)
+unfolding param_sites
+asked_param s o c x =
+    let names = ident_sites s (Declaring (blocks.Inner s.rank o c) c) in
+    shut_append (list_sites names x.names) (type_sites s x.type_use) (list_shut names (asked_ident s o c) x.names)
+    (shut_if (type_sites s x.type_use) (type_abroad s x.type_use))
+
+method_shut : (s : TokenSpellings) (m : MethodTree) → Shut (method_sites s m)
+unfolding method_sites
+method_shut s m =
+    let params = param_sites s (method_block s m) m.rparen in (
+      (λ may held. true≢false (sym may)),
+      shut_append (list_sites params m.params) (result_sites s m.result) (list_shut params (asked_param s m.lparen m.rparen) m.params)
+          (shut_if (result_sites s m.result) (result_abroad s m.result)),
+    )
+
+body_shut : (s : TokenSpellings) (b : BodyTree) → Shut (body_sites s b)
+unfolding body_sites
+body_shut s (tree.Other x) = shut_if (type_sites s x) (type_abroad s x)
+body_shut s (tree.Struct k o fs c) = shut_if (list_sites (field_sites s) fs) (fields_abroad s fs)
+body_shut s (tree.Interface k o ms c) = list_shut (method_sites s) (method_shut s) ms
+
+spec_shut : (s : TokenSpellings) (x : TypeSpecTree) → Shut (type_spec_sites s x)
+unfolding type_spec_sites
+spec_shut s x = ((λ may held. true≢false (sym may)), body_shut s x.body)
+
+definitions_shut : (s : TokenSpellings) (g : Group TypeSpecTree) → Shut (spec_sites (type_spec_sites s) g)
+unfolding group_sites separated_sites
+definitions_shut s (single x) = spec_shut s x
+definitions_shut s (several o is c) = list_shut (type_spec_sites s) (spec_shut s) is
 
 name_abroad : (b : Bool) → may_be_local (if b then NotLexical purpose.InitFunction else Declaring blocks.Package 0) ≡ false
 name_abroad true = refl
@@ -333,7 +371,7 @@ module _ (w : World) (B : ℕ → Type 0) (s : TokenSpellings) (u : IsUnbroken w
       let same = group_stays (check_type w) (λ a x. refl) g st in
       let typed : DeclIsTyped w is_init st.locals (tree.TypeDecl k g c) (check_decl w is_init st (tree.TypeDecl k g c)).locals =
       elim q.1 [ inl h ↦ h | inr e ↦ absurd (no_definitions e) ] in
-      (typed, subst (λ z. AllKnown w z (past A sites)) (sym same) (abroad_past w st.locals A sites known (typed_abroad w is_init s typed)))
+      (typed, subst (λ z. AllKnown w z (past A sites)) (sym same) (shut_past w st.locals A sites known (definitions_shut s g)))
   decl_typed is_init A n m st (tree.FuncDecl k f c) formed h known r t =
       let x = strung_split B (suc n) (func_tokens f) (sign kind.Semicolon c ∷ []) m t.1.1 in
       let o = function_typed (is_init f.name) A (suc n) x.0 st f formed h known r x.1.0 in (one_function o.0, o.1)

@@ -1,5 +1,6 @@
 -- In a file without faults of types each Type in a declaration names a type, and a receiver a definition of the package.
-use Rattle.std.proofs.Common.{ℕ, suc, ◌≡◌, ◌<◌, ◌⊎◌, inl, inr, false, List, [], ◌∷◌, ◌++◌, length, map, ap, sym, subst, refl, ◌∙◌, arith}
+use Rattle.std.proofs.Common.{ℕ, suc, ◌≡◌, ◌<◌, ◌⊎◌, inl, inr, Bool, true, false, if◌then◌else◌}
+use Rattle.std.proofs.Common.{List, [], ◌∷◌, ◌++◌, length, map, ap, sym, subst, refl, ◌∙◌, arith}
 use Rattle.std.specs.Prelude.{Some, slice_get, option_map}
 use Rattle.std.specs.List.{AllByRecursion}
 use Rattle.std.proofs.lemmas.Option.{slice_get-map, slice_get_within}
@@ -24,9 +25,10 @@ use Rattle.law_tokens.proofs.Ordered.{same_length}
 use Rattle.law_tokens.proofs.Places.{named_stands}
 use Rattle.types_expr.specs.declared.symbol.Symbol.{Symbol}
 use Rattle.types_expr.specs.Types.{PlainType, BasicType, Defined, Pointer, Slice, Meaning, Value, TypeName, Function, BuiltinName, Results, Broken}
+use Rattle.types_expr.specs.Types.{takes_no_methods}
 use Rattle.types_expr.specs.Types.{Package as PackageName}
 use Rattle.types_expr.specs.World.{World, Bound, Local, Means, BrokenVariable, BrokenFunction, BrokenType}
-use Rattle.types_expr.specs.Judge.{named_type, imported_type, judge_type}
+use Rattle.types_expr.specs.Judge.{good_type, no_type_at, named_type, imported_type, judge_type}
 use Rattle.types_stmt.specs.Headers.{may_receive, receiver_or_fault, receiver_base, judge_receiver}
 use Rattle.law_typing.proofs.Judgements.{empty_first, empty_second}
 use Rattle.law_typing.proofs.Headers.{star_faults}
@@ -103,6 +105,26 @@ received_type v r t e h =
     let j = named_type (v.bound n) n in
     let all : j.faults ++ (receiver_or_fault v n j.type_of).faults ≡ [] = sym (star_faults r.star (receiver_base v n)) ∙ h in
     may_be_received v n t
+    (subst (λ b. (receiver_or_fault v n (named_type b n).type_of).faults ≡ []) e (empty_second j.faults (receiver_or_fault v n j.type_of).faults all))
+
+-- a method may have a receiver of this type
+takes_by : (s : Symbol) (place : ℕ) (none : Bool) → (if (if none then false else true) then good_type (Defined s) else no_type_at place).faults ≡ [] →
+    none ≡ false
+takes_by s place true h = no_fault h
+takes_by s place false h = refl
+
+may_take : (v : World) (place : ℕ) (s : Symbol) → (receiver_or_fault v place (Some (Defined s))).faults ≡ [] → takes_no_methods (v.definition s) ≡ false
+unfolding receiver_or_fault may_receive
+may_take v place s h = takes_by s place (takes_no_methods (v.definition s)) h
+
+pub received_takes : (v : World) (r : ReceiverTree) (s : Symbol) → v.bound r.type_name ≡ Means (TypeName (Defined s)) → (judge_receiver v r).faults ≡ [] →
+    takes_no_methods (v.definition s) ≡ false
+unfolding judge_receiver receiver_base named_type
+received_takes v r s e h =
+    let n = r.type_name in
+    let j = named_type (v.bound n) n in
+    let all : j.faults ++ (receiver_or_fault v n j.type_of).faults ≡ [] = sym (star_faults r.star (receiver_base v n)) ∙ h in
+    may_take v n s
     (subst (λ b. (receiver_or_fault v n (named_type b n).type_of).faults ≡ []) e (empty_second j.faults (receiver_or_fault v n j.type_of).faults all))
 
 -- a predeclared name that means a type

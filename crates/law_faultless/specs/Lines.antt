@@ -3,7 +3,8 @@ use Rattle.std.specs.Prelude.{ℕ, ◌≡◌, ⊤, List, [], ◌∷◌, map, Opt
 use Rattle.std.specs.List.{flat_map}
 use Rattle.base_files.specs.Workspace.{Workspace}
 use Rattle.go_ast.specs.SourceFile.{SourceFile}
-use Rattle.go_ast.specs.Tree.{Item, TypeTree, FieldTree, BodyTree, Other, Struct, Interface, ReceiverTree, DeclTree, VarDecl, TypeDecl, FuncDecl}
+use Rattle.go_ast.specs.Tree.{Item, TypeTree, FieldTree, MethodTree, BodyTree, Other, Struct, Interface, ReceiverTree, DeclTree, VarDecl, TypeDecl}
+use Rattle.go_ast.specs.Tree.{FuncDecl}
 use Rattle.types_expr.specs.declared.symbol.Symbol.{Symbol}
 use Rattle.types_expr.specs.Types.{PlainType, BasicType, Defined, Pointer, Slice, TypeName}
 use Rattle.types_expr.specs.World.{World, Means}
@@ -16,10 +17,11 @@ use Rattle.types_info.specs.Worlds.{IsWorldOf}
 use Rattle.workspace_check.specs.FaultLists.{ListsFaults}
 use Rattle.workspace_check.specs.Verdicts.{Verdicts, AreVerdicts}
 use Rattle.refs_binding.specs.Uses.{IsCheckedPackage}
-use Rattle.build_object.specs.Lines.{GlobalName, FunctionName}
+use Rattle.build_object.specs.Lines.{GlobalName, FunctionName, Method}
 use Rattle.build_object.specs.Names.{type_name, function_names}
 use Rattle.build_object.specs.ObjectText.{object_text}
-use Rattle.build_object.specs.Objects.{ObjectDefinition, SameAs, Fields, Asks, ObjectDeclaration, TypeOf, Variable, FunctionOf, ObjectFunction, Initial, Object}
+use Rattle.build_object.specs.Objects.{ObjectAsked, ObjectDefinition, SameAs, Fields, Asks, ObjectDeclaration, TypeOf, Variable, FunctionOf, ObjectFunction}
+use Rattle.build_object.specs.Objects.{Initial, Object}
 use Rattle.build_object.specs.Sources.{IsObjectOf, IsObjectText}
 use Rattle.build_unit.specs.Units.{AreFilesBelow}
 use Rattle.law_faultless.specs.QuestionAnswers.{IsKnown}
@@ -79,16 +81,31 @@ AreTypesPrinted p files_of file (x ∷ xs) (t ∷ ts) = IsPrinted p files_of fil
 abbrev pub written_fields : List (Item FieldTree) → List TypeTree
 written_fields fs = flat_map (λ i. map (λ n. i.value.type_use) i.value.names) fs
 
--- A type with this body is defined as the written type, or as a struct with the written types of its fields. An interface is a fault, and
--- no object has one.
-abbrev pub IsDefinedAs : Package → (files_of : List ℕ → List SourceFile) → (file : ℕ) → BodyTree → ObjectDefinition → Type 0
-IsDefinedAs p files_of file (Other x) (SameAs t) = IsPrinted p files_of file x t
-IsDefinedAs p files_of file (Other x) (Fields ts) = ⊥
-IsDefinedAs p files_of file (Other x) (Asks ms) = ⊥
-IsDefinedAs p files_of file (Struct k o fs c) (SameAs t) = ⊥
-IsDefinedAs p files_of file (Struct k o fs c) (Asks ms) = ⊥
-IsDefinedAs p files_of file (Struct k o fs c) (Fields ts) = AreTypesPrinted p files_of file (written_fields fs) ts
-IsDefinedAs p files_of file (Interface k o ms c) d = ⊥
+-- What the interface with the name `of` asks for by this method: its name in objects, and the written types of its parameters and results.
+pub record IsAskedLine (p : Package) (files_of : List ℕ → List SourceFile) (of : GlobalName) (file : ℕ) (m : MethodTree) (d : ObjectAsked) : Type 0 where
+  pub named : d.name ≡ Method of (spelled p file m.name)
+  pub are_parameters : AreTypesPrinted p files_of file (parameter_types m.params) d.parameters
+  pub are_results : AreTypesPrinted p files_of file (result_types m.result) d.results
+
+-- The same for all methods of the interface, one for one.
+abbrev pub AreAskedLines : Package → (files_of : List ℕ → List SourceFile) → (of : GlobalName) → (file : ℕ) → List (Item MethodTree) → List ObjectAsked → Type 0
+AreAskedLines p files_of of file [] [] = ⊤
+AreAskedLines p files_of of file [] (d ∷ ds) = ⊥
+AreAskedLines p files_of of file (m ∷ ms) [] = ⊥
+AreAskedLines p files_of of file (m ∷ ms) (d ∷ ds) = IsAskedLine p files_of of file m.value d × AreAskedLines p files_of of file ms ds
+
+-- A type with this name and this body is defined as the written type, or as a struct with the written types of its fields. An interface has
+-- the methods that it asks for.
+abbrev pub IsDefinedAs : Package → (files_of : List ℕ → List SourceFile) → (of : GlobalName) → (file : ℕ) → BodyTree → ObjectDefinition → Type 0
+IsDefinedAs p files_of of file (Other x) (SameAs t) = IsPrinted p files_of file x t
+IsDefinedAs p files_of of file (Other x) (Fields ts) = ⊥
+IsDefinedAs p files_of of file (Other x) (Asks ds) = ⊥
+IsDefinedAs p files_of of file (Struct k o fs c) (SameAs t) = ⊥
+IsDefinedAs p files_of of file (Struct k o fs c) (Fields ts) = AreTypesPrinted p files_of file (written_fields fs) ts
+IsDefinedAs p files_of of file (Struct k o fs c) (Asks ds) = ⊥
+IsDefinedAs p files_of of file (Interface k o ms c) (SameAs t) = ⊥
+IsDefinedAs p files_of of file (Interface k o ms c) (Fields ts) = ⊥
+IsDefinedAs p files_of of file (Interface k o ms c) (Asks ds) = AreAskedLines p files_of of file ms ds
 
 -- `t` is the type of the receiver: the type definition that it names, or a pointer to it where it has a star.
 pub record IsReceived (p : Package) (files_of : List ℕ → List SourceFile) (file : ℕ) (r : ReceiverTree) (t : PlainType) : Type 0 where
@@ -122,9 +139,10 @@ name_in p file token = record { path = p.path; name = spelled p file token }
 pub data HaveLines (p : Package) (files_of : List ℕ → List SourceFile) : (names : List FunctionName) → List Placed → List ObjectDeclaration → Type 0 where
   none_left : HaveLines p files_of [] [] []
   type_line : {names : List FunctionName} {t : PlacedType} {xs : List Placed} {definition : ObjectDefinition} {lines : List ObjectDeclaration} →
-      IsDefinedAs p files_of t.file t.spec.body definition → HaveLines p files_of names xs lines →
+      IsDefinedAs p files_of (name_in p t.file t.spec.name) t.file t.spec.body definition → HaveLines p files_of names xs lines →
       HaveLines p files_of names (OfType t ∷ xs) (TypeOf (name_in p t.file t.spec.name) definition ∷ lines)
-  variable_line : {names : List FunctionName} {v : PlacedVariable} {xs : List Placed} {t : PlainType} {value : Option Initial} {lines : List ObjectDeclaration} →
+  variable_line : {names : List FunctionName} {v : PlacedVariable} {xs : List Placed} {t : PlainType} {value : Option Initial} {lines : List
+      ObjectDeclaration} →
       IsPrinted p files_of v.file v.type_use t → HaveLines p files_of names xs lines →
       HaveLines p files_of names (OfVariable v ∷ xs) (Variable (name_in p v.file v.name) t value ∷ lines)
   function_line : {names : List FunctionName} {f : PlacedFunction} {xs : List Placed} {line : ObjectFunction} {lines : List ObjectDeclaration} →

@@ -1,5 +1,6 @@
 -- The answers to the questions that code asks: where all are known, no line of the code is left out.
 use Rattle.std.specs.Prelude.{ℕ, suc, ◌≡◌, ⊤, List, length, Option, Some, None}
+use Rattle.types_expr.specs.declared.symbol.Symbol.{Symbol}
 use Rattle.types_expr.specs.Types.{Typed, Untyped, Nil, Signature, Meaning, Value, TypeName, Function, BuiltinName, Package, Results, Broken}
 use Rattle.types_expr.specs.Types.{WrittenAs, AFieldOf, AMethodOf}
 use Rattle.types_expr.specs.World.{Bound, Local, Means, BrokenVariable, BrokenFunction, BrokenType, Member, AField, AMethod, ABrokenMethod}
@@ -47,15 +48,15 @@ NameIsKnown arity s slots n BrokenVariable = ⊤
 NameIsKnown arity s slots n BrokenFunction = ⊤
 NameIsKnown arity s slots n BrokenType = ⊤
 
--- The position of a field is known. So far an interface is a fault, and no code calls the methods that it asks for.
-abbrev pub WrittenIsKnown : WrittenAs → Option ℕ → Type 0
-WrittenIsKnown (AFieldOf t) position = IsKnown position
-WrittenIsKnown (AMethodOf signature) position = ⊥
+-- The code of a written member is known: the position of a field, or the name of a method that an interface asks for with its arity.
+abbrev pub WrittenIsKnown : (arity : FunctionName → Arity) → Source → Symbol → WrittenAs → Type 0
+WrittenIsKnown arity s f (AFieldOf t) = IsKnown (s.position f)
+WrittenIsKnown arity s f (AMethodOf signature) = IsNamedWith arity (s.asked f) (method_arity signature)
 
 -- The code of a member is known: the position of a field in its struct, or the name of a method with its arity.
 abbrev pub MemberIsKnown : (arity : FunctionName → Arity) → Source → Option Member → Type 0
 MemberIsKnown arity s None = ⊤
-MemberIsKnown arity s (Some (AField f form)) = WrittenIsKnown form (s.position f)
+MemberIsKnown arity s (Some (AField f form)) = WrittenIsKnown arity s f form
 MemberIsKnown arity s (Some (AMethod m on_pointer signature)) = IsNamedWith arity (s.function m) (method_arity signature)
 MemberIsKnown arity s (Some (ABrokenMethod m)) = ⊤
 

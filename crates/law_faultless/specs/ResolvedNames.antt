@@ -1,5 +1,5 @@
 -- The names of a file as its scopes bind them, by the file's world.
-use Rattle.std.specs.Prelude.{ℕ, suc, ◌≡◌, ◌≤◌, ◌⊎◌, ⊤, Bool, true, false, List, [], ◌∷◌, Contains}
+use Rattle.std.specs.Prelude.{ℕ, suc, ◌≡◌, ◌<◌, ◌≤◌, ◌⊎◌, ⊤, Bool, true, false, List, [], ◌∷◌, Contains}
 use Rattle.go_ast.specs.declared.syntax.Kind.TheVariants as kind
 use Rattle.go_ast.specs.SourceFile.{SourceFile}
 use Rattle.go_scope.specs.declared.model.Block.TheVariants.{Inner}
@@ -20,9 +20,15 @@ may_be_local (Declaring (Inner file from to) start) = true
 may_be_local (LeftName (Inner file from to) start) = true
 may_be_local r = false
 
--- The identifier y declares a local, and is bound to this local.
+-- A scope that begins with this role holds a token. The scope of a parameter of a method that an interface asks for holds none.
+abbrev pub HoldsTokens : Role → Type 0
+HoldsTokens (Declaring (Inner file from to) start) = start < to
+HoldsTokens (LeftName (Inner file from to) start) = start < to
+HoldsTokens r = ⊤
+
+-- The identifier y declares a local whose scope holds a token, and is bound to this local.
 abbrev pub IsOwnLocal : World → Site → Type 0
-IsOwnLocal w y = (w.bound y.place.index ≡ Local y.place.index) × (may_be_local y.role ≡ true)
+IsOwnLocal w y = (w.bound y.place.index ≡ Local y.place.index) × (may_be_local y.role ≡ true) × HoldsTokens y.role
 
 -- The name at token n is bound to a local that an identifier of A declares, and whose scope has begun.
 pub record IsEarlierLocal (w : World) (A : List Site) (n : ℕ) : Type 0 where

@@ -27,8 +27,8 @@ ghost use Rattle.build_unit.specs.Units.{AreFilesBelow, IsCompiled};
 ghost use Rattle.law_faultless.specs.Arities.{AreArities};
 ghost use Rattle.law_faultless.specs.FileFunctions.{IsFunctionOf};
 
-/// In a workspace without faults the functions of all packages have arities by their names in objects: no two functions of a package have
-/// one name.
+/// In a workspace without faults the functions of all packages, and the methods that interfaces ask for, have arities by their names in
+/// objects: no two of a package have one name.
 pub fn functions_have_arities()
     ensures { (w : Workspace) → ListsFaults w [] → (known : Verdicts) → AreVerdicts w known →
         (arity : FunctionName → Arity) × AreArities w known arity }

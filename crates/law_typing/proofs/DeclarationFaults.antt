@@ -1,6 +1,6 @@
 -- Package-level declarations and files: the check finds a fault at exactly the tokens where a rule is broken.
 use Rattle.std.proofs.Common.{ℕ, ◌≡◌, ◌==◌, Bool, true, false, if◌then◌else◌, ◌⊎◌, inl, inr, List, [], ◌∷◌, map, length, Option, Some, None, refl, sym, ap}
-use Rattle.std.proofs.Common.{◌∙◌, subst, suc, true≢false, eq-eqb, eqb-true}
+use Rattle.std.proofs.Common.{◌++◌, ◌∙◌, subst, suc, true≢false, eq-eqb, eqb-true}
 use Rattle.go_ast.specs.Tree.{Item, Group, BasicTree, Integer, String, GlobalTree, FieldTree, BodyTree, TypeSpecTree, DeclTree, FileTree}
 use Rattle.go_ast.specs.Tree as tree
 use Rattle.types_expr.specs.declared.types.Basic.TheVariants as basic
@@ -11,7 +11,8 @@ use Rattle.types_expr.specs.Judge.{judge_type, misfit}
 use Rattle.types_stmt.specs.Checked.{FoundSoFar, check_items, check_group}
 use Rattle.types_stmt.specs.Sides.{Wants, refused_at, all_refused}
 use Rattle.types_stmt.specs.Declarations.{literal_value, first_name, literal_faults, value_faults, global_faults, field_faults, body_faults, check_global}
-use Rattle.types_stmt.specs.Declarations.{check_type, check_decl, check_decls, check_file}
+use Rattle.types_stmt.specs.Declarations.{param_faults, asked_faults, check_type, check_decl, check_decls, check_file}
+use Rattle.types_stmt.specs.Headers.{judge_results}
 use Rattle.law_typing.specs.Fits.{FitsType}
 use Rattle.law_typing.specs.Names.{IsType}
 use Rattle.law_typing.specs.Faults.{IsNoType}
@@ -19,16 +20,17 @@ use Rattle.law_typing.proofs.Naming.{type_true, true_type}
 use Rattle.law_typing.proofs.Fitting.{fits_true, true_fits}
 use Rattle.law_typing.proofs.Declarations.{literals}
 use Rattle.law_typing.specs.DeclarationFaults.{LiteralMisfits, no_int, no_string, later_literal, GlobalBreaksAt, in_global_type, literal_misfit, wrong_literals}
-use Rattle.law_typing.specs.DeclarationFaults.{FieldBreaksAt, this_field, later_field, BodyBreaksAt, in_other, in_struct, an_interface, TypeBreaksAt}
+use Rattle.law_typing.specs.DeclarationFaults.{FieldBreaksAt, this_field, later_field, BodyBreaksAt, in_other, in_struct, in_interface, TypeBreaksAt}
 use Rattle.law_typing.specs.DeclarationFaults.{in_type_body, DeclaresNone, stays, DeclDeclares, behind_variables}
 use Rattle.law_typing.specs.DeclarationFaults.{behind_types, behind_one_function, DeclBreaksAt, in_variables, in_types}
-use Rattle.law_typing.specs.DeclarationFaults.{in_function, DeclsBreakAt, this_decl, later_decl, FileBreaksAt, in_file}
+use Rattle.law_typing.specs.DeclarationFaults.{in_function, DeclsBreakAt, this_decl, later_decl, FileBreaksAt, in_file, ResultBreaksAt, AskedBreaksAt}
+use Rattle.law_typing.specs.DeclarationFaults.{this_param, later_param, MethodBreaksAt, in_asked, in_asked_result, later_method}
 use Rattle.law_typing.proofs.FaultLists.{HasToken, AreExactly, none_told, both_told, told_as, At, at_place, fault_at, test_told, some_same, none_some}
 use Rattle.law_typing.proofs.TypeFaults.{type_told}
 use Rattle.law_typing.proofs.SequenceFaults.{IsExact, group_told}
 use Rattle.law_typing.proofs.SimpleFaults.{told_of}
 use Rattle.law_typing.proofs.LocalFaults.{same_one}
-use Rattle.law_typing.proofs.HeaderFaults.{function_told}
+use Rattle.law_typing.proofs.HeaderFaults.{function_told, results_told}
 
 -- literals
 
@@ -173,21 +175,55 @@ fields_told w (i ∷ is) = both_told (judge_type w i.value.type_use).faults (fie
     (λ p b. this_field b)
     (λ p b. later_field b) (λ p b. field_cases b)
 
+asked_cases : {w : World} {i : Item tree.ParamTree} {is : List (Item tree.ParamTree)} {p : ℕ} → AskedBreaksAt w (i ∷ is) p →
+    IsNoType w i.value.type_use p ⊎ AskedBreaksAt w is p
+asked_cases (this_param b) = inl b
+asked_cases (later_param b) = inr b
+
+asked_told : (w : World) (is : List (Item tree.ParamTree)) → AreExactly (param_faults w is) (AskedBreaksAt w is)
+unfolding param_faults
+asked_told w [] = none_told (λ p b. elim b [ ])
+asked_told w (i ∷ is) = both_told (judge_type w i.value.type_use).faults (param_faults w is) (type_told w i.value.type_use) (asked_told w is)
+    (λ p b. this_param b) (λ p b. later_param b) (λ p b. asked_cases b)
+
+-- the results of the first method, or what follows
+abbrev LaterBreaks : World → tree.ResultTree → List (Item tree.MethodTree) → ℕ → Type 0
+LaterBreaks w r is p = ResultBreaksAt w r p ⊎ MethodBreaksAt w is p
+
+method_cases : {w : World} {i : Item tree.MethodTree} {is : List (Item tree.MethodTree)} {p : ℕ} → MethodBreaksAt w (i ∷ is) p →
+    AskedBreaksAt w i.value.params p ⊎ LaterBreaks w i.value.result is p
+method_cases (in_asked b) = inl b
+method_cases (in_asked_result b) = inr (inl b)
+method_cases (later_method b) = inr (inr b)
+
+behind_first : {w : World} {i : Item tree.MethodTree} {is : List (Item tree.MethodTree)} {p : ℕ} → LaterBreaks w i.value.result is p →
+    MethodBreaksAt w (i ∷ is) p
+behind_first (inl b) = in_asked_result b
+behind_first (inr b) = later_method b
+
+methods_told : (w : World) (is : List (Item tree.MethodTree)) → AreExactly (asked_faults w is) (MethodBreaksAt w is)
+unfolding asked_faults
+methods_told w [] = none_told (λ p b. elim b [ ])
+methods_told w (i ∷ is) = both_told (param_faults w i.value.params) ((judge_results w i.value.result).faults ++ asked_faults w is)
+    (asked_told w i.value.params)
+    (both_told (judge_results w i.value.result).faults (asked_faults w is) {B = LaterBreaks w i.value.result is} (results_told w i.value.result)
+    (methods_told w is) (λ p b. inl b) (λ p b. inr b) (λ p b. b))
+    (λ p b. in_asked b) (λ p b. behind_first b) (λ p b. method_cases b)
+
 other_breaks : {w : World} {x : tree.TypeTree} {p : ℕ} → BodyBreaksAt w (tree.Other x) p → IsNoType w x p
 other_breaks (in_other b) = b
 
 struct_breaks : {w : World} {q o c p : ℕ} {is : List (Item FieldTree)} → BodyBreaksAt w (tree.Struct q o is c) p → FieldBreaksAt w is p
 struct_breaks (in_struct b) = b
 
-interface_breaks : {w : World} {q o c p : ℕ} {is : List (Item tree.MethodTree)} → BodyBreaksAt w (tree.Interface q o is c) p → q ≡ p
-interface_breaks an_interface = refl
+interface_breaks : {w : World} {q o c p : ℕ} {is : List (Item tree.MethodTree)} → BodyBreaksAt w (tree.Interface q o is c) p → MethodBreaksAt w is p
+interface_breaks (in_interface b) = b
 
 body_told : (w : World) (b : BodyTree) → AreExactly (body_faults w b) (BodyBreaksAt w b)
 unfolding body_faults
 body_told w (tree.Other x) = told_as (type_told w x) (λ p b. in_other b) (λ p b. other_breaks b)
 body_told w (tree.Struct q o is c) = told_as (fields_told w is) (λ p b. in_struct b) (λ p b. struct_breaks b)
-body_told w (tree.Interface q o is c) =
-    told_as (fault_at q {C = Unit {0}} tt) (at_place (BodyBreaksAt w (tree.Interface q o is c)) (λ u. an_interface)) (λ p b. (interface_breaks b, tt))
+body_told w (tree.Interface q o is c) = told_as (methods_told w is) (λ p b. in_interface b) (λ p b. interface_breaks b)
 
 type_breaks : {w : World} {locals : Locals} {t : TypeSpecTree} {p : ℕ} → TypeBreaksAt w locals t p → BodyBreaksAt w t.body p
 type_breaks (in_type_body b) = b

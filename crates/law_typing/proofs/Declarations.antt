@@ -1,6 +1,6 @@
 -- Package-level declarations and files: a typed one has no fault, and one without a fault is typed or excused.
 use Rattle.std.proofs.Common.{ℕ, ◌≡◌, ◌==◌, Bool, ◌⊎◌, inl, inr, List, [], ◌∷◌, ◌++◌, map, length, Option, Some, None, refl, sym, ap, ◌∙◌, suc, eqb-true}
-use Rattle.go_ast.specs.Tree.{Item, BasicTree, Integer, String, GlobalTree, FieldTree, BodyTree, TypeSpecTree, DeclTree, FileTree}
+use Rattle.go_ast.specs.Tree.{Item, BasicTree, Integer, String, GlobalTree, FieldTree, ParamTree, MethodTree, BodyTree, TypeSpecTree, DeclTree, FileTree}
 use Rattle.go_ast.specs.Tree as tree
 use Rattle.types_expr.specs.declared.types.Basic.TheVariants as basic
 use Rattle.types_expr.specs.Types.{PlainType, ValueKind, Untyped}
@@ -9,7 +9,8 @@ use Rattle.types_expr.specs.Judge.{ListValue, judge_type}
 use Rattle.types_stmt.specs.Checked.{FoundSoFar}
 use Rattle.types_stmt.specs.Sides.{Target, Wants, all_refused}
 use Rattle.types_stmt.specs.Declarations.{literal_value, first_name, literal_faults, value_faults, global_faults, field_faults, body_faults, check_global}
-use Rattle.types_stmt.specs.Declarations.{check_type, check_decl, check_decls, check_file, global_enterings}
+use Rattle.types_stmt.specs.Declarations.{param_faults, asked_faults, check_type, check_decl, check_decls, check_file, global_enterings}
+use Rattle.types_stmt.specs.Headers.{judge_results}
 use Rattle.law_typing.specs.Names.{IsType}
 use Rattle.law_typing.proofs.Judgements.{empty_first, empty_second, empty_both}
 use Rattle.law_typing.proofs.Naming.{type_true, true_type}
@@ -19,14 +20,16 @@ use Rattle.law_typing.specs.Assignments.{OfType, TakenInTurn}
 use Rattle.law_typing.specs.Declarations.{FunctionIsTyped, AreLiterals, no_literal, an_integer, a_string, GlobalIsTyped, without_values}
 use Rattle.law_typing.specs.Declarations.{with_literals, FieldsAreTyped, no_field_left, also_field, BodyIsTyped, another_type, a_struct}
 use Rattle.law_typing.specs.Declarations.{TypeIsTyped, a_definition_of, DeclIsTyped, variables, types, one_function, DeclsAreTyped, no_decl}
-use Rattle.law_typing.specs.Declarations.{also_decl, FileIsTyped, a_file}
+use Rattle.law_typing.specs.Declarations.{also_decl, FileIsTyped, a_file, AskedAreTyped, no_param_left, also_param, MethodsAreTyped, no_method_left}
+use Rattle.law_typing.specs.Declarations.{also_method, an_interface}
 use Rattle.law_typing.specs.Excused.{GlobalIsExcused, global_of_broken, FieldIsBroken, this_field, later_field, BodyIsBroken, other_broken}
 use Rattle.law_typing.specs.Excused.{in_struct, TypeIsExcused, in_type_body, DeclIsExcused, in_variables, in_types, in_function, DeclsAreExcused}
-use Rattle.law_typing.specs.Excused.{this_decl, later_decl, FileIsExcused, in_file}
+use Rattle.law_typing.specs.Excused.{this_decl, later_decl, FileIsExcused, in_file, AskedIsBroken, this_param, later_param, MethodIsBroken, in_asked}
+use Rattle.law_typing.specs.Excused.{in_asked_result, later_method, in_interface}
 use Rattle.law_typing.proofs.Assignments.{aim, as_many, none_refused, all_taken, counted, right_count}
 use Rattle.law_typing.proofs.PartOutcomes.{IsAt, reached, held, IsSettled, group_true, group_settled}
 use Rattle.law_typing.proofs.Locals.{same_aims}
-use Rattle.law_typing.proofs.Headers.{function_true, function_settled}
+use Rattle.law_typing.proofs.Headers.{results_true, results_settled, function_true, function_settled}
 
 -- variables
 
@@ -140,16 +143,60 @@ fields_settled w (i ∷ is) h = elim (type_or_broken w i.value.type_use (empty_f
   | inr b ↦ inr (this_field b)
 ]
 
+-- the methods that an interface asks for
+
+asked_silent : (w : World) {is : List (Item ParamTree)} → AskedAreTyped w is → param_faults w is ≡ []
+unfolding param_faults
+asked_silent w no_param_left = refl
+asked_silent w (also_param {i} {is} t more) = empty_both (judge_type w i.value.type_use).faults (param_faults w is) (ap (λ z. z.faults) (type_true w t))
+    (asked_silent w more)
+
+asked_settled : (w : World) (is : List (Item ParamTree)) → param_faults w is ≡ [] → AskedAreTyped w is ⊎ AskedIsBroken w is
+unfolding param_faults
+asked_settled w [] h = inl no_param_left
+asked_settled w (i ∷ is) h = elim (type_or_broken w i.value.type_use (empty_first (judge_type w i.value.type_use).faults (param_faults w is) h)) [
+  | inl t ↦ elim (asked_settled w is (empty_second (judge_type w i.value.type_use).faults (param_faults w is) h)) [
+    | inl more ↦ inl (also_param (true_type w i.value.type_use t.0 t.1) more)
+    | inr b ↦ inr (later_param b)
+  ]
+  | inr b ↦ inr (this_param b)
+]
+
+methods_silent : (w : World) {is : List (Item MethodTree)} → MethodsAreTyped w is → asked_faults w is ≡ []
+unfolding asked_faults
+methods_silent w no_method_left = refl
+methods_silent w (also_method {i} {is} ps rs more) =
+    empty_both (param_faults w i.value.params) ((judge_results w i.value.result).faults ++ asked_faults w is) (asked_silent w ps)
+    (empty_both (judge_results w i.value.result).faults (asked_faults w is) (results_true w rs).faultless (methods_silent w more))
+
+methods_settled : (w : World) (is : List (Item MethodTree)) → asked_faults w is ≡ [] → MethodsAreTyped w is ⊎ MethodIsBroken w is
+unfolding asked_faults
+methods_settled w [] h = inl no_method_left
+methods_settled w (i ∷ is) h =
+    let behind = (judge_results w i.value.result).faults ++ asked_faults w is in
+    let later = empty_second (param_faults w i.value.params) behind h in
+    elim (asked_settled w i.value.params (empty_first (param_faults w i.value.params) behind h)) [
+      | inl ps ↦ elim (results_settled w i.value.result (empty_first (judge_results w i.value.result).faults (asked_faults w is) later)) [
+        | inl rs ↦ elim (methods_settled w is (empty_second (judge_results w i.value.result).faults (asked_faults w is) later)) [
+          | inl more ↦ inl (also_method ps rs.typed more)
+          | inr b ↦ inr (later_method b)
+        ]
+        | inr b ↦ inr (in_asked_result b)
+      ]
+      | inr b ↦ inr (in_asked b)
+    ]
+
 body_silent : (w : World) {b : BodyTree} → BodyIsTyped w b → body_faults w b ≡ []
 unfolding body_faults
 body_silent w (another_type t) = ap (λ z. z.faults) (type_true w t)
 body_silent w (a_struct fs) = fields_silent w fs
+body_silent w (an_interface ms) = methods_silent w ms
 
 body_settled : (w : World) (b : BodyTree) → body_faults w b ≡ [] → BodyIsTyped w b ⊎ BodyIsBroken w b
 unfolding body_faults
 body_settled w (tree.Other x) h = elim (type_or_broken w x h) [ inl t ↦ inl (another_type (true_type w x t.0 t.1)) | inr b ↦ inr (other_broken b) ]
 body_settled w (tree.Struct p o is c) h = elim (fields_settled w is h) [ inl f ↦ inl (a_struct f) | inr b ↦ inr (in_struct b) ]
-body_settled w (tree.Interface p o is c) h = let z : ⊥ = cc in absurd z
+body_settled w (tree.Interface p o is c) h = elim (methods_settled w is h) [ inl f ↦ inl (an_interface f) | inr b ↦ inr (in_interface b) ]
 
 pub type_spec_true : (w : World) (s : FoundSoFar) (t : TypeSpecTree) (after : Locals) → s.faults ≡ [] → TypeIsTyped w s.locals t after →
     IsAt (check_type w s t) after

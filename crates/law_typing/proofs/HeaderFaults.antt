@@ -4,7 +4,8 @@ use Rattle.std.proofs.Common.{refl, sym, ap, ◌∙◌, subst, true≢false}
 use Rattle.go_ast.specs.Tree.{Item, TypeTree, ReceiverTree, ParamTree, ResultTree, FuncTree}
 use Rattle.go_ast.specs.Tree as tree
 use Rattle.types_expr.specs.declared.symbol.Symbol.{Symbol}
-use Rattle.types_expr.specs.Types.{PlainType, BasicType, Defined, Pointer, Slice, Value, TypeName, Function, BuiltinName, Package, Results, Broken, takes_no_methods}
+use Rattle.types_expr.specs.Types.{PlainType, BasicType, Defined, Pointer, Slice, Value}
+use Rattle.types_expr.specs.Types.{TypeName, Function, BuiltinName, Package, Results, Broken, takes_no_methods}
 use Rattle.types_expr.specs.World.{World, Locals, Bound, Local, Means, BrokenVariable, BrokenFunction, BrokenType}
 use Rattle.types_expr.specs.Judge.{TypeJudged, judge_type, good_type, no_type_at, named_type}
 use Rattle.types_stmt.specs.Checked.{FoundSoFar, fault_if, check_items}
@@ -17,15 +18,18 @@ use Rattle.law_typing.specs.Faults.{IsNoType}
 use Rattle.law_typing.specs.Sequences.{InTurn, IfPresent}
 use Rattle.law_typing.specs.Declarations.{IsBehindStar}
 use Rattle.law_typing.proofs.Headers.{takes_some, takes_none, star_faults, star_found, star_true}
-use Rattle.law_typing.specs.DeclaredLocals.{MayReceive, may_receive as receives_by, ReceiverTypeIs, receives, receives_nothing, ReceiverDeclares, behind_receiver}
+use Rattle.law_typing.specs.DeclaredLocals.{MayReceive, may_receive as receives_by, ReceiverTypeIs}
+use Rattle.law_typing.specs.DeclaredLocals.{receives, receives_nothing, ReceiverDeclares, behind_receiver}
 use Rattle.law_typing.specs.DeclaredLocals.{ParamDeclares, behind_param, BlockDeclares, FunctionDeclares, behind_function}
 use Rattle.law_typing.specs.AssignmentFaults.{as_targets}
 use Rattle.law_typing.specs.SequenceFaults.{BreaksInTurn, BreaksIfPresent}
 use Rattle.law_typing.specs.StatementFaults.{BlockBreaksAt}
-use Rattle.law_typing.specs.DeclarationFaults.{ReceiverBreaksAt, no_receiver, ParamBreaksAt, in_param, WrittenTypesAre, no_type_left, also_written, ResultTypesAre}
+use Rattle.law_typing.specs.DeclarationFaults.{ReceiverBreaksAt, no_receiver, ParamBreaksAt, in_param}
+use Rattle.law_typing.specs.DeclarationFaults.{WrittenTypesAre, no_type_left, also_written, ResultTypesAre}
 use Rattle.law_typing.specs.DeclarationFaults.{none_written, one_written, several_written, AnyIsNoType, this_type, later_type, ResultBreaksAt, in_one_result}
 use Rattle.law_typing.specs.DeclarationFaults.{in_results, FunctionBreaksAt, in_receiver, in_params, in_result, no_init, in_body}
-use Rattle.law_typing.proofs.FaultLists.{HasToken, holds_left, holds_right, holds_cases, AreExactly, none_told, both_told, told_as, At, at_place, nothing_at, fault_at}
+use Rattle.law_typing.proofs.FaultLists.{HasToken, holds_left, holds_right, holds_cases, AreExactly, none_told}
+use Rattle.law_typing.proofs.FaultLists.{both_told, told_as, At, at_place, nothing_at, fault_at}
 use Rattle.law_typing.proofs.FaultLists.{none_some}
 use Rattle.law_typing.proofs.DeclaredLocals.{written_found, written_only, single_found, single_only, type_found, type_only}
 use Rattle.law_typing.proofs.TypeFaults.{type_told}
@@ -66,7 +70,8 @@ wrong_by w place b e n m h = wrong_base (not_defined w place b e n) (not_broken 
 symbol_same : {s t : Symbol} → Means (TypeName (Defined s)) ≡ Means (TypeName (Defined t)) → s ≡ t
 symbol_same e = cc
 
-pointer_receives : (w : World) (place : ℕ) (s : Symbol) → w.bound place ≡ Means (TypeName (Defined s)) → takes_no_methods (w.definition s) ≡ true → NoneReceives w place
+pointer_receives : (w : World) (place : ℕ) (s : Symbol) → w.bound place ≡ Means (TypeName (Defined s)) → takes_no_methods (w.definition s) ≡ true →
+    NoneReceives w place
 pointer_receives w place s e h t (receives_by f n) = let same : t ≡ s = symbol_same (sym f ∙ e) in
     true≢false (sym h ∙ (ap (λ z. takes_no_methods (w.definition z)) (sym same) ∙ takes_some (w.definition t) n))
 
@@ -278,7 +283,7 @@ one_breaks (in_one_result b) = b
 several_break : {w : World} {o c p : ℕ} {is : List (Item TypeTree)} → ResultBreaksAt w (tree.results o is c) p → AnyIsNoType w is p
 several_break (in_results b) = b
 
-results_told : (w : World) (r : ResultTree) → AreExactly (judge_results w r).faults (ResultBreaksAt w r)
+pub results_told : (w : World) (r : ResultTree) → AreExactly (judge_results w r).faults (ResultBreaksAt w r)
 unfolding judge_results
 results_told w tree.no_result = none_told (λ p b. elim b [ ])
 results_told w (tree.one_result x) = both_told (judge_type w x).faults [] {C = λ p. ⊥} (type_told w x) (none_told (λ p n. n)) (λ p b. in_one_result b)
@@ -308,7 +313,8 @@ init_by w true f None [] [] e g h = let q = results_found w f.result in
     nothing_at f.name (λ c. c.2 g (subst (λ z. ResultTypesAre w f.result z) (empty_wants q.types (sym h ∙ q.found)) q.are))
 init_by w true f None [] (t ∷ ts) e g h = fault_at f.name (refl, e, λ k r. let c : t ∷ ts ≡ [] = sym h ∙ results_only w r in cc)
 
-init_told : (w : World) (b : Bool) (f : FuncTree) → AreExactly (fault_if (is_bad_init b f (judge_results w f.result).wanted) f.name) (At f.name (IsBadInit w b f))
+init_told : (w : World) (b : Bool) (f : FuncTree) → AreExactly (fault_if (is_bad_init b f (judge_results w f.result).wanted) f.name) (At f.name (IsBadInit w
+    b f))
 unfolding is_bad_init
 init_told w b f = init_by w b f f.receiver f.params (judge_results w f.result).wanted refl refl refl
 
@@ -325,7 +331,8 @@ header_places w b f = both_told (judge_results w f.result).faults (fault_if (is_
     (results_told w f.result)
     (init_told w b f) (λ p x. inl x) (λ p x. inr x) (λ p x. x)
 
-signature_faults_are : (w : World) (b : Bool) (s : FoundSoFar) (f : FuncTree) → (check_signature w b s f).faults ≡ (entered_at w s f).faults ++ header_added w b f
+signature_faults_are : (w : World) (b : Bool) (s : FoundSoFar) (f : FuncTree) → (check_signature w b s f).faults ≡ (entered_at w s f).faults ++ header_added
+    w b f
 unfolding check_signature
 signature_faults_are w b s f = refl
 
@@ -338,7 +345,8 @@ entered_stays w s f p h = let o = optional_receiver_told w in
     let i = items_told (param_told w) in
     i.stays (check_optional_receiver w s f.receiver) f.params p (o.stays s f.receiver p h)
 
-signature_stays : (w : World) (b : Bool) (s : FoundSoFar) (f : FuncTree) (p : ℕ) → HasToken (entered_at w s f).faults p → HasToken (check_signature w b s f).faults p
+signature_stays : (w : World) (b : Bool) (s : FoundSoFar) (f : FuncTree) (p : ℕ) → HasToken (entered_at w s f).faults p →
+    HasToken (check_signature w b s f).faults p
 signature_stays w b s f p h = subst (λ z. HasToken z p) (sym (signature_faults_are w b s f)) (holds_left (entered_at w s f).faults (header_added w b f) p h)
 
 function_stays : (w : World) (b : Bool) (s : FoundSoFar) (f : FuncTree) (p : ℕ) → HasToken s.faults p → HasToken (check_function w b s f).faults p
@@ -355,7 +363,8 @@ function_leads w b s f = let o = optional_receiver_told w in
     (check_signature w b s f) f.body))
 
 -- the locals before the body of a function
-entered_only : (w : World) (s : FoundSoFar) (f : FuncTree) {received entered : Locals} → IfPresent ReceiverTree (ReceiverDeclares w) s.locals f.receiver received →
+entered_only : (w : World) (s : FoundSoFar) (f : FuncTree) {received entered : Locals} → IfPresent ReceiverTree (ReceiverDeclares w) s.locals f.receiver
+    received →
     InTurn ParamTree (ParamDeclares w) received f.params entered → (entered_at w s f).locals ≡ entered
 entered_only w s f {received} {entered} r q = let o = optional_receiver_told w in
     let i = items_told (param_told w) in
@@ -396,7 +405,8 @@ unfolding check_function
 function_found w b s f p h = let q = results_found w f.result in
     let o = optional_receiver_told w in
     let i = items_told (param_told w) in
-    elim (block_found w q.types (check_signature w b s f) f.body p (subst (λ z. HasToken (check_block w z (check_signature w b s f) f.body).faults p) q.found h)) [
+    elim (block_found w q.types (check_signature w b s f) f.body p (subst (λ z. HasToken (check_block w z (check_signature w b s f) f.body).faults p)
+    q.found h)) [
       | inl x ↦ signature_found w b s f p x
       | inr y ↦ inr (in_body (o.leads s f.receiver) (i.leads (check_optional_receiver w s f.receiver) f.params) q.are (subst
           (λ z. BlockBreaksAt w q.types z f.body p) (signature_locals w b s f) y))
@@ -412,7 +422,8 @@ header_stands : (w : World) (b : Bool) (s : FoundSoFar) (f : FuncTree) (p : ℕ)
 header_stands w b s f p h = let t = header_places w b f in subst (λ z. HasToken z p) (sym (signature_faults_are w b s f)) (holds_right (entered_at w s f).faults
     (header_added w b f) p (t.stands p h))
 
-function_stands : (w : World) (b : Bool) (s : FoundSoFar) (f : FuncTree) (p : ℕ) → FunctionBreaksAt w b s.locals f p → HasToken (check_function w b s f).faults p
+function_stands : (w : World) (b : Bool) (s : FoundSoFar) (f : FuncTree) (p : ℕ) → FunctionBreaksAt w b s.locals f p →
+    HasToken (check_function w b s f).faults p
 unfolding check_function
 function_stands w b s f p (in_receiver c) = let o = optional_receiver_told w in
     let i = items_told (param_told w) in

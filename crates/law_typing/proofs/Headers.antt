@@ -4,7 +4,8 @@ use Rattle.std.proofs.Common.{option_map, refl, sym, ap, ◌∙◌, subst, true�
 use Rattle.go_ast.specs.Tree.{Item, TypeTree, ReceiverTree, ParamTree, ResultTree, FuncTree}
 use Rattle.go_ast.specs.Tree as tree
 use Rattle.types_expr.specs.declared.symbol.Symbol.{Symbol}
-use Rattle.types_expr.specs.Types.{PlainType, BasicType, Defined, Pointer, Slice, Underlying, Plain, PointerTo, SliceOf, Struct, Interface, Value, TypeName, Function}
+use Rattle.types_expr.specs.Types.{PlainType, BasicType, Defined, Pointer, Slice, Underlying, Plain}
+use Rattle.types_expr.specs.Types.{PointerTo, SliceOf, Struct, Interface, Value, TypeName, Function}
 use Rattle.types_expr.specs.Types.{BuiltinName, Package, Results, Broken, takes_no_methods}
 use Rattle.types_expr.specs.World.{World, Locals, Bound, Local, Means, BrokenVariable, BrokenFunction, BrokenType}
 use Rattle.types_expr.specs.Judge.{TypeJudged, judge_type, good_type, no_type_at, named_type}
@@ -161,7 +162,8 @@ optional_receiver_settled w s (Some r) h = let q = receiver_settled w s r h in (
 
 -- parameters
 
-pub param_true : (w : World) (s : FoundSoFar) (p : ParamTree) (after : Locals) → s.faults ≡ [] → ParamIsTyped w s.locals p after → IsAt (check_param w s p) after
+pub param_true : (w : World) (s : FoundSoFar) (p : ParamTree) (after : Locals) → s.faults ≡ [] → ParamIsTyped w s.locals p after →
+    IsAt (check_param w s p) after
 unfolding check_param
 param_true w s p after h (a_param i d) = typed_names w s p.names h i d
 
@@ -178,9 +180,9 @@ param_settled w s p h = (
 
 -- results
 
-record AreWanted (j : ResultsJudged) (ts : List PlainType) : Type 0 where
-  wanted : AreTargets j.wanted ts
-  faultless : j.faults ≡ []
+pub record AreWanted (j : ResultsJudged) (ts : List PlainType) : Type 0 where
+  pub wanted : AreTargets j.wanted ts
+  pub faultless : j.faults ≡ []
 
 result_before : {j : TypeJudged} {rest : ResultsJudged} {t : PlainType} {ts : List PlainType} → j ≡ good_type t → AreWanted rest ts →
     AreWanted (with_result j rest) (t ∷ ts)
@@ -197,16 +199,16 @@ unfolding judge_types
 types_true w no_type_left = no_results
 types_true w (also_type i more) = result_before (type_true w i) (types_true w more)
 
-results_true : (w : World) {r : ResultTree} {ts : List PlainType} → AreResults w r ts → AreWanted (judge_results w r) ts
+pub results_true : (w : World) {r : ResultTree} {ts : List PlainType} → AreResults w r ts → AreWanted (judge_results w r) ts
 unfolding judge_results
 results_true w none_written = no_results
 results_true w (one_written i) = result_before (type_true w i) no_results
 results_true w (several_written ts) = types_true w ts
 
-record AreResultsFound (R : List PlainType → Type 0) (wanted : List Target) : Type 0 where
-  types : List PlainType
-  typed : R types
-  found : AreTargets wanted types
+pub record AreResultsFound (R : List PlainType → Type 0) (wanted : List Target) : Type 0 where
+  pub types : List PlainType
+  pub typed : R types
+  pub found : AreTargets wanted types
 
 wanted_then : {o : Option PlainType} {t : PlainType} {targets : List Target} (ts : List PlainType) → o ≡ Some t → AreTargets targets ts →
     AreTargets (Wants o ∷ targets) (t ∷ ts)
@@ -228,7 +230,7 @@ types_settled w (i ∷ is) h = elim (type_or_broken w i.value (empty_first (judg
   | inr b ↦ inr (this_type b)
 ]
 
-results_settled : (w : World) (r : ResultTree) → (judge_results w r).faults ≡ [] → AreResultsFound (AreResults w r)
+pub results_settled : (w : World) (r : ResultTree) → (judge_results w r).faults ≡ [] → AreResultsFound (AreResults w r)
     (judge_results w r).wanted ⊎ ResultIsExcused w r
 unfolding judge_results
 results_settled w tree.no_result h = inl (record { types = []; typed = none_written; found = refl })

@@ -1,7 +1,7 @@
 -- A typed part is not excused, since the rules determine the locals after typed parts.
 use Rattle.std.proofs.Common.{ℕ, ◌≡◌, Bool, List, [], ◌∷◌, Option, Some, None, refl, sym, ap, ◌∙◌, subst}
 use Rattle.go_ast.specs.Tree.{Item, Group, TypeTree, ExprTree, SimpleTree, InitTree, StatementTree, BlockTree, StatementTrees, IfTree, ElseTree, ParamTree}
-use Rattle.go_ast.specs.Tree.{ResultTree, FuncTree, FieldTree, BodyTree, DeclTree, FileTree}
+use Rattle.go_ast.specs.Tree.{ResultTree, FuncTree, FieldTree, MethodTree, BodyTree, DeclTree, FileTree}
 use Rattle.types_expr.specs.Types.{PlainType, ValueKind}
 use Rattle.types_expr.specs.World.{World, Locals}
 use Rattle.types_stmt.specs.Checked.{FoundSoFar}
@@ -25,7 +25,8 @@ use Rattle.law_typing.specs.Declarations.{ReceiverIsTyped, a_receiver, ParamIsTy
 use Rattle.law_typing.specs.Declarations.{none_written, one_written, several_written, FunctionIsTyped, a_function, GlobalIsTyped, without_values}
 use Rattle.law_typing.specs.Declarations.{with_literals, FieldsAreTyped, no_field_left, also_field, BodyIsTyped, another_type, a_struct}
 use Rattle.law_typing.specs.Declarations.{TypeIsTyped, a_definition_of, DeclIsTyped, variables, types, one_function, DeclsAreTyped, no_decl}
-use Rattle.law_typing.specs.Declarations.{also_decl, FileIsTyped, a_file}
+use Rattle.law_typing.specs.Declarations.{also_decl, FileIsTyped, a_file, AskedAreTyped, no_param_left, also_param, MethodsAreTyped, no_method_left}
+use Rattle.law_typing.specs.Declarations.{also_method, an_interface}
 use Rattle.law_typing.specs.Excused.{AnyUsesBroken, SimpleIsExcused, LocalIsExcused, of_broken_type, of_broken_value, of_nothing, InitIsExcused}
 use Rattle.law_typing.specs.Excused.{in_init, HeaderIsExcused, in_while, in_first, in_test, in_post, StatementIsExcused, in_declaration, in_simple}
 use Rattle.law_typing.specs.Excused.{in_inner, in_choice, in_header, in_loop, in_return, BlockIsExcused, in_block, StatementsAreExcused}
@@ -34,7 +35,8 @@ use Rattle.law_typing.specs.Excused.{ElseIsExcused, in_else_if, in_else, Receive
 use Rattle.law_typing.specs.Excused.{AnyIsBrokenType, this_type, later_type, ResultIsExcused, one_broken, one_of_several, FunctionIsExcused}
 use Rattle.law_typing.specs.Excused.{in_receiver, in_params, in_result, in_body, GlobalIsExcused, global_of_broken, FieldIsBroken, this_field}
 use Rattle.law_typing.specs.Excused.{later_field, BodyIsBroken, other_broken, in_struct, TypeIsExcused, in_type_body, DeclIsExcused, in_variables}
-use Rattle.law_typing.specs.Excused.{in_types, in_function, DeclsAreExcused, this_decl, later_decl, FileIsExcused, in_file}
+use Rattle.law_typing.specs.Excused.{in_types, in_function, DeclsAreExcused, this_decl, later_decl, FileIsExcused, in_file, AskedIsBroken, this_param}
+use Rattle.law_typing.specs.Excused.{later_param, MethodIsBroken, in_asked, in_asked_result, later_method, in_interface}
 use Rattle.law_typing.proofs.Unbroken.{no_use, no_type, one_type}
 use Rattle.law_typing.proofs.PartOutcomes.{IsAt}
 use Rattle.law_typing.proofs.Simple.{simple_true, condition_true}
@@ -60,7 +62,8 @@ LeadsToOne {X} R = (before after other : Locals) (x : X) → R before x after �
 abbrev Excludes : {X : Type 0} → PartRule X → Excuse X → Type 0
 Excludes {X} R E = (before after : Locals) (x : X) → R before x after → E before x → ⊥
 
-found_one : {X : Type 0} (R : PartRule X) (check : FoundSoFar → X → FoundSoFar) → ((s : FoundSoFar) (x : X) (after : Locals) → s.faults ≡ [] → R s.locals x after →
+found_one : {X : Type 0} (R : PartRule X) (check : FoundSoFar → X → FoundSoFar) → ((s : FoundSoFar) (x : X) (after : Locals) → s.faults ≡ [] →
+    R s.locals x after →
     IsAt (check s x) after) → LeadsToOne R
 found_one R check f before after other x h k = let a = f (start before) x after refl h in let b = f (start before) x other refl k in
     sym a.locals_are ∙ b.locals_are
@@ -194,7 +197,8 @@ statement_one w results before after other x h k = sym (statement_at w results b
 
 block_at : (w : World) (results : List PlainType) (before after : Locals) (x : BlockTree) → BlockIsTyped w results before x after →
     (check_block w (typed_targets results) (start before) x).locals ≡ after
-block_at w results before after x r = let a = block_true w results (typed_targets results) (targets_are results) r (start before) (at_start before) in a.locals_are
+block_at w results before after x r = let a = block_true w results (typed_targets results) (targets_are results) r (start before) (at_start before) in
+    a.locals_are
 
 block_one : (w : World) (results : List PlainType) → LeadsToOne (BlockIsTyped w results)
 block_one w results before after other x h k = sym (block_at w results before after x h) ∙ block_at w results before other x k
@@ -300,9 +304,21 @@ fields_not w no_field_left e = elim e [ ]
 fields_not w (also_field i more) (this_field b) = no_type w b i
 fields_not w (also_field i more) (later_field b) = fields_not w more b
 
+asked_not : (w : World) {is : List (Item ParamTree)} → AskedAreTyped w is → AskedIsBroken w is → ⊥
+asked_not w no_param_left e = elim e [ ]
+asked_not w (also_param i more) (this_param b) = no_type w b i
+asked_not w (also_param i more) (later_param b) = asked_not w more b
+
+methods_not : (w : World) {is : List (Item MethodTree)} → MethodsAreTyped w is → MethodIsBroken w is → ⊥
+methods_not w no_method_left e = elim e [ ]
+methods_not w (also_method ps rs more) (in_asked b) = asked_not w ps b
+methods_not w (also_method ps rs more) (in_asked_result b) = result_not w rs b
+methods_not w (also_method ps rs more) (later_method b) = methods_not w more b
+
 body_not : (w : World) {b : BodyTree} → BodyIsTyped w b → BodyIsBroken w b → ⊥
 body_not w (another_type i) (other_broken b) = no_type w b i
 body_not w (a_struct fs) (in_struct b) = fields_not w fs b
+body_not w (an_interface ms) (in_interface b) = methods_not w ms b
 
 type_spec_one : (w : World) → LeadsToOne (TypeIsTyped w)
 type_spec_one w = found_one (TypeIsTyped w) (check_type w) (type_spec_true w)

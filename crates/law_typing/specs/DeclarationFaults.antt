@@ -68,7 +68,8 @@ pub data FunctionBreaksAt (w : World) (is_init : Bool) : Locals → FuncTree →
 
 -- one of the literals, at this token, does not fit type t
 pub data LiteralMisfits (w : World) (t : PlainType) : List (Item BasicTree) → ℕ → Type 0 where
-  no_int : {i : Item BasicTree} {is : List (Item BasicTree)} {n : ℕ} → i.value ≡ Integer n → (FitsType w (Untyped basic.Int) t → ⊥) → LiteralMisfits w t (i ∷ is) n
+  no_int : {i : Item BasicTree} {is : List (Item BasicTree)} {n : ℕ} → i.value ≡ Integer n → (FitsType w (Untyped basic.Int) t → ⊥) →
+      LiteralMisfits w t (i ∷ is) n
   no_string : {i : Item BasicTree} {is : List (Item BasicTree)} {n : ℕ} → i.value ≡ String n → (FitsType w (Untyped basic.String) t → ⊥) →
       LiteralMisfits w t (i ∷ is) n
   later_literal : {i : Item BasicTree} {is : List (Item BasicTree)} {p : ℕ} → LiteralMisfits w t is p → LiteralMisfits w t (i ∷ is) p
@@ -86,11 +87,22 @@ pub data FieldBreaksAt (w : World) : List (Item FieldTree) → ℕ → Type 0 wh
   this_field : {i : Item FieldTree} {is : List (Item FieldTree)} {p : ℕ} → IsNoType w i.value.type_use p → FieldBreaksAt w (i ∷ is) p
   later_field : {i : Item FieldTree} {is : List (Item FieldTree)} {p : ℕ} → FieldBreaksAt w is p → FieldBreaksAt w (i ∷ is) p
 
--- The type that a definition writes breaks a rule at this token. An interface does at its keyword: no rule admits one.
+-- the type of one of the parameters of a method that an interface asks for breaks a rule at this token
+pub data AskedBreaksAt (w : World) : List (Item ParamTree) → ℕ → Type 0 where
+  this_param : {i : Item ParamTree} {is : List (Item ParamTree)} {p : ℕ} → IsNoType w i.value.type_use p → AskedBreaksAt w (i ∷ is) p
+  later_param : {i : Item ParamTree} {is : List (Item ParamTree)} {p : ℕ} → AskedBreaksAt w is p → AskedBreaksAt w (i ∷ is) p
+
+-- a type that one of the methods writes which an interface asks for breaks a rule at this token
+pub data MethodBreaksAt (w : World) : List (Item MethodTree) → ℕ → Type 0 where
+  in_asked : {i : Item MethodTree} {is : List (Item MethodTree)} {p : ℕ} → AskedBreaksAt w i.value.params p → MethodBreaksAt w (i ∷ is) p
+  in_asked_result : {i : Item MethodTree} {is : List (Item MethodTree)} {p : ℕ} → ResultBreaksAt w i.value.result p → MethodBreaksAt w (i ∷ is) p
+  later_method : {i : Item MethodTree} {is : List (Item MethodTree)} {p : ℕ} → MethodBreaksAt w is p → MethodBreaksAt w (i ∷ is) p
+
+-- The type that a definition writes breaks a rule at this token.
 pub data BodyBreaksAt (w : World) : BodyTree → ℕ → Type 0 where
   in_other : {x : TypeTree} {p : ℕ} → IsNoType w x p → BodyBreaksAt w (tree.Other x) p
   in_struct : {q o c p : ℕ} {is : List (Item FieldTree)} → FieldBreaksAt w is p → BodyBreaksAt w (tree.Struct q o is c) p
-  an_interface : {q o c : ℕ} {is : List (Item MethodTree)} → BodyBreaksAt w (tree.Interface q o is c) q
+  in_interface : {q o c p : ℕ} {is : List (Item MethodTree)} → MethodBreaksAt w is p → BodyBreaksAt w (tree.Interface q o is c) p
 
 -- a type definition breaks a rule at this token
 pub data TypeBreaksAt (w : World) : Locals → TypeSpecTree → ℕ → Type 0 where

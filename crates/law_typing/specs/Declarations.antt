@@ -1,7 +1,7 @@
 -- The typing rules of functions, of package-level declarations and of files.
 use Rattle.std.specs.Prelude.{◌≡◌, ℕ, Bool, false, List, [], ◌∷◌, Option, Some, None, map}
 use Rattle.go_ast.specs.Tree.{Item, Group, TypeTree, BasicTree, Integer, String, ReceiverTree, ParamTree, ResultTree, FuncTree, GlobalTree, FieldTree}
-use Rattle.go_ast.specs.Tree.{BodyTree, TypeSpecTree, DeclTree, FileTree}
+use Rattle.go_ast.specs.Tree.{MethodTree, BodyTree, TypeSpecTree, DeclTree, FileTree}
 use Rattle.go_ast.specs.Tree as tree
 use Rattle.types_expr.specs.declared.types.Basic.TheVariants as basic
 use Rattle.types_expr.specs.declared.symbol.Symbol.{Symbol}
@@ -81,10 +81,22 @@ pub data FieldsAreTyped (w : World) : List (Item FieldTree) → Type 0 where
   no_field_left : FieldsAreTyped w []
   also_field : {i : Item FieldTree} {is : List (Item FieldTree)} {t : PlainType} → IsType w i.value.type_use t → FieldsAreTyped w is → FieldsAreTyped w (i ∷ is)
 
--- the type that a definition writes is typed; an interface never is
+-- the types of the parameters of a method that an interface asks for are typed
+pub data AskedAreTyped (w : World) : List (Item ParamTree) → Type 0 where
+  no_param_left : AskedAreTyped w []
+  also_param : {i : Item ParamTree} {is : List (Item ParamTree)} {t : PlainType} → IsType w i.value.type_use t → AskedAreTyped w is → AskedAreTyped w (i ∷ is)
+
+-- the types of the parameters and results of methods that an interface asks for are typed
+pub data MethodsAreTyped (w : World) : List (Item MethodTree) → Type 0 where
+  no_method_left : MethodsAreTyped w []
+  also_method : {i : Item MethodTree} {is : List (Item MethodTree)} {ts : List PlainType} → AskedAreTyped w i.value.params →
+      AreResults w i.value.result ts → MethodsAreTyped w is → MethodsAreTyped w (i ∷ is)
+
+-- the type that a definition writes is typed
 pub data BodyIsTyped (w : World) : BodyTree → Type 0 where
   another_type : {x : TypeTree} {t : PlainType} → IsType w x t → BodyIsTyped w (tree.Other x)
   a_struct : {p o c : ℕ} {is : List (Item FieldTree)} → FieldsAreTyped w is → BodyIsTyped w (tree.Struct p o is c)
+  an_interface : {p o c : ℕ} {is : List (Item MethodTree)} → MethodsAreTyped w is → BodyIsTyped w (tree.Interface p o is c)
 
 -- a type definition is typed; it declares no local
 pub data TypeIsTyped (w : World) : Locals → TypeSpecTree → Locals → Type 0 where

@@ -5,7 +5,8 @@ use Rattle.std.specs.Prelude.{◌≡◌, ℕ, Bool, false, true, List, ◌∷◌
 use Rattle.go_ast.specs.declared.syntax.StepOp.{StepOp}
 use Rattle.go_ast.specs.declared.syntax.UpdateOp.{UpdateOp}
 use Rattle.go_ast.specs.Tree.{Item, Group, TypeTree, ExprTree, SimpleTree, LocalTree, InitTree, ForTree, StatementTree, BlockTree, StatementTrees, IfTree}
-use Rattle.go_ast.specs.Tree.{ElseTree, ReceiverTree, ParamTree, ResultTree, FuncTree, GlobalTree, FieldTree, BodyTree, TypeSpecTree, DeclTree, FileTree}
+use Rattle.go_ast.specs.Tree.{ElseTree, ReceiverTree, ParamTree, ResultTree, FuncTree, GlobalTree, FieldTree, MethodTree, BodyTree, TypeSpecTree, DeclTree}
+use Rattle.go_ast.specs.Tree.{FileTree}
 use Rattle.go_ast.specs.Tree as tree
 use Rattle.types_expr.specs.Types.{PlainType, ValueKind, Value}
 use Rattle.types_expr.specs.World.{World, Locals, Local, BrokenType, no_locals}
@@ -171,10 +172,22 @@ pub data FieldIsBroken (w : World) : List (Item FieldTree) → Type 0 where
   this_field : {i : Item FieldTree} {is : List (Item FieldTree)} → IsBrokenType w i.value.type_use → FieldIsBroken w (i ∷ is)
   later_field : {i : Item FieldTree} {is : List (Item FieldTree)} → FieldIsBroken w is → FieldIsBroken w (i ∷ is)
 
--- the type that a definition writes is broken; an interface is a fault, and not excused
+-- the type of one of the parameters of a method that an interface asks for is broken
+pub data AskedIsBroken (w : World) : List (Item ParamTree) → Type 0 where
+  this_param : {i : Item ParamTree} {is : List (Item ParamTree)} → IsBrokenType w i.value.type_use → AskedIsBroken w (i ∷ is)
+  later_param : {i : Item ParamTree} {is : List (Item ParamTree)} → AskedIsBroken w is → AskedIsBroken w (i ∷ is)
+
+-- a type that one of the methods writes which an interface asks for is broken
+pub data MethodIsBroken (w : World) : List (Item MethodTree) → Type 0 where
+  in_asked : {i : Item MethodTree} {is : List (Item MethodTree)} → AskedIsBroken w i.value.params → MethodIsBroken w (i ∷ is)
+  in_asked_result : {i : Item MethodTree} {is : List (Item MethodTree)} → ResultIsExcused w i.value.result → MethodIsBroken w (i ∷ is)
+  later_method : {i : Item MethodTree} {is : List (Item MethodTree)} → MethodIsBroken w is → MethodIsBroken w (i ∷ is)
+
+-- the type that a definition writes is broken
 pub data BodyIsBroken (w : World) : BodyTree → Type 0 where
   other_broken : {x : TypeTree} → IsBrokenType w x → BodyIsBroken w (tree.Other x)
   in_struct : {p o c : ℕ} {is : List (Item FieldTree)} → FieldIsBroken w is → BodyIsBroken w (tree.Struct p o is c)
+  in_interface : {p o c : ℕ} {is : List (Item MethodTree)} → MethodIsBroken w is → BodyIsBroken w (tree.Interface p o is c)
 
 -- a type definition is excused
 pub data TypeIsExcused (w : World) : Locals → TypeSpecTree → Type 0 where

@@ -76,7 +76,7 @@ none_or_named name (x ∷ xs) = elim (cases_Bool (is_at (λ (key : Vec ℕ). sli
   ]
 ]
 
-cover : (s : Symbol) (o : Option Definition) → CoverMembers (definition_or_none s o) (names_written o)
+pub cover : (s : Symbol) (o : Option Definition) → CoverMembers (definition_or_none s o) (names_written o)
 cover s None name = inl refl
 cover s (Some d) name = none_or_named name d.fields.entries
 

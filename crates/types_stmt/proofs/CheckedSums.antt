@@ -48,7 +48,8 @@ pub found_then : {j : Judged} (ls : Locals) {old mid new : FoundInFile} {m : Mea
 found_then {j} ls {old} {mid} {new} {m} {places} a n =
     checked_path refl (n.faults ∙ (ap (λ x. x ++ places) a.faults ∙ append_assoc old.faults.items j.faults places)) (ap (map noted_of) n.uses ∙ a.uses)
 
-pub updated : {j k : Judged} (ls : Locals) {old mid third new : FoundInFile} {m n : Meaning} {places : List ℕ} → AddsJudged j old mid m → AddsJudged k mid third n →
+pub updated : {j k : Judged} (ls : Locals) {old mid third new : FoundInFile} {m n : Meaning} {places : List ℕ} → AddsJudged j old mid m →
+    AddsJudged k mid third n →
     AddsFaultsAt places third new →
     checked_with ls new ≡ with_found (checked_with ls old) (j.faults ++ (k.faults ++ places)) (j.uses ++ k.uses)
 updated {j} {k} ls {old} {mid} {third} {new} {m} {n} {places} a b c =
@@ -119,7 +120,8 @@ pub notes_then : {ps qs : List ℕ} {old mid new : FoundInFile} → AddsFaultsAt
 notes_then {ps} {qs} {old} a b = record { faults = b.faults ∙ (ap (λ x. x ++ qs) a.faults ∙ append_assoc old.faults.items ps qs); uses = b.uses ∙ a.uses }
 
 -- faults alone
-pub noted : {places : List ℕ} (ls : Locals) {old new : FoundInFile} → AddsFaultsAt places old new → checked_with ls new ≡ with_found (checked_with ls old) places []
+pub noted : {places : List ℕ} (ls : Locals) {old new : FoundInFile} → AddsFaultsAt places old new → checked_with ls new ≡ with_found (checked_with ls old)
+    places []
 noted ls {old} {new} n = checked_path refl n.faults (ap (map noted_of) n.uses ∙ sym (append-nil (map noted_of old.uses.items)))
 
 -- faults and entries of values
@@ -134,6 +136,13 @@ type_then_given {j} {places} {entries} {old} {mid} {new} a b = record {
   faults = b.faults ∙ (ap (λ x. x ++ places) a.faults ∙ append_assoc old.faults.items j.faults places);
   uses = b.uses ∙ ap (λ x. map noted_of x ++ entries) a.uses;
 }
+
+-- the faults of the types of parameters, followed by those of the types of results
+pub params_then_results : {ps : List ℕ} {j : ResultsJudged} {old mid new : FoundInFile} {ts : List Target} → AddsFaultsAt ps old mid →
+    AddsResults j mid new ts →
+    AddsFaultsAt (ps ++ j.faults) old new
+params_then_results {ps} {j} {old} a b =
+    record { faults = b.faults ∙ (ap (λ x. x ++ j.faults) a.faults ∙ append_assoc old.faults.items ps j.faults); uses = b.uses ∙ a.uses }
 
 pub nothing_given : (f : FoundInFile) → AddsGiven [] [] f f
 nothing_given f = record { faults = sym (append-nil f.faults.items); uses = sym (append-nil (map noted_of f.uses.items)) }

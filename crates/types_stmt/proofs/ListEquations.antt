@@ -1,8 +1,10 @@
 -- The definitions on lists, by the first item and the others.
-use Rattle.std.proofs.Common.{ℕ, ◌≡◌, Bool, List, [], ◌∷◌, ◌++◌, ap, refl, map, Option}
+use Rattle.std.proofs.Common.{ℕ, ◌≡◌, Bool, List, [], ◌∷◌, ◌++◌, ap, sym, refl, append_assoc, map, Option}
 use Rattle.go_ast.specs.View.{expr_view, exprs_view, list_view, type_view}
-use Rattle.go_ast.specs.FileView.{field_view, decl_view}
+use Rattle.go_ast.specs.FileView.{field_view, param_view, method_view, results_view, decl_view}
 use Rattle.go_ast.specs.declared.tree.FieldDecl.{FieldDecl}
+use Rattle.go_ast.specs.declared.tree.MethodSpec.{MethodSpec}
+use Rattle.go_ast.specs.declared.tree.Param.{Param}
 use Rattle.go_ast.specs.declared.tree.Item.{Item}
 use Rattle.go_ast.specs.declared.tree.Decl.{Decl}
 use Rattle.go_ast.specs.declared.tree.TypeExpr.{TypeExpr}
@@ -13,8 +15,8 @@ use Rattle.types_expr.specs.Types.{PlainType}
 use Rattle.types_expr.specs.World.{World, Locals}
 use Rattle.types_expr.specs.Judge.{judge_type, judge_value, judge_arguments, value_before, ListValue}
 use Rattle.types_stmt.specs.Checked.{FoundSoFar, check_items}
-use Rattle.types_stmt.specs.Headers.{judge_types, with_result}
-use Rattle.types_stmt.specs.Declarations.{field_faults, check_decl, check_decls}
+use Rattle.types_stmt.specs.Headers.{judge_types, judge_results, with_result}
+use Rattle.types_stmt.specs.Declarations.{field_faults, param_faults, asked_faults, check_decl, check_decls}
 use Rattle.types_stmt.specs.Sides.{judge_each, assigned, assigned_one, defined, defined_one, join_lefts, Target, refused_at, all_refused, with_locals}
 use Rattle.types_stmt.specs.Sides.{entered_at, all_entered, declared_if, head_or_none, tail_of}
 use Rattle.types_stmt.proofs.LoopProgress.{GivenNotes, join_notes}
@@ -109,3 +111,23 @@ field_faults_step w x xs = refl
 pub field_faults_end : (w : World) → field_faults w (list_view field_view []) ≡ []
 unfolding field_faults
 field_faults_end w = refl
+
+pub param_faults_step : (w : World) (x : Item Param) (xs : List (Item Param)) →
+    param_faults w (list_view param_view (x ∷ xs)) ≡ (judge_type w (type_view x.value.param_type)).faults ++ param_faults w (list_view param_view xs)
+unfolding param_faults param_view
+param_faults_step w x xs = refl
+
+pub param_faults_end : (w : World) → param_faults w (list_view param_view []) ≡ []
+unfolding param_faults
+param_faults_end w = refl
+
+pub asked_faults_step : (w : World) (x : Item MethodSpec) (xs : List (Item MethodSpec)) → asked_faults w (list_view method_view (x ∷ xs)) ≡
+    (param_faults w (list_view param_view x.value.params.items) ++ (judge_results w (results_view x.value.results)).faults)
+    ++ asked_faults w (list_view method_view xs)
+unfolding asked_faults method_view
+asked_faults_step w x xs = sym (append_assoc (param_faults w (list_view param_view x.value.params.items))
+    (judge_results w (results_view x.value.results)).faults (asked_faults w (list_view method_view xs)))
+
+pub asked_faults_end : (w : World) → asked_faults w (list_view method_view []) ≡ []
+unfolding asked_faults
+asked_faults_end w = refl

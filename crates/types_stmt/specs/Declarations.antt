@@ -1,6 +1,6 @@
 -- The check of package-level declarations and of whole files.
 use Rattle.std.specs.Prelude.{ℕ, ◌==◌, Bool, if◌then◌else◌, List, [], ◌∷◌, ◌++◌, Option, Some, None, length, map}
-use Rattle.go_ast.specs.Tree.{Item, BasicTree, Integer, String, GlobalTree, FieldTree, BodyTree, Other, Struct, Interface}
+use Rattle.go_ast.specs.Tree.{Item, ParamTree, MethodTree, BasicTree, Integer, String, GlobalTree, FieldTree, BodyTree, Other, Struct, Interface}
 use Rattle.go_ast.specs.Tree.{TypeSpecTree, DeclTree}
 use Rattle.go_ast.specs.Tree.{VarDecl, TypeDecl, FuncDecl, FileTree}
 use Rattle.types_expr.specs.declared.types.Basic.TheVariants as basic
@@ -9,7 +9,7 @@ use Rattle.types_expr.specs.World.{World, no_locals}
 use Rattle.types_expr.specs.Judge.{ListValue, Noted, judge_type}
 use Rattle.types_stmt.specs.Checked.{FoundSoFar, with_found, check_group}
 use Rattle.types_stmt.specs.Sides.{Wants, all_refused, all_entered}
-use Rattle.types_stmt.specs.Headers.{check_function}
+use Rattle.types_stmt.specs.Headers.{judge_results, check_function}
 
 -- Variables: their values are literals, which have to fit their type. A wrong count is a fault at the first name, also where the type is
 -- broken: a broken type does not excuse it.
@@ -52,18 +52,28 @@ global_faults w g = (judge_type w g.type_use).faults ++ value_faults w g.names (
 abbrev pub global_enterings : World → GlobalTree → List Noted
 global_enterings w g = value_enterings w g.names (judge_type w g.type_use).type_of g.values
 
--- Types: the faults of a type definition are those of the types written in it. An interface is a fault, at its keyword.
+-- Types: the faults of a type definition are those of the types written in it.
 
 -- the faults of the types of fields
 unfoldable pub field_faults : World → List (Item FieldTree) → List ℕ
 field_faults w [] = []
 field_faults w (i ∷ is) = (judge_type w i.value.type_use).faults ++ field_faults w is
 
+-- the faults of the types of parameters
+unfoldable pub param_faults : World → List (Item ParamTree) → List ℕ
+param_faults w [] = []
+param_faults w (i ∷ is) = (judge_type w i.value.type_use).faults ++ param_faults w is
+
+-- the faults of the types of the parameters and results of methods that an interface asks for
+unfoldable pub asked_faults : World → List (Item MethodTree) → List ℕ
+asked_faults w [] = []
+asked_faults w (i ∷ is) = param_faults w i.value.params ++ ((judge_results w i.value.result).faults ++ asked_faults w is)
+
 -- the faults of the type that a definition writes
 unfoldable pub body_faults : World → BodyTree → List ℕ
 body_faults w (Other t) = (judge_type w t).faults
 body_faults w (Struct p o fs c) = field_faults w fs
-body_faults w (Interface p o ms c) = p ∷ []
+body_faults w (Interface p o ms c) = asked_faults w ms
 
 -- Declarations and files
 

@@ -1,19 +1,22 @@
 //! The check of package-level declarations of variables and types.
 ghost use Rattle.std.specs.Prelude.{◌≡◌, ◌∷◌, [], IfOk, OnOk, map, option_map};
 ghost use Rattle.go_ast.specs.View.{list_view, group_view};
-ghost use Rattle.go_ast.specs.FileView.{same_index, basic_view, global_view, field_view, body_view, type_spec_view};
+ghost use Rattle.go_ast.specs.FileView.{same_index, basic_view, global_view, field_view, param_view, method_view, body_view, type_spec_view};
 ghost use Rattle.types_expr.specs.View.{type_of};
 ghost use Rattle.types_expr.specs.WorldView.{world_of};
 ghost use Rattle.types_expr.specs.Found.{list_value};
 ghost use Rattle.types_stmt.specs.Sides.{Wants};
 ghost use Rattle.types_stmt.specs.Checked.{check_group};
-ghost use Rattle.types_stmt.specs.Declarations.{literal_value, first_name, literal_faults, literal_enterings, global_faults, global_enterings, field_faults, body_faults, check_global, check_type};
+ghost use Rattle.types_stmt.specs.Declarations.{literal_value, first_name, literal_faults, literal_enterings, global_faults, global_enterings, field_faults, param_faults, asked_faults, body_faults, check_global, check_type};
 ghost use Rattle.types_stmt.specs.View.{checked_of, target_of, AddsFaultsAt, AddsGiven};
 
 use crate::checked::CheckedBody;
+use crate::headers::results_of;
 use crate::locals::copied;
 use crate::sides::{Target, refuse_all};
-use go_ast::tree::{BasicLit, FieldDecl, Group, Item, TypeBody, TypeSpec, VarSpec};
+use go_ast::tree::{
+    BasicLit, FieldDecl, Group, Item, MethodSpec, Param, TypeBody, TypeSpec, VarSpec,
+};
 use std::alloc::{AllocError, Global};
 use types_expr::found::FoundInFile;
 use types_expr::meaning::ListValue;
@@ -127,15 +130,39 @@ fn note_field_faults(
     Ok(())
 }
 
-/// Notes a fault at a token.
-fn note_fault(place: usize, found: &mut FoundInFile) -> Result<(), AllocError>
-    ensures { OnOk result (AddsFaultsAt (place ∷ []) found.old found.new) }
+/// Notes the faults of the types of parameters.
+fn note_param_faults(
+    alloc: Global,
+    world: &World<'_>,
+    params: &[Item<Param>],
+    found: &mut FoundInFile,
+) -> Result<(), AllocError>
+    ensures { OnOk result (AddsFaultsAt (param_faults (world_of world.now) (list_view param_view params.now)) found.old found.new) }
 {
-    found.faults.push(place)?;
+    for item in params {
+        found.judge_type(alloc, world, &item.value.param_type)?;
+    }
     Ok(())
 }
 
-/// Notes the faults of the type that a definition writes. An interface is a fault, at its keyword.
+/// Notes the faults of the types of the parameters and results of methods that an interface asks for.
+#[tactic(auto, unfolding(go_ast::specs::FileView::method_view))]
+fn note_asked_faults(
+    alloc: Global,
+    world: &World<'_>,
+    methods: &[Item<MethodSpec>],
+    found: &mut FoundInFile,
+) -> Result<(), AllocError>
+    ensures { OnOk result (AddsFaultsAt (asked_faults (world_of world.now) (list_view method_view methods.now)) found.old found.new) }
+{
+    for item in methods {
+        note_param_faults(alloc, world, &item.value.params, found)?;
+        results_of(alloc, world, &item.value.results, found)?;
+    }
+    Ok(())
+}
+
+/// Notes the faults of the type that a definition writes.
 fn note_body_faults(
     alloc: Global,
     world: &World<'_>,
@@ -150,7 +177,7 @@ fn note_body_faults(
             Ok(())
         }
         TypeBody::Struct { fields, .. } => note_field_faults(alloc, world, fields, found),
-        TypeBody::Interface { at, .. } => note_fault(*at as usize, found),
+        TypeBody::Interface { methods, .. } => note_asked_faults(alloc, world, methods, found),
     }
 }
 

@@ -85,7 +85,7 @@ fn result_types(
 }
 
 /// Returns the results of a function as targets of returned values.
-fn results_of(
+pub(crate) fn results_of(
     alloc: Global,
     world: &World<'_>,
     results: &Results,

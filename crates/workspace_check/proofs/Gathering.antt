@@ -10,6 +10,8 @@ use Rattle.base_lemmas.proofs.Elements.{nothing_in}
 use Rattle.base_files.specs.Workspace.{Workspace}
 use Rattle.base_files.specs.Packages.{package_paths}
 use Rattle.workspace_graph.proofs.ByPath.{number}
+use Rattle.types_declared.specs.declared.export_tables.ExportTable.{ExportTable}
+use Rattle.types_declared.specs.ExportTablesView.{name_in}
 use Rattle.types_declared.proofs.Mentioning.{get_set_same, get_set_other}
 use Rattle.workspace_check.specs.declared.finding.Finding.{Finding}
 use Rattle.workspace_check.specs.declared.findings.Findings.{Findings}
@@ -17,7 +19,8 @@ use Rattle.workspace_check.specs.declared.gathered.Gathered.{Gathered}
 use Rattle.workspace_check.specs.Verdicts.{BuildsOn, AreVerdictsBelow, AreVerdicts}
 use Rattle.workspace_check.specs.Found.{AreFindings}
 use Rattle.workspace_check.specs.KnownFindings.{verdicts_by, AreNamedEntries, IsFindingOf}
-use Rattle.workspace_check.specs.Steps.{AreKnown, AreGathered, AreAllGathered, AreKnownBelow, IsGathered, IsBuildOrder, KnowsAllFindings, AddsFinding, LearnsIfMissing, somes}
+use Rattle.workspace_check.specs.Steps.{AreKnown, AreGathered, AreAllGathered, AreKnownBelow, IsGathered}
+use Rattle.workspace_check.specs.Steps.{IsBuildOrder, KnowsAllFindings, AddsFinding, LearnsIfMissing, somes}
 use Rattle.workspace_check.proofs.Adding.{finding_as}
 use Rattle.workspace_check.proofs.Knowing.{learnt_next}
 use Rattle.workspace_check.proofs.OneVerdict.{right_alike, right_below}
@@ -156,4 +159,5 @@ module _ (w : Workspace) (all : Gathered) (h : KnowsAllFindings w all) where
             finding_as w p g.known (verdicts_by found.export_table)
             (right_alike w p g.known (verdicts_by found.export_table) g.right (right_below w (verdicts_by found.export_table) right p)) f g.finding);
         whole = subst AreNamedEntries (sym export_table) h.right.verdicts.whole;
+        outside = λ q none. ap (λ (i : ExportTable). name_in i q) export_table ∙ h.right.verdicts.outside q none;
       }

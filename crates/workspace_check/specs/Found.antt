@@ -1,8 +1,9 @@
 -- Findings of packages and known verdicts that are right in a workspace.
-use Rattle.std.specs.Prelude.{ℕ, ◌≡◌, ◌↔◌, List, Option, Some, length, slice_get, Contains}
+use Rattle.std.specs.Prelude.{ℕ, ◌≡◌, ◌↔◌, List, Option, Some, None, length, slice_get, Contains}
 use Rattle.base_files.specs.Workspace.{Workspace}
 use Rattle.base_files.specs.Packages.{package_paths}
 use Rattle.types_declared.specs.declared.export_tables.ExportTable.{ExportTable}
+use Rattle.types_declared.specs.ExportTablesView.{name_in}
 use Rattle.workspace_check.specs.Verdicts.{IsVerdict, AreVerdictsBelow, AreVerdicts}
 use Rattle.workspace_check.specs.declared.finding.Finding.{Finding}
 use Rattle.workspace_check.specs.declared.findings.Findings.{Findings}
@@ -30,13 +31,14 @@ pub record AreFirstVerdicts (w : Workspace) (count : ℕ) (known : Known) : Type
   pub size : length known.verdicts.items ≡ count
   pub verdicts : KnowsVerdicts w known
 
--- The findings of all packages of a workspace, by package number.
+-- The findings of all packages of a workspace, by package number. The export data has no other packages.
 pub record AreFindings (w : Workspace) (found : Findings) : Type 0 where
   pub size : length found.packages.items ≡ length (package_paths w)
   pub right : AreVerdicts w (verdicts_by found.export_table)
   pub each : (n : ℕ) (p : List ℕ) (f : Finding) → slice_get (package_paths w) n ≡ Some p → slice_get found.packages.items n ≡ Some f →
       IsFinding w (verdicts_by found.export_table) p f
   pub whole : AreNamedEntries found.export_table
+  pub outside : (q : List ℕ) → (Contains (package_paths w) q → ⊥) → name_in found.export_table q ≡ None
 
 -- `f` is the finding of `p`, and `all` has the right verdicts on `p` and on the packages that it builds on.
 pub record IsFindingWith (w : Workspace) (p : List ℕ) (all : ExportTable) (f : Finding) : Type 0 where

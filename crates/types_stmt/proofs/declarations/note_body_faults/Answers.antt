@@ -2,9 +2,9 @@
 use Rattle.std.proofs.Common.{ap, sym, ◌∙◌}
 use Rattle.std.proofs.lemmas.Result.{on_ok_weaker}
 use Rattle.go_ast.specs.View.{list_view}
-use Rattle.go_ast.specs.FileView.{field_view, body_view}
+use Rattle.go_ast.specs.FileView.{field_view, method_view, body_view}
 use Rattle.types_expr.specs.WorldView.{world_of}
-use Rattle.types_stmt.specs.Declarations.{field_faults, body_faults}
+use Rattle.types_stmt.specs.Declarations.{field_faults, asked_faults, body_faults}
 use Rattle.types_stmt.proofs.CheckedSums.{type_notes, notes_as}
 use Rattle.types_stmt.proofs.declarations.note_body_faults.Goals as goal
 
@@ -23,5 +23,6 @@ returns-in-Struct c =
 pub returns-in-Interface : goal.returns-in-Interface
 unfolding body_faults body_view
 returns-in-Interface c =
-    on_ok_weaker c.note_fault.result
-    (λ n. notes_as n (ap (λ v. body_faults (world_of c.args.world.now) (body_view v)) (sym c.in-Interface.is))) c.note_fault.ensures
+    on_ok_weaker c.note_asked_faults.result (λ n. notes_as n
+    (ap (λ xs. asked_faults (world_of c.args.world.now) (list_view method_view xs)) c.deref-in-Interface.ensures.value ∙
+    ap (λ v. body_faults (world_of c.args.world.now) (body_view v)) (sym c.in-Interface.is))) c.note_asked_faults.ensures
