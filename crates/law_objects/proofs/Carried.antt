@@ -1,8 +1,8 @@
 -- The units of packages behind a plain rename that preserves bindings: the old ones, with the new name where their objects print it.
-use Rattle.std.proofs.Common.{ℕ, ◌≡◌, inl, inr, List, [], ◌∷◌, Some, refl, ap, sym, subst, ◌∙◌}
+use Rattle.std.proofs.Common.{ℕ, ◌≡◌, inl, List, [], ◌∷◌, ap, sym, subst, ◌∙◌}
 use Rattle.std.specs.Prelude.{Contains}
 use Rattle.std.proofs.lemmas.Option.{same_Some}
-use Rattle.base_lemmas.proofs.Elements.{first_in, nothing_in}
+use Rattle.base_lemmas.proofs.Elements.{first_in}
 use Rattle.base_edits.specs.EditSet.{FileChanges, edited}
 use Rattle.base_edits.specs.RevisionsOfEdits.{revision_of}
 use Rattle.base_files.specs.Packages.{package_paths}
@@ -10,8 +10,7 @@ use Rattle.base_files.specs.Workspace.{Workspace}
 use Rattle.go_scope.specs.Bindings.{IsPackageLevel}
 use Rattle.types_check.specs.Exports.{IsExportData}
 use Rattle.types_declared.specs.Package.{Package, ExportData}
-use Rattle.workspace_check.specs.FaultLists.{ListsFaults, ListsPackageFaults}
-use Rattle.workspace_check.specs.Verdicts.{Verdicts, AreVerdicts, IsPackageIn}
+use Rattle.workspace_check.specs.Verdicts.{Verdicts, IsPackageIn}
 use Rattle.workspace_check.specs.declared.fault.FileFault.{FileFault}
 use Rattle.workspace_check.proofs.Alike.{package_as}
 use Rattle.workspace_check.proofs.OneList.{one_list}
@@ -20,20 +19,24 @@ use Rattle.workspace_check.proofs.OneVerdict.{right_alike, right_below}
 use Rattle.refs_binding.specs.declared.declaration.Declaration.{Declaration}
 use Rattle.refs_binding.specs.declared.declaration.Declaration.TheVariants.{Declared}
 use Rattle.refs_binding.specs.Uses.{IsCheckedPackage}
+use Rattle.refs_places.specs.Homes.{IsHomeOfSome}
 use Rattle.refs_places.specs.Outside.{declaring_path}
 use Rattle.refactor_preserve.specs.Preserved.{Preserves}
 use Rattle.build_names.specs.Words.{NameChange, text_with_name}
 use Rattle.build_object.specs.Names.{type_name}
 use Rattle.build_unit.specs.Units.{IsCompiled, IsUnitValue, UnitValue, Faults, Done}
-use Rattle.build_kept.specs.KnownUnits.{CarriesUnits, DeclaresChanged, text_with_names, value_with_names}
+use Rattle.build_kept.specs.KnownUnits.{DeclaresChanged, value_with_names}
 use Rattle.build_kept.proofs.Names.{text_once, value_unchanged}
 use Rattle.law_renamed_workspaces.specs.KnownVerdicts.{IsKeptRename, IsUnseen}
 use Rattle.law_renamed_workspaces.proofs.KnownVerdictsLaws.{unseen_data}
 use Rattle.law_renamed_workspaces.proofs.PackagesAfter.{has_data}
-use Rattle.law_agreement.proofs.Laws.{preserved_loses_none}
+use Rattle.law_agreement.proofs.Laws.{scope_loses_none}
+use Rattle.law_renamed_workspaces.specs.Harmless.{IsHarmless}
+use Rattle.law_renamed_workspaces.proofs.RenamedSets.{own_alone}
+use Rattle.law_renamed_workspaces.proofs.Harmless.{declared_harmless}
 use Rattle.law_renamed_workspaces.specs.Renames.{IsPlainRename}
 use Rattle.law_renamed_workspaces.proofs.Packages.{same_imports}
-use Rattle.law_objects.specs.Objects.{HasObject, HasObjectText, IsUnprinted}
+use Rattle.law_objects.specs.Objects.{HasObject, HasObjectText}
 use Rattle.law_objects.proofs.Laws.{globals, unprinted}
 use Rattle.law_objects.proofs.UnitTexts.{none_listed}
 use Rattle.law_objects.specs.Replaced.{of_global, text_by}
@@ -42,17 +45,17 @@ use Rattle.law_objects.specs.Legible.{IsLegibleChange}
 use Rattle.law_objects.proofs.LegibleTexts.{texts_follow}
 
 module _ (w : Workspace) (before : Verdicts) (d : Declaration) (name : List ℕ) (s : FileChanges) (plain : IsPlainRename w before d name s)
-    (keeps : Preserves w (revision_of w s)) where
+    (keeps : Preserves w (revision_of w s)) (harmless : IsHarmless w before (revision_of w s)) where
   abbrev x : Workspace
   x = edited s w
 
   kept : IsKeptRename w before d name s
-  kept = record { plain = plain; kept = preserved_loses_none w before d name s plain keeps }
+  kept = record { plain = plain; kept = harmless }
 
   pub paths : package_paths w ≡ package_paths x
   paths = (same_imports w before d name s plain).paths
 
-  module _ (q : List ℕ) (unseen : IsUnseen w before d name q) (has : Contains (package_paths w) q) (i : ExportData) (text : List ℕ)
+  module _ (q : List ℕ) (unseen : IsUnseen w before d plain.rename.set name q) (has : Contains (package_paths w) q) (i : ExportData) (text : List ℕ)
       (c : IsCompiled w q i text) where
     has_now : Contains (package_paths x) q
     has_now = subst (λ ps. Contains ps q) paths has
@@ -81,6 +84,7 @@ module _ (w : Workspace) (before : Verdicts) (d : Declaration) (name : List ℕ)
 
     -- the unit with the text of the object behind the rename
     pub compiled_now : (t : List ℕ) → HasObjectText x keeps.after q t → IsCompiled x q i t
+    unfolding kept
     compiled_now t new = record {
       known = keeps.after;
       right = right_below x keeps.after keeps.right_after q;
@@ -101,20 +105,20 @@ module _ (w : Workspace) (before : Verdicts) (d : Declaration) (name : List ℕ)
   no_faults q has list h = h.1 (one_list w q list [] h.0 (none_listed w plain.rename.sound q has))
 
 pub local_carried : LocalRenamesCarryUnits
-local_carried w before d name s plain keeps none unseen = record {
-  paths = paths w before d name s plain keeps;
+local_carried w before d name s plain keeps harmless alone none unseen = record {
+  paths = paths w before d name s plain keeps harmless;
   each = λ q has free u is. each q has u is;
 }
   where
     each : (q : List ℕ) → Contains (package_paths w) q → (u : UnitValue) → IsUnitValue w q u → IsUnitValue (edited s w) q (value_with_names [] u)
-    each q has (Faults list) is = absurd (no_faults w before d name s plain keeps q has list is)
+    each q has (Faults list) is = absurd (no_faults w before d name s plain keeps harmless q has list is)
     each q has (Done i text) is =
         subst (IsUnitValue (edited s w) q) (sym (value_unchanged (Done i text)))
-        (compiled_now w before d name s plain keeps q (unseen q) has i text is text
-        (unprinted w before keeps.after d name s plain keeps.right_after keeps none q text (record {
+        (compiled_now w before d name s plain keeps harmless q (unseen q) has i text is text
+        (unprinted w before keeps.after d name s plain keeps.right_after harmless alone none q text (record {
           files_of = is.files_of;
           object = is.is_object.object;
-          has = old w before d name s plain keeps q (unseen q) has i text is;
+          has = old w before d name s plain keeps harmless q (unseen q) has i text is;
           printed = is.is_object.printed;
         })))
 
@@ -124,23 +128,36 @@ module _ (w : Workspace) (before : Verdicts) (own : Package) (n : ℕ) (name : L
   abbrev c : NameChange
   c = change_of_name own n name
 
+  abbrev set : List Declaration
+  set = plain.rename.set
+
+  harmless_one : IsHarmless w before (revision_of w s)
+  harmless_one = declared_harmless w before own.path n name s plain (scope_loses_none w before own.path n name s plain keeps)
+
+  -- nothing is renamed with it
+  own_home : (q : List ℕ) → IsHomeOfSome set q → own.path ≡ q
+  own_home q h =
+      let same : h.declaration ≡ Declared own.path n =
+      own_alone (IsCheckedPackage w before) (Declared own.path n) set plain.rename.is_set (λ m. m) h.declaration h.among in
+      same_Some own.path q (ap declaring_path (sym same) ∙ h.declares)
+
   global_each : (q : List ℕ) → Contains (package_paths w) q → (DeclaresChanged (c ∷ []) q → ⊥) → (u : UnitValue) → IsUnitValue w q u →
       IsUnitValue (edited s w) q (value_with_names (c ∷ []) u)
-  global_each q has free (Faults list) unit = absurd (no_faults w before (Declared own.path n) name s plain keeps q has list unit)
+  global_each q has free (Faults list) unit = absurd (no_faults w before (Declared own.path n) name s plain keeps harmless_one q has list unit)
   global_each q has free (Done i text) unit =
-      let unseen : IsUnseen w before (Declared own.path n) name q = inl (λ e. free (c, (first_in c [], same_Some own.path q e))) in
-      let was = old w before (Declared own.path n) name s plain keeps q unseen has i text unit in
+      let unseen : IsUnseen w before (Declared own.path n) set name q = inl (λ h. free (c, (first_in c [], own_home q h))) in
+      let was = old w before (Declared own.path n) name s plain keeps harmless_one q unseen has i text unit in
       let o = unit.is_object.object in
       let named = objects q unit.files_of o was in
       let new = globals w before keeps.after own n name s plain keeps.right_after keeps is level q unit.files_of o was in
       let same : text_with_name c text ≡ text_by (of_global own.path (own.names n) name) (type_name unit.files_of) o =
       ap (text_with_name c) unit.is_object.printed ∙ texts_follow c legible (type_name unit.files_of) named.1 o named.0 in
       subst (λ t. IsCompiled (edited s w) q i t) (sym (text_once c text))
-      (compiled_now w before (Declared own.path n) name s plain keeps q unseen has i text unit (text_with_name c text)
+      (compiled_now w before (Declared own.path n) name s plain keeps harmless_one q unseen has i text unit (text_with_name c text)
       (subst (HasObjectText (edited s w) keeps.after q) (sym same) new))
 
 pub global_carried : LegibleGlobalRenamesCarryUnits
 global_carried w before own n name s plain keeps is level legible objects = record {
-  paths = paths w before (Declared own.path n) name s plain keeps;
+  paths = paths w before (Declared own.path n) name s plain keeps (harmless_one w before own n name s plain keeps is level legible objects);
   each = global_each w before own n name s plain keeps is level legible objects;
 }

@@ -1,39 +1,45 @@
 -- Objects after a rename of what prints no name, and after one of a package-level declaration.
 use Rattle.std.proofs.Common.{ℕ, ◌≡◌, ◌&&◌, inl, inr, Bool, true, false, if◌then◌else◌, List, [], Some, refl, ap, sym, subst, ◌∙◌}
-use Rattle.std.specs.Prelude.{slice_get}
+use Rattle.std.specs.Prelude.{Contains, slice_get}
 use Rattle.std.specs.Cmp.Lexicographic.{bytes_decides}
 use Rattle.std.proofs.Math.Path.{ap₂}
 use Rattle.std.proofs.lemmas.Bool.{cases_eq}
+use Rattle.std.proofs.lemmas.Option.{same_Some}
 use Rattle.base_edits.specs.EditSet.{FileChanges, edited}
 use Rattle.base_edits.specs.RevisionsOfEdits.{revision_of}
 use Rattle.base_files.specs.Workspace.{Workspace}
-use Rattle.go_ast.specs.Tree.{ReceiverTree}
+use Rattle.go_ast.specs.Tree.{Item, ReceiverTree, ParamTree, ResultTree}
 use Rattle.go_scope.specs.Bindings.{IsPackageLevel, Counts}
 use Rattle.go_scope.proofs.Innermost.{one_in_block}
 use Rattle.go_scope.proofs.Nests.{nests}
-use Rattle.types_declared.specs.Package.{Package, PlacedFunction, package_functions, spelled, symbol_in}
+use Rattle.types_declared.specs.Definitions.{PlacedField, OfType, OfSignature, package_fields}
+use Rattle.types_declared.specs.Package.{Package, PlacedType, PlacedFunction, package_types, package_functions, spelled, symbol_in}
+use Rattle.types_info.proofs.DeclKinds.{holds_got}
 use Rattle.workspace_check.specs.FaultLists.{ListsFaults}
 use Rattle.workspace_check.specs.Verdicts.{Verdicts, AreVerdicts}
 use Rattle.workspace_check.proofs.OnePackage.{layout_formed}
 use Rattle.refs_binding.specs.declared.declaration.Declaration.{Declaration}
-use Rattle.refs_binding.specs.declared.declaration.Declaration.TheVariants.{Declared, Method}
+use Rattle.refs_binding.specs.declared.declaration.Declaration.TheVariants.{Declared, Field, Method}
 use Rattle.refs_binding.specs.Uses.{IsCheckedPackage}
 use Rattle.refs_binding.proofs.Units.{one_package}
-use Rattle.refactor_conflict.specs.Staying.{NoneIsLost}
+use Rattle.refactor_after.proofs.FieldsAfter.{of_one}
 use Rattle.build_object.specs.Lines.{GlobalName}
 use Rattle.build_object.specs.Lines as line
-use Rattle.law_renamed_workspaces.proofs.Counting.{each_counts}
-use Rattle.law_renamed_workspaces.proofs.KeptNames.{method_kept}
-use Rattle.law_renamed_workspaces.specs.Renames.{IsPlainRename}
+use Rattle.law_renamed_workspaces.specs.Harmless.{IsHarmless}
+use Rattle.law_renamed_workspaces.proofs.CalledNow.{field_now, method_now, kept_so}
+use Rattle.law_renamed_workspaces.proofs.RenamedSets.{own_alone}
+use Rattle.law_renamed_workspaces.specs.NamesAfterwards.{IsCalledAfter}
+use Rattle.law_renamed_workspaces.specs.RenamedData.{IsAlone}
+use Rattle.law_renamed_workspaces.specs.Renames.{IsMember, IsPlainRename}
 use Rattle.law_renamed_workspaces.proofs.OwnNames.{own_renames}
 use Rattle.law_renamed_workspaces.proofs.RenamedScopesRenamed.{others_stay}
 use Rattle.law_renamed_workspaces.specs.VerdictsStay.{IsPackageAfter}
 use Rattle.law_renamed_workspaces.proofs.DeclaredNames.{moves_level, keeps_levels, is_level_of}
-use Rattle.law_objects.specs.Objects.{HasObjectText, ReplacesNames, IsUnprinted}
+use Rattle.law_objects.specs.Objects.{HasObjectText, ReplacesNames, IsFieldOfType, IsUnprinted}
 use Rattle.law_objects.specs.Replaced.{Replaced, same_bytes, renamed_global, of_global, of_none}
 use Rattle.law_objects.proofs.MethodNames.{is_method, receiver_moves}
-use Rattle.law_objects.proofs.MovesFrom.{LevelsMove, MethodsMove, moves}
-use Rattle.law_objects.proofs.NamesMoved.{AreNames}
+use Rattle.law_objects.proofs.MovesFrom.{LevelsMove, MethodsMove, AsksMove, types, moves}
+use Rattle.law_objects.proofs.NamesMoved.{named_at, AreNames}
 use Rattle.law_objects.proofs.NothingReplaced.{none_text}
 use Rattle.law_objects.proofs.ObjectsMove.{next, is_after, replaces_names}
 use Rattle.law_objects.proofs.QualifiedNames.{qualified}
@@ -72,7 +78,7 @@ declared_number : (p q : List ℕ) (m n : ℕ) → Declared p m ≡ Declared q n
 declared_number p q m n e = cc
 
 module _ (w : Workspace) (before after : Verdicts) (d : Declaration) (name : List ℕ) (s : FileChanges) (plain : IsPlainRename w before d name s)
-    (right : AreVerdicts (edited s w) after) (none : NoneIsLost w before (revision_of w s)) where
+    (right : AreVerdicts (edited s w) after) (none : IsHarmless w before (revision_of w s)) where
   abbrev pub now : (p : Package) → IsCheckedPackage w before p → Package
   now p was = next w before after d name s plain right none p was
 
@@ -87,32 +93,69 @@ module _ (w : Workspace) (before after : Verdicts) (d : Declaration) (name : Lis
 
   -- the names of packages move where package-level names and methods do
   pub replaced_by : (r : Replaced) → AreNames r → ((p : Package) (was : IsCheckedPackage w before p) → LevelsMove r p (now p was)) →
-      ((p : Package) (was : IsCheckedPackage w before p) → MethodsMove r p (now p was)) → ReplacesNames w before (edited s w) after r
-  replaced_by r names levels methods =
+      ((p : Package) (was : IsCheckedPackage w before p) → MethodsMove r p (now p was)) →
+      ((p : Package) (was : IsCheckedPackage w before p) → AsksMove r p (now p was)) → ReplacesNames w before (edited s w) after r
+  replaced_by r names levels methods asks =
       replaces_names w before after d name s plain right none r names
-      (λ p was. moves w before after sound old_right s p (now p was) (here p was) r names (levels p was) (methods p was)
+      (λ p was. moves w before after sound old_right s p (now p was) (here p was) r names (levels p was) (methods p was) (asks p was)
       (qualified w before after d name s plain right none p was r levels))
 
-  -- the name of a method stays, if it is not the renamed one
-  pub method_stays : (p : Package) (was : IsCheckedPackage w before p) (rank : ℕ) (f : PlacedFunction) (t : ReceiverTree) →
-      slice_get (package_functions p) rank ≡ Some f → f.function.receiver ≡ Some t → (d ≡ Method (symbol_in p rank) → ⊥) →
-      spelled (now p was) f.file f.function.name ≡ spelled p f.file f.function.name
-  method_stays p was rank f t at e other =
-      let m = is_method w sound before old_right p was rank f at t e in
-      method_kept w before d name s (record { plain = plain; kept = none }) p (now p was) was (here p was).relaid (each_counts w sound before old_right p was)
-      m.0 rank (spelled p f.file f.function.name) f m.1 other
+  module _ (p : Package) (was : IsCheckedPackage w before p) (rank : ℕ) where
+    -- the name of a method, with whether it is renamed
+    pub method_called : (f : PlacedFunction) (t : ReceiverTree) → slice_get (package_functions p) rank ≡ Some f → f.function.receiver ≡ Some t →
+        IsCalledAfter plain.rename.set name (Method (symbol_in p rank)) (spelled p f.file f.function.name) (spelled (now p was) f.file f.function.name)
+    method_called f t at e =
+        let m = is_method w sound before old_right p was rank f at t e in
+        method_now w before d name s plain p (now p was) was (here p was).relaid rank f at m.0 (record {
+          receiver = m.1.receiver;
+          received = m.1.received;
+          declaration = m.1.declaration;
+          binds = m.1.binds;
+          of_type = m.1.of_type;
+        })
+
+    -- so of a method that an interface asks for
+    pub asked_called : (f : PlacedField) → slice_get (package_fields p) rank ≡ Some f →
+        IsCalledAfter plain.rename.set name (Field (symbol_in p rank)) (spelled p f.file f.name) (spelled (now p was) f.file f.name)
+    asked_called f at = field_now w before d name s plain p (now p was) was (here p was).relaid rank f at
+
+    -- each stays, if it is not renamed
+
+    method_stays : (f : PlacedFunction) (t : ReceiverTree) → slice_get (package_functions p) rank ≡ Some f → f.function.receiver ≡ Some t →
+        (Contains plain.rename.set (Method (symbol_in p rank)) → ⊥) → spelled (now p was) f.file f.function.name ≡ spelled p f.file f.function.name
+    method_stays f t at e other =
+        kept_so plain.rename.set name (Method (symbol_in p rank)) (spelled p f.file f.function.name) (spelled (now p was) f.file f.function.name)
+        (method_called f t at e) other
+
+    asked_stays : (f : PlacedField) → slice_get (package_fields p) rank ≡ Some f → (Contains plain.rename.set (Field (symbol_in p rank)) → ⊥) →
+        spelled (now p was) f.file f.name ≡ spelled p f.file f.name
+    asked_stays f at other =
+        kept_so plain.rename.set name (Field (symbol_in p rank)) (spelled p f.file f.name) (spelled (now p was) f.file f.name) (asked_called f at) other
+
+  -- the name of the type that an interface stands in
+  pub type_moves : (p : Package) (was : IsCheckedPackage w before p) (r : Replaced) → AreNames r → LevelsMove r p (now p was) → (rank : ℕ) (t : PlacedType) →
+      slice_get (package_types p) rank ≡ Some t → r.global (named_at p.path p t.file t.spec.name) ≡ named_at p.path (now p was) t.file t.spec.name
+  type_moves p was r names levels rank t at =
+      types w before after sound old_right s p (now p was) (here p was) r names levels t (holds_got (package_types p) rank t at)
 
   -- nothing is printed
 
-  module _ (unprinted : IsUnprinted (IsCheckedPackage w before) d) where
+  module _ (alone : IsAlone d plain.rename.set) (unprinted : IsUnprinted (IsCheckedPackage w before) d) where
     not_level : (p : Package) (was : IsCheckedPackage w before p) (m : ℕ) → d ≡ Declared p.path m → IsPackageLevel p.layout m → ⊥
     not_level p was m e level =
         let i = subst (IsUnprinted (IsCheckedPackage w before)) e unprinted in
         let same : i.inside ≡ p = one_package w before i.inside p i.is_package was i.of_path in
         i.holds (subst (λ (x : Package). IsPackageLevel x.layout m) (sym same) level)
 
-    not_method : (p : Package) (rank : ℕ) → d ≡ Method (symbol_in p rank) → ⊥
-    not_method p rank e = subst (IsUnprinted (IsCheckedPackage w before)) e unprinted
+    unprinted_too : (e : Declaration) → Contains plain.rename.set e → IsUnprinted (IsCheckedPackage w before) e
+    unprinted_too e in_set = subst (IsUnprinted (IsCheckedPackage w before)) (sym (alone e in_set)) unprinted
+
+    not_asked : (p : Package) (was : IsCheckedPackage w before p) (rank : ℕ) (f : PlacedField) (ps : List (Item ParamTree)) (result : ResultTree) →
+        slice_get (package_fields p) rank ≡ Some f → f.form ≡ OfSignature ps result → Contains plain.rename.set (Field (symbol_in p rank)) → ⊥
+    not_asked p was rank f ps result at form in_set =
+        let x = of_one w before p was p.path refl (λ y. IsFieldOfType y rank) (unprinted_too (Field (symbol_in p rank)) in_set) in
+        let same : x.field ≡ f = same_Some x.field f (sym x.has_rank ∙ at) in
+        let z : OfType x.type_use ≡ OfSignature ps result = sym x.form ∙ ap (λ (y : PlacedField). y.form) same ∙ form in cc
 
     none_levels : (p : Package) (was : IsCheckedPackage w before p) → LevelsMove of_none p (now p was)
     none_levels p was u level counts =
@@ -123,11 +166,16 @@ module _ (w : Workspace) (before after : Verdicts) (d : Declaration) (name : Lis
     none_methods p was rank f t at e =
         ap₂ line.Method
         (receiver_moves w before after sound old_right s p (now p was) (here p was) of_none none_names (none_levels p was) rank f t at e)
-        (sym (method_stays p was rank f t at e (not_method p rank)))
+        (sym (method_stays p was rank f t at e (unprinted_too (Method (symbol_in p rank)))))
+
+    none_asks : (p : Package) (was : IsCheckedPackage w before p) → AsksMove of_none p (now p was)
+    none_asks p was rank f ps result t at form of =
+        ap₂ line.Method (type_moves p was of_none none_names (none_levels p was) f.definition t of)
+        (sym (asked_stays p was rank f at (not_asked p was rank f ps result at form)))
 
     pub unprinted_stay : (path text : List ℕ) → HasObjectText w before path text → HasObjectText (edited s w) after path text
     unprinted_stay path text h =
-        let new = replaced_by of_none none_names none_levels none_methods path h.files_of h.object h.has in
+        let new = replaced_by of_none none_names none_levels none_methods none_asks path h.files_of h.object h.has in
         subst (HasObjectText (edited s w) after path) (none_text _ h.object ∙ sym h.printed) new
 
   -- a package-level declaration is renamed
@@ -177,6 +225,11 @@ module _ (w : Workspace) (before after : Verdicts) (d : Declaration) (name : Lis
             ]
       ]
 
+    -- nothing is renamed with it
+    own_only : (e : Declaration) → Contains plain.rename.set e → e ≡ Declared own.path n
+    own_only e in_set =
+        own_alone (IsCheckedPackage w before) d plain.rename.set plain.rename.is_set (λ member. subst IsMember is member) e in_set ∙ is
+
     global_levels : (p : Package) (was : IsCheckedPackage w before p) → LevelsMove r p (now p was)
     global_levels p was u level counts = level_moves p was u level counts
 
@@ -184,7 +237,14 @@ module _ (w : Workspace) (before after : Verdicts) (d : Declaration) (name : Lis
     global_methods p was rank f t at e =
         ap₂ line.Method
         (receiver_moves w before after sound old_right s p (now p was) (here p was) r global_names (global_levels p was) rank f t at e)
-        (sym (method_stays p was rank f t at e (λ z. let k : Declared own.path n ≡ Method (symbol_in p rank) = sym is ∙ z in cc)))
+        (sym (method_stays p was rank f t at e (λ in_set.
+        let k : Method (symbol_in p rank) ≡ Declared own.path n = own_only (Method (symbol_in p rank)) in_set in cc)))
+
+    global_asks : (p : Package) (was : IsCheckedPackage w before p) → AsksMove r p (now p was)
+    global_asks p was rank f ps _ t at form of =
+        ap₂ line.Method (type_moves p was r global_names (global_levels p was) f.definition t of)
+        (sym (asked_stays p was rank f at (λ in_set.
+        let k : Field (symbol_in p rank) ≡ Declared own.path n = own_only (Field (symbol_in p rank)) in_set in cc)))
 
     pub globals_replaced : ReplacesNames w before (edited s w) after r
-    globals_replaced = replaced_by r global_names global_levels global_methods
+    globals_replaced = replaced_by r global_names global_levels global_methods global_asks

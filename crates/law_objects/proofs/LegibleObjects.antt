@@ -1,11 +1,11 @@
 -- The objects of packages without faults have legible names: no other name gets into one.
-use Rattle.std.proofs.Common.{◌≡◌, ◌∙◌, ◌&&◌, inl, inr, ℕ, zero, suc, Bool, true, false, if◌then◌else◌}
-use Rattle.std.proofs.Common.{List, [], ◌∷◌, ◌++◌, map, Option, Some, None, option_map, refl, sym, ap, subst}
+use Rattle.std.proofs.Common.{◌≡◌, ◌∙◌, ◌&&◌, inl, inr, ℕ, zero, suc, Bool, if◌then◌else◌}
+use Rattle.std.proofs.Common.{List, [], ◌∷◌, map, Option, Some, None, option_map, refl, sym, ap, subst}
 use Rattle.std.specs.Prelude.{Contains, slice_get}
 use Rattle.std.specs.List.{AllByRecursion, list_all}
 use Rattle.std.proofs.Math.Path.{fun_ext}
 use Rattle.std.proofs.lemmas.Bool.{and_from, and_parts, cases_Bool}
-use Rattle.std.proofs.lemmas.Option.{none-some, same_Some, slice_get-map}
+use Rattle.std.proofs.lemmas.Option.{none-some, same_Some}
 use Rattle.base_lemmas.proofs.Elements.{first_in, first_or_later, later_in, nothing_in}
 use Rattle.base_edits.proofs.Held.{mapped_from}
 use Rattle.base_files.specs.Packages.{package_paths}
@@ -18,7 +18,7 @@ use Rattle.types_declared.specs.Files.{package_name}
 use Rattle.types_declared.specs.Package.{Package}
 use Rattle.types_expr.specs.declared.symbol.Symbol.{Symbol}
 use Rattle.workspace_graph.specs.Packages.{ImportsPath, IsParsed, PackageImports}
-use Rattle.workspace_graph.specs.Parsed.{AreParsed, fault, none, tree}
+use Rattle.workspace_graph.specs.Parsed.{AreParsed, none, tree}
 use Rattle.workspace_check.specs.FaultLists.{ListsFaults}
 use Rattle.workspace_check.specs.Verdicts.{Verdicts, AreVerdicts}
 use Rattle.workspace_check.proofs.Closed.{to_package}
@@ -27,22 +27,22 @@ use Rattle.refs_binding.specs.Uses.{IsCheckedPackage}
 use Rattle.refs_lookup.proofs.OnePlace.{same_files}
 use Rattle.build_object.specs.Lines.{CodeLine, FunctionName, GlobalName, Initializer, Method, Plain}
 use Rattle.build_object.specs.Lines as line
-use Rattle.build_object.specs.Names.{function_name, function_names, type_name, type_names}
+use Rattle.build_object.specs.Names.{function_names, type_name, type_names}
 use Rattle.build_object.specs.Objects.{FunctionOf, Object, ObjectAsked, ObjectDefinition, SameAs, Fields, Asks, ObjectDeclaration, TypeOf, Variable, object_of}
 use Rattle.build_object.specs.Source.{Source}
-use Rattle.build_object.specs.Sources.{AreImports, DenotesGlobal, IsSourceOf, asked_there}
+use Rattle.build_object.specs.Sources.{DenotesGlobal, IsSourceOf}
 use Rattle.law_tokens.proofs.Elements.{all_got}
 use Rattle.law_renamed_workspaces.proofs.GoodImports.{imports_are_good}
 use Rattle.law_objects.specs.Objects.{HasObject}
 use Rattle.law_objects.specs.Replaced.{Replaced, asked_renamed_by, definition_by, declaration_by, line_by, object_by}
-use Rattle.law_objects.proofs.NothingAsked.{AskNothing, asks_nothing}
+use Rattle.law_objects.proofs.AskedLegible.{AskLegible}
 use Rattle.law_objects.specs.SourcesBy.{AreSourcesBy, IsSourceBy, IsUniform, NumbersStay, a_source, no_source, no_tree}
 use Rattle.law_objects.proofs.DeclarationsBy.{object_with}
 use Rattle.law_objects.specs.CarriedUnits.{HasLegibleObjects}
 use Rattle.law_objects.specs.Legible.{AreLegibleNames, IsLegible, IsLegibleDeclaration, IsLegibleDefinition, IsLegibleFunction}
 use Rattle.law_objects.specs.Legible.{IsLegibleGlobal, IsLegibleLine, IsLegibleObject, is_name_byte}
 use Rattle.law_objects.proofs.LegibleNames.{good_legible}
-use Rattle.law_objects.proofs.PackageNames.{clause_good, functions_legible, global_legible, seen_legible}
+use Rattle.law_objects.proofs.PackageNames.{asks_legible, clause_good, functions_legible, global_legible, seen_legible}
 
 -- Names of which only the legible ones stay
 
@@ -160,21 +160,22 @@ numbers_stay s [] = tt
 numbers_stay s (t ∷ ts) = (λ e. refl, numbers_stay s ts)
 
 source_stays : (s : Source) (t : FileTree) → ((n : ℕ) (g : GlobalName) → s.global n ≡ Some g → IsLegibleGlobal g) →
-    ((f : Symbol) (name : FunctionName) → s.function f ≡ Some name → IsLegibleFunction name) → ((n : ℕ) → s.asks n ≡ None) →
-    ((f : Symbol) → s.asked f ≡ None) → IsSourceBy kept t s s
+    ((f : Symbol) (name : FunctionName) → s.function f ≡ Some name → IsLegibleFunction name) →
+    ((n : ℕ) (name : FunctionName) → s.asks n ≡ Some name → IsLegibleFunction name) →
+    ((f : Symbol) (name : FunctionName) → s.asked f ≡ Some name → IsLegibleFunction name) → IsSourceBy kept t s s
 source_stays s t globals functions asks asked = record {
   same = λ i. record {
     world = s.world;
     before = s.before;
     entered = s.entered;
     global = fun_ext (λ (n : ℕ). sym (maybe_global (s.global n) (globals n))) i;
-    asks = fun_ext (λ (n : ℕ). sym (maybe_function (s.asks n) (λ f e. absurd (none-some f (sym (asks n) ∙ e))))) i;
+    asks = fun_ext (λ (n : ℕ). sym (maybe_function (s.asks n) (asks n))) i;
     truth = s.truth;
     number = s.number;
     text = s.text;
     function = fun_ext (λ (f : Symbol). sym (maybe_function (s.function f) (functions f))) i;
     position = s.position;
-    asked = fun_ext (λ (f : Symbol). sym (maybe_function (s.asked f) (λ name e. absurd (none-some name (sym (asked f) ∙ e))))) i;
+    asked = fun_ext (λ (f : Symbol). sym (maybe_function (s.asked f) (asked f))) i;
   };
   agree = λ n type_of e. refl;
   numbers = numbers_stay s (all_tokens decl_tokens t.decls);
@@ -231,7 +232,7 @@ module _ (w : Workspace) (sound : ListsFaults w []) (known : Verdicts) (right : 
     is = has.is_package
 
     seen : (q : List ℕ) → AllByRecursion IsLegibleGlobal (type_names q (files_of q)) × (AllByRecursion IsLegibleFunction (function_names q (files_of q))
-        × AskNothing q (files_of q))
+        × AskLegible q (files_of q))
     seen q = seen_legible w sound known right paths path q (files_of q) (has.are_files q)
 
     names_are : AreLegibleNames (type_name files_of)
@@ -242,8 +243,8 @@ module _ (w : Workspace) (sound : ListsFaults w []) (known : Verdicts) (right : 
         source_stays s f.tree
         (λ n g e. global_legible w sound known right paths p is k n g (subst (DenotesGlobal p k n) e (of.global n)))
         (λ x name e. all_got IsLegibleFunction (function_names x.package (files_of x.package)) x.rank name (seen x.package).1.0 (sym (of.function x) ∙ e))
-        (λ n. of.asks n ∙ ap (λ ms. asked_there ms n) ((asks_nothing w sound known right p is).by_token k))
-        (λ x. of.asked x ∙ (seen x.package).1.1.by_rank x.rank)
+        (λ n name e. (asks_legible w sound known right paths p is).by_token k n name (sym (of.asks n) ∙ e))
+        (λ x name e. (seen x.package).1.1.by_rank x.rank name (sym (of.asked x) ∙ e))
 
     abbrev trees : List FileTree
     trees = map (λ (f : SourceFile). f.tree) p.files

@@ -14,7 +14,7 @@ pub mod MovesFrom
 mod QualifiedNames
 mod MethodNames
 mod GlobalLaws
-mod MethodLaws
+mod MemberLaws
 pub mod Laws
 pub mod UnitTexts
 pub mod UnitsStay
@@ -33,7 +33,7 @@ pub mod SourceAfter
 pub mod ImportsAfter
 pub mod ObjectsAfter
 pub mod GainedObjectsLaws
-pub mod NothingAsked
+pub mod AskedLegible
 pub mod Turns
 pub mod Symbols
 pub mod LegibleLines

@@ -8,7 +8,7 @@ use Rattle.base_edits.specs.EditSet.{FileChanges, edited}
 use Rattle.base_files.specs.Workspace.{Workspace}
 use Rattle.base_files.specs.declared.fault_kind.FaultKind.TheVariants as kind
 use Rattle.go_ast.specs.SourceFile.{spelling_of}
-use Rattle.go_ast.specs.Tree.{ReceiverTree, FuncDecl, Interface}
+use Rattle.go_ast.specs.Tree.{Item, ReceiverTree, ParamTree, ResultTree, FuncDecl}
 use Rattle.go_scope.specs.declared.model.Block.TheVariants.{Package as PackageBlock}
 use Rattle.go_scope.specs.declared.model.Role.TheVariants.{Declaring, NotLexical}
 use Rattle.go_scope.specs.declared.model.Purpose.TheVariants as purpose
@@ -17,11 +17,10 @@ use Rattle.go_scope.specs.FileSites.{func_role}
 use Rattle.go_scope.specs.Table.{LiesAt}
 use Rattle.types_declared.specs.Laid.{init_name}
 use Rattle.types_declared.specs.Package.{Package, PlacedType, PlacedFunction, package_types, package_functions, spelled, spelled_at}
+use Rattle.types_declared.specs.Definitions.{PlacedField, OfSignature, package_fields}
 use Rattle.types_declared.specs.Written.{BindsToken}
 use Rattle.types_info.proofs.DeclKinds.{Holds}
-use Rattle.types_stmt.specs.Declarations.{body_faults}
 use Rattle.types_resolve.specs.Scoping.{fault_at}
-use Rattle.law_faultless.proofs.FieldForms.{type_fine}
 use Rattle.workspace_check.specs.FaultLists.{ListsFaults}
 use Rattle.workspace_check.specs.Verdicts.{Verdicts, AreVerdicts}
 use Rattle.workspace_check.proofs.OnePackage.{layout_formed}
@@ -32,6 +31,7 @@ use Rattle.build_object.specs.Names.{is_named_init, is_initializer, function_nam
 use Rattle.build_object.specs.Sources.{HasQualifier}
 use Rattle.law_faultless.proofs.Declared.{may_within}
 use Rattle.law_faultless.proofs.FunctionsSettled.{IsInFile, in_file_of}
+use Rattle.law_faultless.proofs.MembersWritten.{member_asked, asked_held}
 use Rattle.law_changed_types.proofs.Alike.{Alike, of_bound, tokens}
 use Rattle.law_renamed_workspaces.proofs.OwnNames.{counted}
 use Rattle.law_renamed_workspaces.specs.VerdictsStay.{IsPackageAfter}
@@ -51,6 +51,13 @@ abbrev pub MethodsMove : Replaced → Package → Package → Type 0
 MethodsMove r p q = (rank : ℕ) (f : PlacedFunction) (t : ReceiverTree) → slice_get (package_functions p) rank ≡ Some f → f.function.receiver ≡ Some t →
     r.function (Method (named_at p.path p f.file t.type_name) (spelled p f.file f.function.name))
     ≡ Method (named_at p.path q f.file t.type_name) (spelled q f.file f.function.name)
+
+-- So does each method that an interface asks for, with the name of the interface's type.
+abbrev pub AsksMove : Replaced → Package → Package → Type 0
+AsksMove r p q = (rank : ℕ) (f : PlacedField) (ps : List (Item ParamTree)) (result : ResultTree) (t : PlacedType) →
+    slice_get (package_fields p) rank ≡ Some f → f.form ≡ OfSignature ps result → slice_get (package_types p) f.definition ≡ Some t →
+    r.function (Method (named_at p.path p t.file t.spec.name) (spelled p f.file f.name))
+    ≡ Method (named_at p.path q t.file t.spec.name) (spelled q f.file f.name)
 
 -- So does each selector of a qualified identifier.
 abbrev pub QualifiedMove : Replaced → Package → Package → Type 0
@@ -116,16 +123,8 @@ module _ (w : Workspace) (before after : Verdicts) (sound : ListsFaults w []) (r
       (subst (λ l. LiesAt l (record { file = file; index = token }) u) (sym here.relaid.layout) lies) (level_now u level)) level
       (level_counts w sound before right p was u level)
 
-  types : (t : PlacedType) → Holds (package_types p) t → r.global (named_at p.path p t.file t.spec.name) ≡ named_at p.path q t.file t.spec.name
+  pub types : (t : PlacedType) → Holds (package_types p) t → r.global (named_at p.path p t.file t.spec.name) ≡ named_at p.path q t.file t.spec.name
   types t held = let v = type_stands w before p was t held in stood t.file t.spec.name v.0 v.1.0 v.1.1.0 v.1.1.1
-
-  -- an interface is at fault
-  asked : (t : PlacedType) → Holds (package_types p) t → AskedMoves r p.path p.files q.files t
-  unfolding body_faults
-  asked t held k o c ms body i among =
-      let fine = type_fine w sound before right p was t held in
-      let e : body_faults fine.0 (Interface k o ms c) ≡ [] = ap (body_faults fine.0) (sym body) ∙ fine.1 in
-      let never : ⊥ = cc in absurd never
 
   in_file : (f : PlacedFunction) → Holds (package_functions p) f → IsInFile p f
   in_file f held = let k = rank_of (package_functions p) f held in in_file_of p k.0 f k.1
@@ -181,5 +180,13 @@ module _ (w : Workspace) (before after : Verdicts) (sound : ListsFaults w []) (r
             ∙ methods k.0 f t k.1 e
             ∙ ap (λ z. function_named p.path q.files f.file z (spelled q f.file f.function.name)) (sym e)
 
-    pub moves : QualifiedMove r p q → MovesNames r p q
-    moves qualified = record { bound = bound; qualified = qualified; types = types; initial = initial; functions = functions; asked = asked }
+    -- by the types that ask
+    asked : AsksMove r p q → (t : PlacedType) → Holds (package_types p) t → AskedMoves r p.path p.files q.files t
+    asked asks t held k o c ms body i among =
+        let n = rank_of (package_types p) t held in
+        let f = member_asked n.0 t.file i in
+        let at = rank_of (package_fields p) f (asked_held p n.0 t n.1 k o c ms body i among) in
+        asks at.0 f i.value.params i.value.result t at.1 refl n.1
+
+    pub moves : AsksMove r p q → QualifiedMove r p q → MovesNames r p q
+    moves asks qualified = record { bound = bound; qualified = qualified; types = types; initial = initial; functions = functions; asked = asked asks }

@@ -33,7 +33,6 @@ use Rattle.workspace_check.proofs.SameImports.{imports_back, closed_by}
 use Rattle.refs_binding.specs.declared.declaration.Declaration.{Declaration}
 use Rattle.refs_binding.specs.Uses.{IsCheckedPackage}
 use Rattle.refs_lookup.proofs.OnePlace.{same_files}
-use Rattle.refactor_conflict.specs.Staying.{NoneIsLost}
 use Rattle.build_object.specs.Lines.{FunctionName, GlobalName, Initializer, Method}
 use Rattle.build_object.specs.Names.{name_of_type, type_names, is_initializer, function_called, initializers_with, functions_behind, function_names}
 use Rattle.build_object.specs.Names.{type_positions, field_positions, type_name, function_name, position_of_field, asked_names_of, asked_by_body, asked_if}
@@ -47,6 +46,7 @@ use Rattle.law_faultless.specs.Worlds.{HaveWorlds}
 use Rattle.law_faultless.proofs.PackageWorlds.{have_all_worlds}
 use Rattle.law_changed_types.specs.SameBindings.{trees_of}
 use Rattle.law_changed_types.proofs.Listed.{same_types, same_functions}
+use Rattle.law_renamed_workspaces.specs.Harmless.{IsHarmless}
 use Rattle.law_renamed_workspaces.specs.Renames.{IsPlainRename}
 use Rattle.law_renamed_workspaces.proofs.Literals.{imports_stay, imports_were}
 use Rattle.law_renamed_workspaces.proofs.NameEdits.{ranked}
@@ -207,7 +207,7 @@ sized (f ∷ fs) (g ∷ gs) e = ap suc (sized fs gs (tails e))
     tails same = cc
 
 module _ (w : Workspace) (before after : Verdicts) (d : Declaration) (name : List ℕ) (s : FileChanges) (plain : IsPlainRename w before d name s)
-    (right : AreVerdicts (edited s w) after) (none : NoneIsLost w before (revision_of w s)) where
+    (right : AreVerdicts (edited s w) after) (none : IsHarmless w before (revision_of w s)) where
   abbrev x : Workspace
   x = edited s w
 
@@ -412,10 +412,13 @@ module _ (w : Workspace) (before after : Verdicts) (d : Declaration) (name : Lis
       one_source k f g t at there got =
           let v = worlds k g there in
           let is = has.is_object.made_of k f t at got in (
-            new w before after d name s plain none p q here k f g at there r (moves p was) files_of new_of functions_are positions_are asked_are (asks_move p was k) t is v.0 v.1,
+            new w before after d name s plain none p q here k f g at there r (moves p was) files_of new_of
+                functions_are positions_are asked_are (asks_move p was k) t is v.0 v.1,
             (
-              is_new w before after d name s plain none p q here k f g at there r (moves p was) files_of new_of functions_are positions_are asked_are (asks_move p was k) t is v.0 v.1,
-              is_by w before after d name s plain none p q here k f g at there r (moves p was) files_of new_of functions_are positions_are asked_are (asks_move p was k) t is v.0 v.1,
+              is_new w before after d name s plain none p q here k f g at there r (moves p was) files_of new_of
+                  functions_are positions_are asked_are (asks_move p was k) t is v.0 v.1,
+              is_by w before after d name s plain none p q here k f g at there r (moves p was) files_of new_of
+                  functions_are positions_are asked_are (asks_move p was k) t is v.0 v.1,
             ),
           )
 

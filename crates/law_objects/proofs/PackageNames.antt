@@ -1,9 +1,8 @@
 -- The names of declarations of packages without faults are legible, wherever objects print them.
-use Rattle.std.proofs.Common.{◌≡◌, ◌∙◌, ◌<◌, ◌+◌, inl, inr, ℕ, zero, suc, Bool, true, false}
-use Rattle.std.proofs.Common.{if◌then◌else◌, List, [], ◌∷◌, ◌++◌, map, Option, Some, None, refl, sym, ap, subst}
+use Rattle.std.proofs.Common.{◌≡◌, ◌∙◌, ◌<◌, inl, inr, ℕ, Bool, true, false}
+use Rattle.std.proofs.Common.{if◌then◌else◌, List, [], ◌∷◌, map, Option, Some, None, refl, sym, ap, subst}
 use Rattle.std.specs.Prelude.{Contains, slice_get}
 use Rattle.std.specs.List.{AllByRecursion}
-use Rattle.std.proofs.lemmas.Option.{none-some, same_Some}
 use Rattle.base_files.specs.Packages.{package_files, package_paths}
 use Rattle.base_files.specs.Workspace.{Workspace}
 use Rattle.go_ast.specs.declared.syntax.Kind.{Kind}
@@ -15,10 +14,10 @@ use Rattle.go_scope.specs.declared.model.Purpose.TheVariants as purpose
 use Rattle.go_scope.specs.Bindings.{IsPackageLevel, block_of}
 use Rattle.types_declared.specs.Package.{Package, PlacedFunction, PlacedType, declared_functions}
 use Rattle.types_declared.specs.Package.{declared_types, package_functions, package_types, spelled, spelled_at}
+use Rattle.types_declared.specs.Definitions.{PlacedField, package_fields}
 use Rattle.types_declared.specs.Written.{BindsToken}
 use Rattle.types_info.proofs.DeclKinds.{Holds}
 use Rattle.types_info.specs.QualifiedIdentifiers.{IsQualifiedByPath}
-use Rattle.workspace_graph.specs.Packages.{IsInClosure}
 use Rattle.workspace_graph.specs.Parsed.{AreParsed}
 use Rattle.workspace_check.specs.FaultLists.{ListsFaults}
 use Rattle.workspace_check.specs.Verdicts.{Verdicts, AreVerdicts}
@@ -31,8 +30,8 @@ use Rattle.refs_binding.specs.Uses.{IsBoundToDeclaration, IsCheckedPackage}
 use Rattle.refs_binding.proofs.Spelled.{selected_spelled}
 use Rattle.refs_lookup.proofs.ExportedNames.{bound_behind}
 use Rattle.refs_lookup.proofs.OnePlace.{same_files}
-use Rattle.build_object.specs.Lines.{FunctionName, GlobalName, Initializer, Method, Plain}
-use Rattle.build_object.specs.Names.{function_behind, function_called, function_named, function_names}
+use Rattle.build_object.specs.Lines.{GlobalName, Initializer}
+use Rattle.build_object.specs.Names.{function_called, function_named, function_names}
 use Rattle.build_object.specs.Names.{functions_behind, initializers_with, is_initializer, name_of_type, type_names}
 use Rattle.build_object.specs.Sources.{HasQualifier, IsGlobalAt}
 use Rattle.build_object.specs.Sources as source
@@ -41,15 +40,17 @@ use Rattle.law_faultless.proofs.Declared.{may_within}
 use Rattle.law_faultless.proofs.DeclaringNames.{AllOf, back, front}
 use Rattle.law_faultless.proofs.FunctionsSettled.{IsInFile, in_file_of}
 use Rattle.law_faultless.proofs.LinksBound.{source_is}
+use Rattle.law_faultless.proofs.MembersWritten.{member_asked, asked_held}
 use Rattle.law_faultless.proofs.Numbers.{OfKind, clause_named, file_kinds}
 use Rattle.law_tokens.proofs.Lexical.{never_bound}
 use Rattle.law_renamed_workspaces.proofs.NameTokens.{named_as_spelled}
 use Rattle.law_renamed_workspaces.proofs.Packages.{package_there}
+use Rattle.law_renamed_workspaces.proofs.RenamedMembersNameTokens.{field_name, named_token}
 use Rattle.law_renamed_workspaces.proofs.OwnNames.{counted, member_is_none}
 use Rattle.law_objects.proofs.LevelNames.{level_identifies, level_spelled, level_stands, own_spelled, type_stands}
 use Rattle.law_objects.proofs.MovesFrom.{rank_of}
 use Rattle.law_objects.proofs.Sourced.{of_decls}
-use Rattle.law_objects.proofs.NothingAsked.{AskNothing, asks_nothing, nothing_asked}
+use Rattle.law_objects.proofs.AskedLegible.{AskLegible, AsksLegibly, ask_legibly}
 use Rattle.law_objects.specs.Legible.{IsLegible, IsLegibleFunction, IsLegibleGlobal}
 use Rattle.law_objects.proofs.LegibleNames.{IsGood, good_legible, kind_good, token_good}
 
@@ -164,6 +165,25 @@ module _ (w : Workspace) (sound : ListsFaults w []) (known : Verdicts) (right : 
     pub types_legible : AllByRecursion IsLegibleGlobal (type_names p.path p.files)
     types_legible = each_type (declared_types p.files) types_good
 
+    -- methods that interfaces ask for
+    member_good : (rank : ℕ) (f : PlacedField) → slice_get (package_fields p) rank ≡ Some f → IsGood (spelled p f.file f.name)
+    member_good rank f at =
+        let h = field_name p rank f at in
+        let source = file_is f.file h.source h.in_file in
+        subst (λ o. IsGood (spelled_at o f.name)) (sym h.in_file) (token_good h.source source f.name (named_token h.source source f.name h.named))
+
+    asked_legible : (t : PlacedType) → Holds (package_types p) t → AsksLegibly p.path p.files t
+    asked_legible t held k o c ms body i among =
+        let n = rank_of (package_types p) t held in
+        let f = member_asked n.0 t.file i in
+        let at = rank_of (package_fields p) f (asked_held p n.0 t n.1 k o c ms body i among) in (
+          (own_path, good_legible (spelled p t.file t.spec.name) (types_good t held)),
+          good_legible (spelled p t.file i.value.name) (member_good at.0 f at.1),
+        )
+
+    pub asks_legible : AskLegible p.path p.files
+    asks_legible = ask_legibly p.path p.files asked_legible
+
   -- selectors of qualified identifiers
 
   module _ (p : Package) (was : IsCheckedPackage w known p) (file token : ℕ) (path : List ℕ) (h : HasQualifier p file token path) where
@@ -218,8 +238,8 @@ module _ (w : Workspace) (sound : ListsFaults w []) (known : Verdicts) (right : 
 
   -- the files in which the code of a package looks up names
   pub seen_legible : (path q : List ℕ) (files : List SourceFile) → AreFilesSeen w path q files →
-      AllByRecursion IsLegibleGlobal (type_names q files) × (AllByRecursion IsLegibleFunction (function_names q files) × AskNothing q files)
-  seen_legible path q _ (beyond out) = (tt, (tt, nothing_asked q [] (λ t (held : ⊥). absurd held)))
+      AllByRecursion IsLegibleGlobal (type_names q files) × (AllByRecursion IsLegibleFunction (function_names q files) × AskLegible q files)
+  seen_legible path q _ (beyond out) = (tt, (tt, ask_legibly q [] (λ t (held : ⊥). absurd held)))
   seen_legible path q files (within c of) =
       let has = to_package w path q c in
       let o = package_there w sound known right q has in
@@ -233,8 +253,8 @@ module _ (w : Workspace) (sound : ListsFaults w []) (known : Verdicts) (right : 
         (
           subst (λ k. AllByRecursion IsLegibleFunction (function_names k files)) o.1.1
               (subst (λ fs. AllByRecursion IsLegibleFunction (function_names o.0.path fs)) same (functions_legible o.0 is)),
-          subst (λ k. AskNothing k files) o.1.1
-              (subst (λ fs. AskNothing o.0.path fs) same (asks_nothing w sound known right o.0 is)),
+          subst (λ k. AskLegible k files) o.1.1
+              (subst (λ fs. AskLegible o.0.path fs) same (asks_legible o.0 is)),
         ),
       )
 

@@ -18,9 +18,9 @@ use Rattle.refs_binding.specs.Uses.{IsCheckedPackage, IsBoundToDeclaration}
 use Rattle.refs_binding.proofs.Spelled.{selected_spelled}
 use Rattle.refs_lookup.proofs.ExportedNames.{bound_behind}
 use Rattle.refs_lookup.proofs.OneDeclaration.{one_declaration}
-use Rattle.refactor_conflict.specs.Staying.{NoneIsLost}
 use Rattle.build_object.specs.Sources.{HasQualifier}
 use Rattle.law_tokens.proofs.Lexical.{never_bound}
+use Rattle.law_renamed_workspaces.specs.Harmless.{IsHarmless}
 use Rattle.law_renamed_workspaces.specs.Renames.{IsPlainRename}
 use Rattle.law_renamed_workspaces.proofs.RenamedScopesNameTokens.{is_named}
 use Rattle.law_renamed_workspaces.proofs.OwnNames.{own_renames, member_is_none}
@@ -31,12 +31,13 @@ use Rattle.law_renamed_workspaces.proofs.DeclaredNames.{moves_level, keeps_level
 use Rattle.law_objects.specs.Replaced.{Replaced}
 use Rattle.law_objects.proofs.MovesFrom.{LevelsMove, QualifiedMove}
 use Rattle.law_objects.proofs.ObjectsMove.{next, is_after}
+use Rattle.law_renamed_workspaces.proofs.RenamedSets.{is_own}
 
 same_declared : (path : List ℕ) (m n : ℕ) → Declared path m ≡ Declared path n → m ≡ n
 same_declared path m n e = cc
 
 module _ (w : Workspace) (before after : Verdicts) (d : Declaration) (name : List ℕ) (s : FileChanges) (plain : IsPlainRename w before d name s)
-    (right : AreVerdicts (edited s w) after) (none : NoneIsLost w before (revision_of w s)) where
+    (right : AreVerdicts (edited s w) after) (none : IsHarmless w before (revision_of w s)) where
   abbrev now : (p : Package) → IsCheckedPackage w before p → Package
   now p was = next w before after d name s plain right none p was
 
@@ -60,7 +61,8 @@ module _ (w : Workspace) (before after : Verdicts) (d : Declaration) (name : Lis
         kept : (d ≡ Declared path e → ⊥) → q.names u ≡ p.names u
         kept other =
             others_are_kept w before d name s plain p q was (here p was).relaid u
-            (λ inside b. other (one_declaration w before p was u inside d (Declared path e) b bound))
+            (λ inside some. other (is_own w before d name s plain (Declared path e) some.declaration some.among (λ m. m)
+            (one_declaration w before p was u inside some.declaration (Declared path e) some.bound bound)))
 
         called_now : q.names u ≡ (now o is).names e
         called_now = elim (is_level_of d o) [
@@ -76,7 +78,11 @@ module _ (w : Workspace) (before after : Verdicts) (d : Declaration) (name : Lis
                     let place = begins_there p u inside.0 inside.1
                     (named_stands w before p.path p was.is_checked u inside.0 (ap is_named b.selected)) in
                     bound_is_called w before d name s plain p q was (here p was).relaid u place.0 place.1
-                    (subst (λ z. IsBoundToDeclaration w before p u z) (sym it) bound)
+                    (record {
+                      declaration = d;
+                      among = plain.rename.is_set.has_it;
+                      bound = subst (λ z. IsBoundToDeclaration w before p u z) (sym it) bound;
+                    })
                     ∙ sym m.now
                     ∙ ap (now o is).names (sym here_too)
                 | inr apart ↦

@@ -35,7 +35,6 @@ use Rattle.workspace_check.specs.Verdicts.{Verdicts}
 use Rattle.workspace_check.proofs.OnePackage.{one_sources}
 use Rattle.refs_binding.specs.declared.declaration.Declaration.{Declaration}
 use Rattle.refs_lookup.proofs.OnePlace.{same_files}
-use Rattle.refactor_conflict.specs.Staying.{NoneIsLost}
 use Rattle.build_object.specs.Lines.{GlobalName, FunctionName}
 use Rattle.build_object.specs.Literals.{literal_number}
 use Rattle.build_object.specs.Names.{function_name, position_of_field, name_of_asked, asked_in_file, MethodAsked}
@@ -51,6 +50,7 @@ use Rattle.go_respelled.specs.Renamings.{replaced_piece}
 use Rattle.law_changed_types.proofs.Alike.{Alike, of_bound, tokens, turned, selected, is_predeclared}
 use Rattle.law_changed_types.specs.MemberUses.{IsAlike}
 use Rattle.law_changed_types.proofs.Agreement.{only_members_differ}
+use Rattle.law_renamed_workspaces.specs.Harmless.{IsHarmless}
 use Rattle.law_renamed_workspaces.specs.Renames.{IsPlainRename}
 use Rattle.law_renamed_workspaces.proofs.Literals.{string_stays, string_was, to_string, from_string}
 use Rattle.law_renamed_workspaces.proofs.Packages.{new_parts, new_trees}
@@ -175,7 +175,7 @@ true_stays p q a file token h = record {
 }
 
 module _ (w : Workspace) (before after : Verdicts) (d : Declaration) (name : List ℕ) (s : FileChanges) (plain : IsPlainRename w before d name s)
-    (none : NoneIsLost w before (revision_of w s)) (p q : Package) (here : IsPackageAfter w before after s p q) where
+    (none : IsHarmless w before (revision_of w s)) (p q : Package) (here : IsPackageAfter w before after s p q) where
   abbrev x : Workspace
   x = edited s w
 
@@ -269,7 +269,7 @@ module _ (w : Workspace) (before after : Verdicts) (d : Declaration) (name : Lis
 
       alike : IsAlike (check_file old.world (is_init f) f.tree).uses old.world v
       alike =
-          worlds_stay w before d name s plain none p q here.was here.relaid here.bound here.seen file f g old.world v at there is.world judged
+          worlds_stay w before after d name s plain none p q here file f g old.world v at there is.world judged
 
       global_now : (token : ℕ) (o : Option GlobalName) → DenotesGlobal p file token o → DenotesGlobal q file token (option_map r.global o)
       global_now token None h = λ g k. (let was = global_was p q a file token g k in h was.0 was.1)
@@ -281,10 +281,12 @@ module _ (w : Workspace) (before after : Verdicts) (d : Declaration) (name : Lis
         world = judged;
         before = λ token. is.before token ∙
             ap (λ c. type_before c token)
-            (sym (ap (λ (c : FoundSoFar). members_of c.uses) (found w before after d name s plain none p q here file f g old.world v at there is.world judged)));
+            (sym (ap (λ (c : FoundSoFar). members_of c.uses)
+            (found w before after d name s plain none p q here file f g old.world v at there is.world judged)));
         entered = λ token. is.entered token ∙
             ap (λ c. type_entered c token)
-            (sym (ap (λ (c : FoundSoFar). enterings_of c.uses) (found w before after d name s plain none p q here file f g old.world v at there is.world judged)));
+            (sym (ap (λ (c : FoundSoFar). enterings_of c.uses)
+            (found w before after d name s plain none p q here file f g old.world v at there is.world judged)));
         global = λ token. global_now token (old.global token) (is.global token);
         asks = λ token. ap (option_map r.function) (is.asks token) ∙ asked_later r (asked_in_file p.path p.files file) token
             ∙ ap (λ ms. asked_there ms token) (sym asks);
@@ -303,7 +305,8 @@ module _ (w : Workspace) (before after : Verdicts) (d : Declaration) (name : Lis
       agree n t e =
           let u = used_before (members_of (check_file old.world (is_init f) f.tree).uses) n t (sym (is.before n) ∙ e) in
           subst (λ k. v.member k t ≡ old.world.member k t) u.1.1.0
-          (subst (λ k. v.member u.0.place k ≡ old.world.member u.0.place k) u.1.1.1 (alike.members u.0 (noted_member (check_file old.world (is_init f) f.tree).uses u.0 u.1.0)))
+          (subst (λ k. v.member u.0.place k ≡ old.world.member u.0.place k) u.1.1.1
+          (alike.members u.0 (noted_member (check_file old.world (is_init f) f.tree).uses u.0 u.1.0)))
 
       all_numbers : AllOf (NumbersStay old numbers) (all_tokens decl_tokens f.tree.decls)
       all_numbers =

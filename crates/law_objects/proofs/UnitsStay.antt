@@ -17,7 +17,8 @@ use Rattle.build_unit.specs.declared.unit.Compiled.TheVariants as compiled
 use Rattle.build_unit.specs.Units.{IsCompiled, IsUnitOf}
 use Rattle.law_renamed_workspaces.specs.KnownVerdicts.{IsKeptRename, IsUnseen}
 use Rattle.law_renamed_workspaces.proofs.KnownVerdictsLaws.{unseen_data}
-use Rattle.law_agreement.proofs.Laws.{preserved_loses_none}
+use Rattle.law_renamed_workspaces.specs.Harmless.{IsHarmless}
+use Rattle.law_renamed_workspaces.specs.RenamedData.{IsAlone}
 use Rattle.law_renamed_workspaces.specs.Renames.{IsPlainRename}
 use Rattle.law_renamed_workspaces.proofs.Packages.{same_imports}
 use Rattle.law_objects.specs.KeptUnits.{UnprintedRenamesKeepUnits}
@@ -26,24 +27,26 @@ use Rattle.law_objects.proofs.Laws.{unprinted}
 use Rattle.law_objects.proofs.UnitTexts.{data_of_unit, none_listed, text_of_unit, unit_of_text}
 
 module _ (w : Workspace) (before : Verdicts) (d : Declaration) (name : List ℕ) (s : FileChanges) (plain : IsPlainRename w before d name s)
-    (keeps : Preserves w (revision_of w s)) (none : IsUnprinted (IsCheckedPackage w before) d) where
+    (keeps : Preserves w (revision_of w s)) (harmless : IsHarmless w before (revision_of w s)) (alone : IsAlone d plain.rename.set)
+    (none : IsUnprinted (IsCheckedPackage w before) d) where
   abbrev x : Workspace
   x = edited s w
 
   kept : IsKeptRename w before d name s
-  kept = record { plain = plain; kept = preserved_loses_none w before d name s plain keeps }
+  kept = record { plain = plain; kept = harmless }
 
-  module _ (q : List ℕ) (unseen : IsUnseen w before d name q) (has : Contains (package_paths w) q) where
+  module _ (q : List ℕ) (unseen : IsUnseen w before d plain.rename.set name q) (has : Contains (package_paths w) q) where
     has_now : Contains (package_paths x) q
     has_now = subst (λ ps. Contains ps q) (same_imports w before d name s plain).paths has
 
     data_stay : (keeps.after q).export_data ≡ (before q).export_data
+    unfolding kept
     data_stay = unseen_data w before keeps.after d name s kept keeps.right_after q has unseen
 
     compiled_now : (i : ExportData) (text : List ℕ) → IsCompiled w q i text → IsCompiled x q i text
     compiled_now i text c =
         let old = text_of_unit w before plain.rename.right q has i text c in
-        let new = unprinted w before keeps.after d name s plain keeps.right_after keeps none q text old in
+        let new = unprinted w before keeps.after d name s plain keeps.right_after harmless alone none q text old in
         let same : (keeps.after q).export_data ≡ i = data_stay ∙ data_of_unit w before plain.rename.right q has plain.rename.sound i text c in
         subst (λ e. IsCompiled x q e text) same (unit_of_text x keeps.after keeps.right_after q has_now keeps.sound text new)
 
@@ -56,4 +59,5 @@ module _ (w : Workspace) (before : Verdicts) (d : Declaration) (name : List ℕ)
     }
 
 pub units_stay : UnprintedRenamesKeepUnits
-units_stay w before d name s plain keeps none q unseen has unit is = unit_stays w before d name s plain keeps none q unseen has unit is
+units_stay w before d name s plain keeps harmless alone none q unseen has unit is =
+    unit_stays w before d name s plain keeps harmless alone none q unseen has unit is

@@ -17,14 +17,17 @@ use Rattle.build_kept.specs.KnownUnits.{CarriesUnits}
 use Rattle.build_object.specs.Names.{type_name}
 use Rattle.build_object.specs.Objects.{Object}
 use Rattle.law_renamed_workspaces.specs.KnownVerdicts.{IsUnseen}
+use Rattle.law_renamed_workspaces.specs.Harmless.{IsHarmless}
 use Rattle.law_renamed_workspaces.specs.Renames.{IsPlainRename}
 use Rattle.law_objects.specs.Objects.{HasObject, IsUnprinted}
 use Rattle.law_objects.specs.Legible.{AreLegibleNames, IsLegible, IsLegibleChange, IsLegibleObject}
+use Rattle.law_renamed_workspaces.specs.RenamedData.{IsAlone}
 
 -- Where no object prints the name of what is renamed, and other packages see nothing of it, each package keeps its unit.
 abbrev pub LocalRenamesCarryUnits : Type 0
-LocalRenamesCarryUnits = (w : Workspace) (before : Verdicts) (d : Declaration) (name : List ℕ) (s : FileChanges) → IsPlainRename w before d name s →
-    Preserves w (revision_of w s) → IsUnprinted (IsCheckedPackage w before) d → ((q : List ℕ) → IsUnseen w before d name q) →
+LocalRenamesCarryUnits = (w : Workspace) (before : Verdicts) (d : Declaration) (name : List ℕ) (s : FileChanges) (plain : IsPlainRename w before d name s) →
+    Preserves w (revision_of w s) → IsHarmless w before (revision_of w s) → IsAlone d plain.rename.set → IsUnprinted (IsCheckedPackage w before) d →
+    ((q : List ℕ) → IsUnseen w before d plain.rename.set name q) →
     CarriesUnits w (edited s w) []
 
 -- The names in the objects of packages are legible, and so are those that types have there.

@@ -11,8 +11,10 @@ use Rattle.refactor_preserve.specs.Preserved.{Preserves}
 use Rattle.build_unit.specs.Units.{IsUnitOf}
 use Rattle.build_unit.specs.declared.unit.Unit.{Unit as PackageUnit}
 use Rattle.law_renamed_workspaces.specs.KnownVerdicts.{IsUnseen}
+use Rattle.law_renamed_workspaces.specs.Harmless.{IsHarmless}
 use Rattle.law_renamed_workspaces.specs.Renames.{IsPlainRename}
 use Rattle.law_objects.specs.Objects.{IsUnprinted}
+use Rattle.law_renamed_workspaces.specs.RenamedData.{IsAlone}
 
 -- The unit of the package p of w is its unit in x too.
 abbrev pub KeepsUnitOf : (w x : Workspace) → (p : List ℕ) → Type 0
@@ -20,5 +22,6 @@ KeepsUnitOf w x p = Contains (package_paths w) p → (unit : PackageUnit) → Is
 
 -- A package keeps its unit if the rename changes nothing that others see of it, and what is renamed prints no name.
 abbrev pub UnprintedRenamesKeepUnits : Type 0
-UnprintedRenamesKeepUnits = (w : Workspace) (before : Verdicts) (d : Declaration) (name : List ℕ) (s : FileChanges) → IsPlainRename w before d name s →
-    Preserves w (revision_of w s) → IsUnprinted (IsCheckedPackage w before) d → (q : List ℕ) → IsUnseen w before d name q → KeepsUnitOf w (edited s w) q
+UnprintedRenamesKeepUnits = (w : Workspace) (before : Verdicts) (d : Declaration) (name : List ℕ) (s : FileChanges) (plain : IsPlainRename w before d name s) →
+    Preserves w (revision_of w s) → IsHarmless w before (revision_of w s) → IsAlone d plain.rename.set →
+    IsUnprinted (IsCheckedPackage w before) d → (q : List ℕ) → IsUnseen w before d plain.rename.set name q → KeepsUnitOf w (edited s w) q

@@ -1,5 +1,5 @@
 -- Objects in which the names of declarations are replaced.
-use Rattle.std.specs.Prelude.{ℕ, ◌==◌, ◌&&◌, Bool, if◌then◌else◌, List, Option, map, option_map}
+use Rattle.std.specs.Prelude.{ℕ, ◌==◌, ◌&&◌, ◌||◌, Bool, false, if◌then◌else◌, List, [], ◌∷◌, Option, map, option_map}
 use Rattle.std.specs.Cmp.Lexicographic.{pointwise}
 use Rattle.types_expr.specs.declared.symbol.Symbol.{Symbol}
 use Rattle.build_object.specs.Lines.{GlobalName, FunctionName, Plain, Method, Initializer, CodeLine}
@@ -77,6 +77,21 @@ renamed_method path type_name old new (Initializer other k) = Initializer other 
 -- The method `old` of the type of this name is called `new`, in the package at the path.
 abbrev pub of_method : (path type_name old new : List ℕ) → Replaced
 of_method path type_name old new = record { global = λ g. g; function = renamed_method path type_name old new }
+
+-- Whether the list has the name.
+abbrev pub has_global : List GlobalName → GlobalName → Bool
+has_global [] g = false
+has_global (t ∷ ts) g = (same_bytes t.path g.path && same_bytes t.name g.name) || has_global ts g
+
+-- The methods `old` of the types of these names are called `new`. All others keep their names. What an interface asks for is a method of its
+-- type.
+abbrev pub renamed_methods : (types : List GlobalName) → (old new : List ℕ) → FunctionName → FunctionName
+renamed_methods types old new (Plain g) = Plain g
+renamed_methods types old new (Method g name) = if has_global types g && same_bytes name old then Method g new else Method g name
+renamed_methods types old new (Initializer path k) = Initializer path k
+
+abbrev pub of_methods : (types : List GlobalName) → (old new : List ℕ) → Replaced
+of_methods types old new = record { global = λ g. g; function = renamed_methods types old new }
 
 -- Nothing is replaced.
 abbrev pub of_none : Replaced

@@ -69,7 +69,7 @@ module _ (snapshot : Snapshot) (path : List ℕ) (offset : ℕ) (name : List ℕ
       subst (λ (x : Change). CarriesUnits w x.files (c ∷ [])) (sym renamed.is_change)
       (subst (λ z. CarriesUnits w (edited change.edits w) (z ∷ [])) (sym h.is_change)
       (globals_carried w known h.declared_in h.number name change.edits (subst (λ e. IsPlainRename w known e name change.edits) same plain)
-      renamed.preserves is_package h.is_level.level h.paths))
+      renamed.preserves.bindings is_package h.is_level.level h.paths))
 
 pub level_carries : (snapshot : Snapshot) (path : List ℕ) (offset : ℕ) (name : List ℕ) (c : NameChange) → ListsFaults snapshot.files [] →
     IsLevelAt snapshot.files path offset name c → CarriesPlanned snapshot path offset name (c ∷ [])

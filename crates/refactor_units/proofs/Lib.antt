@@ -1,5 +1,6 @@
 -- The lemmas of this crate.
 pub mod PlainRenames
+pub mod AloneRenames
 pub mod UnnamedRenames
 pub mod LocalRenames
 pub mod Missed

@@ -22,10 +22,11 @@ use Rattle.law_renamed_workspaces.specs.KnownVerdicts.{IsHiddenIn, IsUnseen}
 use Rattle.build_kept.specs.KnownUnits.{CarriesUnits}
 use Rattle.law_objects.proofs.Carried.{local_carried}
 use Rattle.law_objects.specs.Objects.{IsUnprinted}
-use Rattle.law_renamed_workspaces.specs.Renames.{IsPlainRename}
+use Rattle.law_renamed_workspaces.specs.Renames.{IsMember, IsPlainRename}
+use Rattle.law_renamed_workspaces.proofs.RenamedSets.{own_alone}
 use Rattle.refactor_units.specs.CarriedNames.{CarriesPlanned, CarriesRename}
 use Rattle.refactor_units.specs.LocalNames.{IsLocalAt, IsLocalNumber}
-use Rattle.refactor_units.proofs.PlainRenames.{HasOwnName, planned_plain, same_closure, used_there}
+use Rattle.refactor_units.proofs.PlainRenames.{HasOwnName, kept_harmless, planned_plain, same_closure, used_there}
 
 module _ (w : Workspace) (sound : ListsFaults w []) (known : Verdicts) (right : AreVerdicts w known) (p : Package) (is : IsCheckedPackage w known p) (n : ℕ)
     (local : IsLocalNumber p n) where
@@ -39,8 +40,8 @@ module _ (w : Workspace) (sound : ListsFaults w []) (known : Verdicts) (right : 
   unprinted : IsUnprinted (IsCheckedPackage w known) (Declared p.path n)
   unprinted = record { inside = p; is_package = is; of_path = refl; holds = local.inner }
 
-  unseen : (name q : List ℕ) → IsUnseen w known (Declared p.path n) name q
-  unseen name q = inr (λ x also e. subst (λ (y : Package). IsHiddenIn y n name) (one_package w known p x is also (sym e)) (inl local.inner))
+  unseen : (set : List Declaration) (name q : List ℕ) → IsUnseen w known (Declared p.path n) set name q
+  unseen set name q = inr (λ x also e. subst (λ (y : Package). IsHiddenIn y n name) (one_package w known p x is also (sym e)) (inl local.inner))
 
 -- the rename that is planned is one of this declaration
 module _ (snapshot : Snapshot) (path : List ℕ) (offset : ℕ) (h : IsLocalAt snapshot.files path offset) (name : List ℕ) (change : Change)
@@ -75,9 +76,12 @@ module _ (snapshot : Snapshot) (path : List ℕ) (offset : ℕ) (h : IsLocalAt s
   carried : CarriesUnits w change.files []
   carried =
       subst (λ (x : Change). CarriesUnits w x.files []) (sym renamed.is_change)
-      (local_carried w known d name change.edits plain renamed.preserves
+      (local_carried w known d name change.edits plain renamed.preserves.bindings (kept_harmless w known d name change.edits plain renamed.preserves)
+      (own_alone (IsCheckedPackage w known) d plain.rename.set plain.rename.is_set (λ m. subst IsMember same m))
       (subst (IsUnprinted (IsCheckedPackage w known)) (sym same) (unprinted w sound known right h.declared_in is_package h.number h.is_local))
-      (λ q. subst (λ e. IsUnseen w known e name q) (sym same) (unseen w sound known right h.declared_in is_package h.number h.is_local name q)))
+      (λ q.
+      subst (λ e. IsUnseen w known e plain.rename.set name q) (sym same)
+      (unseen w sound known right h.declared_in is_package h.number h.is_local plain.rename.set name q)))
 
 pub local_carries : (snapshot : Snapshot) (path : List ℕ) (offset : ℕ) (name : List ℕ) → ListsFaults snapshot.files [] →
     IsLocalAt snapshot.files path offset → CarriesPlanned snapshot path offset name []

@@ -1,5 +1,7 @@
 -- The planned rename of a declaration that is no import without a name is a plain one.
 use Rattle.std.proofs.Common.{ℕ, ◌≡◌, inr, List, [], refl}
+use Rattle.base_edits.specs.EditSet.{FileChanges}
+use Rattle.base_edits.specs.RevisionsOfEdits.{revision_of}
 use Rattle.base_files.specs.Workspace.{Workspace}
 use Rattle.base_files.specs.declared.place.Place.{Place}
 use Rattle.go_scope.specs.Bindings.{Declares, own}
@@ -18,9 +20,13 @@ use Rattle.refactor_decide.proofs.Written.{all_count, declares_within, written_b
 use Rattle.refactor_rename.specs.declared.renamed.Literal.{Literal}
 use Rattle.refactor_rename.specs.Literals.{IsPathLiteralOf, IsUnnamedImport}
 use Rattle.refactor_rename.specs.NewName.{IsNewName}
+use Rattle.refactor_coupled.specs.Obstacles.{PreservesAll}
 use Rattle.refactor_plan.specs.Plan.{IsRenamed}
+use Rattle.law_renamed_workspaces.specs.Harmless.{IsHarmless}
 use Rattle.law_renamed_workspaces.specs.Renames.{IsPlainRename}
 use Rattle.law_renamed_workspaces.proofs.OwnNames.{identifies}
+use Rattle.law_implementing.specs.Obstacles.{NoObstacleIsHarmless, ObstaclesDecide}
+use Rattle.law_implementing.proofs.Laws.{no_obstacle_is_harmless, obstacles_decide, sets_are_called_alike}
 
 -- a workspace has the closures that it has
 pub same_closure : (w : Workspace) (p : List ℕ) → HasSameClosure w w p
@@ -73,9 +79,31 @@ planned_plain snapshot path offset name change sound form renamed used named =
         allowed = renamed.renaming.may.allowed;
         other = renamed.renaming.other;
         used = used;
-        edits = renamed.renaming.edits;
+        set = renamed.renaming.set;
+        is_set = sets_are_called_alike snapshot.files asked.known asked.declaration renamed.renaming.set asked.right sound renamed.renaming.edits.is_set;
+        edits = renamed.renaming.edits.edits;
         fit = renamed.fit_files;
       };
       plain = no_literal (IsPathLiteralOf K asked.declaration) (literal_none K asked.declaration named)
-          renamed.renaming.edits.renamed.literal renamed.renaming.edits.is_renamed.literal;
+          renamed.renaming.edits.edits.renamed.literal renamed.renaming.edits.edits.is_renamed.literal;
     }
+
+-- what is renamed is what the plan renames
+pub planned_set : (snapshot : Snapshot) (path : List ℕ) (offset : ℕ) (name : List ℕ) (change : Change) (sound : ListsFaults snapshot.files [])
+    (form : IsNewName name) (renamed : IsRenamed snapshot path offset name change)
+    (used : (place : Place) × IsUseOf snapshot.files renamed.renaming.may.renamable.asked.known renamed.renaming.may.renamable.asked.declaration place)
+    (named : HasOwnName (IsCheckedPackage snapshot.files renamed.renaming.may.renamable.asked.known) renamed.renaming.may.renamable.asked.declaration) →
+    (planned_plain snapshot path offset name change sound form renamed used named).rename.set ≡ renamed.renaming.set
+unfolding planned_plain
+planned_set snapshot path offset name change sound form renamed used named = refl
+
+-- A plain rename that preserves bindings and implementing types is harmless.
+abbrev pub KeptAreHarmless : Type 0
+KeptAreHarmless = (w : Workspace) (known : Verdicts) (d : Declaration) (name : List ℕ) (s : FileChanges) → IsPlainRename w known d name s →
+    PreservesAll w (revision_of w s) → IsHarmless w known (revision_of w s)
+
+harmless_by : NoObstacleIsHarmless → ObstaclesDecide → KeptAreHarmless
+harmless_by harmless decide w known d name s plain kept = harmless w known d name s plain ((decide w known d name s plain).1 kept)
+
+pub kept_harmless : KeptAreHarmless
+kept_harmless = harmless_by no_obstacle_is_harmless obstacles_decide

@@ -20,7 +20,11 @@ use Rattle.refactor_rename.specs.NewName.{IsNewName}
 use Rattle.refactor_plan.specs.Plan.{IsRenamed}
 use Rattle.refactor_plan.proofs.ImportUses.{import_used}
 use Rattle.refactor_plan.proofs.UsedMembers.{declared_counts}
-use Rattle.law_renamed_workspaces.specs.Renames.{IsRename}
+use Rattle.law_renamed_workspaces.specs.RenamedData.{IsAlone}
+use Rattle.law_renamed_workspaces.specs.Renames.{IsMember, IsRename, IsSetWith}
+use Rattle.law_renamed_workspaces.proofs.RenamedSets.{own_alone}
+use Rattle.law_agreement.proofs.RenamedAlone.{use_among, use_of_alone}
+use Rattle.law_implementing.proofs.Laws.{sets_are_called_alike}
 use Rattle.law_gained_names.specs.UnnamedRenames.{IsUnnamedRename}
 
 -- whether a declaration is an import without a name
@@ -55,10 +59,14 @@ module _ (snapshot : Snapshot) (path : List ℕ) (offset : ℕ) (name : List ℕ
       IsUnnamedRename w known p n name change.edits
   planned_unnamed p n is same unnamed =
       let counted = declared_counts w sound known right path offset d renamed.renaming.may.renamable.asked.has p n is same in
-      let uses = renamed.renaming.edits.is_renamed.uses in
-      let used = import_used w sound known right p is n unnamed.0 counted.counts.declares counted.own renamed.renaming.edits.renamed.places
-      (λ place u. (uses.each place).1 (subst (λ e. IsUseOf w known e place) (sym same) u))
-      (λ place c. subst (λ e. IsUseOf w known e place) same ((uses.each place).0 c)) in
+      let set = renamed.renaming.set in
+      let is_set : IsSetWith (IsCheckedPackage w known) d set =
+      sets_are_called_alike w known d set right sound renamed.renaming.edits.is_set in
+      let alone : IsAlone d set = own_alone (IsCheckedPackage w known) d set is_set (λ m. subst IsMember same m) in
+      let uses = renamed.renaming.edits.edits.is_renamed.uses in
+      let used = import_used w sound known right p is n unnamed.0 counted.counts.declares counted.own renamed.renaming.edits.edits.renamed.places
+      (λ place u. (uses.each place).1 (use_among w known d set is_set.has_it place (subst (λ e. IsUseOf w known e place) (sym same) u)))
+      (λ place c. subst (λ e. IsUseOf w known e place) same (use_of_alone w known d set alone place ((uses.each place).0 c))) in
       let rename : IsRename w known d name change.edits = record {
         right = right;
         sound = sound;
@@ -67,7 +75,9 @@ module _ (snapshot : Snapshot) (path : List ℕ) (offset : ℕ) (name : List ℕ
         allowed = renamed.renaming.may.allowed;
         other = renamed.renaming.other;
         used = (used.0, subst (λ e. IsUseOf w known e used.0) (sym same) used.1);
-        edits = renamed.renaming.edits;
+        set = set;
+        is_set = is_set;
+        edits = renamed.renaming.edits.edits;
         fit = renamed.fit_files;
       } in
       record { rename = subst (λ e. IsRename w known e name change.edits) same rename; is_package = is; unnamed = unnamed }
