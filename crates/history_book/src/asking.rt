@@ -10,6 +10,7 @@ use crate::{Answered, Asked, Content, Question};
 use base_files::Refusal;
 use build_unit::Job;
 use history_machine::{Entry, EntryKind, ShownEntry, Told, View};
+use history_records::AskedChange;
 
 /// Asks for a view of the current state.
 #[derive(Clone, Copy)]
@@ -47,6 +48,10 @@ impl Question for Looking {
         EntryKind::Look
     }
 
+    fn change(&self) -> Option<AskedChange<'_>> {
+        None
+    }
+
     fn asked(&self, content: &Content) -> Asked {
         Asked::alone(EntryKind::Look, content.number())
     }
@@ -80,6 +85,10 @@ impl Question for Logging {
         EntryKind::Log
     }
 
+    fn change(&self) -> Option<AskedChange<'_>> {
+        None
+    }
+
     fn asked(&self, content: &Content) -> Asked {
         Asked::alone(EntryKind::Log, content.number())
     }
@@ -108,6 +117,10 @@ impl Question for Taking {
 
     fn kind(&self) -> EntryKind {
         EntryKind::Take
+    }
+
+    fn change(&self) -> Option<AskedChange<'_>> {
+        None
     }
 
     fn asked(&self, content: &Content) -> Asked {

@@ -1,5 +1,6 @@
 //! The book: the states of a workspace, the Jobs that are out, and the journal of the events.
 ghost use Rattle.std.specs.Prelude.{◌≡◌, ◌+◌, ◌*◌, ◌^◌, ◌<◌, ◌≤◌, ◌↔◌, ◌⊎◌, max, IfErr, IfOk, IsTrue, OnErr, OnOk, length, vec_capacity};
+ghost use Rattle.base_edits.specs.Fits.{Fits};
 ghost use Rattle.workspace_check.specs.Found.{KnowsVerdicts};
 ghost use Rattle.history_machine.specs.Machine.{closed, content, opening};
 ghost use Rattle.history_machine.specs.Chapters.{HasHistory};
@@ -15,6 +16,7 @@ ghost use Rattle.history_book.specs.WorkLeft.{HasJob, IsWaitEnd};
 use crate::changing::enter_on_current;
 use crate::handing::{asked_of, enter_delivery};
 use crate::{Asked, Content, Handed, Question, answer};
+use base_edits::EditSet;
 use base_files::{Limits, Refusal};
 use build_kept::KnownUnits;
 use build_unit::{Built, Job};
@@ -121,6 +123,34 @@ impl Book {
         ensures { result ≡ self.now.begun }
     {
         self.content.begun()
+    }
+
+    /// The number of the current state. It is no event.
+    pub fn number(&self) -> u64
+        ensures { result ≡ self.now.current.number }
+    {
+        self.content.number()
+    }
+
+    /// How many steps undo can make. It is no event.
+    pub fn undo_steps(&self) -> usize
+        ensures { result ≡ length self.now.earlier }
+    {
+        self.content.undo_steps()
+    }
+
+    /// How many steps redo can make. It is no event.
+    pub fn redo_steps(&self) -> usize
+        ensures { result ≡ length self.now.later }
+    {
+        self.content.redo_steps()
+    }
+
+    /// Whether edits fit the current files. It is no event.
+    pub fn fits(&self, edits: &EditSet) -> bool
+        ensures { IsTrue result ↔ Fits edits.now self.now.current.files }
+    {
+        self.content.fits(edits)
     }
 
     /// How many entries the journal has, and is still to have for the Jobs out.

@@ -10,6 +10,7 @@ use crate::reasons::refusal_told;
 use crate::{Answered, Asked, Content, Question, enter};
 use base_files::Refusal;
 use history_machine::{Entry, EntryEdits, EntryKind, Told};
+use history_records::AskedChange;
 use workspace_snapshot::MadeChange;
 
 /// A commit, an undo or a redo. The number is the basis: the state that the client believes to be current. The answer is the number of the
@@ -116,6 +117,16 @@ impl Question for Changing {
             Changing::Commit(..) => EntryKind::Commit,
             Changing::Undo(_) => EntryKind::Undo,
             Changing::Redo(_) => EntryKind::Redo,
+        }
+    }
+
+    fn change(&self) -> Option<AskedChange<'_>> {
+        match self {
+            Changing::Commit(basis, change) => {
+                Some(AskedChange::Commit(*basis, &change.get().edits))
+            }
+            Changing::Undo(basis) => Some(AskedChange::Undo(*basis)),
+            Changing::Redo(basis) => Some(AskedChange::Redo(*basis)),
         }
     }
 

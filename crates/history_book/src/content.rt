@@ -1,5 +1,6 @@
 //! The content of a book: the states of a workspace, the Jobs that are out, and what each event makes of them.
 ghost use Rattle.std.specs.Prelude.{◌≡◌, ◌↔◌, ◌+◌, ◌^◌, ◌≤◌, ℕ, [], IfOk, IsTrue, List, length};
+ghost use Rattle.base_edits.specs.Fits.{Fits};
 ghost use Rattle.workspace_check.specs.Found.{KnowsVerdicts};
 ghost use Rattle.build_unit.specs.Jobs.{IsOut};
 ghost use Rattle.build_unit.specs.Units.{IsUnitAt};
@@ -19,6 +20,7 @@ use crate::following::state_after;
 use crate::handed::{Handed, take_in};
 use crate::states::States;
 use crate::work_left::{are_all_finished, has_package_waiting};
+use base_edits::EditSet;
 use base_files::{Limits, Refusal};
 use build_carry::Finished;
 use build_kept::KnownUnits;
@@ -66,6 +68,13 @@ fn is_based(change: &MadeChange, files: &Graph) -> bool
     ensures { IsTrue result ↔ (change.now.base ≡ files.now) }
 {
     change.get().base.files().same(files.files())
+}
+
+/// Whether edits fit the files of a state.
+fn fit_state(edits: &EditSet, state: &State) -> bool
+    ensures { IsTrue result ↔ Fits edits.now state.now.files }
+{
+    edits.fits(state.files.files())
 }
 
 /// A snapshot of a state, and its finished units. Both are shared.
@@ -180,6 +189,27 @@ impl Content {
         ensures { result ≡ self.now.current.number }
     {
         self.history.current.number()
+    }
+
+    /// How many steps undo can make.
+    pub fn undo_steps(&self) -> usize
+        ensures { result ≡ length self.now.earlier }
+    {
+        self.history.earlier.len()
+    }
+
+    /// How many steps redo can make.
+    pub fn redo_steps(&self) -> usize
+        ensures { result ≡ length self.now.later }
+    {
+        self.history.later.len()
+    }
+
+    /// Whether edits fit the current files.
+    pub fn fits(&self, edits: &EditSet) -> bool
+        ensures { IsTrue result ↔ Fits edits.now self.now.current.files }
+    {
+        fit_state(edits, &self.history.current)
     }
 
     /// How many Jobs are out.

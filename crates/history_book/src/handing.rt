@@ -13,6 +13,7 @@ use crate::{Answered, Asked, Content, Handed, Question, enter};
 use base_files::Refusal;
 use build_unit::{Built, Job};
 use history_machine::{Entry, EntryKind, Told};
+use history_records::AskedChange;
 
 /// Hands in a Job.
 pub enum HandingIn {
@@ -102,6 +103,10 @@ impl Question for HandingIn {
             HandingIn::Deliver(..) => EntryKind::Deliver,
             HandingIn::GiveBack(_) => EntryKind::GiveBack,
         }
+    }
+
+    fn change(&self) -> Option<AskedChange<'_>> {
+        None
     }
 
     fn asked(&self, content: &Content) -> Asked {

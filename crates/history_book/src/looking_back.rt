@@ -10,6 +10,7 @@ use crate::reasons::refusal_told;
 use crate::{Answered, Asked, Question};
 use base_files::Refusal;
 use history_machine::{Entry, EntryKind, HistoryView, Resting, SeenStates, Told, View};
+use history_records::AskedChange;
 use std::alloc::{AllocError, Global};
 
 /// Asks for a view of the current state that shows all states of the history. It is a look.
@@ -66,6 +67,10 @@ impl Question for LookingBack {
 
     fn kind(&self) -> EntryKind {
         EntryKind::Look
+    }
+
+    fn change(&self) -> Option<AskedChange<'_>> {
+        None
     }
 
     fn asked(&self, content: &Content) -> Asked {

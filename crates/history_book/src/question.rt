@@ -1,15 +1,18 @@
 //! The questions of a book: each is an event of one kind, and has a type for its answers.
-ghost use Rattle.std.specs.Prelude.{◌≡◌, ◌↔◌, IsTrue, None, false};
+ghost use Rattle.std.specs.Prelude.{◌≡◌, ◌↔◌, IsTrue, None, false, option_map};
 ghost use Rattle.history_book.specs.Needed.{entries_needed};
 ghost use Rattle.history_machine.specs.Journal.{ShowsLine, event_basis, edits_of, event_kind, subject_after, event_subject, told_of};
 ghost use Rattle.history_machine.specs.Machine.{HasNumbersLeft};
 ghost use Rattle.history_machine.specs.Step.{AnswersOrLacks, BringsOut, refused};
 ghost use Rattle.history_machine.specs.declared.event.Event.{Event};
+ghost use Rattle.history_records.specs.Asked.{kept_of};
+ghost use Rattle.law_changes.specs.Changes.{change_asked};
 ghost use Rattle.history_machine.specs.declared.event.Reply.{Reply};
 
 use crate::content::Content;
 use base_files::Refusal;
 use history_machine::{Entry, EntryEdits, EntryKind, Told};
+use history_records::AskedChange;
 
 /// What the entry of an event keeps that is known before the answer, and whether the event's Job is out.
 #[derive(Clone, Copy)]
@@ -44,6 +47,10 @@ pub trait Question {
     /// The kind of the event.
     fn kind(&self) -> EntryKind
         ensures { result ≡ event_kind (event self.now) };
+
+    /// The change for which the event asks, if it asks for one.
+    fn change(&self) -> Option<AskedChange<'_>>
+        ensures { option_map kept_of result ≡ change_asked (event self.now) };
 
     /// The kind and the basis of the event, and whether it hands in a Job that is out.
     fn asked(&self, content: &Content) -> Asked

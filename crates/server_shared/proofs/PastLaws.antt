@@ -1,17 +1,17 @@
 -- The chapters that were closed, as a book goes on and closes one more, and the receipts that were handed in.
 use Rattle.std.proofs.Common.{◌≡◌, ℕ, List, [], ◌∷◌, ◌++◌, Some, None, IsPermutation, flat_map, length, map, refl, sym, ap, subst, ◌∙◌}
-use Rattle.std.proofs.Common.{append-nil}
+use Rattle.std.proofs.Common.{◌+◌, zero, suc, append-nil, append_assoc, length-append, arith}
 use Rattle.std.proofs.lemmas.Grind.{flat_map-append}
 use Rattle.std.proofs.lemmas.List.Elements.{All-nil, All-push}
 use Rattle.std.proofs.lemmas.List.Sorted.{IsPermutation-append_left, IsPermutation-refl, IsPermutation-trans}
 use Rattle.base_files.specs.declared.limits.Limits.{Limits}
-use Rattle.history_machine.specs.Chapters.{HasHistory, RunsOver}
+use Rattle.history_machine.specs.Chapters.{HasHistory, Occurrence, RunsOver, all_entries}
 use Rattle.history_machine.specs.Machine.{Machine, closed, opening}
 use Rattle.history_machine.specs.Step.{Step}
 use Rattle.history_machine.specs.declared.entry.Entry.{Entry}
 use Rattle.history_machine.specs.declared.event.Event.{Event}
 use Rattle.history_machine.specs.declared.event.Reply.{Reply}
-use Rattle.history_machine.proofs.Reaching.{closes_on, runs_on, runs_over, whole_run}
+use Rattle.history_machine.proofs.Reaching.{closes_on, runs_on, runs_over, step_begun, whole_run}
 use Rattle.server_shared.specs.Past.{AreSettled, HasPast, IsHandedIn, PastChapter, from_behind, past_journals}
 use Rattle.server_shared.specs.Settled.{IsSettled}
 use Rattle.server_shared.specs.declared.receipt.Receipt.{Receipt}
@@ -45,6 +45,11 @@ module _ (P : List Receipt → Type 0) where
   journals_on [] chapter = refl
   journals_on (c ∷ chapters) chapter = ap (λ (js : List (List Entry)). c.0 ∷ js) (journals_on chapters chapter)
 
+  behind_on : (before : List (List Entry)) (chapters : List PastChapter) (chapter : PastChapter) →
+      before ++ past_journals (chapters ++ chapter ∷ []) ≡ (before ++ past_journals chapters) ++ chapter.0 ∷ []
+  behind_on before chapters chapter =
+      ap (λ (js : List (List Entry)). before ++ js) (journals_on chapters chapter) ∙ sym (append_assoc before (past_journals chapters) (chapter.0 ∷ []))
+
   whole_behind : (chapters : List PastChapter) → from_behind 0 chapters ≡ 0
   whole_behind [] = refl
   whole_behind (c ∷ chapters) = refl
@@ -63,45 +68,81 @@ module _ (P : List Receipt → Type 0) where
   begins_on from [] chapter = refl
   begins_on from (c ∷ chapters) chapter = refl
 
-  pub past_on : (first from : ℕ) (old new : Machine) (event : Event) (reply : Reply) → new.limits ≡ old.limits → Step old event reply new →
-      HasPast P first from old → HasPast P first from new
-  past_on first from old new event reply limits step past =
+  pub past_on : (begun first from : ℕ) (old new : Machine) (event : Event) (reply : Reply) → new.limits ≡ old.limits → Step old event reply new →
+      HasPast P begun first from old → HasPast P begun first from new
+  past_on begun first from old new event reply limits step past =
       let course = past.course ++ Some (event, reply) ∷ [] in
       record {
+        before = past.before;
+        earlier = past.earlier;
+        none = past.none;
         chapters = past.chapters;
         settled = past.settled;
         begins = past.begins;
         course = course;
-        runs = subst (λ (l : Limits). RunsOver (opening l) course (past_journals past.chapters) new) (sym limits)
-            (runs_on (opening old.limits) past.course (past_journals past.chapters) old event reply new past.runs step);
+        runs = subst (λ (l : Limits). RunsOver (opening l) course (past.before ++ past_journals past.chapters) new) (sym limits)
+            (runs_on (opening old.limits) past.course (past.before ++ past_journals past.chapters) old event reply new past.runs step);
       }
 
-  pub past_closed : (first from : ℕ) (m : Machine) (receipts : List Receipt) → HasPast P first from m → IsSettled from m.journal receipts →
-      IsHandedIn P receipts → HasPast P first 0 (closed m)
-  past_closed first from m receipts past settled handed =
+  pub past_closed : (begun first from : ℕ) (m : Machine) (receipts : List Receipt) → HasPast P begun first from m → IsSettled from m.journal receipts →
+      IsHandedIn P receipts → HasPast P begun first 0 (closed m)
+  past_closed begun first from m receipts past settled handed =
       let chapter : PastChapter = (m.journal, receipts) in
       let course = past.course ++ None ∷ [] in
       record {
+        before = past.before;
+        earlier = past.earlier;
+        none = past.none;
         chapters = past.chapters ++ chapter ∷ [];
         settled = settled_on first past.chapters chapter past.settled
             (subst (λ (n : ℕ). IsSettled n m.journal receipts) past.begins settled) handed;
         begins = begins_on first past.chapters chapter;
         course = course;
-        runs = subst (λ (js : List (List Entry)). RunsOver (opening m.limits) course js (closed m)) (sym (journals_on past.chapters chapter))
-            (closes_on (opening m.limits) past.course (past_journals past.chapters) m past.runs);
+        runs = subst (λ (js : List (List Entry)). RunsOver (opening m.limits) course js (closed m)) (sym (behind_on past.before past.chapters chapter))
+            (closes_on (opening m.limits) past.course (past.before ++ past_journals past.chapters) m past.runs);
       }
 
-  -- a book that was not shared before, and that closed no journal
-  pub past_opened : (m : Machine) → m.begun ≡ 0 → HasHistory m → HasPast P (length m.journal) (length m.journal) m
-  past_opened m none is =
-      let run = whole_run m none is in
+  -- the entries of the journals that a run closes are counted
+  counts_closed : (old : Machine) (course : List Occurrence) (journals : List (List Entry)) (new : Machine) → RunsOver old course journals new →
+      new.begun ≡ old.begun + length (all_entries journals)
+  counts_closed old [] journals new h =
+      omega (arith, ap (λ (m : Machine). m.begun) h.1, ap (λ (js : List (List Entry)). length (all_entries js)) h.0)
+  counts_closed old (None ∷ course) journals new h =
+      let rest = counts_closed (closed old) course h.0 new h.2 in
+      let all = ap (λ (js : List (List Entry)). length (all_entries js)) h.1 in
+      omega (arith, rest, all, length-append old.journal (all_entries h.0))
+  counts_closed old (Some e ∷ course) journals new h =
+      let rest = counts_closed h.0 course journals new h.2 in
+      omega (arith, rest, step_begun old e.0 e.1 h.0 h.1)
+
+  -- a book that was not shared before, and that closed journals with so many entries
+  past_after : (begun : ℕ) (m : Machine) → m.begun ≡ begun → HasHistory m → HasPast P begun (length m.journal) (length m.journal) m
+  past_after zero m is history =
+      let run = whole_run m is history in
       record {
+        before = [];
+        earlier = refl;
+        none = λ _. refl;
         chapters = [];
         settled = tt;
         begins = refl;
         course = map Some run.0;
         runs = runs_over (opening m.limits) run.0 m run.1;
       }
+  past_after (suc n) m is history = record {
+    before = history.1;
+    earlier = let counted : m.begun ≡ 0 + length (all_entries history.1) = counts_closed (opening m.limits) history.0 history.1 m history.2 in
+        omega (arith, is, counted);
+    none = λ e. absurd (omega (arith, e));
+    chapters = [];
+    settled = tt;
+    begins = refl;
+    course = history.0;
+    runs = subst (λ (js : List (List Entry)). RunsOver (opening m.limits) history.0 js m) (sym (append-nil history.1)) history.2;
+  }
 
-pub past_reached : (P : List Receipt → Type 0) (first from : ℕ) (m : Machine) → HasPast P first from m → HasHistory m
-past_reached P first from m past = (past.course, past_journals past.chapters, past.runs)
+  pub past_opened : (m : Machine) → HasHistory m → HasPast P m.begun (length m.journal) (length m.journal) m
+  past_opened m history = past_after m.begun m refl history
+
+pub past_reached : (P : List Receipt → Type 0) (begun first from : ℕ) (m : Machine) → HasPast P begun first from m → HasHistory m
+past_reached P begun first from m past = (past.course, past.before ++ past_journals past.chapters, past.runs)

@@ -39,6 +39,8 @@ use Rattle.server_shared.proofs.ahead.Crew.TheSendSync.{the_send as Crew-send}
 use Rattle.server_shared.proofs.chapters.Closing.TheSendSync.{the_send as Closing-send}
 use Rattle.server_shared.proofs.receipt.Receipt.TheSendSync.{the_send as Receipt-send}
 use Rattle.server_shared.proofs.seat.Seat.TheSendSync.{the_send as Seat-send}
+use Rattle.server_journal.proofs.disk.DiskStore.TheSendSync.{the_send as DiskStore-send}
+use Rattle.server_journal.proofs.kept.Kept.TheSendSync.{the_send as Kept-send}
 use Rattle.server_shared.proofs.SendsFound.{file_fault_sent, file_fault_shared, export_data_sent, export_data_shared, verdict_sent}
 use Rattle.server_shared.proofs.SendsFound.{verdict_shared}
 use Rattle.types_expr.proofs.types.GoType.TheLaws.TheKnot.{crosses as type_crosses}
@@ -130,7 +132,7 @@ pub book_sent : IsSend book
 book_sent = search (owned, content_sent, Entry-send) depth 30 fits 50000
 
 pub locked_sent : (L : RattleType) (o : Opening L.Denot) (l : Ledger L.Denot) → IsSend (locked L o l)
-locked_sent L o l = search (owned, book_sent, Closing-send, Crew-send, Count-send, Receipt-send, Share-send) depth 30 fits 50000
+locked_sent L o l = search (owned, book_sent, Closing-send, Crew-send, Count-send, DiskStore-send, Kept-send, Receipt-send, Share-send) depth 30 fits 50000
 
 pub shared_shared : (L : RattleType) (o : Opening L.Denot) (l : Ledger L.Denot) → IsSync (shared L o l)
 shared_shared L o l = search (owned, locked_sent) depth 30 fits 50000

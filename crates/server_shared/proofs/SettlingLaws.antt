@@ -1,31 +1,39 @@
 -- A book that is settled, from what was gathered of its receipts.
-use Rattle.std.proofs.Common.{◌≡◌, ◌↔◌, ◌+◌, ◌*◌, ◌≤◌, ℕ, Bool, IsTrue, List, [], All, length, ap, arith}
+use Rattle.std.proofs.Common.{◌≡◌, ◌↔◌, ◌+◌, ◌*◌, ◌≤◌, ℕ, Bool, IsTrue, List, [], All, length, ap, inl, inr, subst, sym, arith}
 use mathlib.Core.Logic.{∥∥₁_map, ∥∥₁_map₂}
 use Rattle.std.proofs.lemmas.List.Elements.{All-weaker}
 use Rattle.std.proofs.lemmas.List.Sums.{sum_by-le}
+use Rattle.base_files.specs.declared.refusal.Refusal.TheVariants.{Disk}
 use Rattle.history_machine.specs.JournalSteps.{JournalStep}
 use Rattle.history_machine.specs.Machine.{Machine, closed}
 use Rattle.history_machine.specs.declared.entry.Entry.{Entry}
 use Rattle.history_machine.specs.declared.event.Event.{Event}
 use Rattle.history_machine.specs.declared.event.Reply.{Reply}
 use Rattle.std.specs.Prelude.{Option}
+use Rattle.server_journal.specs.Keeping.{KeptStep}
 use Rattle.server_shared.specs.Past.{HasPast, IsHandedIn}
 use Rattle.server_shared.specs.Settled.{IsSettled, receipt_count}
 use Rattle.server_shared.specs.SettledBook.{IsSettling}
 use Rattle.server_shared.specs.declared.receipt.Receipt.{Receipt}
 use Rattle.server_shared.proofs.PastLaws.{past_closed, past_on}
 
-module _ (P : List Receipt → Type 0) (first from : ℕ) where
+module _ (P : List Receipt → Type 0) (begun first from : ℕ) where
   -- a step of the book, and one that closes its journal
   pub past_stepped : (old : Machine) (event : Event) (reply : Reply) (kept : Option Entry) (new : Machine) → new.limits ≡ old.limits →
-      JournalStep old event reply kept new → ∥ HasPast P first from old ∥₁ → ∥ HasPast P first from new ∥₁
+      JournalStep old event reply kept new → ∥ HasPast P begun first from old ∥₁ → ∥ HasPast P begun first from new ∥₁
   past_stepped old event reply kept new limits step past =
-      ∥∥₁_map past (λ (p : HasPast P first from old). past_on P first from old new event reply limits step.0 p)
+      ∥∥₁_map past (λ (p : HasPast P begun first from old). past_on P begun first from old new event reply limits step.0 p)
+
+  -- the same of one whose change may be kept
+  pub past_kept : (old : Machine) (event : Event) (reply : Reply) (left : Option Entry) (new : Machine) → new.limits ≡ old.limits →
+      KeptStep Disk old event reply left new → ∥ HasPast P begun first from old ∥₁ → ∥ HasPast P begun first from new ∥₁
+  past_kept old event reply left new limits (inl step) past = past_stepped old event reply left new limits step past
+  past_kept old event reply left new limits (inr away) past = subst (λ (m : Machine). ∥ HasPast P begun first from m ∥₁) (sym away.3) past
 
   pub past_with_border : (m : Machine) (receipts : List Receipt) → IsSettled from m.journal receipts → ∥ IsHandedIn P receipts ∥₁ →
-      ∥ HasPast P first from m ∥₁ → ∥ HasPast P first 0 (closed m) ∥₁
+      ∥ HasPast P begun first from m ∥₁ → ∥ HasPast P begun first 0 (closed m) ∥₁
   past_with_border m receipts settled handed past =
-      ∥∥₁_map₂ past handed (λ (p : HasPast P first from m) (h : IsHandedIn P receipts). past_closed P first from m receipts p settled h)
+      ∥∥₁_map₂ past handed (λ (p : HasPast P begun first from m) (h : IsHandedIn P receipts). past_closed P begun first from m receipts p settled h)
 
   none_held : (seats : List (List Receipt)) → All (λ (seat : List Receipt). seat ≡ []) seats → receipt_count seats ≤ length seats * 0
   none_held seats none = sum_by-le length 0 seats
@@ -33,13 +41,13 @@ module _ (P : List Receipt → Type 0) (first from : ℕ) where
 
   -- `before` are the receipts handed in before the seats came back, `receipts` those with what the seats still held
   pub settling_of : (parts : ℕ) (seats : List (List Receipt)) (book : Machine) (before receipts : List Receipt) (total amount all : ℕ) (is_settled : Bool)
-      → ∥ HasPast P first from book ∥₁ → ∥ IsHandedIn P receipts ∥₁ → IsTrue is_settled ↔ IsSettled from book.journal receipts
+      → ∥ HasPast P begun first from book ∥₁ → ∥ IsHandedIn P receipts ∥₁ → IsTrue is_settled ↔ IsSettled from book.journal receipts
       → length book.journal ≡ from + length before + total → amount ≤ total → (all ≡ parts → amount ≡ total) → amount ≡ receipt_count seats
       → all ≤ parts → length seats ≤ all → length receipts ≤ length before + receipt_count seats
       → (All (λ (seat : List Receipt). seat ≡ []) seats → receipts ≡ before)
-      → ∥ IsSettling P first parts seats book is_settled ∥₁
+      → ∥ IsSettling P begun first parts seats book is_settled ∥₁
   settling_of parts seats book before receipts total amount all is_settled past handed exact counted within audited held apart count more same =
-      ∥∥₁_map₂ past handed (λ (p : HasPast P first from book) (h : IsHandedIn P receipts). record {
+      ∥∥₁_map₂ past handed (λ (p : HasPast P begun first from book) (h : IsHandedIn P receipts). record {
         from = from;
         receipts = receipts;
         past = p;

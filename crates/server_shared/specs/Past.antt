@@ -1,6 +1,6 @@
 -- The chapters of a shared book that were closed: each was settled by the receipts that were handed in for it.
-use Rattle.std.specs.Prelude.{◌≡◌, ℕ, ⊤, List, [], ◌∷◌, All, IsPermutation, flat_map, map}
-use Rattle.history_machine.specs.Chapters.{Occurrence, RunsOver}
+use Rattle.std.specs.Prelude.{◌≡◌, ℕ, ⊤, List, [], ◌∷◌, ◌++◌, All, IsPermutation, flat_map, length, map}
+use Rattle.history_machine.specs.Chapters.{Occurrence, RunsOver, all_entries}
 use Rattle.history_machine.specs.Machine.{Machine, opening}
 use Rattle.history_machine.specs.declared.entry.Entry.{Entry}
 use Rattle.server_shared.specs.declared.receipt.Receipt.{Receipt}
@@ -30,11 +30,15 @@ abbrev pub from_behind : (from : ℕ) → List PastChapter → ℕ
 from_behind from [] = from
 from_behind from (chapter ∷ chapters) = 0
 
--- The machine is what some run over borders makes of the opening state, and the chapters that this closes were settled. The journal of the
--- first one has receipts from its entry `first` on, and the machine's journal from its entry `from` on.
-pub record HasPast (P : List Receipt → Type 0) (first from : ℕ) (m : Machine) : Type 0 where
+-- The machine is what some run over borders makes of the opening state. Before its book was shared journals with `begun` entries were closed. The
+-- chapters that were closed since were settled. The journal of the first one has receipts from its entry `first` on, and the machine's journal
+-- from its entry `from` on.
+pub record HasPast (P : List Receipt → Type 0) (begun first from : ℕ) (m : Machine) : Type 0 where
+  pub before : List (List Entry)
+  pub earlier : begun ≡ length (all_entries before)
+  pub none : begun ≡ 0 → before ≡ []
   pub chapters : List PastChapter
   pub settled : AreSettled P first chapters
   pub begins : from ≡ from_behind first chapters
   pub course : List Occurrence
-  pub runs : RunsOver (opening m.limits) course (past_journals chapters) m
+  pub runs : RunsOver (opening m.limits) course (before ++ past_journals chapters) m

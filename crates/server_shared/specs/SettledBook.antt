@@ -14,10 +14,10 @@ book_in (Err unsettled) = unsettled.book
 -- How a book is settled that so many seats shared. `receipts` are those that were handed in for its last chapter, whose entries from `from`
 -- on have receipts. It is settled exactly where its entries there are exactly those of the receipts. If all seats come back and hold no
 -- receipt, there are as many of both.
-pub record IsSettling (P : List Receipt → Type 0) (first parts : ℕ) (seats : List (List Receipt)) (book : Machine) (is_settled : Bool) : Type 0 where
+pub record IsSettling (P : List Receipt → Type 0) (begun first parts : ℕ) (seats : List (List Receipt)) (book : Machine) (is_settled : Bool) : Type 0 where
   pub from : ℕ
   pub receipts : List Receipt
-  pub past : HasPast P first from book
+  pub past : HasPast P begun first from book
   pub known : IsHandedIn P receipts
   pub exact : IsTrue is_settled ↔ IsSettled from book.journal receipts
   pub bound : from + length receipts ≤ length book.journal

@@ -3,14 +3,15 @@ ghost use Rattle.std.specs.Prelude.{◌≡◌, ◌+◌, ◌-◌, ◌<◌, ◌↔
 ghost use Rattle.std.specs.Io.Iter.{u64_saturate};
 ghost use Rattle.workspace_check.specs.Found.{KnowsVerdicts};
 ghost use Rattle.history_book.specs.WorkLeft.{HasJob, IsWaitEnd};
-ghost use Rattle.base_files.specs.declared.refusal.Refusal.TheVariants.{Memory};
+ghost use Rattle.base_files.specs.declared.refusal.Refusal.TheVariants.{Disk, Memory};
 ghost use Rattle.history_machine.specs.JournalSteps.{JournalStep};
 ghost use Rattle.history_machine.specs.MayReply.{MayReply};
 ghost use Rattle.history_machine.specs.Step.{refused, taken};
 ghost use Rattle.history_machine.specs.declared.event.Event.TheVariants.{Take};
 ghost use Rattle.history_book.specs.CurrentUnits.{AreKnownIn};
 ghost use Rattle.server_shared.specs.Reserved.{IsHandingIn};
-ghost use Rattle.server_shared.specs.Steps.{IsReceiptOrNone, ReceiptStep};
+ghost use Rattle.server_journal.specs.Keeping.{KeepsHistory, KeptStep};
+ghost use Rattle.server_shared.specs.Steps.{IsReceiptOrNone, KeptReceiptStep};
 ghost use Rattle.server_shared.specs.Waking.{CountsNews, HasWork, IsNews, MayWake, NoWakeMissed};
 ghost use Rattle.server_shared.specs.Call.{LooksBuilt};
 ghost use Rattle.server_shared.specs.Standing.{TellsOfBook};
@@ -34,6 +35,7 @@ use build_kept::KnownUnits;
 use build_unit::Job;
 use history_book::{Book, Looking, Question, Taking};
 use history_machine::{Entry, EntryKind, Line, Told, View};
+use server_journal::{DiskStore, Kept, Store, kept_step};
 use std::alloc::{AllocError, Global};
 use std::sync::ledger::{self, Share};
 use workspace_check::Known;
@@ -56,22 +58,36 @@ pub struct Locked<L: Opening> {
     pub kept: u64,
     /// The workers, and what they judge before their Jobs. Only speed rests on it.
     pub(crate) crew: Crew,
+    /// Where the record of each change is kept, if records are kept.
+    pub records: Option<Kept<DiskStore>>,
+    pub(crate) alloc: Global,
     ghost counted: { length book.journal ≡ from + length handed.items + count.total },
     ghost most_is: { book.limits.journal ≡ L.most },
     ghost limits_are: { limit_numbers book.limits ≡ L.limits },
     ghost known: { ∥ IsHandedIn L.accounts handed.items ∥₁ },
-    ghost past: { ∥ HasPast L.accounts L.from from book ∥₁ },
+    ghost past: { ∥ HasPast L.accounts L.begun L.from from book ∥₁ },
 }
 
-/// Makes one step of a book, and returns a copy of the entry that it adds.
-fn step_book<Q: Question>(book: &mut Book, question: Q) -> (Q::Answer, Option<Entry>)
-    ensures step { JournalStep book.old (Q.event question) (Q.reply result.0) result.1 book.new }
+/// Makes one step of a book, whose changes are kept in the store, if there is one. Without a store it is a plain step. Returns a copy of the
+/// entry that it adds.
+fn step_kept<D: Store + Drop, Q: Question>(
+    alloc: Global,
+    book: &mut Book,
+    records: &mut Option<Kept<D>>,
+    question: Q,
+) -> (Q::Answer, Option<Entry>)
+    ensures step { KeptStep Disk book.old (Q.event question) (Q.reply result.0) result.1 book.new }
+    ensures plain { records.old ≡ None → JournalStep book.old (Q.event question) (Q.reply result.0) result.1 book.new }
+    ensures keeps { IfSome records.old (λ k. KeepsHistory (D.holds k.store) k.is_lost book.old) → IfSome records.new (λ k. KeepsHistory (D.holds k.store) k.is_lost book.new) }
     ensures kind { MayReply (Q.event question) (Q.reply result.0) }
     ensures most { book.new.limits.journal ≡ book.old.limits.journal }
     ensures limits { limit_numbers book.new.limits ≡ limit_numbers book.old.limits }
     ensures all_limits { book.new.limits ≡ book.old.limits }
 {
-    book.journal_step(question)
+    match records {
+        None => book.journal_step(question),
+        Some(kept) => kept_step(alloc, book, kept, question, Refusal::Disk),
+    }
 }
 
 /// What is known of units, if it is of packages of these files.
@@ -139,6 +155,7 @@ impl<L: Opening> Locked<L> {
     /// its receipts in. For an event that hands a Job in, it was taken before.
     fn make_room(&mut self, kind: EntryKind) -> Result<(), AllocError>
         ensures book { self.new.book ≡ self.old.book }
+        ensures records { self.new.records ≡ self.old.records }
         ensures stopped { self.new.is_stopped ≡ self.old.is_stopped }
         ensures news { self.new.news ≡ self.old.news }
         ensures why { IfErr result (λ _. ¬ (IsHandingIn kind)) }
@@ -151,14 +168,15 @@ impl<L: Opening> Locked<L> {
             .reserve(held.saturating_add(held).saturating_add(2))
     }
 
-    /// Makes one step of the book, and returns a receipt of the entry that it adds. The share counts the entry.
+    /// Makes one step of the book, and returns a receipt of the entry that it adds. The share counts the entry. A change is on the disk before
+    /// it is made, if changes are kept.
     fn make_step<Q: Question>(
         &mut self,
         share: &mut Share<L>,
         question: Q,
     ) -> (Q::Answer, Option<Receipt>)
         requires { 0 < share.old.parts }
-        ensures step { ReceiptStep self.old.book (Q.event question) (Q.reply result.0) result.1 self.new.book }
+        ensures step { KeptReceiptStep (is_some self.old.records) self.old.book (Q.event question) (Q.reply result.0) result.1 self.new.book }
         ensures stopped { self.new.is_stopped ≡ self.old.is_stopped }
         ensures news { MatchOption result.1 (self.new.news ≡ self.old.news) (λ receipt. CountsNews receipt.entry.line self.old.news self.new.news) }
         ensures kind { MayReply (Q.event question) (Q.reply result.0) }
@@ -170,9 +188,11 @@ impl<L: Opening> Locked<L> {
             book,
             count,
             news,
+            records,
+            alloc,
             ..
         } = self;
-        let (answer, kept) = step_book(book, question);
+        let (answer, kept) = step_kept(*alloc, book, records, question);
         match kept {
             None => (answer, None),
             Some(entry) => {
@@ -192,7 +212,7 @@ impl<L: Opening> Locked<L> {
         question: Q,
     ) -> (Q::Answer, Option<Receipt>)
         requires { 0 < share.old.parts }
-        ensures step { ReceiptStep self.old.book (Q.event question) (Q.reply result.0) result.1 self.new.book }
+        ensures step { KeptReceiptStep (is_some self.old.records) self.old.book (Q.event question) (Q.reply result.0) result.1 self.new.book }
         ensures stopped { self.new.is_stopped ≡ self.old.is_stopped }
         ensures news { MatchOption result.1 (self.new.news ≡ self.old.news) (λ receipt. CountsNews receipt.entry.line self.old.news self.new.news) }
         ensures kind { MayReply (Q.event question) (Q.reply result.0) }
@@ -428,7 +448,7 @@ impl<L: Opening> Locked<L> {
     /// seats still hold is handed in first; that alone takes memory.
     pub fn settle(self, free: FreeSeats<L>, seats: Vec<Seat<L>>) -> Result<Book, Unsettled>
         requires { All (λ (seat : List HeldReceipt). ∥ L.accounts seat ∥₁) seats.items }
-        ensures settled { ∥ IsSettling L.accounts L.from L.parts seats.items (book_in result) (is_ok result) ∥₁ }
+        ensures settled { ∥ IsSettling L.accounts L.begun L.from L.parts seats.items (book_in result) (is_ok result) ∥₁ }
         ensures limits { limit_numbers (book_in result).limits ≡ L.limits }
     {
         let Locked {
@@ -442,8 +462,11 @@ impl<L: Opening> Locked<L> {
             sessions: _,
             kept: _,
             crew,
+            records,
+            alloc: _,
         } = self;
         drop(crew);
+        drop(records);
         let FreeSeats { share, left: _ } = free;
         let mut all = gathered(share, seats, &mut handed);
         count.audit(&mut all);

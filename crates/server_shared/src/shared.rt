@@ -28,6 +28,7 @@ use build_kept::KnownUnits;
 use build_unit::Job;
 use history_book::{Book, Question};
 use history_machine::{EntryKind, Line, View};
+use server_journal::{DiskStore, Kept};
 use std::alloc::{AllocError, Global};
 use std::sync::ledger::{Blank, Share};
 use std::sync::{Condvar, Mutex, Wait};
@@ -51,11 +52,13 @@ pub struct Shared<L: Opening> {
 }
 
 impl<L: Opening> Shared<L> {
-    /// Shares a book, with `seats` seats, of which none is taken yet. A chapter is closed where the journal has `mark` entries.
+    /// Shares a book, with `seats` seats, of which none is taken yet. A chapter is closed where the journal has `mark` entries. The records of its
+    /// changes are kept, if there is a store for them.
     pub fn new(
         alloc: Global,
         blank: Blank,
         book: Book,
+        records: Option<Kept<DiskStore>>,
         seats: u64,
         mark: u64,
     ) -> (Shared<L>, FreeSeats<L>)
@@ -63,7 +66,7 @@ impl<L: Opening> Shared<L> {
         requires parts { blank.parts ≡ L.parts }
         requires seats { blank.parts ≡ seats }
         requires from { length book.journal ≡ L.from }
-        requires open { book.begun ≡ 0 }
+        requires begun { book.begun ≡ L.begun }
         requires most { book.limits.journal ≡ L.most }
         requires limits { limit_numbers book.limits ≡ L.limits }
         ensures seats { result.1.left ≡ seats }
@@ -83,6 +86,8 @@ impl<L: Opening> Shared<L> {
                 sessions: 0,
                 kept: 0,
                 crew: Crew::new(),
+                records,
+                alloc,
             }),
             work: Condvar::new(),
             news: Condvar::new(),
@@ -288,7 +293,7 @@ impl<L: Opening> Shared<L> {
     /// seats still hold is handed in first; that alone takes memory.
     pub fn settle(self, free: FreeSeats<L>, seats: Vec<Seat<L>>) -> Result<Book, Unsettled>
         requires { All (λ (seat : List HeldReceipt). ∥ L.accounts seat ∥₁) seats.items }
-        ensures settled { ∥ IsSettling L.accounts L.from L.parts seats.items (book_in result) (is_ok result) ∥₁ }
+        ensures settled { ∥ IsSettling L.accounts L.begun L.from L.parts seats.items (book_in result) (is_ok result) ∥₁ }
         ensures limits { limit_numbers (book_in result).limits ≡ L.limits }
     {
         let Shared {

@@ -1,12 +1,12 @@
 //! Runs the server, from making its socket to settling its book.
-ghost use Rattle.std.specs.Prelude.{◌≡◌, ◌≢◌, ◌+◌, ◌≤◌, All, List, [], IfErr, IfOk, IsErr, IsOk, IsTrue, OnOk, length, vec_capacity, vec_len};
-ghost use Rattle.server_shared.specs.LimitNumbers.{full_limits};
+ghost use Rattle.std.specs.Prelude.{◌≡◌, ◌≢◌, ◌+◌, ◌≤◌, All, List, [], IfErr, IfOk, IsErr, IsOk, IsTrue, OnOk, is_some, length, vec_capacity, vec_len};
+ghost use Rattle.server_shared.specs.LimitNumbers.{full_limits, limit_numbers};
 ghost use Rattle.server_shared.specs.SettledBook.{book_in};
 ghost use Rattle.server_shared.specs.Working.{AccountsForTurns};
 ghost use Rattle.server_shared.specs.declared.receipt.Receipt.{Receipt};
 ghost use Rattle.server_socket.specs.Returned.{AreReturned, IsCalled};
 ghost use Rattle.server_socket.specs.Session.{AccountsForMessages};
-ghost use Rattle.server_socket.specs.Served.{Serves, Settles, mark_said};
+ghost use Rattle.server_socket.specs.Served.{IsNewBook, Serves, Settles, mark_said};
 
 use crate::fault::ServeFault;
 use crate::held_path::{HeldPath, hold};
@@ -17,6 +17,7 @@ use crate::threads::{Running, run};
 use crate::turns::Turns;
 use base_files::Limits;
 use history_book::Book;
+use server_journal::{DiskStore, Kept, KeptBook, open_journal};
 use server_shared::{FreeSeats, Gate, Opening, Seat, Shared, Unsettled};
 use server_words::ServeOptions;
 use std::alloc::{AllocError, Global};
@@ -130,9 +131,8 @@ fn settle<L: Opening>(
     free: FreeSeats<L>,
     seats: Vec<Seat<L>>,
 ) -> Result<u64, ServeFault>
-    requires from { L.from ≡ 0 }
     requires known { All (λ (seat : List Receipt). ∥ L.accounts seat ∥₁) seats.items }
-    ensures { Settles L.accounts L.parts L.limits seats.items result }
+    ensures { Settles L.accounts L.begun L.from L.parts L.limits seats.items result }
 {
     length_of(shared.settle(free, seats))
 }
@@ -201,29 +201,70 @@ fn serve_over<L: Opening + Send + Sync, R: Threads + Wait + Clock + Sync, G: Gat
     all_seats(list, back, words)
 }
 
-/// Serves sessions over a new book with this ledger.
+/// A book, and the store of the records of its changes, if they are kept.
+struct OpenedBook {
+    book: Book,
+    records: Option<Kept<DiskStore>>,
+}
+
+/// The book with which a server begins: a new one, or the one that the records in a folder lead to, with an entry for each.
+fn open_book<R: Files<File = File>>(
+    rt: &R,
+    alloc: Global,
+    words: &ServeOptions<'_>,
+) -> Result<OpenedBook, ServeFault>
+    ensures err { IfErr result (λ fault. fault ≢ ServeFault.Unsettled) }
+    ensures limits { IfOk result (λ opened. limit_numbers opened.book.limits ≡ full_limits) }
+    ensures fresh { IfOk result (λ opened. IsNewBook (is_some words.now.journal) opened.book.begun (length opened.book.journal)) }
+{
+    let Some(folder) = words.journal else {
+        let book = Book::new(alloc, Limits::FULL)?;
+        return Ok(OpenedBook {
+            book,
+            records: None,
+        });
+    };
+    let KeptBook { book, kept } = open_journal(rt, alloc, folder, Limits::FULL)?;
+    Ok(OpenedBook {
+        book,
+        records: Some(kept),
+    })
+}
+
+/// Closes a book that is not served.
+fn give_up(opened: OpenedBook) {
+    let OpenedBook { book, records } = opened;
+    let _entries = book.close();
+    drop(records);
+}
+
+/// Serves sessions over this book with this ledger.
 fn serve_in<L: Opening + Send + Sync, R: Threads + Wait + Clock + Sync, G: Gate + Sync>(
     rt: &R,
     alloc: Global,
     words: &ServeOptions<'_>,
     gate: &G,
     turns: Turns,
+    opened: OpenedBook,
     blank: Blank,
 ) -> Result<u64, ServeFault>
+    requires fresh { IsNewBook (is_some words.now.journal) L.begun L.from }
+    requires from { L.from ≡ length opened.book.journal }
+    requires begun { L.begun ≡ opened.book.begun }
+    requires full { limit_numbers opened.book.limits ≡ full_limits }
     requires name { blank.name ≡ L.name }
     requires parts { blank.parts ≡ L.parts }
     requires seats { blank.parts ≡ words.now.workers + words.now.sessions }
-    requires from { L.from ≡ 0 }
     requires most { L.most ≡ 1000000 }
     requires limits { L.limits ≡ full_limits }
     requires messages { AccountsForMessages L.accounts L.most [] }
     requires turns { AccountsForTurns L.accounts L.most [] }
     requires told { (receipts : List Receipt) → L.accounts receipts → IsCalled 1000000 receipts }
-    ensures { Serves words.now.workers words.now.sessions result }
+    ensures { Serves words.now.workers words.now.sessions (is_some words.now.journal) result }
 {
-    let book = Book::new(alloc, Limits::FULL)?;
     let seats = threads_of(words);
-    let (shared, mut free) = Shared::<L>::new(alloc, blank, book, seats, mark_of(words));
+    let OpenedBook { book, records } = opened;
+    let (shared, mut free) = Shared::<L>::new(alloc, blank, book, records, seats, mark_of(words));
     let running = Running { gate, turns };
     match serve_over(rt, alloc, &shared, &mut free, words, running) {
         Ok(seats) => settle(shared, free, seats),
@@ -254,6 +295,16 @@ fn listen_alone<R: Net + Files<File = File>>(
     }
 }
 
+/// Tells on standard error which socket is served, and how many changes were recovered.
+fn tell_start(rt: &impl Eprint, words: &ServeOptions<'_>, opened: &OpenedBook) {
+    if words.journal.is_some() {
+        let entries = opened.book.journal().len() as u64;
+        let changes = opened.book.begun().saturating_add(entries);
+        let _ = eprintln!(rt; "gorefd: recovered {changes} changes");
+    }
+    let _ = eprintln!(rt; "gorefd: serving {}", words.socket);
+}
+
 /// Tells on standard error that a server ended, and how many entries its journals had.
 fn tell_end(rt: &impl Eprint, served: &Result<u64, ServeFault>) {
     if let Ok(entries) = served {
@@ -266,14 +317,22 @@ fn serve_held<
     R: Threads + Wait + Clock + Net + Files<File = File> + Eprint + AllocGlobal + Sync,
     G: Gate + Sync,
 >(rt: &R, words: &ServeOptions<'_>, gate: &G, held: &HeldPath) -> Result<u64, ServeFault>
-    ensures { Serves words.now.workers words.now.sessions result }
+    ensures { Serves words.now.workers words.now.sessions (is_some words.now.journal) result }
 {
     let alloc = rt.alloc();
-    let listener = listen_alone(rt, alloc, words.socket, held)?;
-    let turns = Turns::new(alloc, listener, held.share()?, words);
+    let share = held.share()?;
+    let opened = open_book(rt, alloc, words)?;
+    let listener = match listen_alone(rt, alloc, words.socket, held) {
+        Ok(listener) => listener,
+        Err(fault) => {
+            give_up(opened);
+            return Err(fault);
+        }
+    };
+    let turns = Turns::new(alloc, listener, share, words);
     let blank = Blank::new(threads_of(words));
-    let _ = eprintln!(rt; "gorefd: serving {}", words.socket);
-    let served = serve_in::<Brand, R, G>(rt, alloc, words, gate, turns, blank);
+    tell_start(rt, words, &opened);
+    let served = serve_in::<Brand, R, G>(rt, alloc, words, gate, turns, opened, blank);
     let _ = fs::remove_file(rt, words.socket);
     tell_end(rt, &served);
     served
@@ -286,7 +345,7 @@ pub fn serve<
     R: Threads + Wait + Clock + Net + Files<File = File> + Eprint + AllocGlobal + Sync,
     G: Gate + Sync,
 >(rt: &R, words: &ServeOptions<'_>, gate: &G) -> Result<u64, ServeFault>
-    ensures { Serves words.now.workers words.now.sessions result }
+    ensures { Serves words.now.workers words.now.sessions (is_some words.now.journal) result }
 {
     let held = hold(rt, rt.alloc(), words.socket)?;
     serve_held(rt, words, gate, &held)

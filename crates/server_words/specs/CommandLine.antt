@@ -25,15 +25,16 @@ number_rule name most = record (option_rule name) { parser = Some (parser.Signed
 abbrev pub run_app : App
 run_app = new_app (codes "run")
 
--- the subcommand `serve`, with its six options
+-- the subcommand `serve`, with its seven options
 abbrev pub serve_app : App
-serve_app = with_rule (with_rule (with_rule (with_rule (with_rule (with_rule (new_app (codes "serve"))
+serve_app = with_rule (with_rule (with_rule (with_rule (with_rule (with_rule (with_rule (new_app (codes "serve"))
     socket_rule)
     (required_rule (number_rule (codes "workers") 16)))
     (required_rule (number_rule (codes "sessions") 32)))
     (number_rule (codes "stop-after") 1000000))
     (number_rule (codes "idle") 1000000))
-    (number_rule (codes "chapter") 900000)
+    (number_rule (codes "chapter") 900000))
+    (option_rule (codes "journal"))
 
 -- an option that has no value
 abbrev pub flag_rule : Text → Rule

@@ -1,5 +1,5 @@
 -- The request of a command line, from what the parser of command lines found in it.
-use Rattle.std.specs.Prelude.{◌≡◌, ◌↔◌, ◌≤◌, ℕ, IsTrue, List, Option, Some, None, codes}
+use Rattle.std.specs.Prelude.{◌≡◌, ◌↔◌, ◌≤◌, ℕ, IsTrue, List, Option, Some, None, codes, option_map}
 use Rattle.std.specs.Str.Parse.{IsNumeral, digits_value, without_leading_plus}
 use Rattle.clap.specs.Words.{Row, Text, first_of, one_of}
 use Rattle.server_words.specs.declared.requests.ServeOptions.{ServeOptions}
@@ -36,6 +36,7 @@ pub record AreServeOptions (rows : List Row) (words : ServeOptions) : Type 0 whe
   pub stop_after : IsOptional (codes "stop-after") rows words.stop_after
   pub idle : IsOptional (codes "idle") rows words.idle
   pub chapter : IsOptional (codes "chapter") rows words.chapter
+  pub journal : first_of (codes "journal") rows ≡ option_map (λ folder. folder.now) words.journal
 
 -- the options of `serve`, or none where one is missing or out of its range
 abbrev pub FindsServe : List Row → Option ServeOptions → Type 0

@@ -109,6 +109,19 @@ fn chapter<'a>(alloc: Global) -> Arg<'a>
     )
 }
 
+/// The option `--journal DIR`.
+fn journal<'a>(alloc: Global) -> Arg<'a>
+    ensures rule { rule_of result ≡ option_rule (codes "journal") }
+    ensures local { result.global ≡ false }
+{
+    Arg::new(alloc, "journal")
+        .long("journal")
+        .value_name("DIR")
+        .help(
+            "Keeps each change in this folder before it is answered, and goes on with those that are there",
+        )
+}
+
 /// The subcommand `run`.
 fn run_command<'a>(alloc: Global) -> Command<'a>
     ensures app { app_of result ≡ run_app }
@@ -130,7 +143,8 @@ fn serve_command<'a>(alloc: Global) -> Result<Command<'a>, AllocError>
     let with_sessions = with_workers.arg(sessions(alloc))?;
     let with_end = with_sessions.arg(stop_after(alloc))?;
     let with_idle = with_end.arg(idle(alloc))?;
-    with_idle.arg(chapter(alloc))
+    let with_chapter = with_idle.arg(chapter(alloc))?;
+    with_chapter.arg(journal(alloc))
 }
 
 /// The option `--now`.

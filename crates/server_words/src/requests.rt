@@ -11,7 +11,8 @@ use clap::ArgMatches;
 
 /// The options of `serve`: the path of the socket, and how many threads build packages and how many serve connections. `stop_after` is the
 /// number of connections after which to end, if there is one. `idle` is for how many seconds a client may send nothing, if that is limited.
-/// `chapter` is how many entries a chapter of the journal has, if that is said.
+/// `chapter` is how many entries a chapter of the journal has, if that is said. `journal` is the folder where the changes are kept, if there is
+/// one.
 #[derive(Clone, Copy)]
 pub struct ServeOptions<'a> {
     pub socket: &'a str,
@@ -20,6 +21,7 @@ pub struct ServeOptions<'a> {
     pub stop_after: Option<u32>,
     pub idle: Option<u32>,
     pub chapter: Option<u32>,
+    pub journal: Option<&'a str>,
 }
 
 /// The options of `stop`: the path of the socket, and whether the connections of sessions under way are shut.
@@ -83,6 +85,7 @@ fn serve_words<'a>(matches: &ArgMatches<'a>) -> Option<ServeOptions<'a>>
     let stop_after = optional_number(matches, "stop-after")?;
     let idle = optional_number(matches, "idle")?;
     let chapter = optional_number(matches, "chapter")?;
+    let journal = matches.get_str("journal");
     Some(ServeOptions {
         socket,
         workers,
@@ -90,6 +93,7 @@ fn serve_words<'a>(matches: &ArgMatches<'a>) -> Option<ServeOptions<'a>>
         stop_after,
         idle,
         chapter,
+        journal,
     })
 }
 

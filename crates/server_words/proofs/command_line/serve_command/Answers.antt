@@ -14,7 +14,8 @@ returns-clause-app c =
     let third = with_option _ _ _ _ _ c.in_ok-with_sessions.ensures second c.sessions.ensures.rule c.sessions.ensures.local in
     let fourth = with_option _ _ _ _ _ c.in_ok-with_end.ensures third c.stop_after.ensures.rule c.stop_after.ensures.local in
     let fifth = with_option _ _ _ _ _ c.in_ok-with_idle.ensures fourth c.idle.ensures.rule c.idle.ensures.local in
-    with_last _ _ _ _ _ c.arg-6.ensures fifth c.chapter.ensures.rule c.chapter.ensures.local
+    let sixth = with_option _ _ _ _ _ c.in_ok-with_chapter.ensures fifth c.chapter.ensures.rule c.chapter.ensures.local in
+    with_last _ _ _ _ _ c.arg-7.ensures sixth c.journal.ensures.rule c.journal.ensures.local
 
 pub returns-clause-local : goal.returns-clause-local
 returns-clause-local c =
@@ -24,4 +25,5 @@ returns-clause-local c =
     let third = stays_local _ _ _ c.in_ok-with_sessions.ensures second c.sessions.ensures.local in
     let fourth = stays_local _ _ _ c.in_ok-with_end.ensures third c.stop_after.ensures.local in
     let fifth = stays_local _ _ _ c.in_ok-with_idle.ensures fourth c.idle.ensures.local in
-    last_local _ _ _ c.arg-6.ensures fifth c.chapter.ensures.local
+    let sixth = stays_local _ _ _ c.in_ok-with_chapter.ensures fifth c.chapter.ensures.local in
+    last_local _ _ _ c.arg-7.ensures sixth c.journal.ensures.local

@@ -23,4 +23,5 @@ returns c = record {
   stop_after = c.in_ok-stop_after.ensures;
   idle = c.in_ok-idle.ensures;
   chapter = c.in_ok-chapter.ensures;
+  journal = sym (c.get_str-journal.ensures ∙ first_value-rows (found_of c.args.matches.now) (codes "journal"));
 }

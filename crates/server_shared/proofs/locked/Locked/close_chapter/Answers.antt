@@ -24,7 +24,8 @@ invariant_of-self-in-Err-clause-counted g c =
 
 pub invariant_of-self-in-Err-clause-past : goal.invariant_of-self-in-Err-clause-past
 invariant_of-self-in-Err-clause-past g c =
-    subst (λ (m : Machine). ∥ HasPast g.L.Opening.accounts g.L.Opening.from c.args.self.now.from m ∥₁) (sym c.in-Err.ensures.err) c.args.self.now.past
+    subst (λ (m : Machine). ∥ HasPast g.L.Opening.accounts g.L.Opening.begun g.L.Opening.from c.args.self.now.from m ∥₁) (sym c.in-Err.ensures.err)
+    c.args.self.now.past
 
 pub invariant_of-self-in-Ok-clause-counted : goal.invariant_of-self-in-Ok-clause-counted
 invariant_of-self-in-Ok-clause-counted g c =
@@ -37,6 +38,6 @@ invariant_of-self-in-Ok-clause-known g c =
 
 pub invariant_of-self-in-Ok-clause-past : goal.invariant_of-self-in-Ok-clause-past
 invariant_of-self-in-Ok-clause-past g c =
-    subst (λ (m : Machine). ∥ HasPast g.L.Opening.accounts g.L.Opening.from 0 m ∥₁) (sym c.in-Ok.ensures.closed)
-    (past_with_border g.L.Opening.accounts g.L.Opening.from c.args.self.now.from c.args.self.now.book c.args.self.now.handed.items
+    subst (λ (m : Machine). ∥ HasPast g.L.Opening.accounts g.L.Opening.begun g.L.Opening.from 0 m ∥₁) (sym c.in-Ok.ensures.closed)
+    (past_with_border g.L.Opening.accounts g.L.Opening.begun g.L.Opening.from c.args.self.now.from c.args.self.now.book c.args.self.now.handed.items
     (c.is_settled_by.ensures.exact.0 c.if-not-is_settled_by.false) c.args.self.now.known c.args.self.now.past)

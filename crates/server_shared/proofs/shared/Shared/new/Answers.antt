@@ -10,9 +10,10 @@ use Rattle.server_shared.proofs.shared.Shared.new.Goals as goal
 pub invariant_of-new-clause-past : goal.invariant_of-new-clause-past
 invariant_of-new-clause-past g c =
     let book = c.args.book in
-    subst (λ (n : ℕ). ∥ HasPast g.L.Opening.accounts g.L.Opening.from n book ∥₁) (sym (ap length c.journal.ensures.journal))
-    (subst (λ (n : ℕ). ∥ HasPast g.L.Opening.accounts n (length book.journal) book ∥₁) c.requires.from
-    (∥∥₁_map c.journal.ensures.reached (λ (is : HasHistory book). past_opened g.L.Opening.accounts book c.requires.open is)))
+    subst (λ (n : ℕ). ∥ HasPast g.L.Opening.accounts g.L.Opening.begun g.L.Opening.from n book ∥₁) (sym (ap length c.journal.ensures.journal))
+    (subst (λ (n : ℕ). ∥ HasPast g.L.Opening.accounts g.L.Opening.begun n (length book.journal) book ∥₁) c.requires.from
+    (subst (λ (n : ℕ). ∥ HasPast g.L.Opening.accounts n (length book.journal) (length book.journal) book ∥₁) c.requires.begun
+    (∥∥₁_map c.journal.ensures.reached (λ (is : HasHistory book). past_opened g.L.Opening.accounts book is))))
 
 pub invariant_of-new-clause-known : goal.invariant_of-new-clause-known
 invariant_of-new-clause-known g c =

@@ -1,0 +1,8 @@
+-- The first bytes of the digest.
+use Rattle.std.proofs.Common.{List, ℕ, ap, take, ◌∙◌}
+use Rattle.history_records.specs.Records.{count_check_of}
+use Rattle.history_records.proofs.writing.count_check.Goals as goal
+
+pub returns : goal.returns
+unfolding count_check_of
+returns c = c.copy_from_slice.ensures.after ∙ ap (λ (x : List ℕ). take 4 x) c.digest-digest.ensures
