@@ -34,6 +34,9 @@ pub enum Refusal {
     Already,
     NoJob,
     BodyShort,
+    Coupled { place: Place },
+    /// The change could not be kept on the disk.
+    Disk,
 }
 
 impl From<AllocError> for Refusal {

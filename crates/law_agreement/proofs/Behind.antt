@@ -44,6 +44,7 @@ use Rattle.law_agreement.specs.Behind.{TurnsBehind, TakenBehind, TurnsQualified}
 use Rattle.law_agreement.specs.ScopeRenames.{IsRenameIn}
 use Rattle.law_agreement.proofs.Afterwards.{KeepsPackages, becomes_once, other_bindings, same_number, same_path}
 use Rattle.law_agreement.proofs.SeenAgain.{IsCalled, seen_once, seen_still, turns_lost, turns_caught, lost_unseen, caught_seen}
+use Rattle.law_renamed_workspaces.proofs.RenamedSets.{own_alone}
 
 other_block : Universe ≡ PackageBlock → ⊥
 other_block e = cc
@@ -80,11 +81,14 @@ module _ (w : Workspace) (known : Verdicts) (p : Package) (n : ℕ) (name : List
   kept_name e b other =
       sym called_so
       ∙ others_are_kept w known (Declared p.path n) name s h.rename x x_after.0 is x_after.1.relaid u
-      (λ inside k. other (one_declaration w known x is u inside (Declared p.path n) e k b))
+      (λ inside some. other
+      (sym (own_alone Known (Declared p.path n) h.rename.rename.set h.rename.rename.is_set (λ m. m) some.declaration some.among)
+      ∙ one_declaration w known x is u inside some.declaration e some.bound b))
 
   new_name : IsBoundToDeclaration w known x u (Declared p.path n) → called ≡ name
   new_name b =
-      sym called_so ∙ bound_is_called w known (Declared p.path n) name s h.rename x x_after.0 is x_after.1.relaid u place begins b
+      sym called_so ∙ bound_is_called w known (Declared p.path n) name s h.rename x x_after.0 is x_after.1.relaid u place begins
+      (record { declaration = Declared p.path n; among = h.rename.rename.is_set.has_it; bound = b })
 
   -- what was bound to a declaration of the package
 

@@ -10,11 +10,11 @@ use Rattle.law_renamed_workspaces.proofs.BoundAlike.{packages_alike}
 use Rattle.law_renamed_workspaces.proofs.KeptBindings.{scoped_of}
 use Rattle.law_renamed_workspaces.proofs.ScopedAgain.{scopes_again}
 pub use Rattle.law_renamed_workspaces.proofs.MovedTokens.{moved_tokens}
-use Rattle.law_agreement.specs.Agreement.{PlainNoneLostPreserves, PlainPreservedLosesNone}
+use Rattle.law_agreement.specs.Agreement.{PlainNoneLostPreserves}
 use Rattle.law_agreement.proofs.NoneLost.{none_lost_preserves}
-use Rattle.law_agreement.proofs.Preserved.{preserved_loses_none}
+use Rattle.law_agreement.proofs.Preserved.{members_lose_none}
 use Rattle.law_agreement.proofs.ScopedFaultless.{is_scoped, faultless_scoped}
-use Rattle.law_agreement.proofs.Premises.{KeptAreSoundBelow, KeptPackagesAreRelaid, SelectorsStayQualified, KeptMembersStay}
+use Rattle.law_agreement.proofs.Premises.{KeptAreSoundBelow, KeptPackagesAreRelaid, PreservedByMembers, SelectorsStayQualified}
 use Rattle.law_agreement.proofs.Premises.{HasSameScopes, ScopedPackagesAreChecked, PackagesStayAlike}
 use Rattle.law_agreement.proofs.Premises.{ExportsMoveBelow, PlainRenamesBringNoFault, MembersStayBound, UnboundStayUnbound}
 
@@ -29,7 +29,7 @@ packages_stay below w known d name s after free p is =
         (
           q.1.1,
           (
-            packages_alike w known after d name s free.rename free.right free.none p q.0 is q.1.0 q.1.1 under,
+            packages_alike w known after d name s free.rename free.right free.harmless.none_lost p q.0 is q.1.0 q.1.1 under,
             moved_tokens w known after d name s free.rename p q.0 is q.1.0 q.1.1,
           ),
         ),
@@ -58,7 +58,7 @@ scoped_checked below w known d name s after free o is_o =
     scopes_again w known after d name s free.rename free.right p.0 q.0 p.1.0 q.1.0 q.1.1.path under.sound o is_o path in
     (q.0, (q.1.0, same_scopes o q.0 same))
 
--- So where no identifier is lost or captured, bindings are preserved, if no fault comes and members and unbound names stay.
+-- So a harmless rename preserves bindings, if no fault comes and members and unbound names stay.
 pub none_lost_keeps : PlainRenamesBringNoFault → ExportsMoveBelow → MembersStayBound → UnboundStayUnbound → PlainNoneLostPreserves
 none_lost_keeps no_fault below members unbound =
     none_lost_preserves no_fault (scoped_checked below) (packages_stay below) members unbound
@@ -90,5 +90,5 @@ kept_relaid below w known d name s after kept p is =
     )
 
 -- So where bindings are preserved no identifier is lost or captured, if names of packages, qualified identifiers and members stay.
-pub preserved_keeps : KeptAreSoundBelow → SelectorsStayQualified → KeptMembersStay → PlainPreservedLosesNone
-preserved_keeps below qualified members = preserved_loses_none (kept_relaid below) faultless_scoped qualified members
+pub preserved_keeps : KeptAreSoundBelow → SelectorsStayQualified → PreservedByMembers
+preserved_keeps below qualified = members_lose_none (kept_relaid below) faultless_scoped qualified

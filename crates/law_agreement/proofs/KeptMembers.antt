@@ -30,6 +30,7 @@ use Rattle.law_renamed_workspaces.specs.Layouts.{IsToken}
 use Rattle.law_renamed_workspaces.proofs.FilesAfter.{file_after}
 use Rattle.law_renamed_workspaces.proofs.CountingMembers as counting
 use Rattle.law_changed_types.proofs.Alike.{of_bound}
+use Rattle.law_agreement.specs.Agreement.{KeepsSeenImplementing}
 use Rattle.law_agreement.proofs.Premises.{IsKeptRename, KeptMembersStay}
 use Rattle.law_agreement.proofs.UnboundStay.{field_counts, method_counts}
 use Rattle.law_agreement.proofs.KeptUses.{q, is, relaid, stays, finds_same, same_members, use_selects}
@@ -65,8 +66,8 @@ module _ (w : Workspace) (known : Verdicts) (d : Declaration) (name : List ℕ) 
         begins = subst (λ o. TokenBegins o at.index place) (sym f.1.0) (there.1, there.2);
       }
 
-  stays_by_member : StaysByMember w known r p u place
-  stays_by_member old b =
+  stays_by_member : KeepsSeenImplementing w known (revision_of w s) after → StaysByMember w known r p u place
+  stays_by_member same_types old b =
       let f = b.judged.source in
       let v = b.judged.world in
       let g = renamed_file (edits_by (change_of s f.path)) f in
@@ -74,7 +75,7 @@ module _ (w : Workspace) (known : Verdicts) (d : Declaration) (name : List ℕ) 
       let lies = relaid w known d name s after kept p was in
       let to : slice_get new.files at.file ≡ Some g = file_after w known after d name s kept.rename p new was is_new lies.path at.file f b.judged.in_file in
       let z = have_worlds x kept.sound after kept.right new is_new at.file g to in
-      let found = finds_same w known d name s after kept p was at.file f g v z.0 b.judged.in_file to b.judged.judged_by z.1 in
+      let found = finds_same w known d name s after kept p was at.file f g v z.0 b.judged.in_file to b.judged.judged_by z.1 same_types in
       let among : Contains (members_of (check_file v (is_init f) f.tree).uses) b.found = subst (λ us. Contains us b.found) b.judged.found b.is_use in
       let among_now : Contains (members_of (check_file z.0 (is_init g) g.tree).uses) b.found =
       subst (λ (c : FoundSoFar). Contains (members_of c.uses) b.found) (sym found) among in
@@ -128,5 +129,5 @@ module _ (w : Workspace) (known : Verdicts) (d : Declaration) (name : List ℕ) 
       }
 
 pub kept_members_stay : KeptMembersStay
-kept_members_stay w known d name s after kept p is u place begins =
-    (stays_by_member w known d name s after kept p is u place begins, stays_by_name w known d name s after kept p is u place begins)
+kept_members_stay w known d name s after kept same_types p is u place begins =
+    (stays_by_member w known d name s after kept p is u place begins same_types, stays_by_name w known d name s after kept p is u place begins)

@@ -1,5 +1,5 @@
 -- Where a plain rename keeps all bindings, and brings no fault, each file is found the same, and uses of members stay.
-use Rattle.std.proofs.Common.{ℕ, ◌≡◌, inl, inr, List, [], ap, sym, subst, refl, ◌∙◌}
+use Rattle.std.proofs.Common.{ℕ, ◌≡◌, inl, inr, Bool, true, false, List, [], ap, sym, subst, refl, ◌∙◌}
 use Rattle.std.specs.Prelude.{Some, Contains, slice_get}
 use Rattle.std.proofs.Math.Path.{fun_ext}
 use Rattle.base_files.specs.Workspace.{Workspace}
@@ -45,7 +45,7 @@ use Rattle.law_renamed_workspaces.proofs.MembersAfterwards.{member_stays}
 use Rattle.law_renamed_workspaces.proofs.UsesOfMembers.{IsUseAt, is_use_at}
 use Rattle.law_renamed_workspaces.proofs.Inits.{same_tree, keep_inits}
 use Rattle.law_agreement.proofs.Premises.{IsKeptRename}
-use Rattle.law_renamed_workspaces.proofs.NoInterfaces.{implements_alike}
+use Rattle.law_agreement.specs.Agreement.{KeepsSeenImplementing}
 use Rattle.law_agreement.proofs.AgreeingUses.{AgreeAtCommonUses, same_found}
 use Rattle.law_agreement.proofs.KeptNames.{there, begins_moved, bound_after, same_member}
 use Rattle.law_agreement.proofs.KeptPackages.{IsKeptPackage, is_kept, kept_under, members_below}
@@ -53,6 +53,12 @@ use Rattle.law_agreement.proofs.MemberPlaces.{used_member}
 use Rattle.law_agreement.proofs.MembersThere.{HasNewMembers, members_by_symbol}
 use Rattle.law_agreement.proofs.NearTypes.{struct_near}
 use Rattle.law_agreement.proofs.Selecting.{selects}
+
+same_truth : (a b : Bool) → (a ≡ true → b ≡ true) → (b ≡ true → a ≡ true) → a ≡ b
+same_truth true true f g = refl
+same_truth true false f g = sym (f refl)
+same_truth false true f g = g refl
+same_truth false false f g = refl
 
 -- A use that is found in a file of a package names its member.
 member_used : (p : Package) (file : ℕ) (f : SourceFile) (v : World) → slice_get p.files file ≡ Some f → IsWorldOf p file f v → (u : MemberUse) →
@@ -228,10 +234,16 @@ module _ (w : Workspace) (known : Verdicts) (d : Declaration) (name : List ℕ) 
     agree u y has has_now places befores =
         same_members u y has (subst (λ t. Contains (members_of (check_file z (is_init g) t).uses) y) (sym trees) has_now) places befores
 
-    -- so the same is found
-    pub finds_same : check_file z (is_init g) g.tree ≡ check_file v (is_init f) f.tree
-    finds_same =
+    -- so the same is found, where the same types implement the same interfaces
+    implement_same : KeepsSeenImplementing w known (revision_of w s) after → (t : PlainType) (i : Symbol) → z.implements t i ≡ v.implements t i
+    implement_same same t i =
+        let both = same p q was is relaid stays.stays.bound stays.stays.seen ds es judged.are_definitions now.are_definitions t i in
+        same_truth (z.implements t i) (v.implements t i) (λ e. (judged.implements t i).1 (both.1 ((now.implements t i).0 e)))
+        (λ e. (now.implements t i).1 (both.0 ((judged.implements t i).0 e)))
+
+    pub finds_same : KeepsSeenImplementing w known (revision_of w s) after → check_file z (is_init g) g.tree ≡ check_file v (is_init f) f.tree
+    finds_same same =
         ap (λ t. check_file z (is_init g) t) trees
         ∙ same_found v z (is_init f) (is_init g) f.tree
         (keep_inits w x known after p q was.is_checked is.is_checked relaid.layout relaid.size file f g at to trees) both.0 both.1
-        (implements_alike w sound known right p was q file f g v z judged now both.1) agree
+        (implement_same same) agree

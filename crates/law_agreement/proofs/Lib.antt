@@ -1,6 +1,7 @@
 -- The lemmas of this crate.
 pub mod Halves
 pub mod Premises
+pub mod RenamedAlone
 pub mod OneMemberUse
 pub mod OneAnswer
 pub mod ScopedPlaces

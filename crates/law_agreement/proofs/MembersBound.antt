@@ -39,7 +39,8 @@ use Rattle.law_agreement.proofs.ScopedFaultless.{faultless}
 token_there : (p : Package) (u : ℕ) (place : Place) → BeginsAt p place.path place.offset u → TokenAt p (p.layout.place u) place
 token_there p u place b = name_token (slice_get p.files (p.layout.place u).file) (p.layout.place u).index place b.1
 
-pub declared_here : (w : Workspace) (known : Verdicts) (p : Package) → IsCheckedPackage w known p → (u : ℕ) (place : Place) → BeginsAt p place.path place.offset u →
+pub declared_here : (w : Workspace) (known : Verdicts) (p : Package) → IsCheckedPackage w known p → (u : ℕ) (place : Place) →
+    BeginsAt p place.path place.offset u →
     (d : Declaration) → DeclaresMember p u d → IsDeclaredAt (IsCheckedPackage w known) d place
 declared_here w known p is u place b (Predeclared n) h = absurd h
 declared_here w known p is u place b (Declared path n) h = absurd h
@@ -84,14 +85,14 @@ module _ (below : ExportsMoveBelow) (w : Workspace) (known : Verdicts) (d : Decl
         (λ o on. faultless w known known_sound.right known_sound.sound o (to_package w p.path o on.imported))
         (record {
           same = λ o. (builds_by w x same p.path o, builds_by x w (imports_back w x same) p.path o);
-          sound = λ o on. (each w known after d name s free.rename free.right free.none o (to_package w p.path o on.imported)).sound;
+          sound = λ o on. (each w known after d name s free.rename free.right free.harmless o (to_package w p.path o on.imported)).sound;
         })
-        (λ o on. (each w known after d name s free.rename free.right free.none o (to_package w p.path o on.imported)).definitions)
+        (λ o on. (each w known after d name s free.rename free.right free.harmless o (to_package w p.path o on.imported)).definitions)
 
     pub declares_after : (u : ℕ) (place : Place) → BeginsAt p place.path place.offset u → (old : Declaration) → DeclaresMember p u old →
         DeclaresMember stay.0 u old
     declares_after u place b old h =
-        declared_members_stay w known (revision_of w s) free.none p stay.0 is stay.1.1.0 stay.1.1.1.0 seen_there u place b old h
+        declared_members_stay w known (revision_of w s) free.harmless.none_lost p stay.0 is stay.1.1.0 stay.1.1.1.0 seen_there u place b old h
 
     pub goes_itself : (u : ℕ) (place : Place) → BeginsAt p place.path place.offset u → (old : Declaration) → DeclaresMember p u old → Goes old old
     goes_itself u place b old h =
@@ -106,10 +107,10 @@ module _ (below : ExportsMoveBelow) (w : Workspace) (known : Verdicts) (d : Decl
         let at : slice_get stay.0.files file ≡ Some g =
         file_after w known after d name s free.rename p stay.0 is stay.1.0 stay.1.1.0.path file f h.judged.in_file in
         let world = have_all_worlds x free.sound after free.right stay.0 stay.1.0 file g at in
-        let same = found w known after d name s free.rename free.none p stay.0
+        let same = found w known after d name s free.rename free.harmless p stay.0
         (record { was = is; is = stay.1.0; relaid = stay.1.1.0; bound = stay.1.1.1.0; seen = seen_there }) file f g h.judged.world world.0
         h.judged.in_file at h.judged.judged_by world.1 in
-        used_members_stay w known d name s free.rename free.none p stay.0 is stay.1.1.0 stay.1.1.1.0 seen_there file f g h.judged.world world.0
+        used_members_stay w known d name s free.rename free.harmless.none_lost p stay.0 is stay.1.1.0 stay.1.1.1.0 seen_there file f g h.judged.world world.0
         h.judged.in_file at h.judged.judged_by world.1 same u refl old h
 
     pub bound_after : (u : ℕ) (place : Place) → BeginsAt p place.path place.offset u → (old : Declaration) →

@@ -21,7 +21,8 @@ use Rattle.law_changed_types.proofs.Alike.{Alike}
 use Rattle.law_renamed_workspaces.specs.Layouts.{IsRelaid}
 use Rattle.law_renamed_workspaces.specs.MembersMoved.{HasFirstField, HasFirstMethod, AreFieldsSeenAfter}
 use Rattle.law_renamed_workspaces.proofs.CountingMembers as counting
-use Rattle.law_renamed_workspaces.proofs.SeenStructs.{field_is_written, field_found}
+use Rattle.law_faultless.proofs.MembersWritten.{field_is_written}
+use Rattle.law_renamed_workspaces.proofs.SeenStructs.{field_found}
 
 -- A field is found under its name.
 pub record IsThere (name : List ℕ) (o : Option Field) : Type 0 where
@@ -95,7 +96,8 @@ module _ (w : Workspace) (known : Verdicts) (r : Revision) (p q : Package) (is :
       by_rank : (o : Option PlacedType) → slice_get (package_types q) definition ≡ o →
           HasNewMembers (IsCheckedPackage w known) r p.path definition (j.definition definition)
       by_rank None at =
-          subst (HasNewMembers (IsCheckedPackage w known) r p.path definition) (sym (h.beyond definition at)) (none_beyond definition (symbol_in q definition) at)
+          subst (HasNewMembers (IsCheckedPackage w known) r p.path definition) (sym (h.beyond definition at)) (none_beyond definition (symbol_in q
+          definition) at)
       by_rank (Some d) at = own_members definition (j.definition definition) (h.definitions definition d at)
 
   -- by symbol

@@ -17,22 +17,22 @@ use Rattle.law_renamed_workspaces.proofs.Packages.{package_there, new_paths, new
 use Rattle.law_renamed_workspaces.specs.VerdictsStay.{IsMovedVerdict}
 use Rattle.law_renamed_workspaces.proofs.Laws.{each, whole}
 use Rattle.law_renamed_workspaces.proofs.OuterFaults.{name_stays}
-use Rattle.law_agreement.specs.Agreement.{CheckedNoneLostPreserves, PlainNoneLostPreserves, PlainPreservedLosesNone}
+use Rattle.law_agreement.specs.Agreement.{CheckedNoneLostPreserves, PlainNoneLostPreserves}
 use Rattle.law_agreement.proofs.Followed.{none_lost_keeps, packages_stay, preserved_keeps, scoped_checked}
 use Rattle.law_agreement.proofs.NoneLost.{none_lost_sound}
 use Rattle.law_agreement.proofs.MembersBound.{members_bound}
 use Rattle.law_agreement.proofs.UsedMembers.{used_declared}
 use Rattle.law_agreement.proofs.UnboundStay.{unbound_stay}
 use Rattle.law_agreement.proofs.Premises.{ExportsMoveBelow, PlainRenamesBringNoFault, WorkspacesHaveVerdicts}
-use Rattle.law_agreement.proofs.Premises.{IsKeptRename, KeptAreSoundBelow, SelectorsStayQualified, KeptMembersStay}
+use Rattle.law_agreement.proofs.Premises.{IsKeptRename, KeptAreSoundBelow, PreservedByMembers, SelectorsStayQualified}
 use Rattle.law_agreement.proofs.ScopedFaultless.{faultless, data_of}
 
--- where no identifier is lost or captured
+-- where the rename is harmless
 
 exports_below : ExportsMoveBelow
 exports_below w known d name s after free path =
     let at : (q : List ℕ) → BuildsOn w path q → IsMovedVerdict w known after (revision_of w s) q =
-    (λ q on. each w known after d name s free.rename free.right free.none q (to_package w path q on.imported)) in
+    (λ q on. each w known after d name s free.rename free.right free.harmless q (to_package w path q on.imported)) in
     record {
       sound = record { faultless = λ q on. (at q on).sound; named = λ q on. (at q on).name };
       moved = λ q on. let v = at q on in record { name = v.name; exported = v.exported; underlying = λ rank. (v.definitions rank).underlying };
@@ -41,13 +41,13 @@ exports_below w known d name s after free path =
 no_fault : WorkspacesHaveVerdicts → PlainRenamesBringNoFault
 no_fault have w known d name s rename none = let v = have (edited s w) in whole w known v.0 d name s rename v.1 none
 
--- Where no identifier is lost or captured, a plain rename preserves bindings, if the edited workspace has verdicts.
+-- A plain rename that is harmless preserves bindings, if the edited workspace has verdicts.
 pub checked_none_lost : CheckedNoneLostPreserves
 checked_none_lost w known after d name s rename right none =
     none_lost_sound (scoped_checked exports_below) (packages_stay exports_below) (members_bound exports_below used_declared) (unbound_stay exports_below)
     w known d name s rename (whole w known after d name s rename right none) none
 
--- Where no identifier is lost or captured, a plain rename preserves bindings, if each workspace has right verdicts.
+-- A plain rename that is harmless preserves bindings, if each workspace has right verdicts.
 pub none_lost_follows : WorkspacesHaveVerdicts → PlainNoneLostPreserves
 none_lost_follows have = none_lost_keeps (no_fault have) exports_below (members_bound exports_below used_declared) (unbound_stay exports_below)
 
@@ -82,5 +82,5 @@ kept_below w known d name s after kept path = record {
 }
 
 -- Where bindings are preserved, no identifier is lost or captured, if qualified identifiers and members stay.
-pub preserved_follows : SelectorsStayQualified → KeptMembersStay → PlainPreservedLosesNone
-preserved_follows qualified members = preserved_keeps kept_below qualified members
+pub preserved_follows : SelectorsStayQualified → PreservedByMembers
+preserved_follows qualified = preserved_keeps kept_below qualified

@@ -1,4 +1,4 @@
--- A plain rename that loses and captures no identifier preserves bindings.
+-- A plain rename that is harmless preserves bindings.
 use Rattle.std.proofs.Common.{ℕ, suc, ◌≡◌, inl, inr, List, sym, ap, subst, ◌∙◌}
 use Rattle.std.specs.Prelude.{[], Contains}
 use Rattle.base_lemmas.proofs.Elements.{first_in}
@@ -29,7 +29,8 @@ use Rattle.refs_index.specs.Corresponding.{Corresponds, predeclared, stands}
 use Rattle.refactor_after.specs.ScopedPackages.{IsScopedIn}
 use Rattle.refactor_preserve.specs.BoundToOne.{IsBoundToOne}
 use Rattle.refactor_conflict.specs.BoundAfter.{HasBecome, IsBoundByScopes, IsBoundByPackage}
-use Rattle.refactor_conflict.specs.Staying.{StaysBound, NoneIsLost}
+use Rattle.refactor_conflict.specs.Staying.{StaysBound}
+use Rattle.law_renamed_workspaces.specs.Harmless.{IsHarmless}
 use Rattle.law_renamed_workspaces.specs.Renames.{IsRename, IsPlainRename}
 use Rattle.workspace_check.specs.FaultLists.{ListsFaults}
 use Rattle.refactor_preserve.specs.Preserved.{Preserves}
@@ -154,12 +155,13 @@ module _ (checked : ScopedPackagesAreChecked) (stay_alike : PackagesStayAlike) (
             (declared_checked other.path n));
       }
 
-  kept_at : (place : Place) (old : Declaration) (used : IsUseOf w known old place) → uses.IsBoundToDeclaration w known used.used_in used.user old → Kept place old
+  kept_at : (place : Place) (old : Declaration) (used : IsUseOf w known old place) → uses.IsBoundToDeclaration w known used.used_in used.user old →
+      Kept place old
   kept_at place old used (binds.by_scope b) =
-      kept_by_scope place old ((free.none place used.used_in used.is_package used.user used.begins).by_scope old b)
+      kept_by_scope place old ((free.harmless.none_lost place used.used_in used.is_package used.user used.begins).by_scope old b)
   kept_at place old used (binds.by_package b) =
       kept_by_package used.used_in used.is_package used.user place used.begins old
-      ((free.none place used.used_in used.is_package used.user used.begins).by_package old b)
+      ((free.harmless.none_lost place used.used_in used.is_package used.user used.begins).by_package old b)
   kept_at place old used (binds.by_member b) = members w known d name s after free used.used_in used.is_package used.user place used.begins old (inl b)
   kept_at place old used (binds.by_name b) = members w known d name s after free used.used_in used.is_package used.user place used.begins old (inr b)
 
@@ -173,10 +175,10 @@ module _ (checked : ScopedPackagesAreChecked) (stay_alike : PackagesStayAlike) (
 -- where no fault comes
 pub none_lost_sound : ScopedPackagesAreChecked → PackagesStayAlike → MembersStayBound → UnboundStayUnbound → (w : Workspace) (known : Verdicts)
     (d : Declaration) (name : List ℕ) (s : FileChanges) → IsPlainRename w known d name s → ListsFaults (edited s w) [] →
-    NoneIsLost w known (revision_of w s) → Preserves w (revision_of w s)
+    IsHarmless w known (revision_of w s) → Preserves w (revision_of w s)
 none_lost_sound checked alike members unbound w known d name s rename sound none =
     let after = sound.known in
-    let free : IsFreeRename w known d name s after = record { rename = rename; right = sound.right; sound = sound; none = none } in
+    let free : IsFreeRename w known d name s after = record { rename = rename; right = sound.right; sound = sound; harmless = none } in
     record {
       before = known;
       right = rename.rename.right;

@@ -16,6 +16,7 @@ use Rattle.refactor_preserve.specs.BoundToOne.{IsBoundToOne}
 use Rattle.law_changed_types.specs.SameBindings.{IsBoundAlike}
 use Rattle.refactor_after.specs.ScopedPackages.{IsScopedIn}
 use Rattle.law_renamed_workspaces.specs.Layouts.{IsRelaid, AreSoundBelow}
+use Rattle.law_renamed_workspaces.specs.Harmless.{IsHarmless}
 use Rattle.law_renamed_workspaces.specs.Renames.{IsPlainRename}
 use Rattle.law_renamed_workspaces.specs.MovedExports.{AreMovedBelow}
 use Rattle.workspace_check.specs.FaultLists.{ListsFaults}
@@ -23,8 +24,10 @@ use Rattle.types_info.specs.QualifiedIdentifiers.{IsQualifiedByPath}
 pub use Rattle.law_renamed_workspaces.specs.Apart.{MoveApart, DeclarationsMoveApart}
 pub use Rattle.law_renamed_workspaces.specs.ScopedPackages.{HasMovedTokens, ScopedPackagesAreRelaid, DeclarationsHavePlaces, HasSameScopes}
 pub use Rattle.law_renamed_workspaces.specs.ScopedPackages.{FaultlessPackagesAreScoped}
-use Rattle.refactor_conflict.specs.Staying.{StaysByMember, StaysByName, NoneIsLost}
-use Rattle.refactor_preserve.specs.Preserved.{KeepsBindings}
+use Rattle.refactor_conflict.specs.Staying.{NoneIsLost}
+use Rattle.refactor_preserve.specs.Preserved.{KeepsBindings, Preserves}
+use Rattle.law_agreement.specs.Agreement.{KeepsSeenImplementing}
+use Rattle.law_agreement.proofs.Afterwards.{KeepsMembers}
 
 -- A plain rename keeps all bindings, and brings no fault.
 pub record IsKeptRename (w : Workspace) (known : Verdicts) (d : Declaration) (name : List ℕ) (s : FileChanges) (after : Verdicts) : Type 0 where
@@ -50,23 +53,29 @@ SelectorsStayQualified = (w : Workspace) (known : Verdicts) (d : Declaration) (n
     IsKeptRename w known d name s after → (p q : Package) → IsCheckedPackage w known p → IsCheckedPackage (edited s w) after q → q.path ≡ p.path →
     (u : ℕ) (path : List ℕ) → IsQualifiedByPath p u path → (e : Declaration) → BindsByMember q u e → ⊥
 
--- Uses of members, and the names by which members are declared, stay bound, by the types of before and the new names.
+-- Where the same types implement the same interfaces, uses of members stay bound, by the types of before and the new names. So do the names by
+-- which members are declared.
 abbrev pub KeptMembersStay : Type 0
 KeptMembersStay = (w : Workspace) (known : Verdicts) (d : Declaration) (name : List ℕ) (s : FileChanges) (after : Verdicts) →
-    IsKeptRename w known d name s after → (p : Package) → IsCheckedPackage w known p → (u : ℕ) (place : Place) → BeginsAt p place.path place.offset u →
-    StaysByMember w known (revision_of w s) p u place × StaysByName w known (revision_of w s) p u place
+    IsKeptRename w known d name s after → KeepsSeenImplementing w known (revision_of w s) after → KeepsMembers w known (revision_of w s)
 
--- A plain rename that loses and captures no identifier brings no fault.
+-- Where these stay, a plain rename that preserves bindings loses and captures no identifier.
+abbrev pub PreservedByMembers : Type 0
+PreservedByMembers = (w : Workspace) (known : Verdicts) (d : Declaration) (name : List ℕ) (s : FileChanges) → IsPlainRename w known d name s →
+    (k : Preserves w (revision_of w s)) → (IsKeptRename w known d name s k.after → KeepsMembers w known (revision_of w s)) →
+    NoneIsLost w known (revision_of w s)
+
+-- A plain rename that is harmless brings no fault.
 abbrev pub PlainRenamesBringNoFault : Type 0
 PlainRenamesBringNoFault = (w : Workspace) (known : Verdicts) (d : Declaration) (name : List ℕ) (s : FileChanges) → IsPlainRename w known d name s →
-    NoneIsLost w known (revision_of w s) → ListsFaults (edited s w) []
+    IsHarmless w known (revision_of w s) → ListsFaults (edited s w) []
 
--- A plain rename loses and captures no identifier, and brings no fault.
+-- A plain rename is harmless, and brings no fault.
 pub record IsFreeRename (w : Workspace) (known : Verdicts) (d : Declaration) (name : List ℕ) (s : FileChanges) (after : Verdicts) : Type 0 where
   pub rename : IsPlainRename w known d name s
   pub right : AreVerdicts (edited s w) after
   pub sound : ListsFaults (edited s w) []
-  pub none : NoneIsLost w known (revision_of w s)
+  pub harmless : IsHarmless w known (revision_of w s)
 
 -- Then, of all that a package builds on, the export data have one other name at most, and no fault comes.
 abbrev pub ExportsMoveBelow : Type 0

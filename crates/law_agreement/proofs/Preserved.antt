@@ -1,6 +1,6 @@
 -- A plain rename that preserves bindings loses and captures no identifier.
 use Rattle.std.proofs.Common.{ℕ, ◌≡◌, inl, inr, List, [], ◌∷◌, map, refl, sym, ap, subst, ◌∙◌}
-use Rattle.std.specs.Prelude.{Option, Some, None, Contains, slice_get}
+use Rattle.std.specs.Prelude.{Some, Contains, slice_get}
 use Rattle.std.proofs.lemmas.Option.{none-some}
 use Rattle.base_lemmas.proofs.Elements.{first_in}
 use Rattle.base_files.specs.Packages.{package_files}
@@ -25,7 +25,7 @@ use Rattle.workspace_check.proofs.PackageFiles.{in_folder}
 use Rattle.refs_binding.specs.declared.declaration.Declaration.{Declaration}
 use Rattle.refs_binding.specs.declared.declaration.Declaration.TheVariants.{Predeclared, Declared, Field, Method}
 use Rattle.refs_binding.specs.Binding as binds
-use Rattle.refs_binding.specs.Binding.{BindsByScope, BindsQualified, IsQualifiedUse, BindsByMember, DeclaresMember}
+use Rattle.refs_binding.specs.Binding.{BindsByScope, BindsQualified, IsQualifiedUse, BindsByMember}
 use Rattle.refs_binding.specs.DeclaringPlaces.{InPackage, TokenBegins, HasDeclarationAt, IsDeclaredAt}
 use Rattle.refs_binding.specs.Identifiers.{BeginsAt}
 use Rattle.refs_binding.specs.Uses.{IsCheckedPackage, IsUseOf}
@@ -47,9 +47,9 @@ use Rattle.refactor_conflict.specs.Staying.{StaysBound, NoneIsLost}
 use Rattle.refactor_conflict.proofs.CorrespondingPlaces.{not_predeclared}
 use Rattle.law_renamed_workspaces.specs.Layouts.{IsRelaid}
 pub use Rattle.law_renamed_workspaces.proofs.PathsStay.{keeps_path}
-use Rattle.law_agreement.specs.Agreement.{PlainPreservedLosesNone}
 use Rattle.law_agreement.proofs.Premises.{HasMovedTokens, KeptPackagesAreRelaid, HasSameScopes, FaultlessPackagesAreScoped}
-use Rattle.law_agreement.proofs.Premises.{IsKeptRename, SelectorsStayQualified, KeptMembersStay}
+use Rattle.law_agreement.proofs.Premises.{IsKeptRename, PreservedByMembers, SelectorsStayQualified}
+use Rattle.law_agreement.proofs.Afterwards.{KeepsMembers}
 use Rattle.law_agreement.proofs.ScopedPlaces.{same_use}
 use Rattle.refs_lookup.proofs.Standing.{token_file}
 
@@ -177,7 +177,8 @@ module _ (scoped_relaid : KeptPackagesAreRelaid) (are_scoped : FaultlessPackages
       let o = scopes_of h.inside h.is_package in
       record { inside = o.0; is_package = o.1.0; of_path = o.1.1.path ∙ h.of_path; holds = declares_same h.inside o.0 o.1.1 path n place h.holds }
 
-  become_declared : (old : Declaration) (path : List ℕ) (n : ℕ) → Corresponds (IsCheckedPackage w known) (IsCheckedPackage x after) r.moved old (Declared path n) →
+  become_declared : (old : Declaration) (path : List ℕ) (n : ℕ) → Corresponds (IsCheckedPackage w known) (IsCheckedPackage x after) r.moved old (Declared
+      path n) →
       HasBecome w known r old (Declared path n)
   become_declared old path n h = elim (by_cases (IsCheckedPackage w known) (IsCheckedPackage x after) r.moved old (Declared path n) h) [
     | inl m ↦ absurd (not_predeclared (Declared path n) (Declared path n) refl tt m.number m.other)
@@ -189,7 +190,8 @@ module _ (scoped_relaid : KeptPackagesAreRelaid) (are_scoped : FaultlessPackages
   become_predeclared old n predeclared = predeclared
   become_predeclared old n (stands place h k) = absurd k
 
-  become_scoped : (o : Package) (u : ℕ) (old e : Declaration) → BindsByScope o u e → Corresponds (IsCheckedPackage w known) (IsCheckedPackage x after) r.moved old e →
+  become_scoped : (o : Package) (u : ℕ) (old e : Declaration) → BindsByScope o u e → Corresponds (IsCheckedPackage w known) (IsCheckedPackage x after)
+      r.moved old e →
       HasBecome w known r old e
   become_scoped o u old (Predeclared n) b h = become_predeclared old n h
   become_scoped o u old (Declared path n) b h = become_declared old path n h
@@ -337,12 +339,12 @@ module _ (scoped_relaid : KeptPackagesAreRelaid) (are_scoped : FaultlessPackages
             let same : NotLexical purpose.Member ≡ NotLexical purpose.Selected = sym member ∙ at in
             let z : ⊥ = cc in absurd z
 
-  pub none_lost : KeptMembersStay → NoneIsLost w known r
+  pub none_lost : KeepsMembers w known r → NoneIsLost w known r
   none_lost members place p is u begins =
       let kept_at : (old : Declaration) → uses.IsBoundToDeclaration w known p u old →
       IsBoundToOne x after (r.moved place) (λ e. Corresponds (IsCheckedPackage w known) (IsCheckedPackage x after) r.moved old e) =
       (λ old b. kept.kept.keeps place old (record { used_in = p; is_package = is; user = u; begins = begins; bound = b })) in
-      let stay = members w known d name s after kept p is u place begins in
+      let stay = members p is u place begins in
       record {
         by_scope = λ old was. let k = kept_at old (binds.by_scope was) in stays_by_scope p is u place begins old k.declaration k.is_use k.holds was;
         by_package = λ old was. let k = kept_at old (binds.by_package was) in stays_by_package p is u place begins old k.declaration k.is_use k.holds was;
@@ -350,8 +352,9 @@ module _ (scoped_relaid : KeptPackagesAreRelaid) (are_scoped : FaultlessPackages
         by_name = stay.1;
       }
 
-pub preserved_loses_none : KeptPackagesAreRelaid → FaultlessPackagesAreScoped → SelectorsStayQualified → KeptMembersStay → PlainPreservedLosesNone
-preserved_loses_none relaid scoped qualified members w known d name s rename k =
+pub members_lose_none : KeptPackagesAreRelaid → FaultlessPackagesAreScoped → SelectorsStayQualified → PreservedByMembers
+members_lose_none relaid scoped qualified w known d name s rename k members =
     let r = revision_of w s in
     let keeps : KeepsBindings w known r k.after = kept_for w k.before known k.right rename.rename.right r k.after k.kept in
-    none_lost relaid scoped qualified w known d name s k.after (record { rename = rename; right = k.right_after; sound = k.sound; kept = keeps }) members
+    let kept : IsKeptRename w known d name s k.after = record { rename = rename; right = k.right_after; sound = k.sound; kept = keeps } in
+    none_lost relaid scoped qualified w known d name s k.after kept (members kept)

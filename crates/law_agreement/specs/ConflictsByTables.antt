@@ -18,7 +18,6 @@ use Rattle.refs_binding.specs.Identifiers.{BeginsAt}
 use Rattle.refs_binding.specs.Binding.{BindsByScope, IsPredeclaredNumber}
 use Rattle.refs_binding.specs.Uses.{IsCheckedPackage}
 use Rattle.refs_binding.specs.DeclaringPlaces.{IsDeclaredAt}
-use Rattle.base_edits.specs.Revisions.{Revision}
 use Rattle.base_edits.specs.RevisionsOfEdits.{revision_of}
 use Rattle.refactor_conflict.specs.BoundAfter.{HasBecome, IsBoundByScopes}
 use Rattle.refactor_conflict.specs.Conflicts.{IsConflict, IsCapturer, IsFirstConflict, LostOrCaptured}
@@ -52,14 +51,15 @@ pub record HaveSameTables (v : Workspace) (a : Verdicts) (w : Workspace) (b : Ve
   pub there : (p : Package) → IsCheckedPackage v a p → (q : Package) × (IsCheckedPackage w b q × HasSameTable p q)
   pub here : (q : Package) → IsCheckedPackage w b q → (p : Package) × (IsCheckedPackage v a p × HasSameTable p q)
 
--- What is kept tells all conflicts: workspaces of which the same is kept have the same.
+-- What is kept tells all conflicts: workspaces of which the same is kept have the same, where the same is renamed.
 abbrev pub ConflictsAreKept : Type 0
 ConflictsAreKept = (v w : Workspace) (a b : Verdicts) → HaveSameTables v a w b → (d : Declaration) (name : List ℕ) (s t : FileChanges) →
-    IsRename v a d name s → IsRename w b d name t → (c : Conflict) → IsConflict v a (revision_of v s) c ↔ IsConflict w b (revision_of w t) c
+    (h : IsRename v a d name s) (k : IsRename w b d name t) → h.set ≡ k.set → (c : Conflict) →
+    IsConflict v a (revision_of v s) c ↔ IsConflict w b (revision_of w t) c
 
 -- The first conflict of the rename of each workspace of which that is kept, for each edit set of it.
-abbrev pub TellsConflictOf : Workspace → Verdicts → Declaration → List ℕ → Option Conflict → Type 0
-TellsConflictOf v a d name told = (w : Workspace) (b : Verdicts) → HaveSameTables v a w b → (s : FileChanges) → IsRename w b d name s →
+abbrev pub TellsConflictOf : Workspace → Verdicts → Declaration → (set : List Declaration) → List ℕ → Option Conflict → Type 0
+TellsConflictOf v a d set name told = (w : Workspace) (b : Verdicts) → HaveSameTables v a w b → (s : FileChanges) → (h : IsRename w b d name s) → h.set ≡ set →
     IsFirstConflict w b (revision_of w s) told
 
 -- there is one such answer at most

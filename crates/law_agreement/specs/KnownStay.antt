@@ -16,9 +16,8 @@ use Rattle.workspace_check.specs.Verdicts.{Verdicts}
 use Rattle.refs_binding.specs.declared.declaration.Declaration.{Declaration}
 use Rattle.refs_binding.specs.declared.declaration.Declaration.TheVariants.{Declared, Field, Method}
 use Rattle.refs_binding.specs.Uses.{IsCheckedPackage}
-use Rattle.refs_places.specs.Outside.{declaring_path}
-use Rattle.law_renamed_workspaces.specs.KnownVerdicts.{IsKeptRename, IsHidden, IsUnseen, HoldVerdictsBut}
-use Rattle.law_renamed_workspaces.specs.RenamedData.{export_renamed, field_renamed, method_renamed, definition_changed, HoldVerdictsWith}
+use Rattle.law_renamed_workspaces.specs.KnownVerdicts.{IsKeptRename, IsHidden, IsUnseen, IsHomeNumber, HoldVerdictsBut}
+use Rattle.law_renamed_workspaces.specs.RenamedData.{IsAlone, export_renamed, field_renamed, method_renamed, definition_changed, HoldVerdictsWith}
 
 -- The finding of each package stays right.
 abbrev pub RenamesKeepFindings : Type 0
@@ -27,19 +26,20 @@ RenamesKeepFindings = (w : Workspace) (before : Verdicts) (d : Declaration) (nam
 
 -- A known verdict on a package stays right if the rename changes nothing that others see of it.
 abbrev pub RenamesKeepUnseen : Type 0
-RenamesKeepUnseen = (w : Workspace) (before : Verdicts) (d : Declaration) (name : List ℕ) (s : FileChanges) → IsKeptRename w before d name s →
-    (q : List ℕ) → Contains (package_paths w) q → IsUnseen w before d name q → (one : KnownVerdict) → IsKnownVerdict w q one → IsKnownVerdict (edited s w) q one
+RenamesKeepUnseen = (w : Workspace) (before : Verdicts) (d : Declaration) (name : List ℕ) (s : FileChanges) (h : IsKeptRename w before d name s) →
+    (q : List ℕ) → Contains (package_paths w) q → IsUnseen w before d h.plain.rename.set name q → (one : KnownVerdict) → IsKnownVerdict w q one →
+    IsKnownVerdict (edited s w) q one
 
 -- All known verdicts stay right if other packages see the declaration neither under its name nor under the new one.
 abbrev pub HiddenRenamesKeepAll : Type 0
 HiddenRenamesKeepAll = (w : Workspace) (before : Verdicts) (d : Declaration) (name : List ℕ) (s : FileChanges) → IsKeptRename w before d name s →
     IsHidden w before d name → (known : Known) → KnowsVerdicts w known → KnowsVerdicts (edited s w) known
 
--- All known verdicts stay right but that on the declaring package, whose number is dropped.
+-- All known verdicts stay right but those on the declaring packages, whose numbers are dropped.
 abbrev pub RenamesKeepOthers : Type 0
-RenamesKeepOthers = (w : Workspace) (before : Verdicts) (d : Declaration) (name : List ℕ) (s : FileChanges) → IsKeptRename w before d name s →
-    (number : ℕ) (path : List ℕ) → slice_get (package_paths w) number ≡ Some path → declaring_path d ≡ Some path → (known rest : Known) →
-    KnowsVerdicts w known → HoldVerdictsBut number known.verdicts.items rest.verdicts.items → KnowsVerdicts (edited s w) rest
+RenamesKeepOthers = (w : Workspace) (before : Verdicts) (d : Declaration) (name : List ℕ) (s : FileChanges) (h : IsKeptRename w before d name s) →
+    (known rest : Known) → KnowsVerdicts w known → HoldVerdictsBut (IsHomeNumber w h.plain.rename.set) known.verdicts.items rest.verdicts.items →
+    KnowsVerdicts (edited s w) rest
 
 -- The known verdict `now` has the finding of `was`, no fault, and the export data of `was`, changed so.
 pub record IsVerdictWith (path : List ℕ) (change : ExportData → ExportData) (was now : KnownVerdict) : Type 0 where
@@ -65,13 +65,15 @@ RenamedExportsAreKnown = (w : Workspace) (before : Verdicts) (p : Package) (n : 
 -- Or that of a field of a type definition.
 abbrev pub RenamedFieldsAreKnown : Type 0
 RenamedFieldsAreKnown = (w : Workspace) (before : Verdicts) (p : Package) (rank : ℕ) (name : List ℕ) (s : FileChanges) → IsCheckedPackage w before p →
-    IsKeptRename w before (Field (symbol_in p rank)) name s → (owner : ℕ) (old : List ℕ) (f : PlacedField) → IsFieldOf p owner old rank f →
+    (h : IsKeptRename w before (Field (symbol_in p rank)) name s) → IsAlone (Field (symbol_in p rank)) h.plain.rename.set →
+    (owner : ℕ) (old : List ℕ) (f : PlacedField) → IsFieldOf p owner old rank f →
     (number : ℕ) → slice_get (package_paths w) number ≡ Some p.path → (known rest : Known) → KnowsVerdicts w known →
     AreChangedAt number p.path (definition_changed owner (field_renamed old name)) known rest → KnowsVerdicts (edited s w) rest
 
 -- Or that of a method.
 abbrev pub RenamedMethodsAreKnown : Type 0
 RenamedMethodsAreKnown = (w : Workspace) (before : Verdicts) (p : Package) (rank : ℕ) (name : List ℕ) (s : FileChanges) → IsCheckedPackage w before p →
-    IsKeptRename w before (Method (symbol_in p rank)) name s → (owner : ℕ) (old : List ℕ) (f : PlacedFunction) → IsMethodOf p owner old rank f →
+    (h : IsKeptRename w before (Method (symbol_in p rank)) name s) → IsAlone (Method (symbol_in p rank)) h.plain.rename.set →
+    (owner : ℕ) (old : List ℕ) (f : PlacedFunction) → IsMethodOf p owner old rank f →
     (number : ℕ) → slice_get (package_paths w) number ≡ Some p.path → (known rest : Known) → KnowsVerdicts w known →
     AreChangedAt number p.path (definition_changed owner (method_renamed old name)) known rest → KnowsVerdicts (edited s w) rest

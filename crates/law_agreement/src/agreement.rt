@@ -2,15 +2,14 @@
 ghost use Rattle.law_agreement.specs.Agreement.{AgreementTellsConflicts, CheckedNoneLostPreserves, HalvesAgree};
 ghost use Rattle.law_agreement.specs.ConflictsByTables.{HasOneAnswer, OwnConflictsAreTold};
 
-/// Where each of two halves implies the other, no identifier is lost or captured exactly where bindings are preserved. The first half alone
-/// gives that a rename which does not preserve bindings has a first conflict.
+/// Where the same types implement the same interfaces, two halves give that no identifier is lost or captured exactly where bindings are
+/// preserved. The first half alone gives that a rename which does not preserve bindings has a first conflict.
 pub fn halves_agree()
     ensures told { AgreementTellsConflicts }
     ensures agree { HalvesAgree }
 {}
 
-/// A rename in which no import gains a name, and which loses and captures no identifier, preserves bindings. The edited workspace is one
-/// that has verdicts.
+/// A rename in which no import gains a name, and which is harmless, preserves bindings. The edited workspace is one that has verdicts.
 pub fn none_lost_preserves()
     ensures { CheckedNoneLostPreserves }
 {}

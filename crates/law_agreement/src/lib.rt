@@ -1,4 +1,5 @@
-//! Laws of plain renames: those that lose and capture no identifier, as the old scopes and types tell, are those that preserve bindings.
+//! Laws of plain renames after which the same types implement the same interfaces. By the old scopes and types some of them lose and capture no
+//! identifier. These are the ones that preserve bindings.
 //! There is no code that runs.
 //!
 //! Crates above rely on: `none_lost_preserves`, `own_conflicts_are_told`, `first_conflicts_are_told`, `conflicts_refuse`,

@@ -1,13 +1,13 @@
-//! Laws of plain renames that lose and capture no identifier.
+//! Laws of plain renames that are harmless.
 ghost use Rattle.law_renamed_workspaces.specs.KnownAfter.{LocalRenamesHaveVerdicts, LocalRenamesKeepKnown, LocalRenamesKeepVerdicts};
 ghost use Rattle.law_agreement.specs.Agreement.{PlainNoneLostPreserves};
 
-/// Such a rename preserves bindings.
+/// A plain rename that loses and captures no identifier, and after which the same types implement the same interfaces, preserves bindings.
 pub fn none_lost_preserves()
     ensures { PlainNoneLostPreserves }
 {}
 
-/// If the declaration is a local one, the edited workspace has verdicts.
+/// If it renames a local declaration and loses and captures none, the edited workspace has verdicts.
 pub fn local_renames_have_verdicts()
     ensures { LocalRenamesHaveVerdicts }
 {}

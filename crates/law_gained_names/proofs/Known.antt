@@ -53,7 +53,7 @@ module _ (w x : Workspace) (sound : ListsFaults w []) (known : Verdicts) (right 
       record { right = verdict_still path has (verdict_from path one.known) k.right; finding = finding_still path away one.finding k.finding }
 
   pub others_known : (n : ℕ) → slice_get (package_paths w) n ≡ Some p.path → (old rest : Known) → KnowsVerdicts w old →
-      HoldVerdictsBut n old.verdicts.items rest.verdicts.items → KnowsVerdicts x rest
+      HoldVerdictsBut (λ k. k ≡ n) old.verdicts.items rest.verdicts.items → KnowsVerdicts x rest
   others_known n at_p old rest knows held m path one at has =
       let k = held m one has in
       let before : slice_get (package_paths w) m ≡ Some path = ap (λ ps. slice_get ps m) h.imports.paths ∙ at in

@@ -15,6 +15,7 @@ use Rattle.go_scanner.specs.CutText.{tokens_in}
 use Rattle.go_scope.specs.Bindings.{IsImport}
 use Rattle.types_declared.specs.Package.{Package}
 use Rattle.workspace_check.specs.Verdicts.{Verdicts}
+use Rattle.refs_binding.specs.declared.declaration.Declaration.{Declaration}
 use Rattle.refs_binding.specs.declared.declaration.Declaration.TheVariants.{Declared}
 use Rattle.refs_binding.specs.Identifiers.{NameBegins}
 use Rattle.refs_binding.specs.Uses.{IsCheckedPackage}
@@ -25,6 +26,7 @@ use Rattle.refactor_rename.specs.FileEdits.{AreFileEdits, InsertsName, IsEditAt,
 use Rattle.refactor_rename.specs.Literals.{IsLiteralFound, IsPathLiteralIn, IsPathLiteralOf, IsTokenOf, IsUnnamedImport}
 use Rattle.refactor_rename.specs.RenameEdits.{AreEditsOf, IsRenamedBy, IsSourceIn}
 use Rattle.refactor_rename.specs.Replacements.{IsNameBefore, apart, joined}
+use Rattle.law_agreement.proofs.RenamedAlone.{use_of_alone}
 use Rattle.law_gained_names.specs.FilesInTwoSteps.{EditsOneFile}
 use Rattle.law_gained_names.specs.TwoSteps.{AreNaming, NamingEdits, at_once, edit_between}
 use Rattle.law_gained_names.proofs.Edits.{IsParted, none_there, parted}
@@ -48,7 +50,8 @@ begins_by o f i path offset is b = (subst (λ x. NameBegins x i path offset) is 
 
 module _ (w : Workspace) (known : Verdicts) (p : Package) (is : IsCheckedPackage w known p) (n : ℕ) (import : IsImport p.layout n) (lt : n < p.size)
     (unnamed : IsUnnamedImport p n) (f : SourceFile) (of_rank : slice_get p.files (p.layout.place n).file ≡ Some f)
-    (own : (p.layout.place n).file ≡ import.0) (r : Renamed) (name : List ℕ) (renamed : IsRenamedBy w known (Declared p.path n) name r) where
+    (own : (p.layout.place n).file ≡ import.0) (r : Renamed) (name : List ℕ) (set : List Declaration)
+    (only : (e : Declaration) → Contains set e → e ≡ Declared p.path n) (renamed : IsRenamedBy w known (Declared p.path n) set name r) where
   abbrev Known : Package → Type 0
   Known = IsCheckedPackage w known
 
@@ -80,7 +83,8 @@ module _ (w : Workspace) (known : Verdicts) (p : Package) (is : IsCheckedPackage
 
   pub in_its_file : (place : Place) → Contains r.places place → place.path ≡ f.path
   in_its_file place has =
-      let u = used_at w known p is n import place ((renamed.uses.each place).0 has) in
+      let u = used_at w known p is n import place
+      (use_of_alone w known (Declared p.path n) set only place ((renamed.uses.each place).0 has)) in
       let file : (p.layout.place u.user).file ≡ (p.layout.place n).file = in_file w known p is n import own u.user u.bound in
       sym (begins_by (slice_get p.files (p.layout.place u.user).file) f (p.layout.place u.user).index place.path place.offset
       (ap (slice_get p.files) file ∙ of_rank) u.begins.1)

@@ -1,5 +1,6 @@
 -- The second step is a rename of an import with a name, and both steps together are the whole.
-use Rattle.std.proofs.Common.{ℕ, suc, ◌≡◌, ◌+◌, ◌<◌, ◌≤◌, ◌⊎◌, inl, inr, Bool, true, false, cond, if◌then◌else◌, List, [], ◌∷◌, ◌++◌, None, Some, length, map, refl, sym, ap, ◌∙◌}
+use Rattle.std.proofs.Common.{ℕ, suc, ◌≡◌, ◌+◌, ◌<◌, ◌≤◌, ◌⊎◌, inl, inr, Bool, true, false, cond, if◌then◌else◌, List, [], ◌∷◌, ◌++◌, None, Some, length, map}
+use Rattle.std.proofs.Common.{refl, sym, ap, ◌∙◌}
 use Rattle.std.proofs.Common.{subst, arith, length-append}
 use Rattle.std.specs.Prelude.{◌↔◌, Contains, slice_get}
 use Rattle.std.proofs.lemmas.List.Elements.{All-nil}
@@ -25,12 +26,14 @@ use Rattle.types_declared.specs.Package.{Package}
 use Rattle.workspace_check.specs.FaultLists.{ListsFaults}
 use Rattle.workspace_check.specs.Verdicts.{AreVerdicts, Verdicts}
 use Rattle.workspace_check.proofs.PackageFiles.{at_rank}
+use Rattle.refs_binding.specs.declared.declaration.Declaration.{Declaration}
 use Rattle.refs_binding.specs.declared.declaration.Declaration.TheVariants.{Declared}
 use Rattle.refs_binding.specs.DeclaredNames.{HasDeclaredName}
 use Rattle.refs_binding.specs.Identifiers.{IsInFiles}
 use Rattle.refs_binding.specs.Uses.{IsCheckedPackage, IsUseOf}
-use Rattle.refs_binding.specs.Workspaces.{ListsFound}
 use Rattle.refs_binding.proofs.Units.{one_package}
+use Rattle.refs_uses.specs.UsesOfEach.{ListsUsesOfEach}
+use Rattle.refs_uses.proofs.UsesOfSome.{uses_of_one}
 use Rattle.refactor_rename.specs.declared.renamed.Renamed.{Renamed}
 use Rattle.refactor_rename.specs.declared.renamed.Literal.{Literal}
 use Rattle.refactor_rename.specs.FileEdits.{AreFileEdits, InsertsName, IsEditAt}
@@ -43,7 +46,9 @@ use Rattle.law_gained_names.specs.GainedName.{IsGainedAt}
 use Rattle.law_gained_names.proofs.Layouts.{from_stays}
 use Rattle.law_gained_names.proofs.Scopes.{literal_role}
 use Rattle.law_renamed_workspaces.specs.Renames.{IsPlainRename, IsRename}
+use Rattle.law_renamed_workspaces.proofs.RenamedSets.{alone, own_alone}
 use Rattle.law_agreement.specs.ScopeRenames.{IsRenameIn}
+use Rattle.law_agreement.proofs.RenamedAlone.{use_among, use_of_alone}
 use Rattle.law_gained_names.specs.OwnName.{HasGainedBy}
 use Rattle.law_gained_names.proofs.Becoming.{now}
 use Rattle.law_gained_names.proofs.GainedStepsTokens.{i, now_here}
@@ -105,6 +110,9 @@ module _ (w : Workspace) (known : Verdicts) (p : Package) (n : ℕ) (name : List
     abbrev r : Renamed
     r = h.rename.edits.renamed
 
+    pub renamed_alone : (e : Declaration) → Contains h.rename.set e → e ≡ Declared p.path n
+    renamed_alone = own_alone (IsCheckedPackage w known) (Declared p.path n) h.rename.set h.rename.is_set (λ m. m)
+
     abbrev was_import : IsImport p.layout n
     was_import = between.old_import w known naming f number own_put p q g n is
 
@@ -124,33 +132,38 @@ module _ (w : Workspace) (known : Verdicts) (p : Package) (n : ℕ) (name : List
 
     abbrev pub nm : NamingEdits
     nm =
-        names.naming_edits w known p h.is_package n was_import stands.0 h.unnamed f of_rank own_file r name h.rename.edits.is_renamed s h.rename.edits.edits
+        names.naming_edits w known p h.is_package n was_import stands.0 h.unnamed f of_rank own_file r name h.rename.set renamed_alone
+        h.rename.edits.is_renamed s h.rename.edits.edits
         source sh (literal_piece pt) (between.literal_token w known naming f number own_put p q g) (between.put_at w known naming f number own_put p q g)
 
     are_at_once : AreFileEdits f r (at_once nm)
     are_at_once =
-        names.are_at_once w known p h.is_package n was_import stands.0 h.unnamed f of_rank own_file r name h.rename.edits.is_renamed s h.rename.edits.edits
+        names.are_at_once w known p h.is_package n was_import stands.0 h.unnamed f of_rank own_file r name h.rename.set renamed_alone
+        h.rename.edits.is_renamed s h.rename.edits.edits
         source sh (literal_piece pt) (between.literal_token w known naming f number own_put p q g) (between.put_at w known naming f number own_put p q g)
 
     inserts : InsertsName f r number (edit_between nm.at nm.at (nm.front ++ (nm.name ++ nm.back)))
     inserts =
-        names.inserts w known p h.is_package n was_import stands.0 h.unnamed f of_rank own_file r name h.rename.edits.is_renamed s h.rename.edits.edits
+        names.inserts w known p h.is_package n was_import stands.0 h.unnamed f of_rank own_file r name h.rename.set renamed_alone
+        h.rename.edits.is_renamed s h.rename.edits.edits
         source sh (literal_piece pt) (between.literal_token w known naming f number own_put p q g) (between.put_at w known naming f number own_put p q g)
 
     around : edits_by (change_of s f.path) ≡ at_once nm
     around =
-        (names.around w known p h.is_package n was_import stands.0 h.unnamed f of_rank own_file r name h.rename.edits.is_renamed s h.rename.edits.edits
+        (names.around w known p h.is_package n was_import stands.0 h.unnamed f of_rank own_file r name h.rename.set renamed_alone
+        h.rename.edits.is_renamed s h.rename.edits.edits
         source sh (literal_piece pt) (between.literal_token w known naming f number own_put p q g)
         (between.put_at w known naming f number own_put p q g)).parts
 
     whole : EditsOneFile s f.path (at_once nm)
     whole =
-        names.one_file w known p h.is_package n was_import stands.0 h.unnamed f of_rank own_file r name h.rename.edits.is_renamed s h.rename.edits.edits
+        names.one_file w known p h.is_package n was_import stands.0 h.unnamed f of_rank own_file r name h.rename.set renamed_alone
+        h.rename.edits.is_renamed s h.rename.edits.edits
         (at_once nm) around
 
     in_its_file : (place : Place) → Contains r.places place → place.path ≡ f.path
     in_its_file =
-        names.in_its_file w known p h.is_package n was_import stands.0 h.unnamed f of_rank own_file r name h.rename.edits.is_renamed
+        names.in_its_file w known p h.is_package n was_import stands.0 h.unnamed f of_rank own_file r name h.rename.set renamed_alone h.rename.edits.is_renamed
 
     -- the name that the import declares
 
@@ -165,7 +178,8 @@ module _ (w : Workspace) (known : Verdicts) (p : Package) (n : ℕ) (name : List
 
     are : AreNaming nm
     are =
-        names.are_naming w known p h.is_package n was_import stands.0 h.unnamed f of_rank own_file r name h.rename.edits.is_renamed s h.rename.edits.edits
+        names.are_naming w known p h.is_package n was_import stands.0 h.unnamed f of_rank own_file r name h.rename.set renamed_alone
+        h.rename.edits.is_renamed s h.rename.edits.edits
         source sh (literal_piece pt) (between.literal_token w known naming f number own_put p q g) (between.put_at w known naming f number own_put p q g)
         some_name
 
@@ -251,7 +265,8 @@ module _ (w : Workspace) (known : Verdicts) (p : Package) (n : ℕ) (name : List
           subst Uses (sym same)
           (imports.use_of middle known q is_now n is_import own_place (between.own_use w known naming f number own_put p q g n is count stands))
       | inr x ↦
-          let was = imports.used_at w known p g.gained.was n was_import x.old ((h.rename.edits.is_renamed.uses.each x.old).0 x.has) in
+          let was = imports.used_at w known p g.gained.was n was_import x.old
+          (use_of_alone w known (Declared p.path n) h.rename.set renamed_alone x.old ((h.rename.edits.is_renamed.uses.each x.old).0 x.has)) in
           subst Uses x.goes
           (imports.use_of middle known q is_now n is_import (moved naming x.old) (between.use_there w known naming f number own_put p q g n is x.old was))
     ]
@@ -262,11 +277,19 @@ module _ (w : Workspace) (known : Verdicts) (p : Package) (n : ℕ) (name : List
           | inl same ↦ subst (Contains later.places) (sym same) own_listed
           | inr x ↦
               let was = imports.use_of w known p g.gained.was n was_import x.0 x.1.0 in
-              subst (Contains later.places) x.1.1 (old_listed x.0 ((h.rename.edits.is_renamed.uses.each x.0).1 was))
+              subst (Contains later.places) x.1.1 (old_listed x.0
+              ((h.rename.edits.is_renamed.uses.each x.0).1
+              (use_among w known (Declared p.path n) h.rename.set h.rename.is_set.has_it x.0 was)))
         ]
 
-    uses : ListsFound middle known (Declared q.path n) later.places
-    uses = record { in_order = (sorted moved_places).1.0; each = λ place. (use_from place, place_of place) }
+    uses : ListsUsesOfEach middle known (Declared q.path n ∷ []) later.places
+    uses = record {
+      in_order = (sorted moved_places).1.0;
+      each = λ place. (
+        (λ has. (uses_of_one middle known (Declared q.path n) place).1 (use_from place has)),
+        (λ u. place_of place ((uses_of_one middle known (Declared q.path n) place).0 u)),
+      );
+    }
 
     -- places of the file, by their offsets
 
@@ -357,10 +380,10 @@ module _ (w : Workspace) (known : Verdicts) (p : Package) (n : ℕ) (name : List
         let wrong : n + 1 ≡ n = sym it ∙ own.1.1 in
         absurd (omega arith)
 
-    renamed_by : IsRenamedBy middle known (Declared q.path n) name later
+    renamed_by : IsRenamedBy middle known (Declared q.path n) (Declared q.path n ∷ []) name later
     renamed_by = record { uses = uses; literal = has_name; named = refl }
 
-    edits : AreRenameEdits middle known (Declared q.path n) name renaming
+    edits : AreRenameEdits middle known (Declared q.path n) (Declared q.path n ∷ []) name renaming
     edits = record { renamed = later; is_renamed = renamed_by; edits = record { each = each_file; only = only; none_added = refl } }
 
     -- it may get the new name
@@ -393,6 +416,8 @@ module _ (w : Workspace) (known : Verdicts) (p : Package) (n : ℕ) (name : List
       allowed = allowed;
       other = other;
       used = (own_place, use_from own_place own_listed);
+      set = Declared q.path n ∷ [];
+      is_set = alone (IsCheckedPackage middle known) (Declared q.path n);
       edits = edits;
       fit = two.fits_second;
     }

@@ -33,6 +33,8 @@ use Rattle.law_moves.specs.KeptNames.{IsBoundToImport, KeepsOtherNames}
 use Rattle.law_moves.proofs.MembersStay.{name_kept, use_kept}
 use Rattle.law_moves.proofs.NewSpelled.{found_in}
 use Rattle.law_renamed_workspaces.proofs.OwnNames.{member_is_none}
+use Rattle.law_renamed_workspaces.proofs.RenamedSets.{own_alone}
+use Rattle.law_agreement.proofs.RenamedAlone.{use_of_alone}
 use Rattle.law_gained_names.specs.UnnamedRenames.{IsUnnamedRename}
 
 empty_span : (start end at : ℕ) → start ≡ at → end ≡ at → start < end → ⊥
@@ -80,7 +82,9 @@ module _ (w : Workspace) (known : Verdicts) (p : Package) (n : ℕ) (name : List
         let begun : k.token.span.start ≡ place.offset = sym (ap (λ (x : Edit). x.span.start) k.is_edit) ∙ start in
         let here : record { path = source.0.path; offset = k.token.span.start } ≡ place =
         place_is (record { path = source.0.path; offset = k.token.span.start }) place source.1.1 begun in
-        replaced ((h.rename.edits.is_renamed.uses.each place).0 (subst (Contains h.rename.edits.renamed.places) here k.among))
+        replaced (use_of_alone w known (Declared p.path n) h.rename.set
+        (own_alone (IsCheckedPackage w known) (Declared p.path n) h.rename.set h.rename.is_set (λ m. m)) place
+        ((h.rename.edits.is_renamed.uses.each place).0 (subst (Contains h.rename.edits.renamed.places) here k.among)))
 
     by_kind : (i : ℕ) (e : Edit) → IsEditAt source.0 h.rename.edits.renamed i e → e.span.start ≡ place.offset → e.span.start < e.span.end → IsBoundToImport y u
     by_kind i e (inl k) start less =

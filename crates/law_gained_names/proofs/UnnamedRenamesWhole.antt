@@ -30,10 +30,11 @@ use Rattle.refactor_conflict.specs.Staying.{NoneIsLost, StaysAt, StaysByScope}
 use Rattle.refactor_conflict.specs.declared.conflict.Conflict.{Conflict}
 use Rattle.refactor_conflict.proofs.ConflictsDiffer.{not_staying}
 use Rattle.law_renamed_workspaces.specs.KnownVerdicts.{HoldVerdictsBut, IsHidden}
+use Rattle.law_renamed_workspaces.proofs.Harmless.{declared_harmless}
 use Rattle.law_agreement.specs.KnownStay.{HiddenRenamesKeepAll}
 use Rattle.law_agreement.proofs.KnownStay.{keep_hidden}
-use Rattle.law_agreement.proofs.Laws.{plain_renames_agree}
-use Rattle.law_agreement.specs.PlainAgreement.{PlainRenamesAgree}
+use Rattle.law_agreement.proofs.Laws.{scope_renames_agree}
+use Rattle.law_agreement.specs.PlainAgreement.{ScopeRenamesAgree}
 use Rattle.law_renamed_workspaces.proofs.SameBindings.{imports_used}
 use Rattle.law_agreement.specs.Behind.{TurnsBehind, hidden, preceded, repeated}
 use Rattle.law_agreement.specs.ScopeConflicts.{FirstConflictBehind, FirstOwnConflict, HasNoOwnConflict, IsConflictBehind, earlier_conflict}
@@ -191,9 +192,9 @@ module _ (keeps : NoConflictStays) (own_ones : OwnConflictsAreConflicts) (w : Wo
   both_lose_none : NoneIsLost v known second → NoneIsLost w known whole
   both_lose_none none = λ place. stays w known p n name s h f place (first_free none place)
 
-  agree_by : PlainRenamesAgree → StepsPreserve w s f.naming f.renaming → NoneIsLost w known whole ↔ Preserves w whole
+  agree_by : ScopeRenamesAgree → StepsPreserve w s f.naming f.renaming → NoneIsLost w known whole ↔ Preserves w whole
   agree_by agree steps =
-      let same = agree v known (Declared q.path n) name f.renaming f.renames.rename in
+      let same = agree v known q n name f.renaming f.renames in
       ((λ none. steps.1 (same.0 (second_loses_none none))), (λ kept. both_lose_none (same.1 (steps.0 kept))))
 
   -- What is known
@@ -204,14 +205,17 @@ module _ (keeps : NoConflictStays) (own_ones : OwnConflictsAreConflicts) (w : Wo
       (subst (λ (y : Package). IsPackageLevel y.layout n) (one_package v known x q also f.renames.is_package same) level))
 
   keep_by : HiddenRenamesKeepAll → NoneIsLost w known whole → (number : ℕ) → slice_get (package_paths w) number ≡ Some p.path → (old rest : Known) →
-      KnowsVerdicts w old → HoldVerdictsBut number old.verdicts.items rest.verdicts.items → KnowsVerdicts (edited s w) rest
+      KnowsVerdicts w old → HoldVerdictsBut (λ k. k ≡ number) old.verdicts.items rest.verdicts.items → KnowsVerdicts (edited s w) rest
   keep_by law none number at old rest knows held =
       let between : KnowsVerdicts v rest =
       others_known w v h.rename.sound known h.rename.right f.renames.rename.rename.right f.number p q f.workspace number at old rest knows held in
       subst (λ (x : Workspace). KnowsVerdicts x rest) (sym f.files)
-      (law v known (Declared q.path n) name f.renaming (record { plain = f.renames.rename; kept = second_loses_none none }) hidden_import rest between)
+      (law v known (Declared q.path n) name f.renaming (record {
+        plain = f.renames.rename;
+        kept = declared_harmless v known q.path n name f.renaming f.renames.rename (second_loses_none none);
+      }) hidden_import rest between)
 
-agreed : PlainRenamesAgree → NoConflictStays → OwnConflictsAreConflicts → UnnamedRenamesAgree
+agreed : ScopeRenamesAgree → NoConflictStays → OwnConflictsAreConflicts → UnnamedRenamesAgree
 agreed agree keeps own_ones w known p n name s h f steps = agree_by keeps own_ones w known p n name s h f agree steps
 
 kept_by : HiddenRenamesKeepAll → NoConflictStays → OwnConflictsAreConflicts → UnnamedRenamesKeepOthers
@@ -221,7 +225,7 @@ pub unnamed_renames_keep_others : UnnamedRenamesKeepOthers
 unnamed_renames_keep_others = kept_by keep_hidden no_conflict own_conflicts
 
 pub unnamed_renames_agree : UnnamedRenamesAgree
-unnamed_renames_agree = agreed plain_renames_agree no_conflict own_conflicts
+unnamed_renames_agree = agreed scope_renames_agree no_conflict own_conflicts
 
 refuse_by : UnnamedRenamesAgree → UnnamedConflictsRefuse
 refuse_by law w known p n name s h f steps c conflict kept =

@@ -1,12 +1,14 @@
 -- The edits of a rename exist.
 use Rattle.std.proofs.Common.{ℕ, ◌≡◌, ◌⊎◌, inl, inr, List, [], ◌∷◌, ◌++◌, map, sym, subst, refl, ◌∙◌}
-use Rattle.std.specs.Prelude.{Contains}
+use Rattle.std.specs.Prelude.{◌↔◌, Contains}
 use Rattle.std.specs.FinMap.{entries}
+use Rattle.std.proofs.lemmas.List.Elements.{Contains-append_cases, Contains-append_left, Contains-append_right}
 use Rattle.std.proofs.lemmas.Option.{slice_get_within}
 use Rattle.base_lemmas.proofs.Elements.{nothing_in, first_in, later_in, first_or_later, is_mapped}
 use Rattle.base_files.specs.Packages.{package_paths}
 use Rattle.base_files.specs.Path.{folder}
 use Rattle.base_files.specs.Workspace.{Workspace}
+use Rattle.base_files.specs.declared.place.Place.{Place}
 use Rattle.base_edits.specs.EditSet.{FileChanges}
 use Rattle.base_edits.specs.declared.change.FileChange.{FileChange}
 use Rattle.base_edits.specs.declared.edit.Edit.{Edit}
@@ -17,10 +19,13 @@ use Rattle.workspace_check.specs.declared.findings.Findings.{Findings}
 use Rattle.workspace_check.specs.Verdicts.{Verdicts}
 use Rattle.workspace_check.proofs.Members.{cases_contains}
 use Rattle.workspace_graph.proofs.ByPath.{number}
+use Rattle.refs_binding.specs.declared.declaration.Declaration.{Declaration}
+use Rattle.refs_binding.specs.Uses.{IsUseOf}
 use Rattle.refs_binding.specs.Workspaces.{IsFaultless, known_in}
 use Rattle.refs_binding.proofs.Units.{one_package}
 use Rattle.refs_binding.proofs.PackageNumbers.{package_there}
 use Rattle.std.proofs.lemmas.Option.{same_Some}
+use Rattle.refs_uses.specs.UsesOfEach.{IsUseOfSome, ListsUsesOfEach}
 use Rattle.refactor_rename.specs.declared.renamed.Renamed.{Renamed}
 use Rattle.refactor_rename.specs.FileEdits.{AreFileEdits}
 use Rattle.refactor_rename.specs.Changes as changes_of
@@ -30,12 +35,13 @@ use Rattle.refactor_rename.proofs.Changing.{Changing, changing_next, changing_pa
 use Rattle.refactor_rename.proofs.Sources.{entry_path, entries_in_order, none_found, source_entry, source_file, source_folder}
 use Rattle.law_gained_names.specs.Existing.{RenameEditsExist}
 use Rattle.law_gained_names.proofs.FileEdits.{file_edits}
-use Rattle.law_gained_names.proofs.Listed.{uses_listed}
+use Rattle.law_gained_names.proofs.Listed.{sorted, uses_listed}
 use Rattle.law_gained_names.proofs.RenameEditsLiterals.{literal_decided}
 
 -- the file of a path among some
 
-file_among : (fs : List SourceFile) (path : List ℕ) → ((f : SourceFile) × (Contains fs f × (f.path ≡ path))) ⊎ ((f : SourceFile) → Contains fs f → f.path ≡ path → ⊥)
+file_among : (fs : List SourceFile) (path : List ℕ) → ((f : SourceFile) × (Contains fs f × (f.path ≡ path))) ⊎ ((f : SourceFile) → Contains fs f →
+    f.path ≡ path → ⊥)
 file_among [] path = inr (λ f has e. nothing_in f has)
 file_among (f ∷ fs) path = elim (cases_bytes f.path path) [
   | inl here ↦ inl (f, (first_in f fs, here))
@@ -104,10 +110,50 @@ module _ (w : Workspace) (found : Findings) (faultless : IsFaultless w found) (r
       }) in
       (all.0, changing_last w known r [] all.0 refl all.1)
 
-pub edits_exist : RenameEditsExist
-edits_exist w found faultless d name =
+-- the uses of each of the set, in order
+
+places_of_each : (w : Workspace) (found : Findings) → IsFaultless w found → (set : List Declaration) →
+    (places : List Place) × ((place : Place) → Contains places place ↔ IsUseOfSome w (known_in found) set place)
+places_of_each w found faultless [] = (
+  [],
+  λ place. ((λ has. absurd (nothing_in place has)), (λ u. absurd (nothing_in u.declaration u.among))),
+)
+places_of_each w found faultless (d ∷ ds) =
     let known = known_in found in
-    let places = uses_listed w found faultless d in
+    let one = uses_listed w found faultless d in
+    let rest = places_of_each w found faultless ds in (
+      one.0 ++ rest.0,
+      λ place. (
+        (λ has. elim (Contains-append_cases one.0 rest.0 place has) [
+          | inl here ↦ record { declaration = d; among = first_in d ds; is_use = (one.1.each place).0 here }
+          | inr more ↦
+              let u = (rest.1 place).0 more in
+              record { declaration = u.declaration; among = later_in d ds u.declaration u.among; is_use = u.is_use }
+        ]),
+        (λ u. elim (first_or_later d ds u.declaration u.among) [
+          | inl same ↦ Contains-append_left one.0 rest.0 place ((one.1.each place).1 (subst (λ e. IsUseOf w known e place) (sym same) u.is_use))
+          | inr later ↦ Contains-append_right one.0 rest.0 place
+              ((rest.1 place).1 (record { declaration = u.declaration; among = later; is_use = u.is_use }))
+        ]),
+      ),
+    )
+
+listed_of_each : (w : Workspace) (found : Findings) → IsFaultless w found → (set : List Declaration) →
+    (places : List Place) × ListsUsesOfEach w (known_in found) set places
+listed_of_each w found faultless set =
+    let all = places_of_each w found faultless set in
+    let s = sorted all.0 in (
+      s.0,
+      record {
+        in_order = s.1.0;
+        each = λ place. ((λ has. (all.1 place).0 ((s.1.1 place).0 has)), (λ u. (s.1.1 place).1 ((all.1 place).1 u)));
+      },
+    )
+
+pub edits_exist : RenameEditsExist
+edits_exist w found faultless d set name =
+    let known = known_in found in
+    let places = listed_of_each w found faultless set in
     let literal = literal_decided w found faultless d in
     let r : Renamed = record { places = places.0; literal = literal.0; name = name } in
     let cs = changes w found faultless r in

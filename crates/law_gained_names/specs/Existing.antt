@@ -9,12 +9,13 @@ use Rattle.refs_binding.specs.declared.declaration.Declaration.{Declaration}
 use Rattle.refs_binding.specs.Workspaces.{IsFaultless, known_in}
 use Rattle.refactor_rename.specs.RenameEdits.{AreRenameEdits}
 
--- Edits that give the declaration `d` the name `name`, and that fit the workspace.
-pub record HasRenameEdits (w : Workspace) (known : Verdicts) (d : Declaration) (name : List ℕ) : Type 0 where
+-- Edits that give the declaration `d`, and all of the set, the name `name`, and that fit the workspace.
+pub record HasRenameEdits (w : Workspace) (known : Verdicts) (d : Declaration) (set : List Declaration) (name : List ℕ) : Type 0 where
   pub changes : FileChanges
-  pub edits : AreRenameEdits w known d name changes
+  pub edits : AreRenameEdits w known d set name changes
   pub fit : Fits changes w
 
--- In a workspace without faults there are such edits for each declaration and each name.
+-- In a workspace without faults there are such edits for each declaration, each set and each name.
 abbrev pub RenameEditsExist : Type 0
-RenameEditsExist = (w : Workspace) (found : Findings) → IsFaultless w found → (d : Declaration) (name : List ℕ) → HasRenameEdits w (known_in found) d name
+RenameEditsExist = (w : Workspace) (found : Findings) → IsFaultless w found → (d : Declaration) (set : List Declaration) (name : List ℕ) →
+    HasRenameEdits w (known_in found) d set name

@@ -83,7 +83,7 @@ UnnamedConflictsRefuse = (w : Workspace) (known : Verdicts) (p : Package) (n : �
 abbrev pub UnnamedRenamesKeepOthers : Type 0
 UnnamedRenamesKeepOthers = OfUnnamedRenames (λ w known p n name s. NoneIsLost w known (revision_of w s) → (number : ℕ) →
     slice_get (package_paths w) number ≡ Some p.path → (old rest : Known) → KnowsVerdicts w old →
-    HoldVerdictsBut number old.verdicts.items rest.verdicts.items → KnowsVerdicts (edited s w) rest)
+    HoldVerdictsBut (λ k. k ≡ number) old.verdicts.items rest.verdicts.items → KnowsVerdicts (edited s w) rest)
 
 -- What these laws take as premises: each such rename can be done in two steps, of which the first changes no binding.
 abbrev pub UnnamedRenamesHaveSteps : Type 0

@@ -66,11 +66,12 @@ module _ (w : Workspace) (known : Verdicts) (r : Revision) (kept : KeepsOtherNam
         }),
   )
 
-  field_called : (p : Package) → IsCheckedPackage w known p → (rank : ℕ) (f : PlacedField) → slice_get (package_fields p) rank ≡ Some f → (name : List ℕ) →
+  pub field_called : (p : Package) → IsCheckedPackage w known p → (rank : ℕ) (f : PlacedField) → slice_get (package_fields p) rank ≡ Some f → (name : List ℕ) →
       HasNameAfter r p (field_place f) name ↔ (spelled p f.file f.name ≡ name)
   field_called p is rank f has name = called_before p is (field_place f) (field_in_tree p rank f has) (field_name p rank f has) name
 
-  method_called : (p : Package) → IsCheckedPackage w known p → (rank : ℕ) (f : PlacedFunction) (x : ReceiverTree) → slice_get (package_functions p) rank ≡ Some f →
+  pub method_called : (p : Package) → IsCheckedPackage w known p → (rank : ℕ) (f : PlacedFunction) (x : ReceiverTree) →
+      slice_get (package_functions p) rank ≡ Some f →
       f.function.receiver ≡ Some x → (name : List ℕ) → HasNameAfter r p (function_place f) name ↔ (spelled p f.file f.function.name ≡ name)
   method_called p is rank f x has received name =
       called_before p is (function_place f) (method_in_tree p rank f x has received) (function_name p rank f has) name

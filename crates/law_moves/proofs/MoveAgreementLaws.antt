@@ -37,7 +37,7 @@ decide_by loses agree w known from to s h allowed (Some c) tells = refuse_by los
 
 -- with the laws of the scopes after a move
 
-are_scoped : MovesAreScoped
+pub are_scoped : MovesAreScoped
 are_scoped = scoped_by scoped_move moves_keep_names
 
 pub loses_none : PreservedMovesLoseNone

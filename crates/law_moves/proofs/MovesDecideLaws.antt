@@ -25,7 +25,7 @@ checked_from laws bound = checked_by laws.free laws.same (laws.right bound) (law
 pub bound : PackagesStayBound
 bound = stay_bound scoped_move lost same_bindings moves_keep_names
 
-are_checked : MovesAreChecked
+pub are_checked : MovesAreChecked
 are_checked = checked_from (record { free = free_swap; same = same_target; right = verdicts; sound = stays_sound; packages = packages }) bound
 
 pub agree : MovesAgree

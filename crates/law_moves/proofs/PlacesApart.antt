@@ -141,7 +141,7 @@ module _ (w : Workspace) (known : Verdicts) (from to : List ℕ) (s : FileChange
       ap (λ (x : Place). x.offset) same ∙ ap (λ (q : List ℕ). moved_offset (edits_by (change_of s q)) b.offset) (sym path) in
       differs (moved_offset (edits_by (change_of s a.path)) a.offset) (moved_offset (edits_by (change_of s a.path)) b.offset) (rises a t b.offset lt) offsets
 
-  moved_once : (a b : Place) → StandsAtToken w known a → StandsAtToken w known b → (revision_of w s).moved a ≡ (revision_of w s).moved b → a ≡ b
+  pub moved_once : (a b : Place) → StandsAtToken w known a → StandsAtToken w known b → (revision_of w s).moved a ≡ (revision_of w s).moved b → a ≡ b
   moved_once a b t u same =
       let one = has_file a t in
       let other = has_file b u in

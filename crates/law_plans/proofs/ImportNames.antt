@@ -175,7 +175,7 @@ names_are_gained snapshot path offset name change plans f source i token at lite
     let planned = plans.1 in
     let w = snapshot.files in
     let known = planned.renaming.may.renamable.asked.known in
-    let rename = planned.renaming.edits in
+    let rename = planned.renaming.edits.edits in
     let r = rename.renamed in
     let s = change.edits in
     let edits = edits_by (change_of s f.path) in

@@ -54,9 +54,9 @@ pub renames_keep_bytes : AffectedRenamesKeepOtherBytes
 renames_keep_bytes snapshot path offset name change plan file text is start end some ends kept =
     let w = snapshot.files in
     let s = change.edits in
-    let edits = plan.1.renaming.edits.edits in
+    let edits = plan.1.renaming.edits.edits.edits in
     let stay : (c : FileChange) → Contains s.changed c → c.fate ≡ Stays = λ c has. (edits.only c has).stays in
-    let order = in_order _ _ plan.1.renaming.edits.renamed s edits file in
+    let order = in_order _ _ plan.1.renaming.edits.edits.renamed s edits file in
     record {
       new = edited_text (edits_by (change_of s file)) text;
       there = ap (λ (c : Change). get c.files file) plan.1.is_change ∙ file_there w s plan.1.fit_files file text is file (path_stays s stay file);
@@ -110,7 +110,8 @@ module _ (snapshot : Snapshot) (from to : List ℕ) (change : Change) (plan : Pl
 
   told_out : is_of_faulty known file ≡ true → IsToldOf
   told_out faulty =
-      let none = no_change w known s are.none_added (move_edits_apart w part plan.1.moving.known from to s are plan.0.movable.free) plan.1.fit_part file faulty in
+      let none = no_change w known s are.none_added (move_edits_apart w part plan.1.moving.known from to s are plan.0.movable.free) plan.1.fit_part file
+      faulty in
       let parts = and_parts (is_go file) (known (folder file)).faulty faulty in
       record {
         after = file;

@@ -13,16 +13,20 @@ use Rattle.workspace_snapshot.specs.declared.change.Change.{Change}
 use Rattle.history_machine.specs.Machine.{Content}
 use Rattle.history_machine.proofs.RunLaws.{undo_restores}
 use Rattle.refactor_move.specs.MoveEdits.{AreMoveEdits}
+use Rattle.refactor_plan.specs.DecidedMoves.{IsPlannedMove}
+use Rattle.refactor_plan.proofs.DecidedMoves.{moves_there}
 use Rattle.refactor_part.specs.FaultlessPart.{faultless_part}
 use Rattle.refactor_part.proofs.PartEdits.{AreApart}
 use Rattle.refactor_affected.specs.Moves.{PlansAffectedMove}
 use Rattle.refactor_affected.specs.Starts.{IsAffectedByMove}
 use Rattle.refactor_affected.proofs.MovesApart.{move_edits_apart}
+use Rattle.law_implementing.proofs.Laws.{moves_preserve_all}
 use Rattle.law_plans.specs.SoundMoves.{MovesSound, MovesKeepSoundBindings, UndoTakesAffectedMovesBack}
 use Rattle.law_plans.proofs.AffectedAfter.{affected_stay_sound, faulty_apart, leaves_others}
 use Rattle.law_plans.proofs.SoundAfter.{preserves_sound}
 use Rattle.law_plans.proofs.MovingFiles.{each_goes_moving, none_comes_moving}
 use Rattle.law_plans.proofs.OthersMoved.{others_moved}
+use Rattle.law_plans.proofs.PlannedInPart.{moves_in_part}
 
 module _ (snapshot : Snapshot) (from to : List ℕ) (change : Change) (plan : PlansAffectedMove snapshot from to (Ok change)) where
   abbrev w : Workspace
@@ -52,6 +56,11 @@ module _ (snapshot : Snapshot) (from to : List ℕ) (change : Change) (plan : Pl
   unaffected : (p : List ℕ) → Contains (package_paths w) p → (IsAffectedByMove w from to p → ⊥) → HasSameClosure w (edited s w) p
   unaffected p has not = others_moved w known from to by s are plan.1.fit_part target plan.0.movable.free apart p has not
 
+  planned : IsPlannedMove (faultless_part snapshot.files plan.0.sound.known) plan.1.moving.known from to to change.edits
+  planned =
+      let valid = (moves_in_part snapshot from to change plan).0.0 in
+      moves_there (faultless_part w known) valid.sound by plan.1.moving.right from to s plan.1.fit_part valid.movable are
+
   pub moved_sound : MovesSound w from to s (edited s w)
   moved_sound =
       let back = none_comes_moving w known right from to target plan.0.movable.free plan.0.sound by s are apart in
@@ -64,6 +73,7 @@ module _ (snapshot : Snapshot) (from to : List ℕ) (change : Change) (plan : Pl
         moving = plan.1.moving;
         files = refl;
         preserves = preserved;
+        in_part = moves_preserve_all (faultless_part w known) by from to s planned.move planned.allowed plan.1.preserves;
         affected_after = affected_stay_sound w (IsAffectedByMove w from to) (revision_of w s) plan.0.sound preserved;
         others = leaves_others w (IsAffectedByMove w from to) (edited s w) unaffected;
       }

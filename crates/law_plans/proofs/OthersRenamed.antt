@@ -27,6 +27,7 @@ use Rattle.refs_binding.specs.Uses.{IsCheckedPackage}
 use Rattle.refs_binding.proofs.Folders.{file_in_folder}
 use Rattle.refs_lookup.specs.Reached.{IsReached}
 use Rattle.refs_lookup.specs.Within.{IsDeclaredWithin, predeclared, stands}
+use Rattle.refs_places.specs.Homes.{IsHomeOfSome}
 use Rattle.refs_places.specs.Outside.{declaring_path}
 use Rattle.refactor_preserve.proofs.Unaffected.{declared_folder, use_within}
 use Rattle.refactor_rename.specs.declared.renamed.Literal.{Literal}
@@ -50,9 +51,9 @@ module _ (v : Workspace) (known : Verdicts) (home : List ℕ) where
   declared_reaches q e is (stands place h) =
       subst (IsInClosure v q) (declared_folder v known place e home is h.declared).in_folder h.in_closure
 
--- a package that has an edit reaches the package of the declaration
-module _ (v : Workspace) (known : Verdicts) (right : AreVerdicts v known) (d : Declaration) (name : List ℕ) (s : FileChanges)
-    (are : AreRenameEdits v known d name s) (home : List ℕ) (declares : declaring_path d ≡ Some home) where
+-- a package that has an edit reaches the package of a declaration that is renamed
+module _ (v : Workspace) (known : Verdicts) (right : AreVerdicts v known) (d : Declaration) (set : List Declaration) (name : List ℕ) (s : FileChanges)
+    (are : AreRenameEdits v known d set name s) (home : List ℕ) (declares : declaring_path d ≡ Some home) where
   -- the literal stands in the package of the import
   of_literal : (e : Declaration) → declaring_path e ≡ Some home → (l : Literal) → IsPathLiteralOf (IsCheckedPackage v known) e l →
       IsInClosure v (folder l.path) home
@@ -72,9 +73,14 @@ module _ (v : Workspace) (known : Verdicts) (right : AreVerdicts v known) (d : D
   by_literal f i None found at = absurd at
   by_literal f i (Some l) found at = subst (λ x. IsInClosure v (folder x) home) at.0 (of_literal d declares l found)
 
-  pub edited_reaches : (path : List ℕ) (c : FileChange) (e : Edit) (rest : List Edit) → change_of s path ≡ Some c → c.edits ≡ e ∷ rest →
-      IsInClosure v (folder path) home
-  edited_reaches path c e rest is edits =
+  -- The package at the path reaches one of the declarations of the set.
+  abbrev ReachesSome : List ℕ → Type 0
+  ReachesSome q = (start : List ℕ) × (IsHomeOfSome set start × IsInClosure v q start)
+
+  pub edited_reaches : Contains set d → ((x : Declaration) → Contains set x → (start : List ℕ) × (declaring_path x ≡ Some start)) → (path : List ℕ)
+      (c : FileChange) (e : Edit) (rest : List Edit) → change_of s path ≡ Some c → c.edits ≡ e ∷ rest →
+      (start : List ℕ) × (IsHomeOfSome set start × IsInClosure v (folder path) start)
+  edited_reaches has homes path c e rest is edits =
       let found = change_found s.changed path c is in
       let source = are.edits.only c found.0 in
       let f = source.source in
@@ -83,19 +89,32 @@ module _ (v : Workspace) (known : Verdicts) (right : AreVerdicts v known) (d : D
       let here : AreFileEdits f r c.edits =
       subst (λ o. AreFileEdits f r (edits_by o)) (ap (change_of s) at ∙ is) (are.edits.each f source.is_source) in
       let one = (here.each e).0 (subst (λ l. Contains l e) (sym edits) (first_in e rest)) in
-      subst (λ x. IsInClosure v (folder x) home) at (elim one.1 [
-        | inl inserts ↦ by_literal f one.0 r.literal are.is_renamed.literal inserts.is_literal
+      subst (λ x. ReachesSome (folder x)) at (elim one.1 [
+        | inl inserts ↦ (
+          home,
+          (
+            record { declaration = d; among = has; declares = declares },
+            by_literal f one.0 r.literal are.is_renamed.literal inserts.is_literal,
+          ),
+        )
         | inr renames ↦ (
             let place : Place = record { path = f.path; offset = renames.token.span.start } in
-            declared_reaches v known home (folder f.path) d declares (use_within v known right d place ((are.is_renamed.uses.each place).0 renames.among)))
+            let u = (are.is_renamed.uses.each place).0 renames.among in
+            let start = homes u.declaration u.among in (
+              start.0,
+              (
+                record { declaration = u.declaration; among = u.among; declares = start.1 },
+                declared_reaches v known start.0 (folder f.path) u.declaration start.1 (use_within v known right u.declaration place u.is_use),
+              ),
+            ))
       ])
 
 -- ---- packages that the rename does not affect
 module _ (w : Workspace) (s : FileChanges) (none : s.added ≡ []) (apart : AreApart s w) (stay : (c : FileChange) → Contains s.changed c → c.fate ≡ Stays)
-    (home : List ℕ)
+    (Home : List ℕ → Type 0)
     (reaches : (path : List ℕ) (c : FileChange) (e : Edit) (rest : List Edit) → change_of s path ≡ Some c → c.edits ≡ e ∷ rest →
-    IsInClosure w (folder path) home)
-    (p : List ℕ) (not : IsInClosure w p home → ⊥) where
+    (home : List ℕ) × (Home home × IsInClosure w (folder path) home))
+    (p : List ℕ) (not : (home : List ℕ) → Home home → IsInClosure w p home → ⊥) where
   whole_file : (q : List ℕ) → IsReached w p q → StaysWhole w s q
   whole_file q r path text has at go = by_change (change_of s path) refl
     where
@@ -105,7 +124,9 @@ module _ (w : Workspace) (s : FileChanges) (none : s.added ≡ []) (apart : AreA
 
       no_edit : (c : FileChange) → change_of s path ≡ Some c → (edits : List Edit) → c.edits ≡ edits → edited_text c.edits text ≡ text
       no_edit c is [] e = ap (λ l. edited_text l text) e
-      no_edit c is (x ∷ rest) e = absurd (not (in_closure_then w p (folder path) home there (reaches path c x rest is e)))
+      no_edit c is (x ∷ rest) e =
+          let k = reaches path c x rest is e in
+          absurd (not k.0 k.1.0 (in_closure_then w p (folder path) k.0 there k.1.1))
 
       by_change : (o : Option FileChange) → change_of s path ≡ o → file_by o (path, text) ≡ Some (path, text)
       by_change None is = refl

@@ -23,7 +23,7 @@ module _ (snapshot : Snapshot) (path : List ℕ) (offset : ℕ) (name : List ℕ
   inner = part_of_snapshot snapshot plan.0.sound.known
 
   pub stay : (c : FileChange) → Contains change.edits.changed c → c.fate ≡ Stays
-  stay c has = (plan.1.renaming.edits.edits.only c has).stays
+  stay c has = (plan.1.renaming.edits.edits.edits.only c has).stays
 
   -- it is planned in the part
   abbrev pub planned_inside : PlansRename (part_of_snapshot snapshot plan.0.sound.known) path offset name
@@ -32,7 +32,7 @@ module _ (snapshot : Snapshot) (path : List ℕ) (offset : ℕ) (name : List ℕ
       let w = snapshot.files in
       let known = plan.0.sound.known in
       let right = plan.0.sound.right in
-      let none = plan.1.renaming.edits.edits.none_added in (
+      let none = plan.1.renaming.edits.edits.edits.none_added in (
         record {
           file = (plan.0.file.0, λ missing. not_missing snapshot known right path offset name plan.0 missing);
           form = plan.0.form;
@@ -61,7 +61,8 @@ names_gained_beside snapshot path offset name change plan f is i token at litera
       is_put = g.is_put;
       inserts = g.inserts;
       new = g.new;
-      there = ap (λ (c : Change). get c.files f.path) plan.1.is_change ∙ within w known s plan.1.renaming.edits.edits.none_added apart f.path g.new g.there;
+      there = ap (λ (c : Change). get c.files f.path) plan.1.is_change
+          ∙ within w known s plan.1.renaming.edits.edits.edits.none_added apart f.path g.new g.there;
       front = g.front;
       behind = g.behind;
       stands = g.stands;

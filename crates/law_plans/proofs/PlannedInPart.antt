@@ -36,10 +36,10 @@ renames_in_part snapshot path offset name change plan =
     let w = snapshot.files in
     let known = plan.0.sound.known in
     let s = change.edits in
-    let none = plan.1.renaming.edits.edits.none_added in
+    let none = plan.1.renaming.edits.edits.edits.none_added in
     let stays = stay snapshot path offset name change plan in
     let apart = staying_apart s w stays in
-    let kept = plan.1.preserves in (
+    let kept = plan.1.preserves.bindings in (
       planned_inside snapshot path offset name change plan,
       record {
         before = shared_before w known plan.0.sound.right;

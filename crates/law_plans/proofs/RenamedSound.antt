@@ -20,6 +20,8 @@ use Rattle.history_machine.proofs.RunLaws.{undo_restores}
 use Rattle.types_declared.specs.Package.{Package}
 use Rattle.refs_binding.specs.declared.declaration.Declaration.{Declaration}
 use Rattle.refs_binding.specs.declared.declaration.Declaration.TheVariants.{Predeclared, Declared, Field, Method}
+use Rattle.refs_binding.specs.Uses.{IsCheckedPackage}
+use Rattle.refs_places.specs.Homes.{IsHomeOfSome}
 use Rattle.refs_places.specs.Outside.{declaring_path}
 use Rattle.refactor_rename.specs.Naming.{IsFixed}
 use Rattle.refactor_part.specs.FaultlessPart.{faultless_part}
@@ -27,6 +29,7 @@ use Rattle.refactor_part.proofs.PartClosures.{reaches_in_whole}
 use Rattle.refactor_part.proofs.PartEdits.{AreApart, staying_apart}
 use Rattle.refactor_part.proofs.PartFiles.{from_part}
 use Rattle.refactor_affected.specs.Renames.{IsAffectedByRename, PlansAffectedRename}
+use Rattle.law_implementing.proofs.RenamedHomes.{set_has_it, set_homes}
 use Rattle.law_plans.specs.SoundRenames.{RenamesSound, RenamesKeepSoundBindings, UndoTakesAffectedRenamesBack}
 use Rattle.law_plans.proofs.AffectedAfter.{affected_stay_sound, faulty_apart, leaves_others}
 use Rattle.law_plans.proofs.SoundAfter.{preserves_sound}
@@ -55,35 +58,43 @@ module _ (snapshot : Snapshot) (path : List ℕ) (offset : ℕ) (name : List ℕ
   right = plan.0.sound.right
 
   stay : (c : FileChange) → Contains s.changed c → c.fate ≡ Stays
-  stay c has = (plan.1.renaming.edits.edits.only c has).stays
+  stay c has = (plan.1.renaming.edits.edits.edits.only c has).stays
 
   abbrev none : change.edits.added ≡ []
-  none = plan.1.renaming.edits.edits.none_added
+  none = plan.1.renaming.edits.edits.edits.none_added
 
   apart : AreApart s w
   apart = staying_apart s w stay
 
   -- where a file with an edit lies
-  reaches : (home : List ℕ) → declaring_path plan.1.renaming.may.renamable.asked.declaration ≡ Some home → (file : List ℕ) (c : FileChange) (e : Edit)
-      (rest : List Edit) → change_of s file ≡ Some c → c.edits ≡ e ∷ rest → IsInClosure w (folder file) home
-  reaches home declares file c e rest is edits =
-      let asked = plan.1.renaming.may.renamable.asked in
-      let closed = edited_reaches (faultless_part w known) asked.known asked.right asked.declaration name s plan.1.renaming.edits home declares file c e
-      rest is edits in
-      let fine = (from_part w known (folder file) (is_package (faultless_part w known) (folder file) home closed)).1 in
-      reaches_in_whole w known right (folder file) home fine closed
+  reaches : (file : List ℕ) (c : FileChange) (e : Edit) (rest : List Edit) → change_of s file ≡ Some c → c.edits ≡ e ∷ rest →
+      (home : List ℕ) × (IsHomeOfSome plan.1.renaming.set home × IsInClosure w (folder file) home)
+  reaches file c e rest is edits =
+      let may = plan.1.renaming.may.renamable in
+      let asked = may.asked in
+      let coupled = plan.1.renaming.edits in
+      let home = home_of _ asked.declaration may.not_fixed in
+      let part = faultless_part w known in
+      let closed = edited_reaches part asked.known asked.right asked.declaration plan.1.renaming.set name s coupled.edits home.0 home.1
+      (set_has_it (IsCheckedPackage part asked.known) asked.declaration plan.1.renaming.set coupled.is_set)
+      (set_homes (IsCheckedPackage part asked.known) asked.declaration plan.1.renaming.set coupled.is_set home) file c e rest is edits in
+      let fine = (from_part w known (folder file) (is_package part (folder file) closed.0 closed.1.1)).1 in
+      (closed.0, (closed.1.0, reaches_in_whole w known right (folder file) closed.0 fine closed.1.1))
 
   unaffected : (p : List ℕ) → Contains (package_paths w) p → (IsAffectedByRename w (faultless_part w known) path offset p → ⊥) → HasSameClosure w (edited s w) p
   unaffected p has not =
       let may = plan.1.renaming.may.renamable in
-      let home = home_of _ may.asked.declaration may.not_fixed in
-      others_renamed w s none apart stay home.0 (reaches home.0 home.1) p
-      (λ closed. not (record { start = home.0; begins = record { asked = may.asked; declares = home.1 }; in_closure = closed }))
+      others_renamed w s none apart stay (IsHomeOfSome plan.1.renaming.set) reaches p
+      (λ home is closed. not (record {
+        start = home;
+        begins = record { asked = may.asked; set = plan.1.renaming.set; is_set = plan.1.renaming.edits.is_set; declares = is };
+        in_closure = closed;
+      }))
 
   pub renamed_sound : RenamesSound w path offset name s (edited s w)
   renamed_sound =
       let back = none_comes_staying w known s none apart stay in
-      let preserved = preserves_sound w known right s none apart back (each_goes_staying w known s none apart stay back right) plan.1.preserves
+      let preserved = preserves_sound w known right s none apart back (each_goes_staying w known s none apart stay back right) plan.1.preserves.bindings
       plan.1.fit_part
       (λ p has faulty. unaffected p has (faulty_apart w (IsAffectedByRename w (faultless_part w known) path offset) plan.1.sound known right p has faulty)) in
       record {
@@ -92,6 +103,7 @@ module _ (snapshot : Snapshot) (path : List ℕ) (offset : ℕ) (name : List ℕ
         renaming = plan.1.renaming;
         files = refl;
         preserves = preserved;
+        in_part = plan.1.preserves;
         affected_after = affected_stay_sound w (IsAffectedByRename w (faultless_part w known) path offset) (revision_of w s) plan.1.sound preserved;
         others = leaves_others w (IsAffectedByRename w (faultless_part w known) path offset) (edited s w) unaffected;
       }

@@ -5,6 +5,7 @@ use Rattle.base_edits.specs.EditSet.{FileChanges, edited}
 use Rattle.base_files.specs.Packages.{package_paths}
 use Rattle.base_files.specs.Workspace.{Workspace}
 use Rattle.go_ast.specs.SourceFile.{SourceFile}
+use Rattle.go_scope.specs.Bindings.{IsPackageLevel}
 use Rattle.types_expr.specs.declared.symbol.Symbol.{Symbol}
 use Rattle.types_declared.specs.Package.{Package}
 use Rattle.workspace_graph.specs.Packages.{IsInClosure, itself}
@@ -14,19 +15,25 @@ use Rattle.workspace_check.specs.Verdicts.{Verdicts, AreVerdicts}
 use Rattle.workspace_check.proofs.Local.{closed_there, files_there, same_back}
 use Rattle.workspace_snapshot.specs.declared.change.Change.{Change}
 use Rattle.workspace_snapshot.specs.declared.snapshot.Snapshot.{Snapshot}
+use Rattle.build_object.specs.Lines.{GlobalName}
 use Rattle.build_object.specs.Objects.{Object}
 use Rattle.build_unit.specs.Units.{AreFilesOf, AreFilesSeen, within, beyond}
 use Rattle.refs_binding.specs.declared.declaration.Declaration.{Declaration}
 use Rattle.refs_binding.specs.declared.declaration.Declaration.TheVariants.{Predeclared, Declared, Field, Method}
-use Rattle.refs_binding.specs.DeclaredNames.{HasDeclaredName}
+use Rattle.refs_binding.specs.DeclaredNames.{HasDeclaredName, HasDeclaredNameIn}
+use Rattle.refs_binding.specs.DeclaringPlaces.{InPackage}
 use Rattle.refs_binding.specs.Uses.{IsCheckedPackage}
 use Rattle.refs_lookup.proofs.Packages.{package_stays}
 use Rattle.refs_places.specs.Outside.{declaring_path}
 use Rattle.refactor_part.specs.FaultlessPart.{faultless_part, part_of_snapshot}
 use Rattle.refactor_part.proofs.PartClosures.{part_closure}
+use Rattle.refactor_part.proofs.PartFiles.{from_part}
+use Rattle.refactor_coupled.specs.Coupling.{IsRenamedSet}
 use Rattle.refactor_plan.specs.Plan.{ResolvesIdentifier}
-use Rattle.law_objects.specs.Objects.{HasObject, HasObjectText, IsOwnerCalled, IsUnprinted, ReplacesNamesAt}
-use Rattle.law_objects.specs.Replaced.{Replaced, of_global, of_method}
+use Rattle.law_objects.specs.Objects.{AreTypesOfMethods, HasObject, HasObjectText, IsFieldOfType, IsInterfaceCalled, IsOwnerCalled, IsTypeOfMethod}
+use Rattle.law_objects.specs.Objects.{IsUnprinted, ReplacesNamesAt}
+use Rattle.law_objects.specs.Replaced.{Replaced, of_global, of_methods}
+use Rattle.law_implementing.proofs.RenamedHomes.{set_has_it}
 use Rattle.refactor_units.specs.PlannedObjects.{RenamesInObjects, RenamesObjects}
 use Rattle.refactor_units.proofs.PlannedObjects.{planned_objects}
 use Rattle.refactor_affected.specs.Renames.{IsAffectedByRename, PlansAffectedRename}
@@ -64,6 +71,38 @@ module _ (w x : Workspace) (before after : Verdicts) (right : AreVerdicts w befo
   text_moved : (text : List ℕ) → HasObjectText w before path text → HasObjectText x after path text
   text_moved text h = record { files_of = h.files_of; object = h.object; has = object_moved h.files_of h.object h.has; printed = h.printed }
 
+-- the name of the type of a method, where its package is checked alike
+owner_moved : (w x : Workspace) (a b : Verdicts) (m : Symbol) (called : List ℕ) (h : IsOwnerCalled w a m called) → IsCheckedPackage x b h.own →
+    IsOwnerCalled x b m called
+owner_moved w x a b m called h is = record {
+  own = h.own;
+  is_package = is;
+  of_path = h.of_path;
+  function = h.function;
+  has_rank = h.has_rank;
+  definition = h.definition;
+  of_type = h.of_type;
+  spec = h.spec;
+  is_type = h.is_type;
+  called = h.called;
+}
+
+interface_moved : (w x : Workspace) (a b : Verdicts) (m : Symbol) (called : List ℕ) (h : IsInterfaceCalled w a m called) → IsCheckedPackage x b h.own →
+    IsInterfaceCalled x b m called
+interface_moved w x a b m called h is = record {
+  own = h.own;
+  is_package = is;
+  of_path = h.of_path;
+  member = h.member;
+  has_rank = h.has_rank;
+  params = h.params;
+  result = h.result;
+  form = h.form;
+  spec = h.spec;
+  is_type = h.is_type;
+  called = h.called;
+}
+
 module _ (snapshot : Snapshot) (path : List ℕ) (offset : ℕ) (name : List ℕ) (change : Change) (plan : PlansAffectedRename snapshot path offset name (Ok
     change)) where
   abbrev w : Workspace
@@ -88,7 +127,8 @@ module _ (snapshot : Snapshot) (path : List ℕ) (offset : ℕ) (name : List ℕ
   followed = planned_objects (part_of_snapshot snapshot known) path offset name (change_of_part snapshot known Rename s)
       (renames_in_part snapshot path offset name change plan).0
 
-  module _ (asked : ResolvesIdentifier part path offset) where
+  module _ (asked : ResolvesIdentifier part path offset) (set : List Declaration)
+      (is_set : IsRenamedSet (IsCheckedPackage (faultless_part snapshot.files plan.0.sound.known) asked.known) asked.declaration set) where
     abbrev d : Declaration
     d = asked.declaration
 
@@ -98,50 +138,76 @@ module _ (snapshot : Snapshot) (path : List ℕ) (offset : ℕ) (name : List ℕ
     abbrev Q : Package → Type 0
     Q = IsCheckedPackage part asked.known
 
-    -- the package of the declaration has no fault, so it is one of the part
-    home_there : (p : Package) → declaring_path d ≡ Some p.path → P p → Q p
-    home_there p declares is =
+    -- the package of what is renamed has no fault, so it is one of the part
+    home_there : (e : Declaration) → Contains set e → (p : Package) → declaring_path e ≡ Some p.path → P p → Q p
+    home_there e among p declares is =
         let sound = sound_among w (IsAffectedByRename w part path offset) plan.1.sound known right p.path is.of_workspace (record {
           start = p.path;
-          begins = record { asked = asked; declares = declares };
+          begins = record {
+            asked = asked;
+            set = set;
+            is_set = is_set;
+            declares = record { declaration = e; among = among; declares = declares };
+          };
           in_closure = itself is.of_workspace;
         }) in
         package_stays w part known asked.known right asked.right p (part_closure w known right p.path sound.sound) is
 
-    unprinted_there : (e : Declaration) → d ≡ e → IsUnprinted P e → IsUnprinted Q e
-    unprinted_there (Predeclared n) same h = h
-    unprinted_there (Declared q n) same h = record {
-      inside = h.inside;
-      is_package = home_there h.inside (ap declaring_path same ∙ ap Some (sym h.of_path)) h.is_package;
-      of_path = h.of_path;
-      holds = h.holds;
-    }
-    unprinted_there (Field m) same h = h
-    unprinted_there (Method m) same h = h
+    back : (p : Package) → Q p → P p
+    back p is =
+        package_stays part w asked.known known asked.right right p
+        (same_back w part p.path (part_closure w known right p.path (from_part w known p.path is.of_workspace).1)) is
 
-    name_there : (m : Symbol) (called : List ℕ) → d ≡ Method m → HasDeclaredName P (Method m) called → HasDeclaredName Q (Method m) called
-    name_there m called same h = record {
+    has_it : Contains set d
+    has_it = set_has_it Q d set is_set
+
+    in_home : (e : Declaration) → Contains set e → (q : List ℕ) → declaring_path e ≡ Some q → (K : Package → Type 0) → InPackage P q K → InPackage Q q K
+    in_home e among q declares K h = record {
       inside = h.inside;
-      is_package = home_there h.inside (ap declaring_path same ∙ ap Some (sym h.of_path)) h.is_package;
+      is_package = home_there e among h.inside (declares ∙ ap Some (sym h.of_path)) h.is_package;
       of_path = h.of_path;
       holds = h.holds;
     }
 
-    owner_there : (m : Symbol) (called : List ℕ) → d ≡ Method m → IsOwnerCalled w known m called → IsOwnerCalled part asked.known m called
-    owner_there m called same h = record {
-      own = h.own;
-      is_package = home_there h.own (ap declaring_path same ∙ ap Some (sym h.of_path)) h.is_package;
-      of_path = h.of_path;
-      function = h.function;
-      has_rank = h.has_rank;
-      definition = h.definition;
-      of_type = h.of_type;
-      spec = h.spec;
-      is_type = h.is_type;
-      called = h.called;
-    }
+    unprinted_there : (e : Declaration) → Contains set e → IsUnprinted P e → IsUnprinted Q e
+    unprinted_there (Predeclared n) among h = h
+    unprinted_there (Declared q n) among h = in_home (Declared q n) among q refl (λ p. IsPackageLevel p.layout n → ⊥) h
+    unprinted_there (Field m) among h = in_home (Field m) among m.package refl (λ p. IsFieldOfType p m.rank) h
+    unprinted_there (Method m) among h = h
 
-    module _ (then : Verdicts) (right_then : AreVerdicts (edited s part) then) (law : RenamesInObjects part asked.known d name (edited s part) then)
+    name_there : (e : Declaration) → Contains set e → (called : List ℕ) → HasDeclaredName P e called → HasDeclaredName Q e called
+    name_there (Predeclared n) among called h = h
+    name_there (Declared q n) among called h = in_home (Declared q n) among q refl (λ p. HasDeclaredNameIn p (Declared q n) called) h
+    name_there (Field m) among called h = in_home (Field m) among m.package refl (λ p. HasDeclaredNameIn p (Field m) called) h
+    name_there (Method m) among called h = in_home (Method m) among m.package refl (λ p. HasDeclaredNameIn p (Method m) called) h
+
+    -- the types of methods that are renamed
+
+    type_there : (e : Declaration) → Contains set e → (g : GlobalName) → IsTypeOfMethod w known e g → IsTypeOfMethod part asked.known e g
+    type_there (Predeclared n) among g h = h
+    type_there (Declared q n) among g h = h
+    type_there (Field m) among g h = (
+      h.0,
+      interface_moved w part known asked.known m g.name h.1 (home_there (Field m) among h.1.own (ap Some (sym h.1.of_path)) h.1.is_package),
+    )
+    type_there (Method m) among g h = (
+      h.0,
+      owner_moved w part known asked.known m g.name h.1 (home_there (Method m) among h.1.own (ap Some (sym h.1.of_path)) h.1.is_package),
+    )
+
+    type_back : (e : Declaration) (g : GlobalName) → IsTypeOfMethod part asked.known e g → IsTypeOfMethod w known e g
+    type_back (Predeclared n) g h = h
+    type_back (Declared q n) g h = h
+    type_back (Field m) g h = (h.0, interface_moved part w asked.known known m g.name h.1 (back h.1.own h.1.is_package))
+    type_back (Method m) g h = (h.0, owner_moved part w asked.known known m g.name h.1 (back h.1.own h.1.is_package))
+
+    types_there : (types : List GlobalName) → AreTypesOfMethods w known set types → AreTypesOfMethods part asked.known set types
+    types_there types are g = (
+      (λ has. let k = (are g).0 has in (k.0, (k.1.0, type_there k.0 k.1.0 g k.1.1))),
+      (λ k. (are g).1 (k.0, (k.1.0, type_back k.0 g k.1.1))),
+    )
+
+    module _ (then : Verdicts) (right_then : AreVerdicts (edited s part) then) (law : RenamesInObjects part asked.known d set name (edited s part) then)
         (after : Verdicts) (right_after : AreVerdicts (edited s w) after) where
       -- into the part
       object_there : (q : List ℕ) (files_of : List ℕ → List SourceFile) (o : Object) → IsSoundPackage w known q → HasObject w known q files_of o →
@@ -162,25 +228,28 @@ module _ (snapshot : Snapshot) (path : List ℕ) (offset : ℕ) (name : List ℕ
           ReplacesNamesAt w known (edited s w) after q r
       replaced q fine r names files_of o h = text_back q _ (names files_of o (object_there q files_of o fine h))
 
-      pub in_sound : RenamesInSoundObjects w known d name (edited s w) after
+      pub in_sound : RenamesInSoundObjects w known d set name (edited s w) after
       in_sound q fine = record {
-        unprinted = λ none text h. text_back q text ((law q).unprinted (unprinted_there d refl none) text (text_there q text fine h));
+        unprinted = λ none text h. text_back q text ((law q).unprinted (unprinted_there d has_it none) text (text_there q text fine h));
         package_level = λ own n same is level.
-            replaced q fine (of_global own.path (own.names n) name) ((law q).package_level own n same (home_there own (ap declaring_path same) is) level);
-        method = λ m called type_called same has_name owner.
-            replaced q fine (of_method m.package type_called called name) ((law q).method m called type_called same
-            (subst (λ e. HasDeclaredName Q e called) (sym same) (name_there m called same (subst (λ e. HasDeclaredName P e called) same has_name)))
-            (owner_there m type_called same owner));
+            replaced q fine (of_global own.path (own.names n) name)
+            ((law q).package_level own n same (home_there d has_it own (ap declaring_path same) is) level);
+        methods = λ member called has_name types are.
+            replaced q fine (of_methods types called name)
+            ((law q).methods member called (name_there d has_it called has_name) types (types_there types are));
       }
 
 pub sound_objects : AffectedRenamesRenameObjects
 sound_objects snapshot path offset name change plan =
     let law = followed snapshot path offset name change plan in
-    let kept = plan.1.preserves in (
-      law.asked,
-      λ after right_after.
-          let files : change.files ≡ edited change.edits snapshot.files = ap (λ (x : Change). x.files) plan.1.is_change in
-          subst (λ x. RenamesInSoundObjects snapshot.files plan.0.sound.known law.asked.declaration name x after) (sym files)
-          (in_sound snapshot path offset name change plan law.asked kept.after kept.right_after (law.objects kept.after kept.right_after) after
-          (subst (λ x. AreVerdicts x after) files right_after)),
-    )
+    let kept = plan.1.preserves.bindings in
+    let files : change.files ≡ edited change.edits snapshot.files = ap (λ (x : Change). x.files) plan.1.is_change in
+    record {
+      asked = law.asked;
+      set = law.set;
+      is_set = law.is_set;
+      objects = λ after right_after.
+          subst (λ x. RenamesInSoundObjects snapshot.files plan.0.sound.known law.asked.declaration law.set name x after) (sym files)
+          (in_sound snapshot path offset name change plan law.asked law.set law.is_set kept.after kept.right_after (law.objects kept.after kept.right_after)
+          after (subst (λ x. AreVerdicts x after) files right_after));
+    }

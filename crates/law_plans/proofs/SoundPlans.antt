@@ -16,6 +16,7 @@ use Rattle.workspace_snapshot.specs.declared.snapshot.Snapshot.{Snapshot}
 use Rattle.workspace_snapshot.specs.declared.change.Change.{Change}
 use Rattle.refs_binding.specs.Uses.{HasNoIdentifier, HasNoDeclaration}
 use Rattle.refactor_preserve.specs.Preserved.{Preserves}
+use Rattle.refactor_coupled.specs.Obstacles.{PreservesAll}
 use Rattle.refactor_part.specs.FirstFaults.{HaveFirstFault}
 use Rattle.refactor_part.proofs.Carried.{fault_moved}
 use Rattle.refactor_part.proofs.PartClosures.{whole}
@@ -62,7 +63,7 @@ module _ (snapshot : Snapshot) (path : List ℕ) (offset : ℕ) (name : List ℕ
     record {
       changes = h.1.changes;
       renaming = of_part h.0 (λ v. RenamesIdentifier v path offset name h.1.changes) h.1.renaming;
-      preserves = of_part h.0 (λ v. Preserves v (revision_of v h.1.changes)) h.1.preserves;
+      preserves = of_part h.0 (λ v. PreservesAll v (revision_of v h.1.changes)) h.1.preserves;
       too_large = h.1.too_large;
     },
   )
@@ -88,13 +89,15 @@ module _ (snapshot : Snapshot) (path : List ℕ) (offset : ℕ) (name : List ℕ
   refused_there refusal.Already h = absurd h
   refused_there refusal.NoJob h = absurd h
   refused_there refusal.BodyShort h = absurd h
+  refused_there (refusal.Coupled place) h = (valid h.0, of_part h.0 (λ v. HasConflict v path offset name (refusal.Coupled place)) h.2)
+  refused_there refusal.Disk h = absurd h
 
   planned_there : (planned : Result Change Refusal) → PlansAffectedRename snapshot path offset name planned → PlansRename snapshot path offset name planned
   planned_there (Ok change) h = (
     valid h.0,
     record {
       renaming = of_part h.0 (λ v. RenamesIdentifier v path offset name change.edits) h.1.renaming;
-      preserves = of_part h.0 (λ v. Preserves v (revision_of v change.edits)) h.1.preserves;
+      preserves = of_part h.0 (λ v. PreservesAll v (revision_of v change.edits)) h.1.preserves;
       fits = h.1.fits;
       fit_files = h.1.fit_files;
       is_change = h.1.is_change;
@@ -127,6 +130,8 @@ module _ (snapshot : Snapshot) (path : List ℕ) (offset : ℕ) (name : List ℕ
   none_named refusal.Already is h = true≢false (sym is)
   none_named refusal.NoJob is h = true≢false (sym is)
   none_named refusal.BodyShort is h = true≢false (sym is)
+  none_named (refusal.Coupled place) is h = true≢false (sym is)
+  none_named refusal.Disk is h = true≢false (sym is)
 
   planned_here : (planned : Result Change Refusal) → PlansRename snapshot path offset name planned → PlansAffectedRename snapshot path offset name planned
   planned_here (Ok change) h = planned_alike snapshot path offset name change h
@@ -186,6 +191,8 @@ module _ (snapshot : Snapshot) (from to : List ℕ) (sound : ListsFaults snapsho
   move_refused_there refusal.Already h = absurd h
   move_refused_there refusal.NoJob h = absurd h
   move_refused_there refusal.BodyShort h = absurd h
+  move_refused_there (refusal.Coupled place) h = absurd h
+  move_refused_there refusal.Disk h = absurd h
 
   move_there : (planned : Result Change Refusal) → PlansAffectedMove snapshot from to planned → PlansMove snapshot from to planned
   move_there (Ok change) h = (
@@ -225,6 +232,8 @@ module _ (snapshot : Snapshot) (from to : List ℕ) (sound : ListsFaults snapsho
   none_named_move refusal.Already is h = true≢false (sym is)
   none_named_move refusal.NoJob is h = true≢false (sym is)
   none_named_move refusal.BodyShort is h = true≢false (sym is)
+  none_named_move (refusal.Coupled place) is h = true≢false (sym is)
+  none_named_move refusal.Disk is h = true≢false (sym is)
 
   move_here : (planned : Result Change Refusal) → PlansMove snapshot from to planned → PlansAffectedMove snapshot from to planned
   move_here (Ok change) h = move_alike snapshot from to change h

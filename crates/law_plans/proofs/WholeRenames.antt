@@ -27,10 +27,13 @@ use Rattle.refs_binding.specs.declared.declaration.Declaration.{Declaration}
 use Rattle.refs_binding.specs.declared.declaration.Declaration.TheVariants.{Predeclared, Declared, Field, Method}
 use Rattle.refs_binding.specs.DeclaredNames.{HasDeclaredNameIn}
 use Rattle.refs_binding.specs.DeclaringPlaces.{InPackage, InHomePackage}
-use Rattle.refs_binding.specs.Uses.{IsCheckedPackage, IsUseOf}
+use Rattle.refs_binding.specs.Uses.{IsCheckedPackage}
 use Rattle.refs_lookup.proofs.Bindings.{held_stays, use_stays}
 use Rattle.refs_lookup.proofs.Packages.{package_stays}
+use Rattle.refs_places.specs.Homes.{IsHomeOfSome}
 use Rattle.refs_places.specs.Outside.{declaring_path}
+use Rattle.refs_uses.specs.UsesOfEach.{IsUseOfSome}
+use Rattle.refactor_coupled.specs.Coupling.{IsRenamedSet}
 use Rattle.refactor_preserve.proofs.Unaffected.{of_use, use_within}
 use Rattle.refactor_rename.specs.declared.renamed.Literal.{Literal}
 use Rattle.refactor_rename.specs.declared.renamed.Renamed.{Renamed}
@@ -44,6 +47,7 @@ use Rattle.refactor_part.proofs.PartClosures.{part_closure}
 use Rattle.refactor_part.proofs.PartFiles.{from_part}
 use Rattle.refactor_plan.specs.Plan.{IsLegalName, ResolvesIdentifier}
 use Rattle.refactor_affected.specs.Renames.{IsAffectedByRename, PlansAffectedRename}
+use Rattle.law_implementing.proofs.RenamedHomes.{set_has_it, set_homes}
 use Rattle.law_plans.specs.SoundRenames.{AffectedRenamesRenameAll}
 use Rattle.law_plans.proofs.AffectedAfter.{sound_among}
 use Rattle.law_plans.proofs.OthersRenamed.{by_literal, declared_reaches}
@@ -90,11 +94,18 @@ module _ (snapshot : Snapshot) (path : List ℕ) (offset : ℕ) (name : List ℕ
   Q = IsCheckedPackage part by
 
   abbrev r : Renamed
-  r = plan.1.renaming.edits.renamed
+  r = plan.1.renaming.edits.edits.renamed
+
+  abbrev set : List Declaration
+  set = plan.1.renaming.set
+
+  abbrev is_set : IsRenamedSet (IsCheckedPackage (faultless_part snapshot.files plan.0.sound.known) plan.1.renaming.may.renamable.asked.known)
+      plan.1.renaming.may.renamable.asked.declaration plan.1.renaming.set
+  is_set = plan.1.renaming.edits.is_set
 
   abbrev are : AreRenameEdits (faultless_part snapshot.files plan.0.sound.known) plan.1.renaming.may.renamable.asked.known
-      plan.1.renaming.may.renamable.asked.declaration name change.edits
-  are = plan.1.renaming.edits
+      plan.1.renaming.may.renamable.asked.declaration plan.1.renaming.set name change.edits
+  are = plan.1.renaming.edits.edits
 
   -- packages of the part
   shared : (q : List ℕ) → Contains (package_paths part) q → HasSameClosure part w q
@@ -103,17 +114,22 @@ module _ (snapshot : Snapshot) (path : List ℕ) (offset : ℕ) (name : List ℕ
   up : (p : Package) → Q p → P p
   up p is = package_stays part w by known right_by right p (shared p.path is.of_workspace) is
 
-  home_sound : (home : List ℕ) → declaring_path d ≡ Some home → (q : List ℕ) → IsInClosure w q home → (known q).faulty ≡ false
-  home_sound home declares q closed =
+  home_sound : (home : List ℕ) → IsHomeOfSome set home → (q : List ℕ) → IsInClosure w q home → (known q).faulty ≡ false
+  home_sound home is_home q closed =
       (sound_among w (IsAffectedByRename w part path offset) plan.1.sound known right q (is_package w q home closed) (record {
         start = home;
-        begins = record { asked = asked; declares = declares };
+        begins = record { asked = asked; set = set; is_set = is_set; declares = is_home };
         in_closure = closed;
       })).sound
 
+  -- the package of the declaration itself
+  own_home : (home : List ℕ) → declaring_path d ≡ Some home → IsHomeOfSome set home
+  own_home home declares = record { declaration = d; among = set_has_it Q d set is_set; declares = declares }
+
   down : (p : Package) → declaring_path d ≡ Some p.path → P p → Q p
   down p declares is =
-      package_stays w part known by right right_by p (part_closure w known right p.path (home_sound p.path declares p.path (itself is.of_workspace))) is
+      package_stays w part known by right right_by p
+      (part_closure w known right p.path (home_sound p.path (own_home p.path declares) p.path (itself is.of_workspace))) is
 
   inside : (R : Package → Type 0) (home : List ℕ) → declaring_path d ≡ Some home → InPackage P home R → InPackage Q home R
   inside R home declares h = record {
@@ -144,15 +160,26 @@ module _ (snapshot : Snapshot) (path : List ℕ) (offset : ℕ) (name : List ℕ
       }
 
   -- uses
-  use_up : (place : Place) → IsUseOf part by d place → IsUseOf w known d place
-  use_up place u = use_stays part w by known right_by right place (shared (folder place.path) (of_use part by right_by d place u)) d u
+  use_up : (place : Place) → IsUseOfSome part by set place → IsUseOfSome w known set place
+  use_up place u = record {
+    declaration = u.declaration;
+    among = u.among;
+    is_use = use_stays part w by known right_by right place
+        (shared (folder place.path) (of_use part by right_by u.declaration place u.is_use)) u.declaration u.is_use;
+  }
 
-  use_down : (place : Place) → IsUseOf w known d place → IsUseOf part by d place
+  use_down : (place : Place) → IsUseOfSome w known set place → IsUseOfSome part by set place
   use_down place u =
-      let home = home_of Q d not_fixed in
-      let closed = declared_reaches w known home.0 (folder place.path) d home.1 (use_within w known right d place u) in
-      use_stays w part known by right right_by place (part_closure w known right (folder place.path) (home_sound home.0 home.1 (folder place.path) closed))
-      d u
+      let e = u.declaration in
+      let home = set_homes Q d set is_set (home_of Q d not_fixed) e u.among in
+      let closed = declared_reaches w known home.0 (folder place.path) e home.1 (use_within w known right e place u.is_use) in
+      let start : IsHomeOfSome set home.0 = record { declaration = e; among = u.among; declares = home.1 } in
+      record {
+        declaration = e;
+        among = u.among;
+        is_use = use_stays w part known by right right_by place
+            (part_closure w known right (folder place.path) (home_sound home.0 start (folder place.path) closed)) e u.is_use;
+      }
 
   -- the literal of an import
   literal_up : (e : Declaration) (l : Literal) → IsPathLiteralOf Q e l → IsPathLiteralOf P e l
@@ -180,10 +207,11 @@ module _ (snapshot : Snapshot) (path : List ℕ) (offset : ℕ) (name : List ℕ
       let home = home_of Q d not_fixed in
       not_there (folder f.path) faulty (elim h [
         | inl inserts ↦ is_package part (folder f.path) home.0
-            (by_literal part by right_by d name s are home.0 home.1 f i r.literal are.is_renamed.literal inserts.is_literal)
+            (by_literal part by right_by d set name s are home.0 home.1 f i r.literal are.is_renamed.literal inserts.is_literal)
         | inr renames ↦ (
             let place : Place = record { path = f.path; offset = renames.token.span.start } in
-            of_use part by right_by d place ((are.is_renamed.uses.each place).0 renames.among))
+            let u = (are.is_renamed.uses.each place).0 renames.among in
+            of_use part by right_by u.declaration place u.is_use)
       ])
 
   none_within : (n : ℕ) → LieWithin n []
@@ -223,7 +251,7 @@ module _ (snapshot : Snapshot) (path : List ℕ) (offset : ℕ) (name : List ℕ
     stays = e.stays;
   }
 
-  pub whole_edits : AreRenameEdits w known d name s
+  pub whole_edits : AreRenameEdits w known d set name s
   whole_edits = record {
     renamed = r;
     is_renamed = record {
@@ -243,6 +271,7 @@ module _ (snapshot : Snapshot) (path : List ℕ) (offset : ℕ) (name : List ℕ
 pub renames_all : AffectedRenamesRenameAll
 renames_all snapshot path offset name change plan = record {
   may = whole_name snapshot path offset name change plan;
+  same = refl;
   other = λ called. plan.1.renaming.other (at_home snapshot path offset name change plan
       (λ p. HasDeclaredNameIn p plan.1.renaming.may.renamable.asked.declaration name) plan.1.renaming.may.renamable.asked.declaration refl called);
   edits = whole_edits snapshot path offset name change plan;

@@ -33,4 +33,4 @@ abbrev pub AffectedRenamesNameImports : Type 0
 AffectedRenamesNameImports = (snapshot : Snapshot) (path : List ℕ) (offset : ℕ) (name : List ℕ) (change : Change) →
     (planned : PlansAffectedRename snapshot path offset name (Ok change)) →
     (f : SourceFile) → IsSourceIn (part_asked planned.0) planned.1.renaming.may.renamable.asked.known f → (i : ℕ) (token : Piece) →
-    slice_get (tokens_in f.cut) i ≡ Some token → IsLiteralAt planned.1.renaming.edits.renamed.literal f.path i → GainsName change f i token name
+    slice_get (tokens_in f.cut) i ≡ Some token → IsLiteralAt planned.1.renaming.edits.edits.renamed.literal f.path i → GainsName change f i token name

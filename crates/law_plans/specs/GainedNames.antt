@@ -43,4 +43,4 @@ abbrev pub RenamesNameImports : Type 0
 RenamesNameImports = (snapshot : Snapshot) (path : List ℕ) (offset : ℕ) (name : List ℕ) (change : Change) →
     (planned : PlansRename snapshot path offset name (Ok change)) →
     (f : SourceFile) → IsSourceIn snapshot.files planned.1.renaming.may.renamable.asked.known f → (i : ℕ) (token : Piece) →
-    slice_get (tokens_in f.cut) i ≡ Some token → IsLiteralAt planned.1.renaming.edits.renamed.literal f.path i → GainsName change f i token name
+    slice_get (tokens_in f.cut) i ≡ Some token → IsLiteralAt planned.1.renaming.edits.edits.renamed.literal f.path i → GainsName change f i token name

@@ -14,19 +14,21 @@ use Rattle.history_machine.specs.declared.event.Reply.TheVariants.{Done}
 use Rattle.history_machine.specs.Machine.{Machine}
 use Rattle.history_machine.specs.Step.{Step}
 use Rattle.history_machine.specs.Run.{Run, AdmitsNoChange, Restores}
+use Rattle.refactor_coupled.specs.Obstacles.{PreservesAll}
 use Rattle.refactor_plan.specs.MovePlan.{PlansMove, MovesPackage}
 use Rattle.refactor_affected.specs.Moves.{IsSoundMove, PlansAffectedMove, part_moved}
 use Rattle.refactor_affected.specs.Starts.{IsAffectedByMove}
 use Rattle.law_plans.specs.SoundPackages.{AreSoundAfter, PreservesSound, LeavesOthers}
 
 -- The edits move the package, in the packages without faults, and make the files `after` of `w`. No affected package has a fault before them
--- or after them. Packages without faults have none after them, and keep their bindings. Packages that the move does not affect keep their
--- closures and their units.
+-- or after them. Packages without faults have none after them, and keep their bindings. Among their types the same ones implement the same
+-- interfaces. Packages that the move does not affect keep their closures and their units.
 pub record MovesSound (w : Workspace) (from to : List ℕ) (s : FileChanges) (after : Workspace) : Type 0 where
   pub asked : IsSoundMove w from to
   pub moving : MovesPackage (part_moved asked) from to s
   pub files : after ≡ edited s w
   pub preserves : PreservesSound w (revision_of w s)
+  pub in_part : PreservesAll (part_moved asked) (revision_of (part_moved asked) s)
   pub affected_after : AreSoundAfter w (revision_of w s) (IsAffectedByMove w from to)
   pub others : LeavesOthers w after (IsAffectedByMove w from to)
 

@@ -5,19 +5,29 @@ use Rattle.workspace_check.specs.Verdicts.{Verdicts, AreVerdicts}
 use Rattle.workspace_snapshot.specs.declared.change.Change.{Change}
 use Rattle.workspace_snapshot.specs.declared.snapshot.Snapshot.{Snapshot}
 use Rattle.refs_binding.specs.declared.declaration.Declaration.{Declaration}
+use Rattle.refs_binding.specs.Uses.{IsCheckedPackage}
+use Rattle.refactor_coupled.specs.Coupling.{IsRenamedSet}
 use Rattle.refactor_plan.specs.Plan.{ResolvesIdentifier}
 use Rattle.refactor_affected.specs.Renames.{PlansAffectedRename, part_asked}
 use Rattle.refactor_units.specs.PlannedObjects.{RenamesInObjectAt}
 use Rattle.law_plans.specs.SoundPackages.{IsSoundPackage}
 
 -- What the rename of `d`, which makes `x` of `w`, does to the object of each package without faults: what a planned rename does to each.
-abbrev pub RenamesInSoundObjects : (w : Workspace) (known : Verdicts) (d : Declaration) (name : List ℕ) (x : Workspace) (after : Verdicts) → Type 0
-RenamesInSoundObjects w known d name x after = (path : List ℕ) → IsSoundPackage w known path → RenamesInObjectAt w known d name x after path
+abbrev pub RenamesInSoundObjects : (w : Workspace) (known : Verdicts) (d : Declaration) (set : List Declaration) (name : List ℕ)
+    (x : Workspace) (after : Verdicts) →
+    Type 0
+RenamesInSoundObjects w known d set name x after = (path : List ℕ) → IsSoundPackage w known path → RenamesInObjectAt w known d set name x after path
 
--- Where a rename is planned, the identifier at the byte is bound to a declaration, and the objects of packages without faults follow its rename.
+-- The identifier at the byte is bound to a declaration in the part `v` of the workspace. The objects of packages without faults follow the
+-- rename of this and of what is renamed with it, which makes `x`.
+pub record RenamesSoundObjects (w v : Workspace) (known : Verdicts) (path : List ℕ) (offset : ℕ) (name : List ℕ) (x : Workspace) : Type 0 where
+  pub asked : ResolvesIdentifier v path offset
+  pub set : List Declaration
+  pub is_set : IsRenamedSet (IsCheckedPackage v asked.known) asked.declaration set
+  pub objects : (after : Verdicts) → AreVerdicts x after → RenamesInSoundObjects w known asked.declaration set name x after
+
+-- So it is where a rename is planned.
 abbrev pub AffectedRenamesRenameObjects : Type 0
 AffectedRenamesRenameObjects = (snapshot : Snapshot) (path : List ℕ) (offset : ℕ) (name : List ℕ) (change : Change) →
     (planned : PlansAffectedRename snapshot path offset name (Ok change)) →
-    (asked : ResolvesIdentifier (part_asked planned.0) path offset)
-    × ((after : Verdicts) → AreVerdicts change.files after →
-    RenamesInSoundObjects snapshot.files planned.0.sound.known asked.declaration name change.files after)
+    RenamesSoundObjects snapshot.files (part_asked planned.0) planned.0.sound.known path offset name change.files

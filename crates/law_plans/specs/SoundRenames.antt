@@ -14,28 +14,42 @@ use Rattle.history_machine.specs.declared.event.Reply.TheVariants.{Done}
 use Rattle.history_machine.specs.Machine.{Machine}
 use Rattle.history_machine.specs.Step.{Step}
 use Rattle.history_machine.specs.Run.{Run, AdmitsNoChange, Restores}
-use Rattle.refactor_plan.specs.Plan.{PlansRename, RenamesIdentifier}
+use Rattle.refs_binding.specs.DeclaredNames.{HasDeclaredName}
+use Rattle.refs_binding.specs.Uses.{IsCheckedPackage}
+use Rattle.refactor_coupled.specs.Obstacles.{PreservesAll}
+use Rattle.refactor_rename.specs.RenameEdits.{AreRenameEdits}
+use Rattle.refactor_plan.specs.Plan.{IsLegalName, PlansRename, RenamesIdentifier}
 use Rattle.refactor_affected.specs.Renames.{IsAskedInSound, IsAffectedByRename, IsSoundRename, PlansAffectedRename, part_asked}
 use Rattle.law_plans.specs.SoundPackages.{AreSoundAfter, PreservesSound, LeavesOthers}
 
 -- The edits rename the identifier at the byte, in the packages without faults, and make the files `after` of `w`. No affected package has a
--- fault before them or after them. Packages without faults have none after them, and keep their bindings. Packages that the rename does not
--- affect keep their closures and their units.
+-- fault before them or after them. Packages without faults have none after them, and keep their bindings. Among their types the same ones
+-- implement the same interfaces. Packages that the rename does not affect keep their closures and their units.
 pub record RenamesSound (w : Workspace) (path : List ℕ) (offset : ℕ) (name : List ℕ) (s : FileChanges) (after : Workspace) : Type 0 where
   pub asked : IsAskedInSound w path name
   pub affected_sound : IsSoundRename w (part_asked asked) path offset
   pub renaming : RenamesIdentifier (part_asked asked) path offset name s
   pub files : after ≡ edited s w
   pub preserves : PreservesSound w (revision_of w s)
+  pub in_part : PreservesAll (part_asked asked) (revision_of (part_asked asked) s)
   pub affected_after : AreSoundAfter w (revision_of w s) (IsAffectedByRename w (part_asked asked) path offset)
   pub others : LeavesOthers w after (IsAffectedByRename w (part_asked asked) path offset)
 
--- Where a rename is planned, its edits are those of the rename in the whole workspace. So no identifier of a package with faults is bound to
--- the declaration.
+-- The edits that rename an identifier and what is renamed with it in the workspace `v` rename all of this in `w`: each identifier there that
+-- is bound to one of these declarations.
+pub record RenamesAll (w v : Workspace) (path : List ℕ) (offset : ℕ) (name : List ℕ) (s : FileChanges) (renaming : RenamesIdentifier v path offset name s) :
+    Type 0 where
+  pub may : IsLegalName w path offset name
+  pub same : may.renamable.asked.declaration ≡ renaming.may.renamable.asked.declaration
+  pub other : ¬ (HasDeclaredName (IsCheckedPackage w may.renamable.asked.known) may.renamable.asked.declaration name)
+  pub edits : AreRenameEdits w may.renamable.asked.known may.renamable.asked.declaration renaming.set name s
+
+-- Where a rename is planned, its edits rename all that it renames in the whole workspace. So no identifier of a package with faults is bound
+-- to one of these declarations. Methods are coupled by types of packages without faults alone.
 abbrev pub AffectedRenamesRenameAll : Type 0
 AffectedRenamesRenameAll = (snapshot : Snapshot) (path : List ℕ) (offset : ℕ) (name : List ℕ) (change : Change)
-    → PlansAffectedRename snapshot path offset name (Ok change)
-    → RenamesIdentifier snapshot.files path offset name change.edits
+    → (planned : PlansAffectedRename snapshot path offset name (Ok change))
+    → RenamesAll snapshot.files (part_asked planned.0) path offset name change.edits planned.1.renaming
 
 -- Where a planned rename is committed, so it is with the files of the states before and after it.
 abbrev pub RenamesKeepSoundBindings : Type 0

@@ -1,8 +1,8 @@
 //! Laws of renames beside packages with faults.
 ghost use Rattle.law_plans.specs.SoundRenames.{AffectedRenamesRenameAll, RenamesKeepSoundBindings, SoundWorkspacesPlanRenames, UndoTakesAffectedRenamesBack};
 
-/// Where a rename is planned beside packages with faults, its edits are those of the rename in the whole workspace. So no identifier of a
-/// package with faults is bound to the declaration.
+/// Where a rename is planned beside packages with faults, its edits rename all that it renames in the whole workspace. So no identifier of
+/// a package with faults is bound to a declaration that is renamed.
 pub fn affected_renames_rename_all()
     ensures { AffectedRenamesRenameAll }
 {}

@@ -1,4 +1,4 @@
--- Along the imports no package gets a fault in a rename that loses and captures no identifier, and its export data change by one name.
+-- Along the imports no package gets a fault in a harmless rename, and its export data change by one name.
 use Rattle.std.proofs.Common.{ℕ, ◌≡◌, inl, inr, false, List, [], map, ap, refl, sym, subst, ◌∙◌}
 use Rattle.std.specs.Prelude.{Contains}
 use Rattle.std.specs.List.Sorted.{IsStrictlySortedBy}
@@ -36,8 +36,8 @@ use Rattle.workspace_check.proofs.Unread.{none_unread}
 use Rattle.refs_binding.specs.declared.declaration.Declaration.{Declaration}
 use Rattle.refs_binding.specs.Uses.{IsCheckedPackage}
 use Rattle.refs_lookup.proofs.OnePlace.{same_files}
-use Rattle.refactor_conflict.specs.Staying.{NoneIsLost}
 use Rattle.law_changed_types.proofs.Alike.{of_bound}
+use Rattle.law_renamed_workspaces.specs.Harmless.{IsHarmless}
 use Rattle.law_renamed_workspaces.specs.Layouts.{AreSoundBelow, IsRelaid}
 use Rattle.law_renamed_workspaces.specs.MovedExports.{AreMovedBelow}
 use Rattle.law_renamed_workspaces.specs.Renames.{IsPlainRename}
@@ -58,7 +58,7 @@ HaveMovedBelow w before after r path = (q : List ℕ) → BuildsOn w path q → 
 
 module _ (own_renames : OwnRenamesAreRenames) (others_stay : OtherScopesStay) (seen_follow : SeenDefinitionsFollow)
     (exported_follow : ExportedDefinitionsFollow) (no_fault_comes : NoFaultComesBelow) (w : Workspace) (before after : Verdicts) (d : Declaration)
-    (name : List ℕ) (s : FileChanges) (plain : IsPlainRename w before d name s) (none : NoneIsLost w before (revision_of w s)) where
+    (name : List ℕ) (s : FileChanges) (plain : IsPlainRename w before d name s) (none : IsHarmless w before (revision_of w s)) where
   abbrev x : Workspace
   x = edited s w
 
@@ -108,7 +108,7 @@ module _ (own_renames : OwnRenamesAreRenames) (others_stay : OtherScopesStay) (s
       was = was;
       is = relaid.1.0;
       relaid = relaid.1.1;
-      bound = alike_below w before after d name s plain none p q right was relaid.1.0 relaid.1.1 moved_below;
+      bound = alike_below w before after d name s plain none.none_lost p q right was relaid.1.0 relaid.1.1 moved_below;
       seen = seen;
     }
 

@@ -69,6 +69,7 @@ use Rattle.law_renamed_workspaces.proofs.OwnNames.{own_renames}
 use Rattle.law_renamed_workspaces.proofs.SameBindings.{bindings}
 use Rattle.law_renamed_workspaces.proofs.ScopedAgain.{scopes_below}
 use Rattle.law_renamed_workspaces.proofs.Standing.{begins_there, named_stands}
+use Rattle.law_renamed_workspaces.proofs.RenamedSets.{IsBoundToSome, is_own}
 
 -- what is seen of a package below that has no faults
 seen_is : (w : Workspace) (known : Verdicts) (r q : List ℕ) (n : Option (List ℕ)) (i : ExportData) → IsSeenAs w known r q n i → BuildsOn w r q →
@@ -147,7 +148,8 @@ module _ (w : Workspace) (before after : Verdicts) (d : Declaration) (name : Lis
       (before_faultless c.path has) in
       subst (λ y. IsExportData y (before c.path).export_data) (one_checked w before c.path x.checked c x.is_package is.is_checked) x.is_export_data
 
-  new_exports : (b : Package) → IsCheckedPackage v after b → AreVerdictsBelow v b.path after → IsVerdict v b.path (after b.path) → (after b.path).faulty ≡ false →
+  new_exports : (b : Package) → IsCheckedPackage v after b → AreVerdictsBelow v b.path after → IsVerdict v b.path (after b.path) →
+      (after b.path).faulty ≡ false →
       IsExportData b (after b.path).export_data
   new_exports b also below right faultless =
       let x = (verdict_by v b.path after (after b.path) below right).has_export_data faultless in
@@ -231,21 +233,27 @@ module _ (w : Workspace) (before after : Verdicts) (d : Declaration) (name : Lis
               (own_renames w before path k name s (subst (λ x. IsPlainRename w before x name s) e h) c b use_of.is_package use_of.of_path
               relaid_b).renaming.renamed k
               (own refl counts)
-              ∙ sym (bound_is_called w before d name s h p q is relaid u there.0 there.1 (subst (IsBoundToDeclaration w before p u) (sym e) bound))
+              ∙ sym (bound_is_called w before d name s h p q is relaid u there.0 there.1 (record {
+                declaration = d;
+                among = h.rename.is_set.has_it;
+                bound = subst (IsBoundToDeclaration w before p u) (sym e) bound;
+              }))
           | inr other ↦
-              others_are_kept w before d name s h c b use_of.is_package relaid_b k (λ in_c of_d. not_own other in_c of_d)
+              others_are_kept w before d name s h c b use_of.is_package relaid_b k (λ in_c some. not_own other in_c some)
               ∙ use_of.named
               ∙ sym (others_are_kept w before d name s h p q is relaid u
-              (λ in_p of_d. other (one_declaration w before p is u in_p d (Declared path k) of_d bound)))
+              (λ in_p some. other (is_own w before d name s h (Declared path k) some.declaration some.among (λ m. m)
+              (one_declaration w before p is u in_p some.declaration (Declared path k) some.bound bound))))
         ]
           where
-            not_own : (d ≡ Declared path k → ⊥) → IsInFiles c k → IsBoundToDeclaration w before c k d → ⊥
-            not_own other in_c of_d = elim (scope_number c k k (own refl counts)) [
+            not_own : (d ≡ Declared path k → ⊥) → IsInFiles c k → IsBoundToSome w before h.rename.set c k → ⊥
+            not_own other in_c some = elim (scope_number c k k (own refl counts)) [
               | inl x ↦
                   let z : Universe ≡ PackageBlock = sym (in_universe w before c.path c use_of.is_package.is_checked k x.0) ∙ use_of.seen.package_level in
                   let wrong : ⊥ = cc in wrong
               | inr x ↦
-                  other (one_declaration w before c use_of.is_package k in_c d (Declared c.path k) of_d (by_scope x)
+                  other (is_own w before d name s h (Declared c.path k) some.declaration some.among (λ m. m)
+                  (one_declaration w before c use_of.is_package k in_c some.declaration (Declared c.path k) some.bound (by_scope x))
                   ∙ ap (λ r. Declared r k) use_of.of_path)
             ]
 

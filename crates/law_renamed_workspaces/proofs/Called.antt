@@ -41,42 +41,15 @@ use Rattle.refactor_rename.specs.FileEdits.{RenamesToken}
 use Rattle.refactor_after.specs.NamesAfter.{HasNameAfter, IsFieldAfter, IsMethodAfter}
 use Rattle.law_renamed_workspaces.specs.Layouts.{IsToken}
 use Rattle.law_renamed_workspaces.specs.Renames.{IsPlainRename}
+use Rattle.law_renamed_workspaces.proofs.RenamedSets.{same_or_other}
 use Rattle.law_renamed_workspaces.proofs.NameEdits.{renamed, replaced_token}
 use Rattle.law_renamed_workspaces.proofs.Replaced as replaced
 use Rattle.law_renamed_workspaces.proofs.RenamedMembersNameTokens.{IsNamedIn, field_name, function_name}
 use Rattle.law_renamed_workspaces.proofs.NewNames.{name_stands}
 use Rattle.law_renamed_workspaces.specs.ScopeRenames.{NamesApartStay}
-use Rattle.law_renamed_workspaces.specs.NamesAfterwards.{IsMember, IsCalledAfter, gets_name, keeps_name, NamesMember, IsFieldCalled, IsMethodCalled, spelled_there}
+use Rattle.law_renamed_workspaces.specs.NamesAfterwards.{IsMember, IsCalledAfter, gets_name, keeps_name}
+use Rattle.law_renamed_workspaces.specs.NamesAfterwards.{NamesMember, IsFieldCalled, IsMethodCalled, spelled_there}
 use Rattle.law_renamed_workspaces.specs.NamesAfterwards.{MembersAreCalled, FieldNamesAfter, MethodNamesAfter}
-
--- whether a declaration is the member
-
-same_symbol : (s t : Symbol) → (s ≡ t) ⊎ (s ≡ t → ⊥)
-same_symbol s t = elim (cases_bytes s.package t.package) [
-  | inr other ↦ inr (λ e. other (ap (λ (y : Symbol). y.package) e))
-  | inl path ↦ elim (cases_eq s.rank t.rank) [
-    | inr other ↦ inr (λ e. other (ap (λ (y : Symbol). y.rank) e))
-    | inl rank ↦ inl
-        (ap (λ q. record { «package» = q; rank = s.rank }) path ∙ ap (λ n. record { «package» = t.package; rank = n }) rank)
-  ]
-]
-
-abbrev symbol_or : Symbol → Declaration → Symbol
-symbol_or s (Field t) = t
-symbol_or s (Method t) = t
-symbol_or s e = s
-
-pub same_or_other : (e d : Declaration) → IsMember e → (e ≡ d) ⊎ (e ≡ d → ⊥)
-same_or_other (Field s) (Field t) m = elim (same_symbol s t) [ inl same ↦ inl (ap Field same) | inr other ↦ inr (λ e. other (ap (symbol_or s) e)) ]
-same_or_other (Field s) (Method t) m = inr (λ e. let z : ⊥ = cc in z)
-same_or_other (Field s) (Predeclared n) m = inr (λ e. let z : ⊥ = cc in z)
-same_or_other (Field s) (Declared path n) m = inr (λ e. let z : ⊥ = cc in z)
-same_or_other (Method s) (Method t) m = elim (same_symbol s t) [ inl same ↦ inl (ap Method same) | inr other ↦ inr (λ e. other (ap (symbol_or s) e)) ]
-same_or_other (Method s) (Field t) m = inr (λ e. let z : ⊥ = cc in z)
-same_or_other (Method s) (Predeclared n) m = inr (λ e. let z : ⊥ = cc in z)
-same_or_other (Method s) (Declared path n) m = inr (λ e. let z : ⊥ = cc in z)
-same_or_other (Predeclared n) d m = absurd m
-same_or_other (Declared path n) d m = absurd m
 
 no_predeclared : (m : Member) (n : ℕ) → declaration_of m ≡ Predeclared n → ⊥
 no_predeclared (AField s t) n e = cc
@@ -96,11 +69,12 @@ declared_is_member x u (Field s) b = tt
 declared_is_member x u (Method s) b = tt
 
 -- a member is called one way
-pub one_called : (d : Declaration) (name : List ℕ) (e : Declaration) (old a b : List ℕ) → IsCalledAfter d name e old a → IsCalledAfter d name e old b → a ≡ b
-one_called d name e old a b (gets_name x p) (gets_name y q) = p ∙ sym q
-one_called d name e old a b (gets_name x p) (keeps_name y q) = absurd (y x)
-one_called d name e old a b (keeps_name x p) (gets_name y q) = absurd (x y)
-one_called d name e old a b (keeps_name x p) (keeps_name y q) = p ∙ sym q
+pub one_called : (set : List Declaration) (name : List ℕ) (e : Declaration) (old a b : List ℕ) → IsCalledAfter set name e old a →
+    IsCalledAfter set name e old b → a ≡ b
+one_called set name e old a b (gets_name x p) (gets_name y q) = p ∙ sym q
+one_called set name e old a b (gets_name x p) (keeps_name y q) = absurd (y x)
+one_called set name e old a b (keeps_name x p) (gets_name y q) = absurd (x y)
+one_called set name e old a b (keeps_name x p) (keeps_name y q) = p ∙ sym q
 
 named_token : (o : Option Piece) → IsNameToken o → (t : Piece) × ((o ≡ Some t) × (t.class ≡ Name))
 named_token None h = absurd h
@@ -165,12 +139,12 @@ module _ (w : Workspace) (known : Verdicts) (d : Declaration) (name : List ℕ) 
           (subst (λ n. NameBegins (slice_get x.files at.file) n place.path place.offset) (sym stands.2) named_begins),
     )
 
-    -- if it is bound to the renamed member, it is replaced
-    bound_replaced : (u : ℕ) → u < x.size → LiesAt x.layout at u → IsBoundToDeclaration w known x u d → IsReplaced
-    bound_replaced u lt stands bound =
+    -- if it is bound to a renamed member, it is replaced
+    bound_replaced : (u : ℕ) → u < x.size → LiesAt x.layout at u → (m : Declaration) → Contains h.rename.set m → IsBoundToDeclaration w known x u m → IsReplaced
+    bound_replaced u lt stands m in_set bound =
         let t = named_token (slice_get (tokens_in f.cut) i) token.is_name in
-        let one : IsUseOf w known d place = record { used_in = x; is_package = is; user = u; begins = begins_at u lt stands; bound = bound } in
-        let among = (h.rename.edits.is_renamed.uses.each place).1 one in
+        let one : IsUseOf w known m place = record { used_in = x; is_package = is; user = u; begins = begins_at u lt stands; bound = bound } in
+        let among = (h.rename.edits.is_renamed.uses.each place).1 (record { declaration = m; among = in_set; is_use = one }) in
         let start : offset_of f i ≡ t.0.span.start = ap (offset_at f.cut.text) t.1.0 in
         let here : place ≡ record { path = f.path; offset = t.0.span.start } =
         sym place_here ∙ ap (λ n. record { path = f.path; offset = n }) start in
@@ -192,18 +166,19 @@ module _ (w : Workspace) (known : Verdicts) (d : Declaration) (name : List ℕ) 
     abbrev AreBound : Declaration → Type 0
     AreBound e = (u : ℕ) → u < x.size → LiesAt x.layout at u → (IsBoundToDeclaration w known x u e → ⊥) → ⊥
 
-    called_after : (e : Declaration) → IsMember e → AreBound e → IsCalledAfter d name e old (r.called place old)
+    called_after : (e : Declaration) → IsMember e → AreBound e → IsCalledAfter h.rename.set name e old (r.called place old)
     called_after e member bound = elim (replaced.replaced_or_not w known d name s h x is at.file f token.of_rank i) [
       | inl k ↦
           (let t = replaced.token_bound w known d name s h x is at.file f token.of_rank i k in
-          gets_name (elim (same_or_other e d member) [
-            | inl same ↦ same
-            | inr other ↦ absurd (bound t.identifier t.inside.0 t.stands (λ b. other (one_declaration w known x is t.identifier t.inside e d b t.bound)))
+          gets_name (elim (same_or_other e t.declaration member) [
+            | inl same ↦ subst (Contains h.rename.set) (sym same) t.among
+            | inr other ↦ absurd (bound t.identifier t.inside.0 t.stands
+                (λ b. other (one_declaration w known x is t.identifier t.inside e t.declaration b t.bound)))
           ]) (name_new k))
       | inr none ↦ keeps_name
-          (λ same.
+          (λ in_set.
           let u = name_at_token w known x.path x is.is_checked at place named_begins in
-          bound u.0 u.1.0.0.0 u.1.1 (λ b. none (bound_replaced u.0 u.1.0.0.0 u.1.1 (subst (λ k. IsBoundToDeclaration w known x u.0 k) same b))))
+          bound u.0 u.1.0.0.0 u.1.1 (λ b. none (bound_replaced u.0 u.1.0.0.0 u.1.1 e in_set b)))
           (name_kept none)
     ]
 
@@ -264,11 +239,11 @@ module _ (w : Workspace) (known : Verdicts) (d : Declaration) (name : List ℕ) 
   -- the name after the change of the member that is named at the position
   after_called : (at : Position) → IsNamedIn x at.file at.index → (e : Declaration) → IsMember e →
       ((u : ℕ) → u < x.size → LiesAt x.layout at u → (IsBoundToDeclaration w known x u e → ⊥) → ⊥) → (m : List ℕ) →
-      HasNameAfter r x at m ↔ IsCalledAfter d name e (spelled x at.file at.index) m
+      HasNameAfter r x at m ↔ IsCalledAfter h.rename.set name e (spelled x at.file at.index) m
   after_called at named e member bound m = (
     (λ k.
         let there = (name_stands w known x is at named).stands in
-        subst (IsCalledAfter d name e (spelled x at.file at.index)) k.called
+        subst (IsCalledAfter h.rename.set name e (spelled x at.file at.index)) k.called
         (called_after at k.place (record { file = there.file; of_rank = there.of_rank; is_name = there.is_name; begins = k.stands }) e member bound)),
     (λ c.
         let y = name_stands w known x is at named in
@@ -276,17 +251,17 @@ module _ (w : Workspace) (known : Verdicts) (d : Declaration) (name : List ℕ) 
           place = y.place;
           stands = y.stands.begins;
           called =
-              one_called d name e (spelled x at.file at.index) (r.called y.place (spelled x at.file at.index)) m
+              one_called h.rename.set name e (spelled x at.file at.index) (r.called y.place (spelled x at.file at.index)) m
               (called_after at y.place y.stands e member bound) c;
         }),
   )
 
   field_called : (rank : ℕ) (f : PlacedField) → slice_get (package_fields x) rank ≡ Some f → (other : List ℕ) →
-      HasNameAfter r x (field_place f) other ↔ IsCalledAfter d name (Field (symbol_in x rank)) (spelled x f.file f.name) other
+      HasNameAfter r x (field_place f) other ↔ IsCalledAfter h.rename.set name (Field (symbol_in x rank)) (spelled x f.file f.name) other
   field_called rank f has other =
       after_called (field_place f) (field_name x rank f has) (Field (symbol_in x rank)) tt (field_bound rank f has) other
 
-  field_after : (definition : ℕ) (other : List ℕ) (rank : ℕ) → IsFieldAfter r x definition other rank ↔ IsFieldCalled d name x definition other rank
+  field_after : (definition : ℕ) (other : List ℕ) (rank : ℕ) → IsFieldAfter r x definition other rank ↔ IsFieldCalled h.rename.set name x definition other rank
   field_after definition other rank = (
     (λ k. record {
       field = k.field;
@@ -319,12 +294,13 @@ module _ (w : Workspace) (known : Verdicts) (d : Declaration) (name : List ℕ) 
 
   method_called : (definition : ℕ) (other : List ℕ) (rank : ℕ) (f : PlacedFunction) → slice_get (package_functions x) rank ≡ Some f →
       IsOwner x f definition →
-      HasNameAfter r x (function_place f) other ↔ IsCalledAfter d name (Method (symbol_in x rank)) (spelled x f.file f.function.name) other
+      HasNameAfter r x (function_place f) other ↔ IsCalledAfter h.rename.set name (Method (symbol_in x rank)) (spelled x f.file f.function.name) other
   method_called definition other rank f has o =
       after_called (function_place f) (function_name x rank f has) (Method (symbol_in x rank)) tt
       (method_bound definition rank (spelled x f.file f.function.name) f (owned definition rank f has o)) other
 
-  method_after : (definition : ℕ) (other : List ℕ) (rank : ℕ) → IsMethodAfter r x definition other rank ↔ IsMethodCalled d name x definition other rank
+  method_after : (definition : ℕ) (other : List ℕ) (rank : ℕ) → IsMethodAfter r x definition other rank ↔ IsMethodCalled h.rename.set name x definition
+      other rank
   method_after definition other rank = (
     (λ k. record {
       method = k.method;
@@ -361,7 +337,7 @@ module _ (w : Workspace) (known : Verdicts) (d : Declaration) (name : List ℕ) 
     names_member : (e : Declaration) → NamesMember x u e → IsMember e
     names_member e n = elim n [ inl b ↦ used_is_member x u e b | inr b ↦ declared_is_member x u e b ]
 
-    identifier_called : (e : Declaration) → NamesMember x u e → IsCalledAfter d name e (spelled_there x u) (r.called place (spelled_there x u))
+    identifier_called : (e : Declaration) → NamesMember x u e → IsCalledAfter h.rename.set name e (spelled_there x u) (r.called place (spelled_there x u))
     identifier_called e n =
         called_after (x.layout.place u) place token_at e (names_member e n)
         (λ v lt stands none. none (subst (λ k. IsBoundToDeclaration w known x k e)
@@ -382,4 +358,4 @@ names w known d name s h x is at place token apart =
     name_kept w known d name s h x is at place token
     (λ k.
     let t = replaced.token_bound w known d name s h x is at.file token.file token.of_rank at.index k in
-    apart t.identifier t.inside.0 t.stands t.bound)
+    apart t.declaration t.among t.identifier t.inside.0 t.stands t.bound)

@@ -55,13 +55,13 @@ module _ (w : Workspace) (known : Verdicts) (p : Package) (is : IsCheckedPackage
 
 module _ (w : Workspace) (known : Verdicts) (d : Declaration) (name : List ℕ) (s : FileChanges) (h : IsPlainRename w known d name s) (p : Package)
     (is : IsCheckedPackage w known p) (rank : ℕ) (f : SourceFile) (at : slice_get p.files rank ≡ Some f) where
-  not_replaced : IsBoundToken w known d p rank f.tree.name → ⊥
+  not_replaced : IsBoundToken w known h.rename.set p rank f.tree.name → ⊥
   not_replaced b =
       let u = clause_stands w known p is rank f at in
       let same : u.0 ≡ b.identifier =
       one_stands p.layout p.size (in_order w known p.path p is.is_checked) (record { file = rank; index = f.tree.name }) u.0 b.identifier u.1.0 b.inside.0
       u.1.1.0 b.stands in
-      clause_unbound w known p is b.identifier d b.inside b.bound (ap p.layout.role (sym same) ∙ u.1.1.1)
+      clause_unbound w known p is b.identifier b.declaration b.inside b.bound (ap p.layout.role (sym same) ∙ u.1.1.1)
 
   pub clause_kept : spelling_of (renamed_file (edits w known d name s h p is rank f at) f) f.tree.name ≡ spelling_of f f.tree.name
   clause_kept = elim (replaced_or_not w known d name s h p is rank f at f.tree.name) [

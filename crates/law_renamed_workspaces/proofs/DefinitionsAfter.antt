@@ -38,7 +38,7 @@ use Rattle.law_changed_types.proofs.Alike.{Alike, turned}
 use Rattle.law_changed_types.proofs.Types.{type_of, types_of, has_underlying}
 use Rattle.law_renamed_workspaces.specs.Layouts.{IsRelaid}
 use Rattle.law_renamed_workspaces.specs.MovedExports.{field_called, method_called}
-use Rattle.law_renamed_workspaces.specs.MembersMoved.{IsUnderNewName, IsDefinitionAfter, AreSeenAfter}
+use Rattle.law_renamed_workspaces.specs.MembersMoved.{HasMethodNamed, IsUnderNewName, IsDefinitionAfter, AreSeenAfter}
 use Rattle.law_renamed_workspaces.proofs.CountingMembers as counting
 use Rattle.law_changed_types.proofs.Parts.{of_asked, of_parameters, all_of_left, all_of_right}
 
@@ -65,6 +65,7 @@ nothing_after Known r path rank s t same = record {
   fields = λ old new f e first. absurd (none-some f e);
   methods = λ old new m e first. absurd (none-some m e);
   no_others = λ name f e. absurd (none-some f e);
+  no_other_methods = λ name m e. absurd (none-some m e);
 }
 
 -- the types of fields and the signatures of functions
@@ -241,6 +242,15 @@ module _ (w : Workspace) (known : Verdicts) (r : Revision) (p q : Package) (is :
     };
   }
 
+  own_method_named : (rank : ℕ) (name : List ℕ) (m : Method) → IsFoundMethod q rank name (Some m) →
+      HasMethodNamed (IsCheckedPackage w known) r p.path rank name m.symbol.rank
+  own_method_named rank name m h = record {
+    inside = p;
+    is_package = is;
+    of_path = refl;
+    holds = (counting.first_of_methods w known r p q is relaid alike rank name m.symbol.rank h.0 h.1).has;
+  }
+
   pub own_definition : (rank : ℕ) (a b : Definition) → IsDefinition p rank a → IsDefinition q rank b → IsDefinitionAfter (IsCheckedPackage w known) r p.path
       rank a b
   unfolding Known
@@ -253,6 +263,7 @@ module _ (w : Workspace) (known : Verdicts) (r : Revision) (p q : Package) (is :
         method_there rank old new m (subst (IsFoundMethod p rank old) e (h.methods old))
         (of_one w known p is p.path refl (λ o. IsFirstMethod (IsCheckedPackage w known) r o rank new m.symbol.rank) first) (b.method new) (k.methods new);
     no_others = λ name f e. own_under_name rank name f (subst (IsFoundField q rank name) e (k.fields name));
+    no_other_methods = λ name m e. own_method_named rank name m (subst (IsFoundMethod q rank name) e (k.methods name));
   }
 
   type_behind : (rank : ℕ) (o : Option PlacedType) → slice_get (package_types p) rank ≡ o → slice_get (package_types q) rank ≡ o

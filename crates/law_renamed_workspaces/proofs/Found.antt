@@ -11,10 +11,10 @@ use Rattle.types_declared.specs.Package.{Package}
 use Rattle.types_info.specs.Worlds.{is_init}
 use Rattle.types_check.specs.TypeFaults.{IsTypeFault}
 use Rattle.refs_binding.specs.declared.declaration.Declaration.{Declaration}
-use Rattle.refactor_conflict.specs.Staying.{NoneIsLost}
 use Rattle.workspace_check.specs.Verdicts.{Verdicts}
 use Rattle.law_faultless.specs.Worlds.{HaveWorlds}
 use Rattle.law_changed_types.specs.MemberUses.{FilesAskForTheirUses}
+use Rattle.law_renamed_workspaces.specs.Harmless.{IsHarmless}
 use Rattle.law_renamed_workspaces.specs.SameWorlds.{WorldsStay}
 use Rattle.law_renamed_workspaces.specs.Renames.{IsPlainRename}
 use Rattle.law_renamed_workspaces.specs.VerdictsStay.{IsPackageAfter, FoundStays}
@@ -24,11 +24,11 @@ pub found_stays : WorldsStay → FilesAskForTheirUses → FoundStays
 found_stays worlds ask w before after d name s plain none p q here file f g v x at there judged now =
     let trees : g.tree ≡ f.tree = same_tree p.files q.files here.relaid.trees file f g at there in
     let inits = keep_inits w (edited s w) before after p q here.was.is_checked here.is.is_checked here.relaid.layout here.relaid.size file f g at there trees in
-    let alike = worlds w before d name s plain none p q here.was here.relaid here.bound here.seen file f g v x at there judged now in
+    let alike = worlds w before after d name s plain none p q here file f g v x at there judged now in
     ap (λ t. check_file x (is_init g) t) trees ∙ ask v x (is_init f) (is_init g) f.tree inits alike
 
 pub no_type_fault : FoundStays → (w : Workspace) (before after : Verdicts) (d : Declaration) (name : List ℕ) (s : FileChanges) →
-    IsPlainRename w before d name s → NoneIsLost w before (revision_of w s) → (p q : Package) → IsPackageAfter w before after s p q → HaveWorlds p →
+    IsPlainRename w before d name s → IsHarmless w before (revision_of w s) → (p q : Package) → IsPackageAfter w before after s p q → HaveWorlds p →
     ((f : Fault) → IsTypeFault p f → ⊥) → (f : Fault) → IsTypeFault q f → ⊥
 no_type_fault stays w before after d name s plain none p q here worlds fine fault h =
     let f = file_of_tree p.files q.files here.relaid.trees fault.file h.source h.in_file in

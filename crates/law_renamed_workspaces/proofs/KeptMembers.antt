@@ -33,10 +33,11 @@ use Rattle.refs_lookup.proofs.Faultless.{no_fault_later}
 use Rattle.refactor_after.specs.NamesAfter.{IsFieldAfter, IsMethodAfter}
 use Rattle.refactor_after.specs.MembersAfter.{IsFirstField, IsFirstMethod, HasFieldAfter, IsFieldOfStruct, IsMethodOfOwner, IsMemberAfter, CountsAfter}
 use Rattle.refactor_conflict.specs.BoundAfter.{IsBoundByMember}
+use Rattle.law_faultless.proofs.MembersWritten.{field_is_written}
 use Rattle.law_renamed_workspaces.proofs.SeenDefinitions.{definition_at}
 use Rattle.law_renamed_workspaces.specs.NamesAfterwards.{spelled_there}
 use Rattle.law_renamed_workspaces.specs.Reaching.{ReachesPath}
-use Rattle.law_renamed_workspaces.proofs.SeenStructs.{IsHome, IsHomeUnder, field_is_written, struct_reached, definition_seen}
+use Rattle.law_renamed_workspaces.proofs.SeenStructs.{IsHome, IsHomeUnder, struct_reached, definition_seen}
 use Rattle.law_renamed_workspaces.proofs.UsersReach.{FirstIs, a_field, no_field, first_is, field_there, method_there, owner_reached, struct_reached_by}
 use Rattle.law_renamed_workspaces.proofs.SeenStructs.{field_found, world_home, world_definition}
 

@@ -1,6 +1,6 @@
 -- After a plain rename the fields, methods and exports of a package have the names that they had, unless one of them is renamed.
 use Rattle.std.proofs.Common.{ℕ, ◌≡◌, inl, inr, false, List, ap, sym, subst, refl, ◌∙◌}
-use Rattle.std.specs.Prelude.{Some, find, slice_get}
+use Rattle.std.specs.Prelude.{Some, find, slice_get, Contains}
 use Rattle.std.proofs.lemmas.Bool.{true≢false}
 use Rattle.base_edits.specs.EditSet.{FileChanges, change_of}
 use Rattle.base_edits.specs.Moved.{edits_by}
@@ -32,7 +32,8 @@ use Rattle.refs_places.specs.Outside.{declaring_path}
 use Rattle.law_faultless.proofs.LinksBound.{source_is}
 use Rattle.law_changed_types.proofs.Alike.{Alike}
 use Rattle.law_renamed_workspaces.specs.Layouts.{IsToken, IsRelaid}
-use Rattle.law_renamed_workspaces.specs.Renames.{IsPlainRename}
+use Rattle.law_renamed_workspaces.specs.Renames.{IsMember, IsPlainRename, IsSetWith}
+use Rattle.law_renamed_workspaces.proofs.RenamedSets.{own_alone}
 use Rattle.law_renamed_workspaces.proofs.Replaced as replaced
 use Rattle.law_renamed_workspaces.proofs.OwnNames.{own_renames}
 use Rattle.law_renamed_workspaces.proofs.RenamedScopesRenamed.{others_stay}
@@ -41,27 +42,39 @@ use Rattle.law_renamed_workspaces.specs.KnownVerdicts.{IsHidden, IsHiddenIn, IsK
 use Rattle.law_renamed_workspaces.proofs.Counting.{EachMemberCounts}
 use Rattle.law_renamed_workspaces.proofs.Kept.{Kept, IsExportedInOne, KeepsLevels}
 
--- The declaration is no field and no method of the package.
-pub record IsNoMemberOf (p : Package) (d : Declaration) : Type 0 where
-  pub no_field : (rank : ℕ) → d ≡ Field (symbol_in p rank) → ⊥
-  pub no_method : (rank : ℕ) → d ≡ Method (symbol_in p rank) → ⊥
+-- The set has no field and no method of the package.
+pub record HasNoMemberOf (p : Package) (set : List Declaration) : Type 0 where
+  pub no_field : (rank : ℕ) → Contains set (Field (symbol_in p rank)) → ⊥
+  pub no_method : (rank : ℕ) → Contains set (Method (symbol_in p rank)) → ⊥
 
--- A declaration of another package, and one of scopes, is no member of the package.
-pub no_member : (w : Workspace) (before : Verdicts) (d : Declaration) (name : List ℕ) (p : Package) → IsUnseen w before d name p.path → IsNoMemberOf p d
-no_member w before d name p (inl away) = record {
-  no_field = λ rank e. away (ap declaring_path e);
-  no_method = λ rank e. away (ap declaring_path e);
+-- what is hidden is no member
+hidden_no_member : (w : Workspace) (before : Verdicts) (d : Declaration) (name : List ℕ) → IsHidden w before d name → IsMember d → ⊥
+hidden_no_member w before (Declared path n) name hidden m = m
+hidden_no_member w before (Predeclared n) name hidden m = m
+hidden_no_member w before (Field f) name hidden m = hidden
+hidden_no_member w before (Method f) name hidden m = hidden
+
+-- A set of declarations of other packages, and one of scopes, has no member of the package.
+pub no_member : (w : Workspace) (before : Verdicts) (d : Declaration) (set : List Declaration) (name : List ℕ) (p : Package) →
+    IsSetWith (IsCheckedPackage w before) d set → IsUnseen w before d set name p.path → HasNoMemberOf p set
+no_member w before d set name p is_set (inl away) = record {
+  no_field = λ rank h. away (record { declaration = Field (symbol_in p rank); among = h; declares = refl });
+  no_method = λ rank h. away (record { declaration = Method (symbol_in p rank); among = h; declares = refl });
 }
-no_member w before (Declared path n) name p (inr hidden) = record { no_field = λ rank e. cc; no_method = λ rank e. cc }
-no_member w before (Predeclared n) name p (inr none) = absurd none
-no_member w before (Field f) name p (inr none) = absurd none
-no_member w before (Method f) name p (inr none) = absurd none
+no_member w before d set name p is_set (inr hidden) =
+    let alone : (e : Declaration) → Contains set e → e ≡ d =
+    own_alone (IsCheckedPackage w before) d set is_set (hidden_no_member w before d name hidden) in
+    record {
+      no_field = λ rank h. hidden_no_member w before d name hidden (subst IsMember (alone (Field (symbol_in p rank)) h) tt);
+      no_method = λ rank h. hidden_no_member w before d name hidden (subst IsMember (alone (Method (symbol_in p rank)) h) tt);
+    }
 
 module _ (w : Workspace) (before : Verdicts) (d : Declaration) (name : List ℕ) (s : FileChanges) (h : IsKeptRename w before d name s)
     (p q : Package) (is : IsCheckedPackage w before p) (relaid : IsRelaid (revision_of w s) p q) where
-  -- Nothing that stands at the token is bound to the declaration.
+  -- Nothing that stands at the token is bound to a renamed declaration.
   abbrev IsOtherToken : (file i : ℕ) → Type 0
-  IsOtherToken file i = (v : ℕ) → IsInFiles p v → LiesAt p.layout (record { file = file; index = i }) v → IsBoundToDeclaration w before p v d → ⊥
+  IsOtherToken file i = (v : ℕ) → IsInFiles p v → LiesAt p.layout (record { file = file; index = i }) v → (e : Declaration) →
+      Contains h.plain.rename.set e → IsBoundToDeclaration w before p v e → ⊥
 
   -- such a token is spelled as it was
   token_kept : (f : SourceFile) (file i : ℕ) (at : slice_get p.files file ≡ Some f) → IsNameToken (slice_get (tokens_in f.cut) i) → IsOtherToken file i →
@@ -80,7 +93,7 @@ module _ (w : Workspace) (before : Verdicts) (d : Declaration) (name : List ℕ)
       ∙ ap (λ t. text_or t (find (replaces_at (offset_of f i)) (edits_by (change_of s f.path)))) same
       ∙ sym (replaced.called w before d name s h.plain p is file f at i named)
       ∙ replaced.old_spelled w before d name s h.plain p is file f at i
-      (λ r. let t = replaced.token_bound w before d name s h.plain p is file f at i r in other t.identifier t.inside t.stands t.bound)
+      (λ r. let t = replaced.token_bound w before d name s h.plain p is file f at i r in other t.identifier t.inside t.stands t.declaration t.among t.bound)
       ∙ sym same
 
   name_kept : (file i : ℕ) → IsNamedIn p file i → IsOtherToken file i → spelled q file i ≡ spelled p file i
@@ -91,11 +104,11 @@ module _ (w : Workspace) (before : Verdicts) (d : Declaration) (name : List ℕ)
   -- In a package without faults each member counts. So its name is kept, unless it is the renamed one.
   module _ (counts : EachMemberCounts p) where
     pub field_kept : (definition rank : ℕ) (called : List ℕ) (f : PlacedField) → IsFieldOf p definition called rank f →
-        (d ≡ Field (symbol_in p rank) → ⊥) → spelled q f.file f.name ≡ called
+        (Contains h.plain.rename.set (Field (symbol_in p rank)) → ⊥) → spelled q f.file f.name ≡ called
     field_kept definition rank called f x other =
         name_kept f.file f.name (field_name p rank f x.has_rank)
-        (λ v inside stands bound. other
-        (one_declaration w before p is v inside d (Field (symbol_in p rank)) bound
+        (λ v inside stands e among bound. other (subst (Contains h.plain.rename.set)
+        (one_declaration w before p is v inside e (Field (symbol_in p rank)) bound
         (by_name (
           refl,
           record {
@@ -106,15 +119,15 @@ module _ (w : Workspace) (before : Verdicts) (d : Declaration) (name : List ℕ)
             };
             stands = stands;
           },
-        ))))
+        ))) among))
         ∙ x.named
 
     pub method_kept : (definition rank : ℕ) (called : List ℕ) (f : PlacedFunction) → IsMethodOf p definition called rank f →
-        (d ≡ Method (symbol_in p rank) → ⊥) → spelled q f.file f.function.name ≡ called
+        (Contains h.plain.rename.set (Method (symbol_in p rank)) → ⊥) → spelled q f.file f.function.name ≡ called
     method_kept definition rank called f x other =
         name_kept f.file f.function.name (function_name p rank f x.has_rank)
-        (λ v inside stands bound. other
-        (one_declaration w before p is v inside d (Method (symbol_in p rank)) bound
+        (λ v inside stands e among bound. other (subst (Contains h.plain.rename.set)
+        (one_declaration w before p is v inside e (Method (symbol_in p rank)) bound
         (by_name (
           refl,
           record {
@@ -125,7 +138,7 @@ module _ (w : Workspace) (before : Verdicts) (d : Declaration) (name : List ℕ)
             };
             stands = stands;
           },
-        ))))
+        ))) among))
         ∙ x.named
 
   -- package-level declarations
@@ -153,8 +166,9 @@ module _ (w : Workspace) (before : Verdicts) (d : Declaration) (name : List ℕ)
       let same : u ≡ n = bound_once p.layout (nests p.layout (layout_formed w before p.path p is.is_checked)) p.names u u n (own refl counts) bound in
       not_renamed n now hidden u level one same)
 
-  pub levels_kept : IsUnseen w before d name p.path → KeepsLevels p q
-  levels_kept (inl away) = level_elsewhere (λ n e. away (ap declaring_path e))
+  pub levels_kept : IsUnseen w before d h.plain.rename.set name p.path → KeepsLevels p q
+  levels_kept (inl away) =
+      level_elsewhere (λ n e. away (record { declaration = d; among = h.plain.rename.is_set.has_it; declares = ap declaring_path e }))
   levels_kept (inr hidden) = by_declaration d refl
     where
       by_declaration : (x : Declaration) → d ≡ x → KeepsLevels p q
@@ -166,10 +180,11 @@ module _ (w : Workspace) (before : Verdicts) (d : Declaration) (name : List ℕ)
       by_declaration (Field f) e = absurd (subst (λ x. IsHidden w before x name) e hidden)
       by_declaration (Method f) e = absurd (subst (λ x. IsHidden w before x name) e hidden)
 
-  pub names_kept : IsUnseen w before d name p.path → Alike p q → package_name q.files ≡ package_name p.files → EachMemberCounts p → EachMemberCounts q →
+  pub names_kept : IsUnseen w before d h.plain.rename.set name p.path → Alike p q → package_name q.files ≡ package_name p.files → EachMemberCounts p →
+      EachMemberCounts q →
       Kept p q
   names_kept unseen alike clause counts counts_after =
-      let none = no_member w before d name p unseen in
+      let none = no_member w before d h.plain.rename.set name p h.plain.rename.is_set unseen in
       record {
         alike = alike;
         clause = clause;

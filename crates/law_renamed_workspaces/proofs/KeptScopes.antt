@@ -12,12 +12,13 @@ use Rattle.workspace_check.specs.Verdicts.{Verdicts}
 use Rattle.refs_binding.specs.declared.declaration.Declaration.{Declaration}
 use Rattle.refs_binding.specs.declared.declaration.Declaration.TheVariants.{Predeclared, Declared, Field, Method}
 use Rattle.refs_binding.specs.Binding.{BindsByScope}
-use Rattle.refs_binding.specs.Uses.{IsCheckedPackage}
+use Rattle.refs_binding.specs.Uses.{IsBoundToDeclaration, IsCheckedPackage}
 use Rattle.law_renamed_workspaces.specs.Layouts.{IsRelaid}
 use Rattle.law_renamed_workspaces.proofs.RenamedScopesRenamed.{others_are_kept}
 use Rattle.law_renamed_workspaces.specs.LocalRenames.{IsLocalRename}
 use Rattle.law_renamed_workspaces.specs.OtherPackages.{KeepsScopes, OtherPackagesKeepScopes}
 use Rattle.law_renamed_workspaces.proofs.LocalRenamesKeptNames.{own_scopes_bind}
+use Rattle.law_renamed_workspaces.proofs.RenamedSets.{own_alone}
 
 -- packages of one path, layout and names
 record HasSameScopes (a b : Package) : Type 0 where
@@ -50,7 +51,8 @@ module _ (w : Workspace) (known : Verdicts) (p : Package) (n : ℕ) (name : List
   named : (u : ℕ) → q.names u ≡ x.names u
   named u =
       others_are_kept w known (Declared p.path n) name s h.rename x q is relaid u
-      (λ inside b. other (own_scopes_bind w known p n name s h x is u b).0)
+      (λ inside some. other (own_scopes_bind w known p n name s h x is u (subst (IsBoundToDeclaration w known x u)
+      (own_alone (IsCheckedPackage w known) (Declared p.path n) h.rename.rename.set h.rename.rename.is_set (λ m. m) some.declaration some.among) some.bound)).0)
 
   same : HasSameScopes x q
   same = record { path = relaid.path; layout = relaid.layout; names = fun_ext named }

@@ -10,22 +10,25 @@ use Rattle.refs_binding.specs.declared.declaration.Declaration.TheVariants.{Decl
 use Rattle.law_renamed_workspaces.proofs.Packages.{same_imports}
 use Rattle.law_renamed_workspaces.specs.KnownVerdicts.{IsKeptRename, IsUnseen}
 use Rattle.law_renamed_workspaces.proofs.KnownVerdictsLaws.{unseen_data, unseen_verdicts}
+use Rattle.law_renamed_workspaces.proofs.Harmless.{declared_harmless}
 use Rattle.law_renamed_workspaces.specs.KnownAfter.{ExportDataStay, IsKeptLocalRename, KnownVerdictsStay, LocalRenamesHaveVerdicts, LocalRenamesKeepKnown}
 use Rattle.law_renamed_workspaces.specs.KnownAfter.{LocalRenamesKeepVerdicts}
 
 module _ (w : Workspace) (before : Verdicts) (path : List ℕ) (n : ℕ) (name : List ℕ) (s : FileChanges) (h : IsKeptLocalRename w before path n name s) where
   kept : IsKeptRename w before (Declared path n) name s
-  kept = record { plain = h.plain; kept = h.kept }
+  kept = record { plain = h.plain; kept = declared_harmless w before path n name s h.plain h.kept }
 
   -- other packages don't see a declaration that is not package-level
-  hidden : (q : List ℕ) → IsUnseen w before (Declared path n) name q
+  hidden : (q : List ℕ) → IsUnseen w before (Declared path n) h.plain.rename.set name q
   hidden q = inr (λ p is e. inl (h.local p is e))
 
 pub data_stay : ExportDataStay
+unfolding kept
 data_stay w before after path n name s h right o has =
     unseen_data w before after (Declared path n) name s (kept w before path n name s h) right o has (hidden w before path n name s h o)
 
 pub verdicts_stay : KnownVerdictsStay
+unfolding kept
 verdicts_stay w before after path n name s h right o has one k =
     unseen_verdicts w before after (Declared path n) name s (kept w before path n name s h) right o has (hidden w before path n name s h o) one k
 

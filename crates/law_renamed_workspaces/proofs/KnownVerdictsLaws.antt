@@ -4,11 +4,10 @@ use Rattle.std.specs.Prelude.{Some, slice_get}
 use Rattle.base_edits.specs.EditSet.{FileChanges, edited}
 use Rattle.base_files.specs.Packages.{package_paths}
 use Rattle.base_files.specs.Workspace.{Workspace}
-use Rattle.workspace_graph.proofs.PackagePaths.{paths_sorted, one_number}
 use Rattle.workspace_check.specs.Verdicts.{Verdicts}
 use Rattle.workspace_check.proofs.PackageFiles.{at_rank}
 use Rattle.refs_binding.specs.declared.declaration.Declaration.{Declaration}
-use Rattle.refs_places.specs.Outside.{declaring_path}
+use Rattle.refs_places.specs.Homes.{IsHomeOfSome}
 use Rattle.law_renamed_workspaces.proofs.Packages.{same_imports}
 use Rattle.law_renamed_workspaces.specs.KnownVerdicts.{IsKeptRename, FindingsStay, UnseenDataStay, UnseenVerdictsStay, OtherVerdictsStay}
 use Rattle.law_renamed_workspaces.specs.KnownVerdicts.{HiddenRenamesKeepVerdicts, OtherKnownVerdictsStay}
@@ -42,11 +41,9 @@ hidden w before after d name s h right is_hidden known knows number o one at lis
     unseen_verdicts w before after d name s h right o (at_rank (package_paths w) number o was) (inr is_hidden) one (knows number o one was listed)
 
 pub all_others : OtherKnownVerdictsStay
-all_others w before after d name s h right number path of_number declared known rest knows but n o one at listed =
+all_others w before after d name s h right known rest knows but n o one at listed =
     let was = number_before w before d name s h n o at in
     let old = but n one listed in
     let has = at_rank (package_paths w) n o was in
-    let other : declaring_path d ≡ Some o → ⊥ =
-    λ e. old.0
-    (one_number (package_paths w) (paths_sorted w) n number path (was ∙ sym e ∙ declared) of_number) in
+    let other : IsHomeOfSome h.plain.rename.set o → ⊥ = λ home. old.0 (record { path = o; has_number = was; is_home = home }) in
     (others w before after d name s h right o has other).1 one (knows n o one was old.1)

@@ -2,6 +2,7 @@
 pub mod EditedEntries
 pub mod TokenKinds
 pub mod Bound
+pub mod RenamedSets
 pub mod NameEdits
 pub mod Literals
 pub mod NameTokens
@@ -36,7 +37,6 @@ pub mod Called
 pub mod OtherNames
 pub mod SeenDefinitions
 pub mod SeenStructs
-pub mod NoInterfaces
 pub mod UsersReach
 pub mod KeptMembers
 pub mod OtherMembers
@@ -70,6 +70,11 @@ pub mod RenamedData
 pub mod RenamedLaws
 pub mod RenamedVerdicts
 pub mod NewMembers
+pub mod CalledNow
+pub mod NewLookups
+pub mod SetLookups
+pub mod SeenLookups
+pub mod Harmless
 pub mod NewExports
 pub mod NewVerdicts
 pub mod KnownVerdicts

@@ -11,6 +11,7 @@ use Rattle.refs_binding.specs.Uses.{IsCheckedPackage, IsBoundToDeclaration}
 use Rattle.refs_binding.proofs.Units.{one_package}
 use Rattle.law_renamed_workspaces.proofs.OwnNames.{member_is_none}
 use Rattle.law_renamed_workspaces.proofs.Called.{names}
+use Rattle.law_renamed_workspaces.proofs.RenamedSets.{own_alone}
 use Rattle.law_renamed_workspaces.specs.LocalRenames.{IsLocalRename, OwnScopesAloneBind, OtherNamesStay}
 
 module _ (w : Workspace) (known : Verdicts) (p : Package) (n : ℕ) (name : List ℕ) (s : FileChanges) (h : IsLocalRename w known p n name s) (x : Package)
@@ -32,4 +33,8 @@ own_scopes_bind w known p n name s h x is u b = bound_by w known p n name s h x 
 pub names_stay : OtherNamesStay
 names_stay w known p n name s h x is at place token apart =
     names w known (Declared p.path n) name s h.rename x is at place token
-    (λ u lt stands b. let own = own_scopes_bind w known p n name s h x is u b in apart u lt stands own.0 own.1)
+    (λ e among u lt stands b.
+    let set = h.rename.rename.set in
+    let same : e ≡ Declared p.path n = own_alone (IsCheckedPackage w known) (Declared p.path n) set h.rename.rename.is_set (λ m. m) e among in
+    let own = own_scopes_bind w known p n name s h x is u (subst (λ z. IsBoundToDeclaration w known x u z) same b) in
+    apart u lt stands own.0 own.1)

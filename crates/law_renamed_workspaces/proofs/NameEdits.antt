@@ -33,6 +33,7 @@ use Rattle.refs_binding.proofs.Folders.{begins_in_folder}
 use Rattle.refs_binding.proofs.Tokens.{Begins}
 use Rattle.refs_binding.proofs.Units.{one_package}
 use Rattle.refs_lookup.proofs.OnePlace.{one_begins}
+use Rattle.refs_uses.specs.UsesOfEach.{IsUseOfSome}
 use Rattle.refs_uses.proofs.NameTokens.{name_at_token}
 use Rattle.refactor_rename.specs.declared.renamed.Renamed.{Renamed}
 use Rattle.refactor_rename.specs.FileEdits.{IsLiteralAt, RenamesToken, IsEditAt}
@@ -41,12 +42,14 @@ use Rattle.law_renamed_workspaces.specs.Layouts.{RenamesAreNameEdits}
 use Rattle.law_renamed_workspaces.specs.Renames.{IsPlainRename}
 use Rattle.law_renamed_workspaces.proofs.Bound.{bound_not_blank}
 
--- an identifier of the package stands at the token, and is bound to the declaration
-pub record IsBoundToken (w : Workspace) (known : Verdicts) (d : Declaration) (p : Package) (rank i : ℕ) : Type 0 where
+-- an identifier of the package stands at the token, and is bound to a declaration of the set
+pub record IsBoundToken (w : Workspace) (known : Verdicts) (set : List Declaration) (p : Package) (rank i : ℕ) : Type 0 where
+  pub declaration : Declaration
+  pub among : Contains set declaration
   pub identifier : ℕ
   pub inside : IsInFiles p identifier
   pub stands : LiesAt p.layout (record { file = rank; index = i }) identifier
-  pub bound : IsBoundToDeclaration w known p identifier d
+  pub bound : IsBoundToDeclaration w known p identifier declaration
 
 name_kind : (bytes : List ℕ) → (bytes ≡ 95 ∷ [] → ⊥) → kind_of_name bytes ≡ kind.Name
 name_kind bytes other =
@@ -99,23 +102,28 @@ module _ (w : Workspace) (known : Verdicts) (d : Declaration) (name : List ℕ) 
         let same : a.0 ≡ b.0 = one_begins w known p.path p is.is_checked place.path place.offset a.0 b.0 a.1.0 b.1.0 in
         sym a.1.1.2 ∙ ap (λ u. (p.layout.place u).index) same ∙ b.1.1.2
 
-    pub bound_token : (i : ℕ) (e : Edit) → RenamesToken f renamed i e → IsBoundToken w known d p rank i
+    pub bound_token : (i : ℕ) (e : Edit) → RenamesToken f renamed i e → IsBoundToken w known h.rename.set p rank i
     bound_token i e r =
         let place : Place = record { path = f.path; offset = r.token.span.start } in
         let one = name_at_token w known p.path p is.is_checked (record { file = rank; index = i }) place (begins_there i r.token r.at r.is_name) in
-        let one_use : IsUseOf w known d place = (h.rename.edits.is_renamed.uses.each place).0 r.among in
+        let some_use : IsUseOfSome w known h.rename.set place = (h.rename.edits.is_renamed.uses.each place).0 r.among in
+        let of : Declaration = some_use.declaration in
+        let one_use : IsUseOf w known of place = some_use.is_use in
         let same : one_use.used_in ≡ p = one_package w known one_use.used_in p one_use.is_package is
         (begins_in_folder w known one_use.used_in one_use.is_package place.path place.offset one_use.user one_use.begins
         ∙ sym (begins_in_folder w known p is place.path place.offset one.0 one.1.0)) in
         let begins : BeginsAt p place.path place.offset one_use.user =
         subst (λ (x : Package). BeginsAt x place.path place.offset one_use.user) same one_use.begins in
         let user : one_use.user ≡ one.0 = one_begins w known p.path p is.is_checked place.path place.offset one_use.user one.0 begins one.1.0 in
-        let bound : IsBoundToDeclaration w known p one_use.user d = subst (λ (x : Package). IsBoundToDeclaration w known x one_use.user d) same one_use.bound in
+        let bound : IsBoundToDeclaration w known p one_use.user of = subst (λ (x : Package). IsBoundToDeclaration w known x one_use.user of) same
+        one_use.bound in
         record {
+          declaration = of;
+          among = some_use.among;
           identifier = one.0;
           inside = one.1.0.0;
           stands = one.1.1;
-          bound = subst (λ u. IsBoundToDeclaration w known p u d) user bound;
+          bound = subst (λ u. IsBoundToDeclaration w known p u of) user bound;
         }
 
     -- and it is no `_`
@@ -125,7 +133,7 @@ module _ (w : Workspace) (known : Verdicts) (d : Declaration) (name : List ℕ) 
         let u = b.identifier in
         let file : slice_get p.files (p.layout.place u).file ≡ Some f = ap (slice_get p.files) b.stands.1 ∙ at in
         let index : (p.layout.place u).index ≡ i = b.stands.2 in
-        bound_not_blank w h.rename.sound known h.rename.right p is u d b.inside b.bound f file
+        bound_not_blank w h.rename.sound known h.rename.right p is u b.declaration b.inside b.bound f file
         (subst (λ n. IsNameToken (slice_get (tokens_in f.cut) n)) (sym index) (subst IsNameToken (sym r.at) r.is_name)) (ap (spelling_of f) index ∙ blank)
 
   -- in each file names take the place of names

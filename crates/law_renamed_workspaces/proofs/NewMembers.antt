@@ -45,7 +45,7 @@ use Rattle.law_renamed_workspaces.proofs.RenamedMembersNameTokens.{IsNamedIn, fi
 use Rattle.law_renamed_workspaces.proofs.NewNames.{name_stands}
 
 -- a token begins at one place
-one_place : (o : Option SourceFile) (n : ℕ) (a b : Place) → TokenBegins o n a → TokenBegins o n b → b ≡ a
+pub one_place : (o : Option SourceFile) (n : ℕ) (a b : Place) → TokenBegins o n a → TokenBegins o n b → b ≡ a
 one_place None n a b h k = absurd h
 one_place (Some f) n a b h k =
     let at : List ℕ → ℕ → Place = λ path offset. record { path = path; offset = offset } in ap₂ at (sym k.0 ∙ h.0) (sym k.1 ∙ h.1)
@@ -76,13 +76,13 @@ method_counts p fine d rank name f h = record {
 
 -- one of a name counts
 
-one_field : (p : Package) (d m n : ℕ) (name : List ℕ) (f g : PlacedField) → IsCountingField p d name m f → IsCountingField p d name n g → m ≡ n
+pub one_field : (p : Package) (d m n : ℕ) (name : List ℕ) (f g : PlacedField) → IsCountingField p d name m f → IsCountingField p d name n g → m ≡ n
 one_field p d m n name f g a b = elim (cases_lt m n) [
   | inl lt ↦ absurd (b.first m f lt a.is_field)
   | inr ge ↦ elim (cases_lt n m) [ inl less ↦ absurd (a.first n g less b.is_field) | inr more ↦ omega arith ]
 ]
 
-one_method : (p : Package) (d m n : ℕ) (name : List ℕ) (f g : PlacedFunction) → IsCountingMethod p d name m f → IsCountingMethod p d name n g → m ≡ n
+pub one_method : (p : Package) (d m n : ℕ) (name : List ℕ) (f g : PlacedFunction) → IsCountingMethod p d name m f → IsCountingMethod p d name n g → m ≡ n
 one_method p d m n name f g a b = elim (cases_lt m n) [
   | inl lt ↦ absurd (b.first m f lt a.is_method)
   | inr ge ↦ elim (cases_lt n m) [ inl less ↦ absurd (a.first n g less b.is_method) | inr more ↦ omega arith ]
@@ -163,10 +163,10 @@ module _ (w : Workspace) (before : Verdicts) (r : Revision) (p : Package) (is : 
 
   -- some member has the name, or none
 
-  abbrev SomeField : (d : ℕ) (name : List ℕ) → Type 0
+  abbrev pub SomeField : (d : ℕ) (name : List ℕ) → Type 0
   SomeField d name = ((k : ℕ) × IsFieldAfter r p d name k) ⊎ ((k : ℕ) → IsFieldAfter r p d name k → ⊥)
 
-  abbrev SomeMethod : (d : ℕ) (name : List ℕ) → Type 0
+  abbrev pub SomeMethod : (d : ℕ) (name : List ℕ) → Type 0
   SomeMethod d name = ((k : ℕ) × IsMethodAfter r p d name k) ⊎ ((k : ℕ) → IsMethodAfter r p d name k → ⊥)
 
   pub find_field : (d : ℕ) (name : List ℕ) → SomeField d name
@@ -181,11 +181,11 @@ module _ (w : Workspace) (before : Verdicts) (r : Revision) (p : Package) (is : 
 
   -- The field or method under the new name is that under the old one.
 
-  abbrev field_by : (a : Definition) (d : ℕ) (name : List ℕ) → SomeField d name → Option Field
+  abbrev pub field_by : (a : Definition) (d : ℕ) (name : List ℕ) → SomeField d name → Option Field
   field_by a d name (inl h) = option_map (field_called name) (a.field (spelled p h.1.field.file h.1.field.name))
   field_by a d name (inr none) = None
 
-  abbrev method_by : (a : Definition) (d : ℕ) (name : List ℕ) → SomeMethod d name → Option Method
+  abbrev pub method_by : (a : Definition) (d : ℕ) (name : List ℕ) → SomeMethod d name → Option Method
   method_by a d name (inl h) = option_map (method_called name) (a.method (spelled p h.1.method.file h.1.method.function.name))
   method_by a d name (inr none) = None
 

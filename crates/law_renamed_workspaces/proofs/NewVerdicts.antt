@@ -1,9 +1,8 @@
--- The edited workspace has verdicts after a plain rename that loses and captures no identifier: no package has a fault, and the export data
--- are the old ones under new names.
-use Rattle.std.proofs.Common.{ℕ, ◌≡◌, ◌⊎◌, inl, inr, false, List, [], ◌∷◌, ap, sym, subst, ◌∙◌}
+-- The edited workspace has verdicts after a plain rename that is harmless: no package has a fault, and the export data are the old ones
+-- under new names.
+use Rattle.std.proofs.Common.{ℕ, ◌≡◌, ◌⊎◌, inl, inr, false, List, [], ap, sym, subst, ◌∙◌}
 use Rattle.std.specs.Prelude.{Option, Some, None, slice_get, Contains}
 use Rattle.std.proofs.lemmas.Bool.{true≢false}
-use Rattle.base_lemmas.proofs.Elements.{nothing_in, first_in, later_in, first_or_later}
 use Rattle.base_edits.specs.EditSet.{FileChanges, edited}
 use Rattle.base_edits.specs.Revisions.{Revision}
 use Rattle.base_edits.specs.RevisionsOfEdits.{revision_of}
@@ -15,7 +14,6 @@ use Rattle.types_declared.specs.declared.fault.Fault.{Fault}
 use Rattle.types_declared.specs.Definitions.{IsDefinition}
 use Rattle.types_declared.specs.Files.{package_name}
 use Rattle.types_declared.specs.Package.{Package, ExportData, PlacedType, package_types, symbol_in}
-use Rattle.types_declared.proofs.ByteKeys.{cases_bytes}
 use Rattle.types_check.specs.Check.{IsLaterFault}
 use Rattle.types_check.specs.Exports.{IsExportData}
 use Rattle.types_members.specs.MemberFaults.{IsMemberFault}
@@ -26,13 +24,14 @@ use Rattle.workspace_check.proofs.SameImports.{imports_back, builds_by}
 use Rattle.refs_binding.specs.declared.declaration.Declaration.{Declaration}
 use Rattle.refs_binding.specs.Uses.{IsCheckedPackage}
 use Rattle.refs_lookup.proofs.Faultless.{no_fault_later}
-use Rattle.refactor_conflict.specs.Staying.{NoneIsLost}
 use Rattle.law_changed_types.proofs.Alike.{Alike, of_bound}
+use Rattle.law_renamed_workspaces.specs.Harmless.{IsHarmless}
 use Rattle.law_renamed_workspaces.specs.Layouts.{IsRelaid}
 use Rattle.law_renamed_workspaces.specs.Renames.{IsPlainRename}
 use Rattle.law_renamed_workspaces.proofs.Packages.{package_there, same_imports}
 use Rattle.law_renamed_workspaces.proofs.CountingMembers.{types_listed}
 use Rattle.law_renamed_workspaces.proofs.SeenAfter.{seen_follow}
+use Rattle.law_renamed_workspaces.proofs.SeenLookups.{listed_or_not}
 use Rattle.law_renamed_workspaces.proofs.OwnNames.{own_renames}
 use Rattle.law_renamed_workspaces.proofs.RenamedScopesRenamed.{others_stay}
 use Rattle.law_renamed_workspaces.specs.VerdictsStay.{IsPackageAfter, IsMovedVerdict}
@@ -45,19 +44,8 @@ use Rattle.law_renamed_workspaces.specs.VerdictsAfter.{RenamesHaveVerdicts}
 use Rattle.law_renamed_workspaces.proofs.NewExports.{new_exported, is_new_exported}
 use Rattle.law_renamed_workspaces.proofs.NewMembers.{new_definition, is_new_definition}
 
--- whether a path is one of some
-listed_or_not : (paths : List (List ℕ)) (path : List ℕ) → Contains paths path ⊎ (Contains paths path → ⊥)
-listed_or_not [] path = inr (λ h. nothing_in path h)
-listed_or_not (q ∷ qs) path = elim (cases_bytes q path) [
-  | inl same ↦ inl (subst (Contains (q ∷ qs)) same (first_in q qs))
-  | inr apart ↦ elim (listed_or_not qs path) [
-    | inl later ↦ inl (later_in q qs path later)
-    | inr none ↦ inr (λ h. elim (first_or_later q qs path h) [ inl same ↦ apart same | inr later ↦ none later ])
-  ]
-]
-
 module _ (w : Workspace) (before : Verdicts) (d : Declaration) (name : List ℕ) (s : FileChanges) (plain : IsPlainRename w before d name s)
-    (none : NoneIsLost w before (revision_of w s)) where
+    (none : IsHarmless w before (revision_of w s)) where
   abbrev x : Workspace
   x = edited s w
 

@@ -1,4 +1,4 @@
--- No fault of scopes, members or types comes to a package in a rename that loses and captures no identifier.
+-- No fault of scopes, members or types comes to a package in a harmless rename.
 use Rattle.std.proofs.Common.{ℕ, ◌<◌, inl, inr, List}
 use Rattle.base_edits.specs.EditSet.{FileChanges, edited}
 use Rattle.base_edits.specs.RevisionsOfEdits.{revision_of}
@@ -15,8 +15,8 @@ use Rattle.workspace_check.proofs.OnePackage.{layout_formed}
 use Rattle.workspace_check.proofs.OneVerdict.{right_below}
 use Rattle.refs_binding.specs.declared.declaration.Declaration.{Declaration}
 use Rattle.refs_lookup.proofs.Faultless.{no_fault_later}
-use Rattle.refactor_conflict.specs.Staying.{NoneIsLost}
 use Rattle.law_faultless.proofs.PackageWorlds.{have_worlds}
+use Rattle.law_renamed_workspaces.specs.Harmless.{IsHarmless}
 use Rattle.law_renamed_workspaces.specs.Renames.{IsPlainRename}
 use Rattle.law_renamed_workspaces.specs.Scopes.{OwnRenamesAreRenames, OtherScopesStay}
 use Rattle.law_renamed_workspaces.specs.MembersMoved.{FieldsFollow, MethodsFollow}
@@ -30,7 +30,7 @@ use Rattle.law_renamed_workspaces.proofs.ScopeFaults.{NoneIsInit, none_was_init,
 
 module _ (found : FoundStays) (fields : FieldsFollow) (methods : MethodsFollow) (own_renames : OwnRenamesAreRenames) (others_stay : OtherScopesStay)
     (w : Workspace) (before after : Verdicts) (d : Declaration) (name : List ℕ) (s : FileChanges) (plain : IsPlainRename w before d name s)
-    (none : NoneIsLost w before (revision_of w s)) (p q : Package) (right : AreVerdictsBelow (edited s w) q.path after)
+    (none : IsHarmless w before (revision_of w s)) (p q : Package) (right : AreVerdictsBelow (edited s w) q.path after)
     (here : IsPackageAfter w before after s p q) where
   was_fine : (f : Fault) → IsLaterFault p f → ⊥
   was_fine = no_fault_later w plain.rename.sound before plain.rename.right p here.was
@@ -61,7 +61,7 @@ module _ (found : FoundStays) (fields : FieldsFollow) (methods : MethodsFollow) 
   no_member : (f : Fault) → IsMemberFault q f → ⊥
   no_member =
       no_member_fault w before (revision_of w s) p q here.was (layout_formed (edited s w) after q.path q here.is.is_checked) here.relaid here.bound here.seen
-      fields methods none (members_named w before p here.was) fine_member
+      fields methods none.none_lost (members_named w before p here.was) fine_member
 
   no_type : (f : Fault) → IsTypeFault q f → ⊥
   no_type =
@@ -76,7 +76,7 @@ module _ (found : FoundStays) (fields : FieldsFollow) (methods : MethodsFollow) 
 -- No fault comes to a package by right verdicts on what it builds on.
 abbrev pub NoFaultComesBelow : Type 0
 NoFaultComesBelow = (w : Workspace) (before after : Verdicts) (d : Declaration) (name : List ℕ) (s : FileChanges) → IsPlainRename w before d name s →
-    NoneIsLost w before (revision_of w s) → (p q : Package) → AreVerdictsBelow (edited s w) q.path after → IsPackageAfter w before after s p q →
+    IsHarmless w before (revision_of w s) → (p q : Package) → AreVerdictsBelow (edited s w) q.path after → IsPackageAfter w before after s p q →
     (fault : Fault) → IsLaterFault q fault → ⊥
 
 pub no_fault_below : FoundStays → FieldsFollow → MethodsFollow → OwnRenamesAreRenames → OtherScopesStay → NoFaultComesBelow

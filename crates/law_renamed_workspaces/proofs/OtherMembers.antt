@@ -1,6 +1,6 @@
 -- Fields and methods that a plain rename does not rename, and whose names no other member gets: they stay bound.
-use Rattle.std.proofs.Common.{ℕ, ◌≡◌, inl, List, [], ap, sym, refl, ◌∙◌}
-use Rattle.std.specs.Prelude.{⊤}
+use Rattle.std.proofs.Common.{ℕ, ◌≡◌, inl, List, [], ap, sym, refl, ◌∙◌, subst}
+use Rattle.std.specs.Prelude.{⊤, Contains}
 use Rattle.base_files.specs.Workspace.{Workspace}
 use Rattle.base_files.specs.declared.place.Place.{Place}
 use Rattle.base_edits.specs.EditSet.{FileChanges}
@@ -35,9 +35,9 @@ module _ (w : Workspace) (known : Verdicts) (d : Declaration) (name : List ℕ) 
   -- a name, and packages where no renamed member gets it
 
   module _ (m : List ℕ) (Among : List ℕ → Type 0) (closed : (p q : List ℕ) → Among p → ShowsName w m p q → Among q)
-      (apart : (e : Declaration) → IsMember e → e ≡ d → Among (home_of e) → m ≡ name → ⊥) where
+      (apart : (e : Declaration) → IsMember e → Contains h.rename.set e → Among (home_of e) → m ≡ name → ⊥) where
     -- what is called so afterwards was called so
-    was_called : (e : Declaration) → IsMember e → Among (home_of e) → (old : List ℕ) → IsCalledAfter d name e old m → old ≡ m
+    was_called : (e : Declaration) → IsMember e → Among (home_of e) → (old : List ℕ) → IsCalledAfter h.rename.set name e old m → old ≡ m
     was_called e member among old (gets_name same new) = absurd (apart e member same among new)
     was_called e member among old (keeps_name away kept) = sym kept
 
@@ -67,8 +67,8 @@ module _ (w : Workspace) (known : Verdicts) (d : Declaration) (name : List ℕ) 
           );
     }
 
-    -- a member of the name that is not the renamed one keeps it
-    kept : (e : Declaration) → IsMember e → (e ≡ d → ⊥) → IsKept w sound known right r m Among closed e
+    -- a member of the name that is not renamed keeps it
+    kept : (e : Declaration) → IsMember e → (Contains h.rename.set e → ⊥) → IsKept w sound known right r m Among closed e
     kept (Predeclared n) member away = absurd member
     kept (Declared path n) member away = absurd member
     kept (Field f) member away = λ y also among home definition x own.
@@ -77,7 +77,7 @@ module _ (w : Workspace) (known : Verdicts) (d : Declaration) (name : List ℕ) 
           field = x;
           has_rank = own.has_rank;
           of_struct = own.of_struct;
-          called = keeps_name (λ same. away (ap Field here ∙ same)) (sym own.named);
+          called = keeps_name (λ in_set. away (subst (Contains h.rename.set) (ap Field (sym here)) in_set)) (sym own.named);
         })
     kept (Method f) member away = λ y also among home definition x own.
         let here : f ≡ symbol_in y f.rank = ap (λ q. record { «package» = q; rank = f.rank }) home in
@@ -91,24 +91,25 @@ module _ (w : Workspace) (known : Verdicts) (d : Declaration) (name : List ℕ) 
             binds = own.binds;
             of_type = own.of_type;
           };
-          called = keeps_name (λ same. away (ap Method here ∙ same)) (sym own.named);
+          called = keeps_name (λ in_set. away (subst (Contains h.rename.set) (ap Method (sym here)) in_set)) (sym own.named);
         })
 
-  -- a use or declaring identifier of another member than what is renamed
+  -- a use or declaring identifier of a member that is not renamed
 
   module _ (x : Package) (is : IsCheckedPackage w known x) (u : ℕ) (place : Place) (begins : BeginsAt x place.path place.offset u) where
     abbrev m : List ℕ
     m = spelled_there x u
 
-    called_so : (e : Declaration) → NamesMember x u e → (e ≡ d → ⊥) → r.called place m ≡ m
+    called_so : (e : Declaration) → NamesMember x u e → (Contains h.rename.set e → ⊥) → r.called place m ≡ m
     called_so e n apart = by_case (identifiers w known d name s h x is u place begins e n)
       where
-        by_case : IsCalledAfter d name e m (r.called place m) → r.called place m ≡ m
+        by_case : IsCalledAfter h.rename.set name e m (r.called place m) → r.called place m ≡ m
         by_case (gets_name same new) = absurd (apart same)
         by_case (keeps_name away same) = same
 
     module _ (Among : List ℕ → Type 0) (closed : (p q : List ℕ) → Among p → ShowsName w m p q → Among q) (among : Among x.path)
-        (apart : (e : Declaration) → IsMember e → e ≡ d → Among (home_of e) → m ≡ name → ⊥) (old : Declaration) (away : old ≡ d → ⊥) where
+        (apart : (e : Declaration) → IsMember e → Contains h.rename.set e → Among (home_of e) → m ≡ name →
+        ⊥) (old : Declaration) (away : Contains h.rename.set old → ⊥) where
       pub use_kept : (was : BindsByMember x u old) → IsBoundByMember (IsCheckedPackage w known) r place x u old was old
       use_kept was =
           use_stays w sound known right r m Among closed (none_gets m Among closed apart) x is among u place old was
@@ -120,7 +121,7 @@ module _ (w : Workspace) (known : Verdicts) (d : Declaration) (name : List ℕ) 
           (kept m Among closed apart old (declared_is_member x u old declares) away) refl
 
     -- where no member gets the name
-    module _ (free : (e : Declaration) → IsMember e → e ≡ d → m ≡ name → ⊥) (old : Declaration) (away : old ≡ d → ⊥) where
+    module _ (free : (e : Declaration) → IsMember e → Contains h.rename.set e → m ≡ name → ⊥) (old : Declaration) (away : Contains h.rename.set old → ⊥) where
       pub use_kept_everywhere : (was : BindsByMember x u old) → IsBoundByMember (IsCheckedPackage w known) r place x u old was old
       use_kept_everywhere was = use_kept (λ q. ⊤) (λ p q a k. tt) tt (λ e member same a new. free e member same new) old away was
 

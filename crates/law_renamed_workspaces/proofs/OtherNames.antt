@@ -1,6 +1,6 @@
 -- Members whose name is neither the old nor the new one of what a plain rename renames are those that had it.
-use Rattle.std.proofs.Common.{ℕ, ◌≡◌, List, ap, sym, subst, refl, ◌∙◌}
-use Rattle.std.specs.Prelude.{◌↔◌}
+use Rattle.std.proofs.Common.{ℕ, ◌≡◌, List, ap, sym, subst, refl, ◌∙◌, inl, inr}
+use Rattle.std.specs.Prelude.{◌↔◌, Contains}
 use Rattle.std.proofs.lemmas.Option.{same_Some}
 use Rattle.base_files.specs.Workspace.{Workspace}
 use Rattle.base_edits.specs.EditSet.{FileChanges}
@@ -21,27 +21,34 @@ use Rattle.law_renamed_workspaces.proofs.Called.{fields, methods}
 module _ (w : Workspace) (known : Verdicts) (d : Declaration) (name : List ℕ) (s : FileChanges) (h : IsPlainRename w known d name s) (old other : List ℕ)
     (has : HasDeclaredName (IsCheckedPackage w known) d old) (not_old : other ≡ old → ⊥) (not_new : other ≡ name → ⊥) (x : Package)
     (is : IsCheckedPackage w known x) (definition rank : ℕ) where
-  was_called : (e : Declaration) (was : List ℕ) → IsCalledAfter d name e was other → was ≡ other
+  was_called : (e : Declaration) (was : List ℕ) → IsCalledAfter h.rename.set name e was other → was ≡ other
   was_called e was (gets_name same new) = absurd (not_new new)
   was_called e was (keeps_name away kept) = sym kept
 
-  -- a field of the name is not the renamed one
-  field_apart : (f : PlacedField) → IsFieldOf x definition other rank f → Field (symbol_in x rank) ≡ d → ⊥
-  field_apart f own same =
+  -- what is renamed has the old name
+  of_old_name : (e : Declaration) → Contains h.rename.set e → HasDeclaredName (IsCheckedPackage w known) e old
+  of_old_name e in_set = elim (h.rename.is_set.others e in_set) [
+    | inl same ↦ subst (λ k. HasDeclaredName (IsCheckedPackage w known) k old) (sym same) has
+    | inr alike ↦ alike.called old has
+  ]
+
+  -- a field of the name is not renamed
+  field_apart : (f : PlacedField) → IsFieldOf x definition other rank f → Contains h.rename.set (Field (symbol_in x rank)) → ⊥
+  field_apart f own in_set =
       let e : Declaration = Field (symbol_in x rank) in
       let named : HasDeclaredNameIn x e old =
-      of_one w known x is x.path refl (λ p. HasDeclaredNameIn p e old) (subst (λ k. HasDeclaredName (IsCheckedPackage w known) k old) (sym same) has) in
+      of_one w known x is x.path refl (λ p. HasDeclaredNameIn p e old) (of_old_name e in_set) in
       let c = named.is_at.counts in
       let one : c.field ≡ f = same_Some c.field f (sym c.counting.is_field.has_rank ∙ own.has_rank) in
       let at : spelled x c.field.file c.field.name ≡ old =
       subst (λ p. spelled x p.file p.index ≡ old) (sym named.is_at.named_at) named.called in
       not_old (sym own.named ∙ ap (λ (g : PlacedField). spelled x g.file g.name) (sym one) ∙ at)
 
-  method_apart : (f : PlacedFunction) → IsMethodOf x definition other rank f → Method (symbol_in x rank) ≡ d → ⊥
-  method_apart f own same =
+  method_apart : (f : PlacedFunction) → IsMethodOf x definition other rank f → Contains h.rename.set (Method (symbol_in x rank)) → ⊥
+  method_apart f own in_set =
       let e : Declaration = Method (symbol_in x rank) in
       let named : HasDeclaredNameIn x e old =
-      of_one w known x is x.path refl (λ p. HasDeclaredNameIn p e old) (subst (λ k. HasDeclaredName (IsCheckedPackage w known) k old) (sym same) has) in
+      of_one w known x is x.path refl (λ p. HasDeclaredNameIn p e old) (of_old_name e in_set) in
       let c = named.is_at.counts in
       let one : c.method ≡ f = same_Some c.method f (sym c.counting.is_method.has_rank ∙ own.has_rank) in
       let at : spelled x c.method.file c.method.function.name ≡ old =

@@ -47,6 +47,7 @@ use Rattle.law_renamed_workspaces.specs.Scopes.{OwnRenamesAreRenames}
 use Rattle.law_renamed_workspaces.proofs.RenamedScopesRenamed.{bound_is_called, others_are_kept}
 use Rattle.law_renamed_workspaces.proofs.SameNames.{left_roles, use_identifies}
 use Rattle.law_renamed_workspaces.proofs.Standing.{StandsAtName, IsLaid, begins_there, use_stands, declared_stands, laid_literal, in_package}
+use Rattle.law_renamed_workspaces.proofs.RenamedSets.{own_alone}
 
 -- behind the predeclared names there are identifiers of files
 past_universe : (given : ℕ → Option (List ℕ)) (names : List (List ℕ)) (xs : List Site) → AreIdentifiers xs → (d : ℕ) → length names ≤ d →
@@ -138,7 +139,8 @@ module _ (w : Workspace) (before : Verdicts) (path : List ℕ) (n : ℕ) (name :
   level_other level known =
       let z : Universe ≡ PackageBlock = sym (in_universe w before p.path p checked n known) ∙ level in cc
 
-  by_scopes : (x : Package) → IsCheckedPackage w before x → path ≡ x.path → (IsPredeclaredNumber n → ⊥) → (u : ℕ) → scopes.IsBoundTo x.layout x.names u n → IsOwn
+  by_scopes : (x : Package) → IsCheckedPackage w before x → path ≡ x.path → (IsPredeclaredNumber n → ⊥) → (u : ℕ) → scopes.IsBoundTo x.layout x.names u n →
+      IsOwn
   by_scopes x also e other u b =
       let one : x ≡ p = one_package w before x p also is (sym e ∙ sym same) in
       record {
@@ -209,7 +211,7 @@ module _ (w : Workspace) (before : Verdicts) (path : List ℕ) (n : ℕ) (name :
       let lt : u < p.size = bound_within w before p.path p checked u n b in
       let there = begins_there p u lt (bound_identifies u b) (bound_stands u lt b) in
       bound_is_called w before (Declared path n) name s h p q is relaid u there.0 there.1
-      (by_scope (sym same, is_own.other, b))
+      (record { declaration = Declared path n; among = h.rename.is_set.has_it; bound = by_scope (sym same, is_own.other, b) })
 
   -- nothing else is bound to it
 
@@ -228,7 +230,9 @@ module _ (w : Workspace) (before : Verdicts) (path : List ℕ) (n : ℕ) (name :
   renaming : IsRenaming l p.names n name q.names
   renaming = record {
     renamed = renamed_so;
-    kept = λ u other. others_are_kept w before (Declared path n) name s h p q is relaid u (λ inside b. other (bound_so u inside b));
+    kept = λ u other. others_are_kept w before (Declared path n) name s h p q is relaid u
+        (λ inside some. other (bound_so u inside (subst (IsBoundToDeclaration w before p u)
+        (own_alone (IsCheckedPackage w before) (Declared path n) h.rename.set h.rename.is_set (λ m. m) some.declaration some.among) some.bound)));
   }
 
   pub renames : Renames l p.names n name q.names

@@ -109,7 +109,7 @@ module _ (w : Workspace) (before after : Verdicts) (d : Declaration) (name : Lis
         was = was;
         is = relay.1.0;
         relaid = relay.1.1;
-        bound = packages_alike w before after d name s h.plain right h.kept p q was relay.1.0 relay.1.1 moved_below;
+        bound = packages_alike w before after d name s h.plain right h.kept.none_lost p q was relay.1.0 relay.1.1 moved_below;
         seen =
             seen_follow w x before after (revision_of w s) p q was relay.1.0 relay.1.1.path fine_before
             (record { same = λ o. (builds_by w x same p.path o, builds_by x w same_back p.path o); sound = sound_below.faultless })
@@ -133,19 +133,19 @@ module _ (w : Workspace) (before after : Verdicts) (d : Declaration) (name : Lis
     pub counts_after : EachMemberCounts q
     counts_after = each_counts x sound after right q there.is
 
-    is_kept : IsUnseen w before d name p.path → Kept p q
+    is_kept : IsUnseen w before d h.plain.rename.set name p.path → Kept p q
     is_kept unseen =
         names_kept w before d name s h p q there.was there.relaid unseen (of_bound p q there.bound) clause counts counts_after
 
     -- If the rename changes nothing that others see of the package, its export data are what they were.
-    pub same_data : IsUnseen w before d name p.path → (after p.path).export_data ≡ (before p.path).export_data
+    pub same_data : IsUnseen w before d h.plain.rename.set name p.path → (after p.path).export_data ≡ (before p.path).export_data
     same_data unseen =
         let checked = there.is.is_checked in
         one_export_data q (layout_formed x after q.path q checked) (files_in_order x after q.path q checked) (after p.path).export_data
         (before p.path).export_data new_data (export_data_there p q (is_kept unseen) (before p.path).export_data old_data)
 
-  pub data_stay : (o : List ℕ) → Contains (package_paths w) o → IsUnseen w before d name o → (after o).export_data ≡ (before o).export_data
+  pub data_stay : (o : List ℕ) → Contains (package_paths w) o → IsUnseen w before d h.plain.rename.set name o → (after o).export_data ≡ (before o).export_data
   data_stay o has unseen =
       let p = package_there w was_sound before was_right o has in
       let there = package_after p.0 p.1.0 in
-      subst (λ k. IsUnseen w before d name k → (after k).export_data ≡ (before k).export_data) p.1.1 (same_data p.0 there.0 there.1) unseen
+      subst (λ k. IsUnseen w before d h.plain.rename.set name k → (after k).export_data ≡ (before k).export_data) p.1.1 (same_data p.0 there.0 there.1) unseen

@@ -1,5 +1,6 @@
 -- The laws of the export data of the declaring package after a plain rename.
-use Rattle.std.proofs.Common.{ℕ, ◌≡◌, true, List, sym, refl, ◌∙◌}
+use Rattle.std.specs.Prelude.{Contains}
+use Rattle.std.proofs.Common.{ℕ, ◌≡◌, true, List, sym, refl, ◌∙◌, subst}
 use Rattle.base_edits.specs.EditSet.{FileChanges, edited}
 use Rattle.base_files.specs.Workspace.{Workspace}
 use Rattle.go_scope.specs.Bindings.{IsPackageLevel}
@@ -20,7 +21,7 @@ use Rattle.refs_binding.specs.Uses.{IsCheckedPackage}
 use Rattle.law_changed_types.proofs.Alike.{Alike, of_bound}
 use Rattle.law_renamed_workspaces.specs.VerdictsStay.{IsPackageAfter}
 use Rattle.law_renamed_workspaces.specs.KnownVerdicts.{IsKeptRename}
-use Rattle.law_renamed_workspaces.specs.RenamedData.{export_renamed, field_renamed, method_renamed, definition_changed}
+use Rattle.law_renamed_workspaces.specs.RenamedData.{IsAlone, export_renamed, field_renamed, method_renamed, definition_changed}
 use Rattle.law_renamed_workspaces.specs.RenamedData.{ExportsAreRenamed, FieldsAreRenamed, MethodsAreRenamed}
 use Rattle.law_renamed_workspaces.proofs.Counting.{EachMemberCounts}
 use Rattle.law_renamed_workspaces.proofs.PackagesAfter as moved
@@ -29,6 +30,8 @@ use Rattle.law_renamed_workspaces.proofs.KeptNames.{level_elsewhere}
 use Rattle.law_renamed_workspaces.proofs.RenamedData as renamed
 use Rattle.law_renamed_workspaces.proofs.RenamedExports.{exports_renamed}
 use Rattle.law_renamed_workspaces.proofs.RenamedMembers as members
+use Rattle.law_renamed_workspaces.specs.Renames.{IsMember}
+use Rattle.law_renamed_workspaces.proofs.RenamedSets.{own_alone}
 
 field_not_method : (d : Declaration) (s t : Symbol) → d ≡ Field s → d ≡ Method t → ⊥
 field_not_method d s t a b = let z : Field s ≡ Method t = sym a ∙ b in cc
@@ -80,10 +83,17 @@ module _ (w : Workspace) (before after : Verdicts) (d : Declaration) (name : Lis
   -- fields and methods, where none of them is renamed
 
   abbrev HasNoField : Type 0
-  HasNoField = (rank : ℕ) → d ≡ Field (symbol_in p rank) → ⊥
+  HasNoField = (rank : ℕ) → Contains h.plain.rename.set (Field (symbol_in p rank)) → ⊥
 
   abbrev HasNoMethod : Type 0
-  HasNoMethod = (rank : ℕ) → d ≡ Method (symbol_in p rank) → ⊥
+  HasNoMethod = (rank : ℕ) → Contains h.plain.rename.set (Method (symbol_in p rank)) → ⊥
+
+  -- where the declaration is renamed alone
+  no_field_of : IsAlone d h.plain.rename.set → ((rank : ℕ) → d ≡ Field (symbol_in p rank) → ⊥) → HasNoField
+  no_field_of alone none rank in_set = none rank (sym (alone (Field (symbol_in p rank)) in_set))
+
+  no_method_of : IsAlone d h.plain.rename.set → ((rank : ℕ) → d ≡ Method (symbol_in p rank) → ⊥) → HasNoMethod
+  no_method_of alone none rank in_set = none rank (sym (alone (Method (symbol_in p rank)) in_set))
 
   fields_there : HasNoField → (o : ℕ) (n : List ℕ) (k : ℕ) → members.fields_of p o n k → members.fields_of q o n k
   fields_there none o n k x = members.fields_there w before d name s h p q there.was there.relaid alike counts counts_after none o n k x
@@ -109,15 +119,19 @@ module _ (w : Workspace) (before after : Verdicts) (d : Declaration) (name : Lis
       is_data (export_renamed (p.names n) name old_data)
       (renamed.other_exports p q alike clause old_data is_old (export_renamed (p.names n) name old_data).exported
       (exports_renamed w before p q n name s own there.was there.relaid alike level was_exported old_data.exported is_old.exported)
-      (same_definition (λ rank f. scope_not_field p.path n (symbol_in p rank) (sym e ∙ f))
-      (λ rank f. scope_not_method p.path n (symbol_in p rank) (sym e ∙ f))))
+      (same_definition (no_field_of alone (λ rank f. scope_not_field p.path n (symbol_in p rank) (sym e ∙ f)))
+      (no_method_of alone (λ rank f. scope_not_method p.path n (symbol_in p rank) (sym e ∙ f)))))
+    where
+      alone : IsAlone d h.plain.rename.set
+      alone = own_alone (IsCheckedPackage w before) d h.plain.rename.set h.plain.rename.is_set (λ m. subst IsMember e m)
 
   -- a field is renamed
-  field_data_renamed : (rank : ℕ) → d ≡ Field (symbol_in p rank) → (owner : ℕ) (old : List ℕ) (f : PlacedField) → IsFieldOf p owner old rank f →
+  field_data_renamed : IsAlone d h.plain.rename.set → (rank : ℕ) → d ≡ Field (symbol_in p rank) → (owner : ℕ) (old : List ℕ) (f : PlacedField) →
+      IsFieldOf p owner old rank f →
       (old ≡ name → ⊥) → (after p.path).export_data ≡ definition_changed owner (field_renamed old name) old_data
-  field_data_renamed rank e owner old f is apart =
-      let one = members.one_field_renamed w before d name s h p q there.was there.relaid alike counts counts_after rank e owner old f is apart in
-      let none : HasNoMethod = λ r same. field_not_method d (symbol_in p rank) (symbol_in p r) e same in
+  field_data_renamed alone rank e owner old f is apart =
+      let one = members.one_field_renamed w before d name s h p q there.was there.relaid alike counts counts_after rank e alone owner old f is apart in
+      let none : HasNoMethod = no_method_of alone (λ r same. field_not_method d (symbol_in p rank) (symbol_in p r) e same) in
       is_data (definition_changed owner (field_renamed old name) old_data)
       (renamed.changed_data p q alike clause owner (field_renamed old name) old_data is_old
       (exports_stay (λ n same. scope_not_field p.path n (symbol_in p rank) (sym same ∙ e))) (renamed.no_field_renamed old name)
@@ -125,12 +139,14 @@ module _ (w : Workspace) (before after : Verdicts) (d : Declaration) (name : Lis
       (renamed.without_field p q alike clause counts counts_after owner rank old name one (methods_there none) (methods_back none)))
 
   -- a method is renamed
-  method_data_renamed : (rank : ℕ) → d ≡ Method (symbol_in p rank) → (owner : ℕ) (old : List ℕ) (f : PlacedFunction) → IsMethodOf p owner old rank f →
+  method_data_renamed : IsAlone d h.plain.rename.set → (rank : ℕ) → d ≡ Method (symbol_in p rank) → (owner : ℕ) (old : List ℕ) (f : PlacedFunction) →
+      IsMethodOf p owner old rank f →
       (old ≡ name → ⊥) → (after p.path).export_data ≡ definition_changed owner (method_renamed old name) old_data
-  method_data_renamed rank e owner old f is apart =
+  method_data_renamed alone rank e owner old f is apart =
       let one =
-      members.one_method_renamed w before d name s h p q there.was there.relaid alike counts counts_after formed formed_after rank e owner old f is apart in
-      let none : HasNoField = λ r same. field_not_method d (symbol_in p r) (symbol_in p rank) same e in
+      members.one_method_renamed w before d name s h p q there.was there.relaid alike counts counts_after formed formed_after rank e alone owner old f is
+      apart in
+      let none : HasNoField = no_field_of alone (λ r same. field_not_method d (symbol_in p r) (symbol_in p rank) same e) in
       is_data (definition_changed owner (method_renamed old name) old_data)
       (renamed.changed_data p q alike clause owner (method_renamed old name) old_data is_old
       (exports_stay (λ n same. scope_not_method p.path n (symbol_in p rank) (sym same ∙ e))) (renamed.no_method_renamed old name)
@@ -162,10 +178,10 @@ field_apart w before p rank name s is h counts owner old f x same =
     })
 
 pub fields_are_renamed : FieldsAreRenamed
-fields_are_renamed w before after p rank name s was h right owner old f is =
+fields_are_renamed w before after p rank name s was h alone right owner old f is =
     let d = Field (symbol_in p rank) in
     let x = moved.package_after w before after d name s h right p was in
-    field_data_renamed w before after d name s h right p x.0 x.1 rank refl owner old f is
+    field_data_renamed w before after d name s h right p x.0 x.1 alone rank refl owner old f is
     (field_apart w before p rank name s was h (moved.counts w before after d name s h right p x.0 x.1) owner old f is)
 
 -- methods
@@ -186,8 +202,8 @@ method_apart w before p rank name s is h counts owner old f x same =
     })
 
 pub methods_are_renamed : MethodsAreRenamed
-methods_are_renamed w before after p rank name s was h right owner old f is =
+methods_are_renamed w before after p rank name s was h alone right owner old f is =
     let d = Method (symbol_in p rank) in
     let x = moved.package_after w before after d name s h right p was in
-    method_data_renamed w before after d name s h right p x.0 x.1 rank refl owner old f is
+    method_data_renamed w before after d name s h right p x.0 x.1 alone rank refl owner old f is
     (method_apart w before p rank name s was h (moved.counts w before after d name s h right p x.0 x.1) owner old f is)

@@ -1,6 +1,6 @@
 -- After the rename of a field or method the others of its package keep their names, and it has the new one.
 use Rattle.std.proofs.Common.{ℕ, ◌≡◌, inl, inr, List, ap, sym, subst, refl, ◌∙◌}
-use Rattle.std.specs.Prelude.{Some, slice_get}
+use Rattle.std.specs.Prelude.{Some, slice_get, Contains}
 use Rattle.std.proofs.lemmas.Bool.{cases_order}
 use Rattle.std.proofs.lemmas.Option.{same_Some}
 use Rattle.base_edits.specs.EditSet.{FileChanges}
@@ -36,6 +36,7 @@ use Rattle.law_renamed_workspaces.proofs.Counting.{EachMemberCounts}
 use Rattle.law_renamed_workspaces.proofs.FoundMembers.{FieldsGo, MethodsGo, field_by, method_by}
 use Rattle.law_renamed_workspaces.proofs.KeptNames.{field_kept, method_kept}
 use Rattle.law_renamed_workspaces.proofs.OneRenamed.{Members, AreSingle, IsOneRenamed}
+use Rattle.law_renamed_workspaces.proofs.RenamedSets.{IsBoundToSome}
 
 -- The fields and the methods of a package, by owner, name and rank.
 
@@ -119,8 +120,8 @@ module _ (w : Workspace) (before : Verdicts) (d : Declaration) (name : List ℕ)
       let begun : TokenBegins (Some t.file) at.index st.place = subst (λ o. TokenBegins o at.index st.place) t.of_rank t.begins in
       subst (λ o. NameBegins o at.index st.place.path st.place.offset) (sym t.of_rank) (t.is_name, begun.0, begun.1)
 
-  -- the name token of a member is called as its identifier, which is bound to the declaration
-  token_called : (at : Position) → IsNamedIn p at.file at.index → ((v : ℕ) → LiesAt p.layout at v → IsBoundToDeclaration w before p v d) →
+  -- the name token of a member is called as its identifier, which is bound to a renamed declaration
+  token_called : (at : Position) → IsNamedIn p at.file at.index → ((v : ℕ) → LiesAt p.layout at v → IsBoundToSome w before h.plain.rename.set p v) →
       spelled q at.file at.index ≡ name
   token_called at x bound =
       let st = name_stands w before p is at x in
@@ -142,14 +143,16 @@ module _ (w : Workspace) (before : Verdicts) (d : Declaration) (name : List ℕ)
 
     -- no field, or no method, is renamed
 
-    pub fields_there : ((rank : ℕ) → d ≡ Field (symbol_in p rank) → ⊥) → (definition : ℕ) (n : List ℕ) (rank : ℕ) → fields_of p definition n rank →
+    pub fields_there : ((rank : ℕ) → Contains h.plain.rename.set (Field (symbol_in p rank)) → ⊥) → (definition : ℕ) (n : List ℕ) (rank : ℕ) →
+        fields_of p definition n rank →
         fields_of q definition n rank
     fields_there none definition n rank x = (
       x.0,
       field_by p q alike definition rank n x.0 x.1 n (field_kept w before d name s h p q is relaid counts definition rank n x.0 x.1 (none rank)),
     )
 
-    pub fields_back : ((rank : ℕ) → d ≡ Field (symbol_in p rank) → ⊥) → (definition : ℕ) (n : List ℕ) (rank : ℕ) → fields_of q definition n rank →
+    pub fields_back : ((rank : ℕ) → Contains h.plain.rename.set (Field (symbol_in p rank)) → ⊥) → (definition : ℕ) (n : List ℕ) (rank : ℕ) →
+        fields_of q definition n rank →
         fields_of p definition n rank
     fields_back none definition n rank x =
         let f = x.0 in
@@ -158,14 +161,16 @@ module _ (w : Workspace) (before : Verdicts) (d : Declaration) (name : List ℕ)
         let kept = field_kept w before d name s h p q is relaid counts definition rank called f then (none rank) in
         (f, field_by q p back definition rank n f x.1 n (sym kept ∙ x.1.named))
 
-    pub methods_there : ((rank : ℕ) → d ≡ Method (symbol_in p rank) → ⊥) → (definition : ℕ) (n : List ℕ) (rank : ℕ) → methods_of p definition n rank →
+    pub methods_there : ((rank : ℕ) → Contains h.plain.rename.set (Method (symbol_in p rank)) → ⊥) → (definition : ℕ) (n : List ℕ) (rank : ℕ) →
+        methods_of p definition n rank →
         methods_of q definition n rank
     methods_there none definition n rank x = (
       x.0,
       (method_by p q alike definition rank n x.0 x.1 n (method_kept w before d name s h p q is relaid counts definition rank n x.0 x.1 (none rank))).0,
     )
 
-    pub methods_back : ((rank : ℕ) → d ≡ Method (symbol_in p rank) → ⊥) → (definition : ℕ) (n : List ℕ) (rank : ℕ) → methods_of q definition n rank →
+    pub methods_back : ((rank : ℕ) → Contains h.plain.rename.set (Method (symbol_in p rank)) → ⊥) → (definition : ℕ) (n : List ℕ) (rank : ℕ) →
+        methods_of q definition n rank →
         methods_of p definition n rank
     methods_back none definition n rank x =
         let f = x.0 in
@@ -176,28 +181,32 @@ module _ (w : Workspace) (before : Verdicts) (d : Declaration) (name : List ℕ)
 
     -- one field is renamed
 
-    module _ (renamed : ℕ) (e : d ≡ Field (symbol_in p renamed)) (owner : ℕ) (old : List ℕ) (f0 : PlacedField) (was : IsFieldOf p owner old renamed f0)
-        (apart : old ≡ name → ⊥) where
+    module _ (renamed : ℕ) (e : d ≡ Field (symbol_in p renamed)) (only : (x : Declaration) → Contains h.plain.rename.set x → x ≡ d) (owner : ℕ)
+        (old : List ℕ) (f0 : PlacedField) (was : IsFieldOf p owner old renamed f0) (apart : old ≡ name → ⊥) where
       field_called : spelled q f0.file f0.name ≡ name
       field_called =
           token_called (field_place f0) (field_name p renamed f0 was.has_rank)
-          (λ v stands. by_name (subst (DeclaresMember p v) (sym e) (
-            refl,
-            record {
-              at = field_place f0;
-              is_at = record {
-                counts = record { definition = owner; name = old; field = f0; counting = counts.fields owner renamed old f0 was };
-                named_at = refl;
-              };
-              stands = stands;
-            },
-          )))
+          (λ v stands. record {
+            declaration = d;
+            among = h.plain.rename.is_set.has_it;
+            bound = by_name (subst (DeclaresMember p v) (sym e) (
+              refl,
+              record {
+                at = field_place f0;
+                is_at = record {
+                  counts = record { definition = owner; name = old; field = f0; counting = counts.fields owner renamed old f0 was };
+                  named_at = refl;
+                };
+                stands = stands;
+              },
+            ));
+          })
 
       other_field : (definition rank : ℕ) (called : List ℕ) (f : PlacedField) → IsFieldOf p definition called rank f → (rank ≡ renamed → ⊥) →
           spelled q f.file f.name ≡ called
       other_field definition rank called f x other =
           field_kept w before d name s h p q is relaid counts definition rank called f x
-          (λ also. other (ap (λ (t : Symbol). t.rank) (field_rank (symbol_in p rank) (symbol_in p renamed) (sym also ∙ e))))
+          (λ also. other (ap (λ (t : Symbol). t.rank) (field_rank (symbol_in p rank) (symbol_in p renamed) (only (Field (symbol_in p rank)) also ∙ e))))
 
       pub one_field_renamed : IsOneRenamed (fields_of p) (fields_of q) owner renamed old name
       one_field_renamed = record {
@@ -218,28 +227,33 @@ module _ (w : Workspace) (before : Verdicts) (d : Declaration) (name : List ℕ)
 
     -- one method is renamed
 
-    module _ (formed : WellFormed p.layout) (formed_after : WellFormed q.layout) (renamed : ℕ) (e : d ≡ Method (symbol_in p renamed)) (owner : ℕ)
-        (old : List ℕ) (f0 : PlacedFunction) (was : IsMethodOf p owner old renamed f0) (apart : old ≡ name → ⊥) where
+    module _ (formed : WellFormed p.layout) (formed_after : WellFormed q.layout) (renamed : ℕ) (e : d ≡ Method (symbol_in p renamed))
+        (only : (x : Declaration) → Contains h.plain.rename.set x → x ≡ d) (owner : ℕ) (old : List ℕ) (f0 : PlacedFunction) (was : IsMethodOf p owner old
+        renamed f0) (apart : old ≡ name → ⊥) where
       method_called : spelled q f0.file f0.function.name ≡ name
       method_called =
           token_called (function_place f0) (function_name p renamed f0 was.has_rank)
-          (λ v stands. by_name (subst (DeclaresMember p v) (sym e) (
-            refl,
-            record {
-              at = function_place f0;
-              is_at = record {
-                counts = record { definition = owner; name = old; method = f0; counting = counts.methods owner renamed old f0 was };
-                named_at = refl;
-              };
-              stands = stands;
-            },
-          )))
+          (λ v stands. record {
+            declaration = d;
+            among = h.plain.rename.is_set.has_it;
+            bound = by_name (subst (DeclaresMember p v) (sym e) (
+              refl,
+              record {
+                at = function_place f0;
+                is_at = record {
+                  counts = record { definition = owner; name = old; method = f0; counting = counts.methods owner renamed old f0 was };
+                  named_at = refl;
+                };
+                stands = stands;
+              },
+            ));
+          })
 
       other_method : (definition rank : ℕ) (called : List ℕ) (f : PlacedFunction) → IsMethodOf p definition called rank f → (rank ≡ renamed → ⊥) →
           spelled q f.file f.function.name ≡ called
       other_method definition rank called f x other =
           method_kept w before d name s h p q is relaid counts definition rank called f x
-          (λ also. other (ap (λ (t : Symbol). t.rank) (method_rank (symbol_in p rank) (symbol_in p renamed) (sym also ∙ e))))
+          (λ also. other (ap (λ (t : Symbol). t.rank) (method_rank (symbol_in p rank) (symbol_in p renamed) (only (Method (symbol_in p rank)) also ∙ e))))
 
       pub one_method_renamed : IsOneRenamed (methods_of p) (methods_of q) owner renamed old name
       one_method_renamed = record {

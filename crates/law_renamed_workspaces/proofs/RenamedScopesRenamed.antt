@@ -32,6 +32,7 @@ use Rattle.refactor_rename.specs.Naming.{IsFixed}
 use Rattle.law_renamed_workspaces.specs.Layouts.{IsRelaid}
 use Rattle.law_renamed_workspaces.specs.Renames.{IsPlainRename}
 use Rattle.law_renamed_workspaces.proofs.NameTokens.{named_as_spelled}
+use Rattle.law_renamed_workspaces.proofs.RenamedSets.{IsBoundToSome, is_own}
 use Rattle.law_renamed_workspaces.proofs.NameEdits.{renamed, replaced_token}
 use Rattle.law_renamed_workspaces.proofs.Replaced as replaced
 use Rattle.law_renamed_workspaces.specs.Scopes.{OtherScopesStay}
@@ -92,7 +93,7 @@ module _ (w : Workspace) (before : Verdicts) (d : Declaration) (name : List ℕ)
 
       -- its token is replaced exactly if it is bound to the declaration
 
-      replaced_bound : IsReplaced → IsBoundToDeclaration w before p u d
+      replaced_bound : IsReplaced → IsBoundToSome w before h.rename.set p u
       replaced_bound r =
           let t = replaced.token_bound w before d name s h p is rank f at i r in
           let v = t.identifier in
@@ -100,13 +101,14 @@ module _ (w : Workspace) (before : Verdicts) (d : Declaration) (name : List ℕ)
           subst (λ k. NameBegins (slice_get p.files k) (p.layout.place v).index place.path place.offset) (sym t.stands.1)
           (subst (λ n. NameBegins (slice_get p.files rank) n place.path place.offset) (sym t.stands.2) b.1) in
           let same : v ≡ u = one_begins w before p.path p is.is_checked place.path place.offset v u (t.inside, there) b in
-          subst (λ x. IsBoundToDeclaration w before p x d) same t.bound
+          record { declaration = t.declaration; among = t.among; bound = subst (λ x. IsBoundToDeclaration w before p x t.declaration) same t.bound }
 
-      bound_replaced : IsBoundToDeclaration w before p u d → IsReplaced
-      bound_replaced bound =
+      bound_replaced : IsBoundToSome w before h.rename.set p u → IsReplaced
+      bound_replaced some =
           let t = named_token (slice_get (tokens_in f.cut) i) begins.0 in
-          let one : IsUseOf w before d place = record { used_in = p; is_package = is; user = u; begins = b; bound = bound } in
-          let among = (h.rename.edits.is_renamed.uses.each place).1 one in
+          let one : IsUseOf w before some.declaration place = record { used_in = p; is_package = is; user = u; begins = b; bound = some.bound } in
+          let among =
+          (h.rename.edits.is_renamed.uses.each place).1 (record { declaration = some.declaration; among = some.among; is_use = one }) in
           let start : offset_of f i ≡ t.0.span.start = ap (offset_at f.cut.text) t.1.0 in
           let here : place ≡ record { path = f.path; offset = t.0.span.start } =
           sym place_here ∙ ap (λ n. record { path = f.path; offset = n }) start in
@@ -124,21 +126,21 @@ module _ (w : Workspace) (before : Verdicts) (d : Declaration) (name : List ℕ)
             token = replaced_token w before d name s h f i e r;
           }
 
-      kept_or_bound : (q.names u ≡ p.names u → ⊥) → IsBoundToDeclaration w before p u d
+      kept_or_bound : (q.names u ≡ p.names u → ⊥) → IsBoundToSome w before h.rename.set p u
       kept_or_bound ne = elim (replaced.replaced_or_not w before d name s h p is rank f at i) [
         | inl r ↦ replaced_bound r
         | inr none ↦ absurd (ne (old_name none))
       ]
 
-    -- what is bound to the declaration gets the name
-    pub bound_is_called : IsBoundToDeclaration w before p u d → q.names u ≡ name
+    -- what is bound to a renamed declaration gets the name
+    pub bound_is_called : IsBoundToSome w before h.rename.set p u → q.names u ≡ name
     bound_is_called bound = let f = source in new_name f.0 f.1.0 (bound_replaced f.0 f.1.0 bound)
 
-    bound_if_other : (q.names u ≡ p.names u → ⊥) → IsBoundToDeclaration w before p u d
+    bound_if_other : (q.names u ≡ p.names u → ⊥) → IsBoundToSome w before h.rename.set p u
     bound_if_other ne = let f = source in kept_or_bound f.0 f.1.0 ne
 
   -- and nothing else gets another name
-  pub others_are_kept : (u : ℕ) → (IsInFiles p u → IsBoundToDeclaration w before p u d → ⊥) → q.names u ≡ p.names u
+  pub others_are_kept : (u : ℕ) → (IsInFiles p u → IsBoundToSome w before h.rename.set p u → ⊥) → q.names u ≡ p.names u
   others_are_kept u other =
       same_bytes (q.names u) (p.names u) (λ ne. ne (relaid.other_names u (λ place b. other b.0 (bound_if_other u place b ne))))
 
@@ -149,7 +151,9 @@ not_predeclared w before d name s h e same = h.rename.renamable (subst (IsFixed 
 pub others_stay : OtherScopesStay
 others_stay w before d name s h p q is other relaid u e bound =
     others_are_kept w before d name s h p q is relaid u
-    (λ inside b. elim (scope_number p u e bound) [
-      | inl x ↦ not_predeclared w before d name s h e (one_declaration w before p is u inside d (Predeclared e) b (by_scope x))
-      | inr x ↦ other e (one_declaration w before p is u inside d (Declared p.path e) b (by_scope x))
+    (λ inside some. elim (scope_number p u e bound) [
+      | inl x ↦ not_predeclared w before d name s h e (is_own w before d name s h (Predeclared e) some.declaration some.among (λ m. m)
+          (one_declaration w before p is u inside some.declaration (Predeclared e) some.bound (by_scope x)))
+      | inr x ↦ other e (is_own w before d name s h (Declared p.path e) some.declaration some.among (λ m. m)
+          (one_declaration w before p is u inside some.declaration (Declared p.path e) some.bound (by_scope x)))
     ])

@@ -14,6 +14,7 @@ use Rattle.law_renamed_workspaces.specs.RenamedData.{RenamedVerdictsAreRight, Re
 use Rattle.law_renamed_workspaces.proofs.Findings.{finding_stays, same_verdict}
 use Rattle.law_renamed_workspaces.proofs.KnownVerdictsLaws.{number_before, others}
 use Rattle.law_renamed_workspaces.proofs.PackagesAfter as moved
+use Rattle.refs_places.specs.Homes.{IsHomeOfSome}
 
 pub renamed_right : RenamedVerdictsAreRight
 renamed_right w before after d name s h right o has was now known r =
@@ -32,13 +33,14 @@ renamed_right w before after d name s h right o has was now known r =
     }
 
 pub all_renamed : RenamedKnownVerdictsStay
-all_renamed w before after d name s h right number path of_number declared known rest knows was now there r with_now n o one at listed =
+all_renamed w before after d name s h alone right number path of_number declared known rest knows was now there r with_now n o one at listed =
     let had = number_before w before d name s h n o at in
     let has = at_rank (package_paths w) n o had in
     elim (with_now n one listed) [
       | inl other ↦
-          let away : declaring_path d ≡ Some o → ⊥ =
-          λ e. other.0 (one_number (package_paths w) (paths_sorted w) n number path (had ∙ sym e ∙ declared) of_number) in
+          let away : IsHomeOfSome h.plain.rename.set o → ⊥ = λ home.
+          let e : declaring_path d ≡ Some o = ap declaring_path (sym (alone home.declaration home.among)) ∙ home.declares in
+          other.0 (one_number (package_paths w) (paths_sorted w) n number path (had ∙ sym e ∙ declared) of_number) in
           (others w before after d name s h right o has away).1 one (knows n o one had other.1)
       | inr here ↦
           let same : o ≡ path = same_Some o path (sym had ∙ ap (slice_get (package_paths w)) here.0 ∙ of_number) in

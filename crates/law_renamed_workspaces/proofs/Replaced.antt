@@ -104,14 +104,14 @@ module _ (w : Workspace) (known : Verdicts) (d : Declaration) (name : List ℕ) 
     | inr none ↦ inr (λ r. none r.edit r.among r.token)
   ]
 
-  -- so an identifier stands there that is bound to the renamed declaration
-  pub token_bound : (i : ℕ) → IsReplaced i → IsBoundToken w known d p rank i
+  -- so an identifier stands there that is bound to a renamed declaration
+  pub token_bound : (i : ℕ) → IsReplaced i → IsBoundToken w known h.rename.set p rank i
   token_bound i r =
       let x = replaces w known d name s h f source r.edit r.among in
       let token : IsAt x.0 r.edit = replaced_token w known d name s h f x.0 r.edit x.1 in
       let same : x.0 ≡ i =
       same_token w known d name s h p is rank f at x.0 i (replaced_piece r.edit) (replaced_piece r.edit) token refl r.token refl refl in
-      subst (λ n. IsBoundToken w known d p rank n) same (bound_token w known d name s h p is rank f at x.0 r.edit x.1)
+      subst (λ n. IsBoundToken w known h.rename.set p rank n) same (bound_token w known d name s h p is rank f at x.0 r.edit x.1)
 
   text_is : (e : Edit) → Contains edits e → e.text ≡ name
   text_is e has = let r = replaces w known d name s h f source e has in new_text w known d name s h f r.0 e r.1

@@ -28,6 +28,7 @@ use Rattle.law_faultless.proofs.Scoped.{in_order}
 use Rattle.law_faultless.proofs.TypesBound.{Kept, all_kept}
 use Rattle.law_renamed_workspaces.specs.Renames.{IsPlainRename}
 use Rattle.law_renamed_workspaces.proofs.Bound.{init_unbound, level_bound}
+use Rattle.law_renamed_workspaces.proofs.RenamedSets.{reserved_among}
 use Rattle.law_renamed_workspaces.proofs.NameEdits.{IsBoundToken}
 use Rattle.law_renamed_workspaces.proofs.Replaced.{edits, replaced_or_not, new_spelled, old_spelled, token_bound}
 
@@ -53,7 +54,7 @@ module _ (w : Workspace) (known : Verdicts) (d : Declaration) (name : List ℕ) 
     token = g.name
 
     -- the identifier of the function's name, and its role
-    role_of : (u : ℕ) × ((p.layout.role u ≡ func_role None (old token)) × ((b : IsBoundToken w known d p rank token) → u ≡ b.identifier))
+    role_of : (u : ℕ) × ((p.layout.role u ≡ func_role None (old token)) × ((b : IsBoundToken w known h.rename.set p rank token) → u ≡ b.identifier))
     role_of =
         let from : TokenSpellings = record { rank = rank; spell = old } in
         let position : Position = record { file = rank; index = token } in
@@ -67,20 +68,20 @@ module _ (w : Workspace) (known : Verdicts) (d : Declaration) (name : List ℕ) 
         )
 
     -- where it is replaced
-    bound_role : IsBoundToken w known d p rank token → new token ≡ name → func_role None (new token) ≡ func_role None (old token)
+    bound_role : IsBoundToken w known h.rename.set p rank token → new token ≡ name → func_role None (new token) ≡ func_role None (old token)
     bound_role b spelled =
         let r = role_of in
         let role : p.layout.role b.identifier ≡ func_role None (old token) = ap p.layout.role (sym (r.1.1 b)) ∙ r.1.0 in
         elim (cases_Bool (bytes_eq (old token) (codes "init"))) [
-          | inl init ↦ absurd (init_unbound w h.rename.sound known h.rename.right p is b.identifier d b.inside b.bound
+          | inl init ↦ absurd (init_unbound w h.rename.sound known h.rename.right p is b.identifier b.declaration b.inside b.bound
               (role ∙ plain_role (old token) true init))
           | inr plain ↦
               let level : p.layout.role b.identifier ≡ Declaring PackageBlock 0 = role ∙ plain_role (old token) false plain in
               elim (cases_Bool (bytes_eq name (codes "init"))) [
-                | inl init ↦ absurd (h.rename.allowed (
-                  level_bound w h.rename.sound known h.rename.right p is b.identifier d b.inside b.bound level,
+                | inl init ↦ absurd (h.rename.allowed (reserved_among (IsCheckedPackage w known) d h.rename.set h.rename.is_set name b.declaration b.among (
+                  level_bound w h.rename.sound known h.rename.right p is b.identifier b.declaration b.inside b.bound level,
                   inl ((bytes_decides name (codes "init")).0 init),
-                ))
+                )))
                 | inr other ↦ ap (func_role None) spelled ∙ plain_role name false other ∙ sym (plain_role (old token) false plain)
               ]
         ]

@@ -1,6 +1,6 @@
 -- A plain rename of a declaration of scopes leaves the names of all fields and methods. So each of them, and each use of one, stays bound.
 use Rattle.std.proofs.Common.{ℕ, ◌≡◌, List, sym}
-use Rattle.std.specs.Prelude.{◌↔◌}
+use Rattle.std.specs.Prelude.{◌↔◌, Contains}
 use Rattle.base_files.specs.Workspace.{Workspace}
 use Rattle.base_files.specs.declared.place.Place.{Place}
 use Rattle.base_edits.specs.EditSet.{FileChanges}
@@ -20,6 +20,7 @@ use Rattle.law_renamed_workspaces.specs.MembersStay.{FieldStays, MethodStays, Fi
 use Rattle.law_renamed_workspaces.specs.NamesAfterwards.{IsMember, IsCalledAfter, gets_name, keeps_name}
 use Rattle.law_renamed_workspaces.specs.ScopeRenames.{FieldNamesStay, MethodNamesStay}
 use Rattle.law_renamed_workspaces.proofs.Called.{fields, methods, used_is_member, declared_is_member}
+use Rattle.law_renamed_workspaces.proofs.RenamedSets.{own_alone}
 use Rattle.law_renamed_workspaces.proofs.OtherMembers.{use_kept_everywhere, name_kept_everywhere}
 
 -- a member is no declaration of scopes
@@ -34,8 +35,13 @@ module _ (w : Workspace) (known : Verdicts) (path : List ℕ) (n : ℕ) (name : 
   abbrev r : Revision
   r = revision_of w s
 
-  same_name : (e : Declaration) → IsMember e → (old new : List ℕ) → IsCalledAfter (Declared path n) name e old new → old ≡ new
-  same_name e member old new (gets_name same called) = absurd (apart e path n member same)
+  -- no member is renamed with it
+  none_renamed : (e : Declaration) → IsMember e → Contains h.rename.set e → ⊥
+  none_renamed e member in_set = apart e path n member
+      (own_alone (IsCheckedPackage w known) (Declared path n) h.rename.set h.rename.is_set (λ m. m) e in_set)
+
+  same_name : (e : Declaration) → IsMember e → (old new : List ℕ) → IsCalledAfter h.rename.set name e old new → old ≡ new
+  same_name e member old new (gets_name in_set called) = absurd (none_renamed e member in_set)
   same_name e member old new (keeps_name away called) = sym called
 
   field_names : (d : ℕ) (m : List ℕ) (rank : ℕ) → IsFieldAfter r x d m rank ↔ ((f : PlacedField) × IsFieldOf x d m rank f)
@@ -53,7 +59,7 @@ module _ (w : Workspace) (known : Verdicts) (path : List ℕ) (n : ℕ) (name : 
       field = k.0;
       has_rank = k.1.has_rank;
       of_struct = k.1.of_struct;
-      called = keeps_name (apart (Field (symbol_in x rank)) path n tt) (sym k.1.named);
+      called = keeps_name (none_renamed (Field (symbol_in x rank)) tt) (sym k.1.named);
     })),
   )
 
@@ -82,20 +88,20 @@ module _ (w : Workspace) (known : Verdicts) (path : List ℕ) (n : ℕ) (name : 
         binds = k.1.binds;
         of_type = k.1.of_type;
       };
-      called = keeps_name (apart (Method (symbol_in x rank)) path n tt) (sym k.1.named);
+      called = keeps_name (none_renamed (Method (symbol_in x rank)) tt) (sym k.1.named);
     })),
   )
 
   module _ (u : ℕ) (place : Place) (begins : BeginsAt x place.path place.offset u) where
     used : StaysByMember w known r x u place
     used old was =
-        use_kept_everywhere w known (Declared path n) name s h x is u place begins (λ e member same new. apart e path n member same) old
-        (apart old path n (used_is_member x u old was)) was
+        use_kept_everywhere w known (Declared path n) name s h x is u place begins (λ e member in_set new. none_renamed e member in_set) old
+        (none_renamed old (used_is_member x u old was)) was
 
     declared : StaysByName w known r x u place
     declared old declares =
-        name_kept_everywhere w known (Declared path n) name s h x is u place begins (λ e member same new. apart e path n member same) old
-        (apart old path n (declared_is_member x u old declares)) declares
+        name_kept_everywhere w known (Declared path n) name s h x is u place begins (λ e member in_set new. none_renamed e member in_set) old
+        (none_renamed old (declared_is_member x u old declares)) declares
 
     field_stays : FieldStays w known r x u place
     field_stays = record { by_name = λ f declares. declared (Field f) declares; by_member = λ f was. used (Field f) was }

@@ -1,4 +1,5 @@
 -- The rename of a field or method leaves alone what is bound by scopes or behind a package's name.
+use Rattle.std.specs.Prelude.{Contains}
 use Rattle.std.proofs.Common.{ℕ, ◌≡◌, ◌⊎◌, inl, inr, true, List, ap, sym, subst, refl, ◌∙◌}
 use Rattle.std.proofs.lemmas.Bool.{true≢false}
 use Rattle.base_files.specs.Workspace.{Workspace}
@@ -39,6 +40,7 @@ use Rattle.law_renamed_workspaces.specs.OtherPackages.{KeepsExports}
 use Rattle.law_renamed_workspaces.specs.NamesAfterwards.{IsMember}
 use Rattle.law_renamed_workspaces.specs.MemberRenames.{IsMemberRename}
 use Rattle.law_renamed_workspaces.specs.KeptScopes.{BindsAlike, ScopesAreKept, MemberRenamesKeepScopes, MemberConflictsAreOfMembers}
+use Rattle.law_renamed_workspaces.proofs.RenamedSets.{IsBoundToSome}
 
 no_scope : (x : Package) (u : ℕ) (d : Declaration) → IsMember d → BindsByScope x u d → ⊥
 no_scope x u (Predeclared n) m b = m
@@ -59,7 +61,15 @@ not_lexical l u e role k = elim k [
   | inr may ↦ true≢false (sym may ∙ ap may_declare role)
 ]
 
-module _ (w : Workspace) (known : Verdicts) (d : Declaration) (name : List ℕ) (s : FileChanges) (h : IsMemberRename w known d name s) where
+module _ (w : Workspace) (known : Verdicts) (d : Declaration) (asked : List Declaration) (name : List ℕ) (s : FileChanges)
+    (h : IsMemberRename w known d asked name s) where
+  -- each renamed declaration is a member
+  each_member : (e : Declaration) → Contains h.rename.rename.set e → IsMember e
+  each_member e in_set = elim (h.rename.rename.is_set.others e in_set) [
+    | inl same ↦ subst IsMember (sym same) h.member
+    | inr alike ↦ alike.second
+  ]
+
   abbrev r : Revision
   r = revision_of w s
 
@@ -71,14 +81,17 @@ module _ (w : Workspace) (known : Verdicts) (d : Declaration) (name : List ℕ) 
     lexical_kept : (u : ℕ) → (is_use (l.role u) ≡ true) ⊎ (may_declare (l.role u) ≡ true) → q.names u ≡ x.names u
     lexical_kept u k = others_are_kept w known d name s h.rename x q is relaid u apart
       where
-        apart : IsInFiles x u → IsBoundToDeclaration w known x u d → ⊥
-        apart inside (by_scope b) = no_scope x u d h.member b
-        apart inside (by_package b) = no_package (IsCheckedPackage w known) x u d h.member b
-        apart inside (by_member b) = elim (link_role w known x.path x is.is_checked u d inside b) [
+        none : (e : Declaration) → IsMember e → IsInFiles x u → IsBoundToDeclaration w known x u e → ⊥
+        none e member inside (by_scope b) = no_scope x u e member b
+        none e member inside (by_package b) = no_package (IsCheckedPackage w known) x u e member b
+        none e member inside (by_member b) = elim (link_role w known x.path x is.is_checked u e inside b) [
           | inl key ↦ not_lexical l u purpose.Key key k
           | inr selected ↦ not_lexical l u purpose.Selected selected k
         ]
-        apart inside (by_name b) = not_lexical l u purpose.Member (name_member w known x.path x is.is_checked u d inside.0 b) k
+        none e member inside (by_name b) = not_lexical l u purpose.Member (name_member w known x.path x is.is_checked u e inside.0 b) k
+
+        apart : IsInFiles x u → IsBoundToSome w known h.rename.rename.set x u → ⊥
+        apart inside some = none some.declaration (each_member some.declaration some.among) inside some.bound
 
     same : HasSameBindings l x.names q.names
     same = same_bindings l x.names q.names (λ e may. lexical_kept e (inr may)) (λ u use_of. lexical_kept u (inl use_of))
@@ -176,11 +189,14 @@ module _ (w : Workspace) (known : Verdicts) (d : Declaration) (name : List ℕ) 
         let a = (there x is).1 in
         sym (a.relaid.names u place begins) ∙ others_are_kept w known d name s h.rename x z is a.relaid u apart
       where
-        apart : IsInFiles x u → IsBoundToDeclaration w known x u d → ⊥
-        apart inside (by_scope k) = no_scope x u d h.member k
-        apart inside (by_package k) = no_package (IsCheckedPackage w known) x u d h.member k
-        apart inside (by_member k) = member_not_package w known x.path x is.is_checked (IsCheckedPackage w known) u d e inside k b
-        apart inside (by_name k) = name_not_package w known x.path x is.is_checked (IsCheckedPackage w known) u d e inside.0 k b
+        none : (m : Declaration) → IsMember m → IsInFiles x u → IsBoundToDeclaration w known x u m → ⊥
+        none m member inside (by_scope k) = no_scope x u m member k
+        none m member inside (by_package k) = no_package (IsCheckedPackage w known) x u m member k
+        none m member inside (by_member k) = member_not_package w known x.path x is.is_checked (IsCheckedPackage w known) u m e inside k b
+        none m member inside (by_name k) = name_not_package w known x.path x is.is_checked (IsCheckedPackage w known) u m e inside.0 k b
+
+        apart : IsInFiles x u → IsBoundToSome w known h.rename.rename.set x u → ⊥
+        apart inside some = none some.declaration (each_member some.declaration some.among) inside some.bound
 
     package_stays : StaysByPackage w known r x u place
     package_stays (Predeclared n) b = absurd b
@@ -213,20 +229,20 @@ module _ (w : Workspace) (known : Verdicts) (d : Declaration) (name : List ℕ) 
         }
 
 pub scopes_kept : ScopesAreKept
-scopes_kept w known d name s h x q is relaid = (keeps w known d name s h x q is relaid, keeps_exports w known d name s h x q is relaid)
+scopes_kept w known d set name s h x q is relaid = (keeps w known d set name s h x q is relaid, keeps_exports w known d set name s h x q is relaid)
 
 pub names_stay : MemberRenamesKeepScopes
-names_stay w known d name s h x is u place begins = record {
-  by_scope = scope_stays w known d name s h x is u place begins;
-  by_package = package_stays w known d name s h x is u place begins;
+names_stay w known d set name s h x is u place begins = record {
+  by_scope = scope_stays w known d set name s h x is u place begins;
+  by_package = package_stays w known d set name s h x is u place begins;
 }
 
 pub members_decide : MemberConflictsAreOfMembers
-members_decide w known d name s h place = (
+members_decide w known d set name s h place = (
   (λ k x is. ((λ u begins. (k x is u begins).by_member), (λ u begins. (k x is u begins).by_name))),
   (λ k x is u begins. record {
-    by_scope = scope_stays w known d name s h x is u place begins;
-    by_package = package_stays w known d name s h x is u place begins;
+    by_scope = scope_stays w known d set name s h x is u place begins;
+    by_package = package_stays w known d set name s h x is u place begins;
     by_member = (k x is).0 u begins;
     by_name = (k x is).1 u begins;
   }),

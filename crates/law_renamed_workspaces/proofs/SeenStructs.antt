@@ -1,14 +1,13 @@
 -- The structs that types of a package of a workspace without faults have: each is of the package, or of one that it builds on. The package
 -- sees the exported fields of the latter.
-use Rattle.std.proofs.Common.{ℕ, suc, ◌≡◌, ◌+◌, inl, inr, false, List, [], ◌∷◌, map, ap, sym, subst, refl, ◌∙◌, arith}
+use Rattle.std.proofs.Common.{ℕ, ◌≡◌, inl, inr, false, List, [], ap, sym, subst, refl, ◌∙◌}
 use Rattle.std.specs.Prelude.{⊤, Contains, Option, Some, None, is_some, slice_get}
 use Rattle.std.proofs.lemmas.Bool.{true≢false}
-use Rattle.base_lemmas.proofs.Elements.{first_in, later_in}
 use Rattle.base_files.specs.Packages.{package_paths}
 use Rattle.base_files.specs.Workspace.{Workspace}
-use Rattle.go_ast.specs.Tree.{Item, TypeTree, FieldTree, MethodTree, BodyTree, Other, Struct, Interface}
+use Rattle.go_ast.specs.Tree.{TypeTree}
 use Rattle.types_expr.specs.declared.symbol.Symbol.{Symbol}
-use Rattle.types_expr.specs.Types.{PlainType, BasicType, Defined, Underlying, Plain, PointerTo, SliceOf, Meaning, TypeName, AFieldOf}
+use Rattle.types_expr.specs.Types.{PlainType, BasicType, Defined, Underlying, Plain, PointerTo, SliceOf, Meaning, TypeName}
 use Rattle.types_expr.specs.Types.{Pointer as PointerType, Slice as SliceType}
 use Rattle.types_expr.specs.Types.{Struct as StructOf, Interface as InterfaceOf}
 use Rattle.types_expr.specs.World.{Bound, Definition, Field}
@@ -16,16 +15,14 @@ use Rattle.types_expr.specs.World.{Means as Stands}
 use Rattle.types_declared.proofs.ByteKeys.{cases_bytes}
 use Rattle.types_declared.specs.Laid.{is_exported}
 use Rattle.types_declared.specs.Package.{Package, ExportData, Export, PlacedType, package_types, symbol_in, spelled}
-use Rattle.types_declared.specs.Written.{written_types, DenotesType, IsWrittenIn, IsBroken, by_itself}
+use Rattle.types_declared.specs.Written.{DenotesType}
 use Rattle.types_declared.specs.Written as written
 use Rattle.types_declared.specs.MeaningOf.{PredeclaredMeans, IsMeaningOf}
 use Rattle.types_declared.specs.MeaningOf as meaning
-use Rattle.types_declared.specs.Definitions.{HasUnderlying, PlacedField, body_fields, fields_from, package_fields, IsCountingField, IsFoundField}
+use Rattle.types_declared.specs.Definitions.{HasUnderlying, PlacedField, IsCountingField, IsFoundField}
 use Rattle.types_declared.specs.Definitions.{IsUnderlyingOf, has, has_none, IsDefinition, AreDefinitions}
-use Rattle.types_declared.specs.Definitions.{OfType, OfSignature, HasForm}
 use Rattle.types_declared.specs.Definitions as definitions
 use Rattle.types_check.specs.Exports.{IsExport, IsExported, IsExportData}
-use Rattle.types_info.proofs.DeclKinds.{Holds, holds_got, holds_append, holds_flat, holds_map, held_map}
 use Rattle.workspace_check.specs.FaultLists.{ListsFaults}
 use Rattle.workspace_check.specs.Verdicts.{Verdict, Verdicts, AreVerdicts, BuildsOn, IsSeenAs, seen, unseen, IsPackageIn, IsVerdict, follows}
 use Rattle.workspace_check.proofs.Closed.{to_package}
@@ -34,105 +31,9 @@ use Rattle.workspace_check.proofs.OneVerdict.{one_verdict, right_below, verdict_
 use Rattle.workspace_check.proofs.Underway.{builds_then}
 use Rattle.refs_binding.specs.Uses.{IsCheckedPackage}
 use Rattle.refs_binding.proofs.Units.{one_package}
-use Rattle.law_faultless.proofs.FieldForms.{field_form}
-use Rattle.law_faultless.proofs.PackageWorlds.{not_broken}
+use Rattle.law_faultless.proofs.MembersWritten.{member_found}
 use Rattle.law_renamed_workspaces.proofs.OwnNames.{seen_exports}
 use Rattle.law_renamed_workspaces.specs.Reaching.{ReachesPath}
-
--- the type expression of a field is written in the type definition of its struct; a method is in the interface that asks for it
-
-holds_contains : {X : Type 0} (xs : List X) (x : X) → Holds xs x → Contains xs x
-holds_contains [] x h = absurd h
-holds_contains (y ∷ ys) x h = elim h [
-  | inl e ↦ subst (Contains (y ∷ ys)) e (first_in y ys)
-  | inr later ↦ later_in y ys x (holds_contains ys x later)
-]
-
-record IsInBody (definition file : ℕ) (b : BodyTree) (f : PlacedField) : Type 0 where
-  of_struct : f.definition ≡ definition
-  in_file : file ≡ f.file
-  types : (t : TypeTree) → f.form ≡ OfType t → Holds (written_types b) t
-
-in_body : (definition file : ℕ) (b : BodyTree) (f : PlacedField) → Holds (body_fields definition file b) f → IsInBody definition file b f
-in_body definition file (Other t) f h = absurd h
-in_body definition file (Interface k o ms c) f h =
-    let i = holds_map (λ (m : Item MethodTree). record {
-      definition = definition;
-      file = file;
-      name = m.value.name;
-      form = OfSignature m.value.params m.value.result;
-    }) ms f h in
-    record {
-      of_struct = ap (λ (z : PlacedField). z.definition) (sym i.1.1);
-      in_file = ap (λ (z : PlacedField). z.file) i.1.1;
-      types = λ t e.
-          let other : OfSignature i.0.value.params i.0.value.result ≡ OfType t = ap (λ (z : PlacedField). z.form) i.1.1 ∙ e in
-          let never : ⊥ = cc in absurd never;
-    }
-in_body definition file (Struct k o fs c) f h =
-    let x = holds_flat (λ (i : Item FieldTree). map
-    (λ (n : Item ℕ). record { definition = definition; file = file; name = n.value; form = OfType i.value.type_use }) i.value.names) fs f h in
-    let n = holds_map (λ (n : Item ℕ). record {
-      definition = definition;
-      file = file;
-      name = n.value;
-      form = OfType x.0.value.type_use;
-    }) x.0.value.names f x.1.1 in
-    record {
-      of_struct = ap (λ (z : PlacedField). z.definition) (sym n.1.1);
-      in_file = ap (λ (z : PlacedField). z.file) n.1.1;
-      types = λ t e.
-          let same : OfType x.0.value.type_use ≡ OfType t = ap (λ (z : PlacedField). z.form) n.1.1 ∙ e in
-          let one : x.0.value.type_use ≡ t = cc in
-          subst (Holds (map (λ (i : Item FieldTree). i.value.type_use) fs)) one (held_map (λ (i : Item FieldTree). i.value.type_use) fs x.0 x.1.0);
-    }
-
-record IsInTypes (first : ℕ) (ds : List PlacedType) (f : PlacedField) : Type 0 where
-  rank : ℕ
-  definition : PlacedType
-  has_rank : slice_get ds rank ≡ Some definition
-  of_struct : f.definition ≡ first + rank
-  in_file : definition.file ≡ f.file
-  types : (t : TypeTree) → f.form ≡ OfType t → Holds (written_types definition.spec.body) t
-
-in_types : (first : ℕ) (ds : List PlacedType) (f : PlacedField) → Holds (fields_from first ds) f → IsInTypes first ds f
-in_types first [] f h = absurd h
-in_types first (d ∷ ds) f h = elim (holds_append (body_fields first d.file d.spec.body) (fields_from (suc first) ds) f h) [
-  | inl here ↦ (let b = in_body first d.file d.spec.body f here in record {
-    rank = 0;
-    definition = d;
-    has_rank = refl;
-    of_struct = let e : f.definition ≡ first = b.of_struct in omega (arith, e);
-    in_file = b.in_file;
-    types = b.types;
-  })
-  | inr later ↦ (let t = in_types (suc first) ds f later in record {
-    rank = suc t.rank;
-    definition = t.definition;
-    has_rank = t.has_rank;
-    of_struct = let e : f.definition ≡ suc first + t.rank = t.of_struct in omega (arith, e);
-    in_file = t.in_file;
-    types = t.types;
-  })
-]
-
--- The type definition that writes a member, with a field's type among those that it writes.
-pub record IsMemberWritten (p : Package) (f : PlacedField) : Type 0 where
-  pub definition : PlacedType
-  pub has_rank : slice_get (package_types p) f.definition ≡ Some definition
-  pub in_file : definition.file ≡ f.file
-  pub types : (t : TypeTree) → f.form ≡ OfType t → Contains (written_types definition.spec.body) t
-
-pub field_is_written : (p : Package) (rank : ℕ) (f : PlacedField) → slice_get (package_fields p) rank ≡ Some f → IsMemberWritten p f
-field_is_written p rank f at =
-    let t = in_types 0 (package_types p) f (holds_got (package_fields p) rank f at) in
-    let same : t.rank ≡ f.definition = let e : f.definition ≡ 0 + t.rank = t.of_struct in omega (arith, e) in
-    record {
-      definition = t.definition;
-      has_rank = subst (λ n. slice_get (package_types p) n ≡ Some t.definition) same t.has_rank;
-      in_file = t.in_file;
-      types = λ x e. holds_contains (written_types t.definition.spec.body) x (t.types x e);
-    }
 
 -- a type that a declaration means is one of its package
 
@@ -219,7 +120,7 @@ module _ (w : Workspace) (path q : List ℕ) (on : BuildsOn w path q) where
   of_package_then (SliceType t) h = absurd h
 
 module _ (w : Workspace) (sound : ListsFaults w []) (known : Verdicts) (right : AreVerdicts w known) where
-  faultless : (q : List ℕ) → Contains (package_paths w) q → (known q).faulty ≡ false
+  pub faultless : (q : List ℕ) → Contains (package_paths w) q → (known q).faulty ≡ false
   faultless q in_graph = (one_verdict w q (known q) (sound.known q) (right q in_graph) (sound.right q in_graph)).faulty ∙ is_faultless w sound q in_graph
 
   -- The package at a path, and its export data.
@@ -324,25 +225,8 @@ module _ (w : Workspace) (sound : ListsFaults w []) (known : Verdicts) (right : 
       ((g : Field) → d.field name ≡ Some g → g.exported ≡ is_exported name → g.symbol.package ≡ y.path → ⊥) → ⊥
   field_found y also definition d is name rank f counts none = by_field (d.field name) refl (is.fields name)
     where
-      written_there : (tree : TypeTree) → f.form ≡ OfType tree → IsWrittenIn y definition f.file tree
-      written_there tree e =
-          let h = field_is_written y rank f counts.is_field.has_rank in
-          record {
-            definition = h.definition;
-            has_rank = subst (λ n. slice_get (package_types y) n ≡ Some h.definition) counts.is_field.of_struct h.has_rank;
-            in_file = h.in_file;
-            written = h.types tree e;
-          }
-
-      whole : (n : ℕ) → IsBroken y n → ⊥
-      whole n b = not_broken w sound known right y also n b
-
       by_field : (o : Option Field) → d.field name ≡ o → IsFoundField y definition name o → ⊥
-      by_field None e never =
-          let o = field_form w sound known right y also rank f counts.is_field.has_rank in
-          whole definition
-          (by_itself (written_there o.0 o.1) (λ u denotes. never rank f (AFieldOf u) counts
-          (subst (λ form. HasForm y f.file form (AFieldOf u)) (sym o.1) (record { names = denotes; whole = λ n m b. whole n b }))))
+      by_field None e never = member_found w sound known right y also rank f counts.is_field.has_rank (λ t has. never rank f t counts has)
       by_field (Some g) e found = none g e found.1.3 (ap (λ (z : Symbol). z.package) found.1.2)
 
   module _ (p : Package) (is : IsCheckedPackage w known p) where

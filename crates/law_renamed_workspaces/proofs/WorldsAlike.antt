@@ -1,4 +1,4 @@
--- The worlds of a file before and after a rename that loses and captures no identifier.
+-- The worlds of a file before and after a rename that is harmless.
 use Rattle.std.proofs.Common.{ℕ, ◌≡◌, [], ap, sym, subst, refl, ◌∙◌}
 use Rattle.std.specs.Prelude.{Some, Contains, slice_get}
 use Rattle.std.proofs.Math.Path.{fun_ext}
@@ -15,6 +15,7 @@ use Rattle.types_stmt.specs.Declarations.{check_file}
 use Rattle.types_expr.proofs.NoteLists.{member_noted}
 use Rattle.types_declared.specs.Package.{Package, spelled, spelled_at}
 use Rattle.types_info.specs.Worlds.{IsWorldOf, is_init}
+use Rattle.types_info.proofs.OneWorld.{same_tests}
 use Rattle.workspace_check.specs.FaultLists.{ListsFaults}
 use Rattle.workspace_check.specs.Verdicts.{Verdicts, AreVerdicts}
 use Rattle.refs_binding.specs.Binding.{BindsByMember, declaration_of}
@@ -31,7 +32,6 @@ use Rattle.law_renamed_workspaces.specs.SameWorlds.{WorldsStay}
 use Rattle.law_renamed_workspaces.proofs.DefinitionsAfter.{definition_after}
 use Rattle.law_renamed_workspaces.proofs.MembersAfterwards.{member_stays}
 use Rattle.law_renamed_workspaces.proofs.UsesOfMembers.{IsUseAt, is_use_at}
-use Rattle.law_renamed_workspaces.proofs.NoInterfaces.{implements_alike}
 
 module _ (w : Workspace) (sound : ListsFaults w []) (known : Verdicts) (right : AreVerdicts w known) (r : Revision)
     (kept : NoneIsLost w known r) (p q : Package) (is : IsCheckedPackage w known p) (relaid : IsRelaid r p q) (alike : Alike p q)
@@ -95,14 +95,18 @@ module _ (w : Workspace) (sound : ListsFaults w []) (known : Verdicts) (right : 
       ∙ ap (λ name. member_by es p.path name u.before) (spelled_after u a) ∙ there ∙ sym a.is_member
 
 pub worlds_stay : WorldsStay
-worlds_stay w before d name s plain kept p q is relaid alike seen file f g v x in_p in_q judged after =
-    let bound = of_bound p q alike in
-    let both = bind_alike p q bound alike.parsed file f g v x judged after in
+worlds_stay w before after d name s plain kept p q here file f g v x in_p in_q judged now =
+    let alike = of_bound p q here.bound in
+    let both = bind_alike p q alike here.bound.parsed file f g v x judged now in
     let rename = plain.rename in
+    let same =
+    kept.implementing after p q here.was here.is here.relaid here.bound here.seen judged.definitions now.definitions judged.are_definitions
+    now.are_definitions in
     record {
       bound = both.0;
       definition = both.1;
-      implements = implements_alike w rename.sound before rename.right p is q file f g v x judged after both.1;
-      members = λ u has. same_member w rename.sound before rename.right (revision_of w s) kept p q is relaid bound seen file f g v x in_p in_q judged after u
-          (member_noted (check_file v (is_init f) f.tree).uses u has);
+      implements = λ t i. same_tests (x.implements t i) (v.implements t i) (λ e. (judged.implements t i).1 ((same t i).1 ((now.implements t i).0 e)))
+          (λ e. (now.implements t i).1 ((same t i).0 ((judged.implements t i).0 e)));
+      members = λ u has. same_member w rename.sound before rename.right (revision_of w s) kept.none_lost p q here.was here.relaid alike here.seen file f g v x
+          in_p in_q judged now u (member_noted (check_file v (is_init f) f.tree).uses u has);
     }

@@ -1,6 +1,6 @@
--- Which uses and declaring identifiers of members the rename of a field or method can lose or capture: those of the renamed member, and those
+-- Which uses and declaring identifiers of members the rename of fields or methods can lose or capture: those of the renamed members, and those
 -- of members that have the new name already.
-use Rattle.std.specs.Prelude.{ℕ, ◌≡◌, ◌⊎◌, ◌↔◌, List}
+use Rattle.std.specs.Prelude.{ℕ, ◌≡◌, ◌⊎◌, ◌↔◌, List, Contains}
 use Rattle.std.specs.declared.cmp.Ordering.TheVariants.{Less}
 use Rattle.base_files.specs.Workspace.{Workspace}
 use Rattle.base_files.specs.declared.place.Place.{Place}
@@ -19,45 +19,47 @@ use Rattle.refactor_conflict.specs.Staying.{HoldsOfEachAt, StaysAt, NoneIsLost, 
 use Rattle.law_renamed_workspaces.specs.MemberRenames.{OfMemberRenames}
 use Rattle.law_renamed_workspaces.specs.NamesAfterwards.{spelled_there}
 
--- The identifier `u` names the member `e`. This is the renamed member `d`, or `u` is spelled as the new name.
-abbrev pub IsAtStake : Declaration → List ℕ → Package → ℕ → Declaration → Type 0
-IsAtStake d name x u e = (e ≡ d) ⊎ (spelled_there x u ≡ name)
+-- The identifier `u` names the member `e`. This is one of the renamed members, or `u` is spelled as the new name.
+abbrev pub IsAtStake : (set : List Declaration) → List ℕ → Package → ℕ → Declaration → Type 0
+IsAtStake set name x u e = Contains set e ⊎ (spelled_there x u ≡ name)
 
 -- If the identifier `u` is a use of a member at stake, its new name selects this member of the same type. If it declares one, this member
 -- counts under its new name.
-pub record StakeStays (w : Workspace) (known : Verdicts) (r : Revision) (d : Declaration) (name : List ℕ) (x : Package) (u : ℕ) (place : Place) : Type 0 where
-  pub used : (old : Declaration) (was : BindsByMember x u old) → IsAtStake d name x u old → IsBoundByMember (IsCheckedPackage w known) r place x u old was old
-  pub declared : (old : Declaration) → DeclaresMember x u old → IsAtStake d name x u old → CountsAfter (IsCheckedPackage w known) r old
+pub record StakeStays (w : Workspace) (known : Verdicts) (r : Revision) (set : List Declaration) (name : List ℕ) (x : Package) (u : ℕ) (place : Place) :
+    Type 0 where
+  pub used : (old : Declaration) (was : BindsByMember x u old) → IsAtStake set name x u old → IsBoundByMember (IsCheckedPackage w known) r place x u old was old
+  pub declared : (old : Declaration) → DeclaresMember x u old → IsAtStake set name x u old → CountsAfter (IsCheckedPackage w known) r old
 
 -- That is so of each identifier that begins at the place, in any package.
-abbrev pub StakesStayAt : Workspace → Verdicts → Revision → Declaration → List ℕ → Place → Type 0
-StakesStayAt w known r d name place = (x : Package) → IsCheckedPackage w known x → HoldsOfEachAt x (StakeStays w known r d name x) place
+abbrev pub StakesStayAt : Workspace → Verdicts → Revision → (set : List Declaration) → List ℕ → Place → Type 0
+StakesStayAt w known r set name place = (x : Package) → IsCheckedPackage w known x → HoldsOfEachAt x (StakeStays w known r set name x) place
 
 -- The other uses of members stay bound, and the other declaring identifiers of members count.
-pub record OthersStay (w : Workspace) (known : Verdicts) (r : Revision) (d : Declaration) (name : List ℕ) (x : Package) (u : ℕ) (place : Place) : Type 0 where
-  pub used : (old : Declaration) (was : BindsByMember x u old) → (IsAtStake d name x u old → ⊥) →
+pub record OthersStay (w : Workspace) (known : Verdicts) (r : Revision) (set : List Declaration) (name : List ℕ) (x : Package) (u : ℕ) (place : Place) :
+    Type 0 where
+  pub used : (old : Declaration) (was : BindsByMember x u old) → (IsAtStake set name x u old → ⊥) →
       IsBoundByMember (IsCheckedPackage w known) r place x u old was old
-  pub declared : (old : Declaration) → DeclaresMember x u old → (IsAtStake d name x u old → ⊥) → CountsAfter (IsCheckedPackage w known) r old
+  pub declared : (old : Declaration) → DeclaresMember x u old → (IsAtStake set name x u old → ⊥) → CountsAfter (IsCheckedPackage w known) r old
 
 abbrev pub OtherMembersStay : Type 0
-OtherMembersStay = OfMemberRenames (λ w known d name s. (x : Package) → IsCheckedPackage w known x → (u : ℕ) (place : Place) →
-    BeginsAt x place.path place.offset u → OthersStay w known (revision_of w s) d name x u place)
+OtherMembersStay = OfMemberRenames (λ w known d set name s. (x : Package) → IsCheckedPackage w known x → (u : ℕ) (place : Place) →
+    BeginsAt x place.path place.offset u → OthersStay w known (revision_of w s) set name x u place)
 
 -- So all identifiers at a place stay bound exactly where those at stake do.
 abbrev pub StakesDecide : Type 0
-StakesDecide = OfMemberRenames (λ w known d name s. (place : Place) →
-    StaysAt w known (revision_of w s) place ↔ StakesStayAt w known (revision_of w s) d name place)
+StakesDecide = OfMemberRenames (λ w known d set name s. (place : Place) →
+    StaysAt w known (revision_of w s) place ↔ StakesStayAt w known (revision_of w s) set name place)
 
 -- All identifiers at stake before the place `end` stay bound.
-abbrev pub StakesStayBefore : Workspace → Verdicts → Revision → Declaration → List ℕ → Place → Type 0
-StakesStayBefore w known r d name end = (place : Place) → place_cmp place end ≡ Less → StakesStayAt w known r d name place
+abbrev pub StakesStayBefore : Workspace → Verdicts → Revision → (set : List Declaration) → List ℕ → Place → Type 0
+StakesStayBefore w known r set name end = (place : Place) → place_cmp place end ≡ Less → StakesStayAt w known r set name place
 
 -- All identifiers at stake stay bound.
-abbrev pub StakesStay : Workspace → Verdicts → Revision → Declaration → List ℕ → Type 0
-StakesStay w known r d name = (place : Place) → StakesStayAt w known r d name place
+abbrev pub StakesStay : Workspace → Verdicts → Revision → (set : List Declaration) → List ℕ → Type 0
+StakesStay w known r set name = (place : Place) → StakesStayAt w known r set name place
 
 -- So the first conflict of the workspace is the first one among the identifiers at stake.
 abbrev pub FirstMemberConflict : Type 0
-FirstMemberConflict = OfMemberRenames (λ w known d name s.
-    ((end : Place) → NoneIsLostBefore w known (revision_of w s) end ↔ StakesStayBefore w known (revision_of w s) d name end) ×
-    (NoneIsLost w known (revision_of w s) ↔ StakesStay w known (revision_of w s) d name))
+FirstMemberConflict = OfMemberRenames (λ w known d set name s.
+    ((end : Place) → NoneIsLostBefore w known (revision_of w s) end ↔ StakesStayBefore w known (revision_of w s) set name end) ×
+    (NoneIsLost w known (revision_of w s) ↔ StakesStay w known (revision_of w s) set name))

@@ -22,12 +22,12 @@ pub record BindsAlike (x q : Package) : Type 0 where
 
 -- So it is in every package, and each package exports what it exported.
 abbrev pub ScopesAreKept : Type 0
-ScopesAreKept = OfMemberRenames (λ w known d name s. (x q : Package) → IsCheckedPackage w known x → IsRelaid (revision_of w s) x q →
+ScopesAreKept = OfMemberRenames (λ w known d set name s. (x q : Package) → IsCheckedPackage w known x → IsRelaid (revision_of w s) x q →
     BindsAlike x q × KeepsExports x q)
 
 -- So each identifier stays bound by scopes and as the selector of a qualified identifier.
 abbrev pub MemberRenamesKeepScopes : Type 0
-MemberRenamesKeepScopes = OfMemberRenames (λ w known d name s. (x : Package) → IsCheckedPackage w known x →
+MemberRenamesKeepScopes = OfMemberRenames (λ w known d set name s. (x : Package) → IsCheckedPackage w known x →
     (u : ℕ) (place : Place) → BeginsAt x place.path place.offset u → NameStays w known (revision_of w s) x u place)
 
 -- The uses of members and the declaring identifiers of members that begin at the place stay bound, in all packages.
@@ -36,5 +36,5 @@ MembersStayAt w known r place = (x : Package) → IsCheckedPackage w known x →
 
 -- Then each identifier there stays bound exactly where the uses and the declaring identifiers of members do.
 abbrev pub MemberConflictsAreOfMembers : Type 0
-MemberConflictsAreOfMembers = OfMemberRenames (λ w known d name s. (place : Place) →
+MemberConflictsAreOfMembers = OfMemberRenames (λ w known d set name s. (place : Place) →
     StaysAt w known (revision_of w s) place ↔ MembersStayAt w known (revision_of w s) place)

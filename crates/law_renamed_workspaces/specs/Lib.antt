@@ -4,6 +4,7 @@ pub mod Layouts
 pub mod MovedExports
 pub mod Scopes
 pub mod MembersMoved
+pub mod Harmless
 pub mod SameWorlds
 pub mod StayingMembers
 pub mod NamesAfterwards

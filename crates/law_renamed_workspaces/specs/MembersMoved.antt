@@ -14,6 +14,7 @@ use Rattle.workspace_check.specs.Verdicts.{Verdicts, BuildsOn}
 use Rattle.refs_binding.specs.DeclaringPlaces.{InPackage}
 use Rattle.refs_binding.specs.Uses.{IsCheckedPackage}
 use Rattle.refactor_after.specs.MembersAfter.{IsFirstField, IsFirstMethod}
+use Rattle.refactor_after.specs.NamesAfter.{IsMethodAfter}
 use Rattle.law_changed_types.specs.SameBindings.{IsBoundAlike}
 use Rattle.law_renamed_workspaces.specs.Layouts.{IsRelaid}
 use Rattle.law_renamed_workspaces.specs.MovedExports.{field_called, method_called}
@@ -26,6 +27,10 @@ HasFirstField Known r path definition name rank = InPackage Known path (λ p. Is
 abbrev pub HasFirstMethod : (Known : Package → Type 0) → Revision → List ℕ → (definition : ℕ) → (name : List ℕ) → (rank : ℕ) → Type 0
 HasFirstMethod Known r path definition name rank = InPackage Known path (λ p. IsFirstMethod Known r p definition name rank)
 
+-- In the package at the path before the change, the method of this rank is one of the type definition. It has this name after the change.
+abbrev pub HasMethodNamed : (Known : Package → Type 0) → Revision → List ℕ → (definition : ℕ) → (name : List ℕ) → (rank : ℕ) → Type 0
+HasMethodNamed Known r path definition name rank = InPackage Known path (λ p. IsMethodAfter r p definition name rank)
+
 -- A field stands under the name that it has after the change, and is one of the package at the path.
 pub record IsUnderNewName (Known : Package → Type 0) (r : Revision) (path : List ℕ) (definition : ℕ) (name : List ℕ) (f : Field) : Type 0 where
   pub of_package : f.symbol.package ≡ path
@@ -33,8 +38,8 @@ pub record IsUnderNewName (Known : Package → Type 0) (r : Revision) (path : Li
   pub counts : HasFirstField Known r path definition name f.symbol.rank
 
 -- The type definition of this rank, of the package at the path, was `a` before the change and is `b` after it. Each field and method of `a`
--- that counts under its new name is there under that name. `b` has no field but those that count so. `Known`: the packages before the
--- change.
+-- that counts under its new name is there under that name. `b` has no field but those that count so, and no method that is not called so.
+-- `Known`: the packages before the change.
 pub record IsDefinitionAfter (Known : Package → Type 0) (r : Revision) (path : List ℕ) (rank : ℕ) (a b : Definition) : Type 0 where
   pub underlying : b.underlying ≡ a.underlying
   pub fields : (old new : List ℕ) (f : Field) → a.field old ≡ Some f → HasFirstField Known r path rank new f.symbol.rank →
@@ -42,6 +47,7 @@ pub record IsDefinitionAfter (Known : Package → Type 0) (r : Revision) (path :
   pub methods : (old new : List ℕ) (m : Method) → a.method old ≡ Some m → HasFirstMethod Known r path rank new m.symbol.rank →
       b.method new ≡ Some (method_called new m)
   pub no_others : (name : List ℕ) (f : Field) → b.field name ≡ Some f → IsUnderNewName Known r path rank name f
+  pub no_other_methods : (name : List ℕ) (m : Method) → b.method name ≡ Some m → HasMethodNamed Known r path rank name m.symbol.rank
 
 -- What `q` sees of the definitions of other packages is what `p` saw of them before the change, with new names of members.
 abbrev pub AreSeenAfter : (Known : Package → Type 0) → Revision → (p q : Package) → Type 0
@@ -73,8 +79,8 @@ FieldsFollow = (w : Workspace) (known : Verdicts) (r : Revision) (p q : Package)
 -- A method that counts by the new names counts in the package after the change.
 abbrev pub MethodsFollow : Type 0
 MethodsFollow = (w : Workspace) (known : Verdicts) (r : Revision) (p q : Package) → IsCheckedPackage w known p → IsRelaid r p q → IsBoundAlike p q →
-    AreSeenAfter (IsCheckedPackage w known) r p q → (definition : ℕ) (name : List ℕ) (rank : ℕ) → IsFirstMethod (IsCheckedPackage w known) r p definition name rank →
-    (f : PlacedFunction) × IsCountingMethod q definition name rank f
+    AreSeenAfter (IsCheckedPackage w known) r p q → (definition : ℕ) (name : List ℕ) (rank : ℕ) →
+    IsFirstMethod (IsCheckedPackage w known) r p definition name rank → (f : PlacedFunction) × IsCountingMethod q definition name rank f
 
 -- Where the underlying type of a type definition of `p` is a struct of another package, `q` sees its exported fields by their new names.
 abbrev pub AreFieldsSeenAfter : (Known : Package → Type 0) → Revision → (p q : Package) → Type 0

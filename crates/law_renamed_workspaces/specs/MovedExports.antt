@@ -2,7 +2,7 @@
 use Rattle.std.specs.Prelude.{ℕ, ◌≡◌, ◌≢◌, true, List, Option, None}
 use Rattle.base_files.specs.Workspace.{Workspace}
 use Rattle.types_declared.specs.Laid.{is_exported}
-use Rattle.types_expr.specs.World.{Field, Method}
+pub use Rattle.refactor_after.specs.NamesAfter.{field_called, method_called}
 use Rattle.types_declared.specs.Package.{Export, ExportData}
 use Rattle.workspace_check.specs.Verdicts.{Verdicts, BuildsOn}
 use Rattle.law_renamed_workspaces.specs.Layouts.{AreSoundBelow}
@@ -16,13 +16,6 @@ pub record IsMovedTo {X : Type 0} (old new : List ℕ) (f g : List ℕ → Optio
   pub was_free : f new ≡ None
   pub is_free : g old ≡ None
   pub others : (name : List ℕ) → name ≢ old → name ≢ new → g name ≡ f name
-
--- a field or method under another name: the same, but for whether its name is exported
-abbrev pub field_called : List ℕ → Field → Field
-field_called name f = record { symbol = f.symbol; exported = is_exported name; form = f.form }
-
-abbrev pub method_called : List ℕ → Method → Method
-method_called name m = record { symbol = m.symbol; exported = is_exported name; on_pointer = m.on_pointer; signature = m.signature }
 
 -- What is seen of the exports of a package that has been relaid: in the place of one name at most, the name that it has afterwards.
 pub data AreMovedExports (f g : List ℕ → Option Export) : Type 0 where

@@ -63,16 +63,22 @@ ExportsAreRenamed = (w : Workspace) (before after : Verdicts) (p : Package) (n :
     IsKeptRename w before (Declared p.path n) name s → AreVerdicts (edited s w) after → IsPackageLevel p.layout n → is_exported (p.names n) ≡ true →
     (after p.path).export_data ≡ export_renamed (p.names n) name (before p.path).export_data
 
+-- Nothing is renamed with the declaration.
+abbrev pub IsAlone : Declaration → (set : List Declaration) → Type 0
+IsAlone d set = (e : Declaration) → Contains set e → e ≡ d
+
 -- After the rename of a field, its package's export data are those of before, but for the definition that has the field.
 abbrev pub FieldsAreRenamed : Type 0
 FieldsAreRenamed = (w : Workspace) (before after : Verdicts) (p : Package) (rank : ℕ) (name : List ℕ) (s : FileChanges) → IsCheckedPackage w before p →
-    IsKeptRename w before (Field (symbol_in p rank)) name s → AreVerdicts (edited s w) after → (owner : ℕ) (old : List ℕ) (f : PlacedField) →
+    (h : IsKeptRename w before (Field (symbol_in p rank)) name s) → IsAlone (Field (symbol_in p rank)) h.plain.rename.set → AreVerdicts (edited s w) after →
+    (owner : ℕ) (old : List ℕ) (f : PlacedField) →
     IsFieldOf p owner old rank f → (after p.path).export_data ≡ definition_changed owner (field_renamed old name) (before p.path).export_data
 
 -- So after the rename of a method.
 abbrev pub MethodsAreRenamed : Type 0
 MethodsAreRenamed = (w : Workspace) (before after : Verdicts) (p : Package) (rank : ℕ) (name : List ℕ) (s : FileChanges) → IsCheckedPackage w before p →
-    IsKeptRename w before (Method (symbol_in p rank)) name s → AreVerdicts (edited s w) after → (owner : ℕ) (old : List ℕ) (f : PlacedFunction) →
+    (h : IsKeptRename w before (Method (symbol_in p rank)) name s) → IsAlone (Method (symbol_in p rank)) h.plain.rename.set → AreVerdicts (edited s w) after →
+    (owner : ℕ) (old : List ℕ) (f : PlacedFunction) →
     IsMethodOf p owner old rank f → (after p.path).export_data ≡ definition_changed owner (method_renamed old name) (before p.path).export_data
 
 -- In a rename the known verdict `was` on the package at the path `q` becomes `now`, which keeps its finding. `change` says what becomes of the
@@ -96,7 +102,8 @@ HoldVerdictsWith number now old new = (n : ℕ) (one : KnownVerdict) → slice_g
 
 -- All known verdicts stay, where that on the declaring package is so replaced.
 abbrev pub RenamedKnownVerdictsStay : Type 0
-RenamedKnownVerdictsStay = (w : Workspace) (before after : Verdicts) (d : Declaration) (name : List ℕ) (s : FileChanges) → IsKeptRename w before d name s →
-    AreVerdicts (edited s w) after → (number : ℕ) (path : List ℕ) → slice_get (package_paths w) number ≡ Some path → declaring_path d ≡ Some path →
+RenamedKnownVerdictsStay = (w : Workspace) (before after : Verdicts) (d : Declaration) (name : List ℕ) (s : FileChanges) (h : IsKeptRename w before d name s) →
+    IsAlone d h.plain.rename.set → AreVerdicts (edited s w) after → (number : ℕ) (path : List ℕ) → slice_get (package_paths w) number ≡ Some path →
+    declaring_path d ≡ Some path →
     (known rest : Known) → KnowsVerdicts w known → (was now : KnownVerdict) → slice_get known.verdicts.items number ≡ Some (Some was) →
     IsRenamedVerdict before after path was now → HoldVerdictsWith number now known.verdicts.items rest.verdicts.items → KnowsVerdicts (edited s w) rest

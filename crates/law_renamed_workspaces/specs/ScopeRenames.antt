@@ -1,5 +1,5 @@
 -- A plain rename of a declaration of scopes, package-level or not: which names stay.
-use Rattle.std.specs.Prelude.{ℕ, ◌≡◌, ◌<◌, ◌↔◌, List}
+use Rattle.std.specs.Prelude.{ℕ, ◌≡◌, ◌<◌, ◌↔◌, List, Contains}
 use Rattle.base_files.specs.Workspace.{Workspace}
 use Rattle.base_files.specs.declared.place.Place.{Place}
 use Rattle.base_edits.specs.EditSet.{FileChanges}
@@ -20,10 +20,11 @@ use Rattle.law_renamed_workspaces.specs.Renames.{IsPlainRename}
 abbrev pub IsApartFrom : Workspace → Verdicts → Declaration → Package → Position → Type 0
 IsApartFrom w known d x at = (u : ℕ) → u < x.size → LiesAt x.layout at u → IsBoundToDeclaration w known x u d → ⊥
 
--- A plain rename of any declaration leaves each name at which no identifier is bound to that declaration.
+-- A plain rename leaves each name at which no identifier is bound to a renamed declaration.
 abbrev pub NamesApartStay : Type 0
-NamesApartStay = (w : Workspace) (known : Verdicts) (d : Declaration) (name : List ℕ) (s : FileChanges) → IsPlainRename w known d name s →
-    (x : Package) → IsCheckedPackage w known x → (at : Position) (place : Place) → IsToken x at place → IsApartFrom w known d x at →
+NamesApartStay = (w : Workspace) (known : Verdicts) (d : Declaration) (name : List ℕ) (s : FileChanges) (h : IsPlainRename w known d name s) →
+    (x : Package) → IsCheckedPackage w known x → (at : Position) (place : Place) → IsToken x at place →
+    ((e : Declaration) → Contains h.rename.set e → IsApartFrom w known e x at) →
     (revision_of w s).called place (spelled x at.file at.index) ≡ spelled x at.file at.index
 
 -- The statement holds of each plain rename of a declaration of scopes.

@@ -1,4 +1,4 @@
--- What is found in packages after a rename that loses and captures no identifier: no fault, and export data with one other name at most.
+-- What is found in packages after a harmless rename: no fault, and export data with one other name at most.
 use Rattle.std.specs.Prelude.{ℕ, ◌≡◌, false, List, [], Some, slice_get, Contains}
 use Rattle.base_edits.specs.EditSet.{FileChanges, edited}
 use Rattle.base_edits.specs.Revisions.{Revision}
@@ -16,8 +16,8 @@ use Rattle.workspace_check.specs.FaultLists.{ListsFaults}
 use Rattle.workspace_check.specs.Verdicts.{Verdicts, AreVerdicts, BuildsOn}
 use Rattle.refs_binding.specs.declared.declaration.Declaration.{Declaration}
 use Rattle.refs_binding.specs.Uses.{IsCheckedPackage}
-use Rattle.refactor_conflict.specs.Staying.{NoneIsLost}
 use Rattle.law_changed_types.specs.SameBindings.{IsBoundAlike}
+use Rattle.law_renamed_workspaces.specs.Harmless.{IsHarmless}
 use Rattle.law_renamed_workspaces.specs.Layouts.{IsRelaid}
 use Rattle.law_renamed_workspaces.specs.MovedExports.{AreMovedExports}
 use Rattle.law_renamed_workspaces.specs.Renames.{IsPlainRename}
@@ -35,14 +35,14 @@ pub record IsPackageAfter (w : Workspace) (before after : Verdicts) (s : FileCha
 -- What is found of each file of such a package is what was found before.
 abbrev pub FoundStays : Type 0
 FoundStays = (w : Workspace) (before after : Verdicts) (d : Declaration) (name : List ℕ) (s : FileChanges) → IsPlainRename w before d name s →
-    NoneIsLost w before (revision_of w s) → (p q : Package) → IsPackageAfter w before after s p q → (file : ℕ) (f g : SourceFile) (v x : World) →
+    IsHarmless w before (revision_of w s) → (p q : Package) → IsPackageAfter w before after s p q → (file : ℕ) (f g : SourceFile) (v x : World) →
     slice_get p.files file ≡ Some f → slice_get q.files file ≡ Some g → IsWorldOf p file f v → IsWorldOf q file g x →
     check_file x (is_init g) g.tree ≡ check_file v (is_init f) f.tree
 
 -- So such a package has no fault of scopes, members or types.
 abbrev pub NoFaultComes : Type 0
 NoFaultComes = (w : Workspace) (before after : Verdicts) (d : Declaration) (name : List ℕ) (s : FileChanges) → IsPlainRename w before d name s →
-    AreVerdicts (edited s w) after → NoneIsLost w before (revision_of w s) → (p q : Package) → IsPackageAfter w before after s p q →
+    AreVerdicts (edited s w) after → IsHarmless w before (revision_of w s) → (p q : Package) → IsPackageAfter w before after s p q →
     (fault : Fault) → IsLaterFault q fault → ⊥
 
 -- The package at the path has no fault after the change. Its export data are those of before, with one other exported name at most and new
@@ -57,16 +57,16 @@ pub record IsMovedVerdict (w : Workspace) (before after : Verdicts) (r : Revisio
 -- The verdict on a package moves so where those on the packages that it builds on do.
 abbrev pub VerdictsStayAbove : Type 0
 VerdictsStayAbove = (w : Workspace) (before after : Verdicts) (d : Declaration) (name : List ℕ) (s : FileChanges) → IsPlainRename w before d name s →
-    AreVerdicts (edited s w) after → NoneIsLost w before (revision_of w s) → (path : List ℕ) → Contains (package_paths w) path →
+    AreVerdicts (edited s w) after → IsHarmless w before (revision_of w s) → (path : List ℕ) → Contains (package_paths w) path →
     ((q : List ℕ) → BuildsOn w path q → IsMovedVerdict w before after (revision_of w s) q) → IsMovedVerdict w before after (revision_of w s) path
 
 -- So, along the imports, the verdict on each package moves so.
 abbrev pub VerdictsStay : Type 0
 VerdictsStay = (w : Workspace) (before after : Verdicts) (d : Declaration) (name : List ℕ) (s : FileChanges) → IsPlainRename w before d name s →
-    AreVerdicts (edited s w) after → NoneIsLost w before (revision_of w s) → (path : List ℕ) → Contains (package_paths w) path →
+    AreVerdicts (edited s w) after → IsHarmless w before (revision_of w s) → (path : List ℕ) → Contains (package_paths w) path →
     IsMovedVerdict w before after (revision_of w s) path
 
 -- So the workspace has no fault after a rename in which no import gains a name. `after` has the verdicts on its packages.
 abbrev pub PlainWorkspaceStaysSound : Type 0
 PlainWorkspaceStaysSound = (w : Workspace) (before after : Verdicts) (d : Declaration) (name : List ℕ) (s : FileChanges) → IsPlainRename w before d name s →
-    AreVerdicts (edited s w) after → NoneIsLost w before (revision_of w s) → ListsFaults (edited s w) []
+    AreVerdicts (edited s w) after → IsHarmless w before (revision_of w s) → ListsFaults (edited s w) []

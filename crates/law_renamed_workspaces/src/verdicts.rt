@@ -1,4 +1,4 @@
-//! Laws of verdicts after a rename in which no import gains a name.
+//! Laws of verdicts after a harmless rename in which no import gains a name.
 ghost use Rattle.law_renamed_workspaces.specs.VerdictsStay.{FoundStays, NoFaultComes, VerdictsStayAbove, VerdictsStay, PlainWorkspaceStaysSound};
 
 /// What is found of each file stays.

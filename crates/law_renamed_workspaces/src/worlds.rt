@@ -1,8 +1,14 @@
 //! Laws of the worlds that files are judged by after a rename.
+ghost use Rattle.law_renamed_workspaces.specs.Harmless.{ScopeRenamesAreHarmless};
 ghost use Rattle.law_renamed_workspaces.specs.SameWorlds.{WorldsStay};
 ghost use Rattle.law_renamed_workspaces.specs.StayingMembers.{DeclaredMembersStay, UsedMembersStay};
 
-/// Where no identifier is lost or captured, the world of a file answers as before whatever judging the file asks.
+/// A rename of a declaration of scopes is harmless where it loses and captures no identifier.
+pub fn scope_renames_are_harmless()
+    ensures { ScopeRenamesAreHarmless }
+{}
+
+/// After a harmless rename the world of a file answers as before whatever judging the file asks.
 pub fn worlds_stay()
     ensures { WorldsStay }
 {}

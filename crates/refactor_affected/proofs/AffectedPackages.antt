@@ -1,14 +1,11 @@
 -- The packages that a rename affects, by the declaration that was found at its byte.
-use Rattle.std.proofs.Common.{◌≡◌, ℕ, inl, inr, List, [], Bool, Some, None, sym, ap, subst, ◌∙◌}
+use Rattle.std.proofs.Common.{◌≡◌, ℕ, inl, inr, List, [], Bool, None, sym, subst}
 use Rattle.std.specs.Prelude.{Result, Ok, Err, Vec}
-use Rattle.std.proofs.lemmas.Option.{none-some, same_Some}
+use Rattle.std.proofs.lemmas.Option.{none-some}
 use Rattle.base_files.specs.Workspace.{Workspace}
 use Rattle.base_files.specs.declared.refusal.Refusal.{Refusal}
 use Rattle.base_files.specs.declared.refusal.Refusal.TheVariants.{NoIdentifier, NotRenamable}
 use Rattle.base_files.specs.declared.refusal.Refusal.TheVariants as refusal
-use Rattle.workspace_graph.specs.Packages.{IsInClosure}
-use Rattle.workspace_graph.specs.Reaching.{MarksClosuresWith}
-use Rattle.workspace_graph.proofs.ByPath.{number}
 use Rattle.workspace_check.specs.FaultLists.{ListsFaults}
 use Rattle.workspace_check.specs.Verdicts.{Verdicts, AreVerdicts}
 use Rattle.workspace_check.specs.declared.findings.Findings.{Findings}
@@ -16,13 +13,16 @@ use Rattle.refs_binding.specs.declared.declaration.Declaration.{Declaration}
 use Rattle.refs_binding.specs.declared.declaration.Declaration.TheVariants.{Predeclared, Declared, Field, Method}
 use Rattle.refs_binding.specs.Uses.{IsCheckedPackage, HasDeclaration, HasNoIdentifier, HasNoDeclaration}
 use Rattle.refs_binding.specs.Workspaces.{FindsDeclaration, RefusesFaults}
+use Rattle.refs_binding.proofs.Alike.{package_for}
 use Rattle.refs_lookup.proofs.Bindings.{held_stays}
 use Rattle.refs_lookup.proofs.OneDeclaration.{one_held}
 use Rattle.refs_places.specs.Outside.{declaring_path}
 use Rattle.refactor_rename.specs.Naming.{IsFixed}
+use Rattle.refactor_coupled.specs.Coupling.{IsRenamedSet}
+use Rattle.refactor_coupled.proofs.SamePackages.{set_for}
 use Rattle.refactor_plan.specs.Plan.{ResolvesToFixed}
 use Rattle.refactor_affected.specs.Renames.{IsAffectedByRename, IsDeclaringPath}
-use Rattle.refactor_affected.specs.Steps.{MarkPackages, MarksOfHome, MarksRenamed}
+use Rattle.refactor_affected.specs.Steps.{MarkPackages, MarksAboveSet, MarksOfHomes, MarksRenamed}
 use Rattle.refactor_affected.proofs.Sound.{no_first_fault}
 
 module _ (v : Workspace) (known : Verdicts) (right : AreVerdicts v known) (path : List ℕ) (offset : ℕ) where
@@ -42,30 +42,39 @@ module _ (v : Workspace) (known : Verdicts) (right : AreVerdicts v known) (path 
   pub resolves_to_fixed : (d : Declaration) → HasDeclaration v known path offset d → declaring_path d ≡ None → ResolvesToFixed v path offset
   resolves_to_fixed d has none = record { asked = record { known = known; right = right; declaration = d; has = has }; fixed = fixed d none }
 
-  module _ (w : Workspace) (d : Declaration) (has : HasDeclaration v known path offset d) (home : List ℕ) (declares : declaring_path d ≡ Some home) where
-    -- the declaring package is the one of this declaration, by whatever right verdicts it is found
-    one_home : (q : List ℕ) → IsDeclaringPath v path offset q → q ≡ home
-    one_home q is =
-        let e = is.asked.declaration in
-        let here : HasDeclaration v known path offset e = held_stays v v is.asked.known known is.asked.right right path (λ file. ((λ h. h), (λ h. h)))
-        offset e is.asked.has in
-        let same : e ≡ d = sym (one_held v known path offset d e has here) in
-        same_Some q home (sym is.declares ∙ ap declaring_path same ∙ declares)
+  module _ (w : Workspace) (d : Declaration) (has : HasDeclaration v known path offset d) where
+    -- what is renamed is so with this declaration, by whatever right verdicts it is found
+    same_declaration : (e : Declaration) (other : Verdicts) → AreVerdicts v other → HasDeclaration v other path offset e → e ≡ d
+    same_declaration e other also there =
+        let here : HasDeclaration v known path offset e = held_stays v v other known also right path (λ file. ((λ h. h), (λ h. h))) offset e there in
+        sym (one_held v known path offset d e has here)
 
-    pub mark_affected : (marks : List Bool) → MarksClosuresWith w home marks → MarkPackages w (IsAffectedByRename w v path offset) marks
+    set_here : (q : List ℕ) (is : IsDeclaringPath v path offset q) → IsRenamedSet (IsCheckedPackage v known) d is.set
+    set_here q is =
+        let other = is.asked.known in
+        subst (λ e. IsRenamedSet (IsCheckedPackage v known) e is.set) (same_declaration is.asked.declaration other is.asked.right is.asked.has)
+        (set_for (IsCheckedPackage v other) (IsCheckedPackage v known) (package_for v other known is.asked.right right)
+        (package_for v known other right is.asked.right) is.asked.declaration is.set is.is_set)
+
+    pub mark_affected : (marks : List Bool) → MarksAboveSet w (IsCheckedPackage v known) d marks → MarkPackages w (IsAffectedByRename w v path offset) marks
     mark_affected marks m p there = (
-      λ marked. record {
-        start = home;
-        begins = record { asked = record { known = known; right = right; declaration = d; has = has }; declares = declares };
-        in_closure = (m.each marked.number p marked.has_path).0 marked.marked;
-      },
-      λ affected.
-          let n = number w p there in
+      λ marked.
+          let a = (m p there).0 marked in
           record {
-            number = n.0;
-            has_path = n.1;
-            marked = (m.each n.0 p n.1).1 (subst (IsInClosure w p) (one_home affected.start affected.begins) affected.in_closure);
+            start = a.start;
+            begins = record {
+              asked = record { known = known; right = right; declaration = d; has = has };
+              set = a.begins.0;
+              is_set = a.begins.1.0;
+              declares = a.begins.1.1;
+            };
+            in_closure = a.in_closure;
           },
+      λ affected. (m p there).1 (record {
+        start = affected.start;
+        begins = (affected.begins.set, (set_here affected.start affected.begins, affected.begins.declares));
+        in_closure = affected.in_closure;
+      }),
     )
 
   -- why there is no declaration, there are no packages that a rename affects
@@ -94,9 +103,11 @@ module _ (v : Workspace) (known : Verdicts) (right : AreVerdicts v known) (path 
   no_marks Z w refusal.Already h = absurd h
   no_marks Z w refusal.NoJob h = absurd h
   no_marks Z w refusal.BodyShort h = absurd h
+  no_marks Z w (refusal.Coupled place) h = absurd h
+  no_marks Z w refusal.Disk h = absurd h
 
   module _ (Z : Type 0) (w : Workspace) (d : Declaration) (has : HasDeclaration v known path offset d) where
-    not_marked : (r : Refusal) → MarksOfHome {Z = Z} w d (Err r) → MarksRenamed {Z = Z} w v path offset (Err r)
+    not_marked : (r : Refusal) → MarksOfHomes {Z = Z} w (IsCheckedPackage v known) d (Err r) → MarksRenamed {Z = Z} w v path offset (Err r)
     not_marked refusal.Memory h = tt
     not_marked refusal.BadCommand h = absurd h
     not_marked refusal.BadPath h = absurd h
@@ -121,9 +132,11 @@ module _ (v : Workspace) (known : Verdicts) (right : AreVerdicts v known) (path 
     not_marked refusal.Already h = absurd h
     not_marked refusal.NoJob h = absurd h
     not_marked refusal.BodyShort h = absurd h
+    not_marked (refusal.Coupled place) h = absurd h
+    not_marked refusal.Disk h = absurd h
 
-    pub marks_found : (r : Result (Vec Bool Z) Refusal) → MarksOfHome w d r → MarksRenamed w v path offset r
-    marks_found (Ok marks) m = mark_affected w d has m.0 m.1.0 marks.items m.1.1
+    pub marks_found : (r : Result (Vec Bool Z) Refusal) → MarksOfHomes w (IsCheckedPackage v known) d r → MarksRenamed w v path offset r
+    marks_found (Ok marks) m = mark_affected w d has marks.items m.1
     marks_found (Err r) m = not_marked r m
 
 -- a workspace without faults is not refused
@@ -153,3 +166,5 @@ module _ (Z : Type 0) (v : Workspace) (sound : ListsFaults v []) (found : Findin
   sound_part refusal.Already h = absurd h
   sound_part refusal.NoJob h = absurd h
   sound_part refusal.BodyShort h = absurd h
+  sound_part (refusal.Coupled place) h = absurd h
+  sound_part refusal.Disk h = absurd h

@@ -8,3 +8,4 @@ pub mod MovePlanned
 pub mod Starting
 pub mod OwnMark
 pub mod PlannedRead
+pub mod HomesAbove

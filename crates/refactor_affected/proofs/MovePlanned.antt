@@ -120,6 +120,8 @@ module _ (snapshot : Snapshot) (known : Verdicts) (right : AreVerdicts snapshot.
     move_refused refusal.Already h = absurd h
     move_refused refusal.NoJob h = absurd h
     move_refused refusal.BodyShort h = absurd h
+    move_refused (refusal.Coupled place) h = absurd h
+    move_refused refusal.Disk h = absurd h
 
     module _ (planned : Change) (h : PlansMove (part_of_snapshot snapshot known) from to (Ok planned)) where
       abbrev s : FileChanges
@@ -186,6 +188,8 @@ module _ (snapshot : Snapshot) (known : Verdicts) (right : AreVerdicts snapshot.
       admitted_refused refusal.Already k = absurd k
       admitted_refused refusal.NoJob k = absurd k
       admitted_refused refusal.BodyShort k = absurd k
+      admitted_refused (refusal.Coupled place) k = absurd k
+      admitted_refused refusal.Disk k = absurd k
 
       admitted_by : (r : Result Change Refusal) → IsWholeChange snapshot Move s r → PlansAffectedMove snapshot from to r
       admitted_by (Ok change) k = (asked, changed change k.0 k.1)
@@ -242,6 +246,8 @@ module _ (snapshot : Snapshot) (from to : List ℕ) where
   move_alike_refused refusal.Already n h = absurd h
   move_alike_refused refusal.NoJob n h = absurd h
   move_alike_refused refusal.BodyShort n h = absurd h
+  move_alike_refused (refusal.Coupled place) n h = absurd h
+  move_alike_refused refusal.Disk n h = absurd h
 
   pub move_alike : (change : Change) → PlansMove snapshot from to (Ok change) → PlansAffectedMove snapshot from to (Ok change)
   move_alike change h = (
@@ -282,6 +288,8 @@ module _ (snapshot : Snapshot) (from to : List ℕ) where
   fault_movable refusal.Already is h = absurd (true≢false (sym is))
   fault_movable refusal.NoJob is h = absurd (true≢false (sym is))
   fault_movable refusal.BodyShort is h = absurd (true≢false (sym is))
+  fault_movable (refusal.Coupled place) is h = absurd (true≢false (sym is))
+  fault_movable refusal.Disk is h = absurd (true≢false (sym is))
 
 -- a package that the move affects has a fault
 module _ (snapshot : Snapshot) (from to : List ℕ) (movable : IsMovable snapshot.files from to) where
@@ -311,3 +319,5 @@ module _ (snapshot : Snapshot) (from to : List ℕ) (movable : IsMovable snapsho
   affected_refused refusal.Already h = absurd h
   affected_refused refusal.NoJob h = absurd h
   affected_refused refusal.BodyShort h = absurd h
+  affected_refused (refusal.Coupled place) h = absurd h
+  affected_refused refusal.Disk h = absurd h

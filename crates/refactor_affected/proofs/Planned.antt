@@ -1,6 +1,6 @@
 -- What was planned in the part answers for the workspace.
-use Rattle.std.proofs.Common.{◌≡◌, ◌≢◌, ℕ, inl, inr, Bool, true, false, ◌&&◌, List, [], Option, Some, None, refl, sym, ap, subst, ◌∙◌}
-use Rattle.std.specs.Prelude.{◌⊎◌, Result, Ok, Err, IsSome}
+use Rattle.std.proofs.Common.{◌≡◌, ◌≢◌, ℕ, inl, inr, true, false, List, Option, Some, None, refl, sym, ap, subst, ◌∙◌}
+use Rattle.std.specs.Prelude.{Result, Ok, Err, IsSome}
 use Rattle.std.specs.Cmp.Lexicographic.{pointwise, bytes_decides}
 use Rattle.std.specs.Prelude.{◌==◌}
 use Rattle.std.specs.FinMap.{get, entries}
@@ -22,7 +22,7 @@ use Rattle.workspace_snapshot.specs.declared.change.ChangeKind.TheVariants.{Rena
 use Rattle.base_edits.specs.EditSet.{FileChanges, edited}
 use Rattle.base_edits.specs.Fits.{Fits}
 use Rattle.base_edits.specs.RevisionsOfEdits.{revision_of}
-use Rattle.refactor_preserve.specs.Preserved.{Preserves}
+use Rattle.refactor_coupled.specs.Obstacles.{PreservesAll}
 use Rattle.refactor_part.specs.FaultlessPart.{faultless_part, part_of_snapshot, is_of_faulty}
 use Rattle.refactor_part.specs.FirstFaults.{HaveNoFault, RefusesFirstOf}
 use Rattle.refactor_part.specs.LeftOut.{IsLeftOut}
@@ -105,6 +105,8 @@ module _ (snapshot : Snapshot) (known : Verdicts) (right : AreVerdicts snapshot.
   affected_fault refusal.Already may h = absurd h
   affected_fault refusal.NoJob may h = absurd h
   affected_fault refusal.BodyShort may h = absurd h
+  affected_fault (refusal.Coupled place) may h = absurd h
+  affected_fault refusal.Disk may h = absurd h
 
   -- at the byte there is nothing to rename
   pub none_affected : (Z : Type 0) (r : Refusal) → MarksRenamed {Z = Z} w v path offset (Err r) → PlansAffectedRename snapshot path offset name (Err r)
@@ -132,6 +134,8 @@ module _ (snapshot : Snapshot) (known : Verdicts) (right : AreVerdicts snapshot.
   none_affected Z refusal.Already h = absurd h
   none_affected Z refusal.NoJob h = absurd h
   none_affected Z refusal.BodyShort h = absurd h
+  none_affected Z (refusal.Coupled place) h = absurd h
+  none_affected Z refusal.Disk h = absurd h
 
   -- the name may be given where there are edits
   may_by : (s : FileChanges) → RenamesIdentifier v path offset name s → MayRename v path offset name
@@ -146,10 +150,10 @@ module _ (snapshot : Snapshot) (known : Verdicts) (right : AreVerdicts snapshot.
 
   -- the edits in the whole
   stay : (s : FileChanges) → RenamesIdentifier v path offset name s → AreApart s w
-  stay s renaming = staying_apart s w (λ c has. (renaming.edits.edits.only c has).stays)
+  stay s renaming = staying_apart s w (λ c has. (renaming.edits.edits.edits.only c has).stays)
 
   over : (s : FileChanges) → RenamesIdentifier v path offset name s → FitsLimits snapshot.limits (edited s w) → FitsLimits snapshot.limits (edited s v)
-  over s renaming = limits_of_part w known s renaming.edits.edits.none_added (stay s renaming) snapshot.limits
+  over s renaming = limits_of_part w known s renaming.edits.edits.edits.none_added (stay s renaming) snapshot.limits
 
   large_or : (faults : Result (Unit {0}) Refusal) → IsRenameTooLarge (part_of_snapshot snapshot known) path offset name → RefusesFirstOf w Affected faults →
       PlansAffectedRename snapshot path offset name (Err (fault_or refusal.TooLarge faults))
@@ -194,6 +198,8 @@ module _ (snapshot : Snapshot) (known : Verdicts) (right : AreVerdicts snapshot.
   refused refusal.Already faults h first = absurd h
   refused refusal.NoJob faults h first = absurd h
   refused refusal.BodyShort faults h first = absurd h
+  refused (refusal.Coupled place) faults h first = conflict_or (refusal.Coupled place) faults h.1 first (λ sound. (asked, sound, h.1))
+  refused refusal.Disk faults h first = absurd h
 
   module _ (planned : Change) (h : PlansRename (part_of_snapshot snapshot known) path offset name (Ok planned)) where
     abbrev s : FileChanges
@@ -203,12 +209,12 @@ module _ (snapshot : Snapshot) (known : Verdicts) (right : AreVerdicts snapshot.
     kind_renames = ap (λ (c : Change). c.kind) h.1.is_change
 
     pub rename_fits : Fits s w
-    rename_fits = fits_whole w known s h.1.renaming.edits.edits.none_added (stay s h.1.renaming) h.1.fit_files
+    rename_fits = fits_whole w known s h.1.renaming.edits.edits.edits.none_added (stay s h.1.renaming) h.1.fit_files
 
     -- the files after them in the part and in the whole
     pub rename_differs : (folders paths : List (List ℕ)) → IsLeftOut w known folders paths → DiffersByLeftOut planned.files (edited s w) folders paths
     rename_differs folders paths left =
-        let none = h.1.renaming.edits.edits.none_added in
+        let none = h.1.renaming.edits.edits.edits.none_added in
         let apart = stay s h.1.renaming in
         subst (λ (x : Workspace). DiffersByLeftOut x (edited s w) folders paths) (sym (ap (λ (c : Change). c.files) h.1.is_change)) (record {
           rest = rest_after w known s none apart h.1.fit_files folders paths left;
@@ -222,7 +228,7 @@ module _ (snapshot : Snapshot) (known : Verdicts) (right : AreVerdicts snapshot.
         record {
           sound = sound;
           renaming = subst (RenamesIdentifier v path offset name) same h.1.renaming;
-          preserves = subst (λ e. Preserves v (revision_of v e)) same h.1.preserves;
+          preserves = subst (λ e. PreservesAll v (revision_of v e)) same h.1.preserves;
           fits = subst (λ e. FitsLimits snapshot.limits (edited e w)) same fits;
           fit_part = subst (λ e. Fits e v) same h.1.fit_files;
           fit_files = subst (λ e. Fits e w) same rename_fits;
@@ -255,6 +261,8 @@ module _ (snapshot : Snapshot) (known : Verdicts) (right : AreVerdicts snapshot.
     admitted_refused sound refusal.Already k = absurd k
     admitted_refused sound refusal.NoJob k = absurd k
     admitted_refused sound refusal.BodyShort k = absurd k
+    admitted_refused sound (refusal.Coupled place) k = absurd k
+    admitted_refused sound refusal.Disk k = absurd k
 
     admitted_by : HaveNoFault w Affected → (r : Result Change Refusal) → IsWholeChange snapshot Rename s r → PlansAffectedRename snapshot path offset name r
     admitted_by sound (Ok change) k = (asked, changed change sound k.0 k.1)
@@ -292,3 +300,5 @@ module _ (snapshot : Snapshot) (path : List ℕ) (offset : ℕ) (name : List ℕ
   own_refused refusal.Already h = absurd h
   own_refused refusal.NoJob h = absurd h
   own_refused refusal.BodyShort h = absurd h
+  own_refused (refusal.Coupled place) h = absurd h
+  own_refused refusal.Disk h = absurd h

@@ -89,6 +89,12 @@ module _ (snapshot : Snapshot) (path : List ℕ) (offset : ℕ) (name : List ℕ
   refused_alike refusal.Already n h = absurd h
   refused_alike refusal.NoJob n h = absurd h
   refused_alike refusal.BodyShort n h = absurd h
+  refused_alike (refusal.Coupled place) n h = (
+    asked_in h.0,
+    in_part h.0 (λ v. IsSoundRename w v path offset) (none_faulty w h.0.sound _),
+    in_part h.0 (λ v. HasConflict v path offset name (refusal.Coupled place)) h.1,
+  )
+  refused_alike refusal.Disk n h = absurd h
 
   pub planned_alike : (change : Change) → PlansRename snapshot path offset name (Ok change) → PlansAffectedRename snapshot path offset name (Ok change)
   planned_alike change h = (
@@ -130,3 +136,5 @@ module _ (snapshot : Snapshot) (path : List ℕ) (offset : ℕ) (name : List ℕ
   fault_asked refusal.Already is h = absurd (true≢false (sym is))
   fault_asked refusal.NoJob is h = absurd (true≢false (sym is))
   fault_asked refusal.BodyShort is h = absurd (true≢false (sym is))
+  fault_asked (refusal.Coupled place) is h = absurd (true≢false (sym is))
+  fault_asked refusal.Disk is h = absurd (true≢false (sym is))

@@ -1,5 +1,5 @@
 -- The packages from which the effects of a move begin.
-use Rattle.std.proofs.Common.{◌≡◌, ◌⊎◌, ℕ, ◌<◌, ◌+◌, inl, inr, Bool, true, false, List, [], ◌∷◌, ◌++◌, length}
+use Rattle.std.proofs.Common.{◌≡◌, ℕ, ◌<◌, ◌+◌, inl, inr, Bool, true, false, List, [], ◌∷◌, ◌++◌, length}
 use Rattle.std.proofs.Common.{length-append, get_or, take, zero, suc, Option, None, Some, Bor, refl, sym, ap, subst, ◌∙◌, arith}
 use Rattle.std.specs.Prelude.{◌↔◌, Contains, IsTrue, MatchOption, Vec, nat_eq, slice_get}
 use Rattle.std.specs.Cmp.Lexicographic.{bytes_decides}

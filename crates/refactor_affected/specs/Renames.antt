@@ -1,7 +1,7 @@
 -- What planning the rename of the identifier at `path:offset` to `name` answers where other packages may have faults. Faults are asked of the
 -- identifier's own package first, then of the packages that the rename affects. All else is asked of `v`, the part of the workspace whose
 -- packages are those without faults: no other package has a say.
-use Rattle.std.specs.Prelude.{ℕ, ◌≡◌, ◌⊎◌, List, Some, None, Result, Ok, Err, ⊤}
+use Rattle.std.specs.Prelude.{ℕ, ◌≡◌, ◌⊎◌, List, None, Result, Ok, Err, ⊤}
 use Rattle.std.specs.FinMap as files
 use Rattle.base_files.specs.Path.{IsPath, folder}
 use Rattle.base_files.specs.Workspace.{Workspace}
@@ -9,7 +9,7 @@ use Rattle.base_files.specs.declared.fault_kind.FaultKind.{FaultKind}
 use Rattle.base_files.specs.declared.place.Place.{Place}
 use Rattle.base_files.specs.declared.refusal.Refusal.{Refusal}
 use Rattle.base_files.specs.declared.refusal.Refusal.TheVariants.{Memory, BadPath, NoFile, TooLarge, Faulty, NoIdentifier, NotRenamable, BadName, Same}
-use Rattle.base_files.specs.declared.refusal.Refusal.TheVariants.{Captured, Lost}
+use Rattle.base_files.specs.declared.refusal.Refusal.TheVariants.{Captured, Coupled, Lost}
 use Rattle.base_edits.specs.EditSet.{FileChanges, edited}
 use Rattle.base_edits.specs.Fits.{Fits}
 use Rattle.base_edits.specs.RevisionsOfEdits.{revision_of}
@@ -19,8 +19,10 @@ use Rattle.workspace_snapshot.specs.declared.change.Change.{Change}
 use Rattle.workspace_snapshot.specs.declared.change.ChangeKind.TheVariants.{Rename}
 use Rattle.refs_binding.specs.Uses.{IsCheckedPackage, HasFileAt, HasNoIdentifier, HasNoDeclaration}
 use Rattle.refs_binding.specs.DeclaredNames.{HasDeclaredName}
-use Rattle.refs_places.specs.Outside.{declaring_path}
-use Rattle.refactor_preserve.specs.Preserved.{Preserves}
+use Rattle.refs_binding.specs.declared.declaration.Declaration.{Declaration}
+use Rattle.refs_places.specs.Homes.{IsHomeOfSome}
+use Rattle.refactor_coupled.specs.Coupling.{IsRenamedSet}
+use Rattle.refactor_coupled.specs.Obstacles.{PreservesAll}
 use Rattle.refactor_rename.specs.NewName.{IsNewName}
 use Rattle.refactor_part.specs.Affected.{IsAffected}
 use Rattle.refactor_part.specs.FaultlessPart.{faultless_part}
@@ -41,12 +43,14 @@ pub record IsAskedInSound (w : Workspace) (path name : List ℕ) : Type 0 where
 abbrev pub part_asked : {w : Workspace} {path name : List ℕ} → IsAskedInSound w path name → Workspace
 part_asked {w} asked = faultless_part w asked.sound.known
 
--- The path is that of the package that declares what the identifier at the byte is bound to.
+-- The path is that of the package that declares what the identifier at the byte is bound to, or something that is renamed with that.
 pub record IsDeclaringPath (v : Workspace) (path : List ℕ) (offset : ℕ) (home : List ℕ) : Type 0 where
   pub asked : ResolvesIdentifier v path offset
-  pub declares : declaring_path asked.declaration ≡ Some home
+  pub set : List Declaration
+  pub is_set : IsRenamedSet (IsCheckedPackage v asked.known) asked.declaration set
+  pub declares : IsHomeOfSome set home
 
--- The packages that the rename affects: those whose closure holds the declaring package.
+-- The packages that the rename affects: those whose closure holds a declaring package.
 abbrev pub IsAffectedByRename : Workspace → Workspace → (path : List ℕ) → (offset : ℕ) → List ℕ → Type 0
 IsAffectedByRename w v path offset = IsAffected w (IsDeclaringPath v path offset)
 
@@ -65,20 +69,20 @@ pub data HasAskedFault (w : Workspace) (path : List ℕ) (offset : ℕ) (name : 
 abbrev pub IsSoundRename : (w v : Workspace) → (path : List ℕ) → (offset : ℕ) → Type 0
 IsSoundRename w v path offset = HaveNoFault w (IsAffectedByRename w v path offset)
 
--- The edits of the rename preserve bindings, but the files after them exceed a limit of the snapshot.
+-- The edits of the rename preserve bindings and implementing types, but the files after them exceed a limit of the snapshot.
 pub record IsRenameOverLimit (snapshot : Snapshot) (v : Workspace) (path : List ℕ) (offset : ℕ) (name : List ℕ) : Type 0 where
   pub sound : IsSoundRename snapshot.files v path offset
   pub changes : FileChanges
   pub renaming : RenamesIdentifier v path offset name changes
-  pub preserves : Preserves v (revision_of v changes)
+  pub preserves : PreservesAll v (revision_of v changes)
   pub too_large : ¬ (FitsLimits snapshot.limits (edited changes snapshot.files))
 
--- The change has the edits of the rename and the files that they make of the snapshot's. They preserve bindings and keep within the limits.
--- Each of them is an edit of a file of the part.
+-- The change has the edits of the rename and the files that they make of the snapshot's. They preserve bindings and implementing
+-- types, and keep within the limits. Each of them is an edit of a file of the part.
 pub record IsRenamedBeside (snapshot : Snapshot) (v : Workspace) (path : List ℕ) (offset : ℕ) (name : List ℕ) (change : Change) : Type 0 where
   pub sound : IsSoundRename snapshot.files v path offset
   pub renaming : RenamesIdentifier v path offset name change.edits
-  pub preserves : Preserves v (revision_of v change.edits)
+  pub preserves : PreservesAll v (revision_of v change.edits)
   pub fits : FitsLimits snapshot.limits (edited change.edits snapshot.files)
   pub fit_part : Fits change.edits v
   pub fit_files : Fits change.edits snapshot.files
@@ -103,6 +107,8 @@ PlansAffectedRename snapshot path offset name (Err (Captured used by)) = (asked 
     IsSoundRename snapshot.files (part_asked asked) path offset × HasConflict (part_asked asked) path offset name (Captured used by)
 PlansAffectedRename snapshot path offset name (Err (Lost used)) = (asked : IsAskedInSound snapshot.files path name) ×
     IsSoundRename snapshot.files (part_asked asked) path offset × HasConflict (part_asked asked) path offset name (Lost used)
+PlansAffectedRename snapshot path offset name (Err (Coupled place)) = (asked : IsAskedInSound snapshot.files path name) ×
+    IsSoundRename snapshot.files (part_asked asked) path offset × HasConflict (part_asked asked) path offset name (Coupled place)
 PlansAffectedRename snapshot path offset name (Err TooLarge) =
     (asked : IsAskedInSound snapshot.files path name) × IsRenameOverLimit snapshot (part_asked asked) path offset name
 PlansAffectedRename snapshot path offset name (Err Memory) = ⊤

@@ -1,15 +1,17 @@
 -- What the steps of planning beside packages with faults answer.
-use Rattle.std.specs.Prelude.{ℕ, ◌≡◌, ◌<◌, ◌↔◌, ◌⊎◌, ⊤, Bool, true, false, List, Contains, Some, None, Result, Ok, Err, Vec, length, slice_get}
+use Rattle.std.specs.Prelude.{ℕ, ◌≡◌, ◌≢◌, ◌<◌, ◌↔◌, ◌⊎◌, ⊤, Bool, true, false, List, Contains, Some, None, Result, Ok, Err, Vec, length, slice_get}
 use Rattle.base_files.specs.Packages.{package_paths}
 use Rattle.base_files.specs.Workspace.{Workspace}
 use Rattle.base_files.specs.declared.refusal.Refusal.{Refusal}
-use Rattle.base_files.specs.declared.refusal.Refusal.TheVariants.{Memory, TooLarge, Faulty, NoIdentifier, NotRenamable, Captured, Lost}
-use Rattle.workspace_graph.specs.Reaching.{MarksClosuresWith}
+use Rattle.base_files.specs.declared.refusal.Refusal.TheVariants.{Memory, TooLarge, Faulty, NoIdentifier, NotRenamable, Captured, Coupled, Lost}
 use Rattle.workspace_graph.specs.Search.{IsMarked}
 use Rattle.refs_binding.specs.declared.declaration.Declaration.{Declaration}
+use Rattle.types_declared.specs.Package.{Package}
+use Rattle.refs_places.specs.Homes.{IsHomeOfSome}
 use Rattle.refs_places.specs.Outside.{declaring_path}
 use Rattle.refs_binding.specs.Uses.{HasNoIdentifier, HasNoDeclaration}
-use Rattle.refactor_part.specs.Affected.{IsMarkedPackage}
+use Rattle.refactor_part.specs.Affected.{IsAffected, IsMarkedPackage}
+use Rattle.refactor_coupled.specs.Coupling.{IsRenamedSet}
 use Rattle.refactor_plan.specs.Plan.{ResolvesToFixed}
 use Rattle.refactor_affected.specs.Renames.{IsAffectedByRename}
 
@@ -17,12 +19,17 @@ use Rattle.refactor_affected.specs.Renames.{IsAffectedByRename}
 abbrev pub MarkPackages : Workspace → (List ℕ → Type 0) → List Bool → Type 0
 MarkPackages w P marks = (p : List ℕ) → Contains (package_paths w) p → IsMarkedPackage w marks p ↔ P p
 
--- The marks of the packages in whose closures the package of the declaration is. A predeclared one can't be renamed.
-abbrev pub MarksOfHome : {Z : Type 0} → Workspace → Declaration → Result (Vec Bool Z) Refusal → Type 0
-MarksOfHome w d (Ok marks) = (home : List ℕ) × ((declaring_path d ≡ Some home) × MarksClosuresWith w home marks.items)
-MarksOfHome w d (Err NotRenamable) = declaring_path d ≡ None
-MarksOfHome w d (Err Memory) = ⊤
-MarksOfHome w d (Err refusal) = ⊥
+-- The packages in whose closures a package is that declares what is renamed with the declaration.
+abbrev pub MarksAboveSet : Workspace → (IsPackage : Package → Type 0) → Declaration → List Bool → Type 0
+MarksAboveSet w IsPackage d marks =
+    MarkPackages w (IsAffected w (λ home. (set : List Declaration) × (IsRenamedSet IsPackage d set × IsHomeOfSome set home))) marks
+
+-- The marks of these packages. A predeclared declaration can't be renamed.
+abbrev pub MarksOfHomes : {Z : Type 0} → Workspace → (IsPackage : Package → Type 0) → Declaration → Result (Vec Bool Z) Refusal → Type 0
+MarksOfHomes w IsPackage d (Ok marks) = (declaring_path d ≢ None) × MarksAboveSet w IsPackage d marks.items
+MarksOfHomes w IsPackage d (Err NotRenamable) = declaring_path d ≡ None
+MarksOfHomes w IsPackage d (Err Memory) = ⊤
+MarksOfHomes w IsPackage d (Err refusal) = ⊥
 
 -- The marks of the packages that a rename affects, or why there is nothing to rename at the byte.
 abbrev pub MarksRenamed : {Z : Type 0} → (w v : Workspace) → (path : List ℕ) → (offset : ℕ) → Result (Vec Bool Z) Refusal → Type 0
@@ -45,6 +52,7 @@ fault_or refusal (Err fault) = fault
 abbrev pub refusal_after : Refusal → Result (Unit {0}) Refusal → Refusal
 refusal_after (Captured used by) faults = fault_or (Captured used by) faults
 refusal_after (Lost used) faults = fault_or (Lost used) faults
+refusal_after (Coupled place) faults = fault_or (Coupled place) faults
 refusal_after TooLarge faults = fault_or TooLarge faults
 refusal_after refusal faults = refusal
 

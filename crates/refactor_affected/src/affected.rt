@@ -2,40 +2,50 @@
 ghost use Rattle.std.specs.Prelude.{◌≡◌, Some, slice_get, IfOk};
 ghost use Rattle.base_files.specs.Packages.{package_paths};
 ghost use Rattle.base_files.specs.Path.{folder};
-ghost use Rattle.workspace_graph.specs.Reaching.{MarksClosuresWith};
+ghost use Rattle.refs_binding.specs.Uses.{IsCheckedPackage};
+ghost use Rattle.refs_binding.specs.Workspaces.{known_in};
 ghost use Rattle.refactor_plan.specs.Bindings.{IsReadFor};
-ghost use Rattle.refactor_affected.specs.Steps.{MarksOfHome, MarksRenamed};
+ghost use Rattle.refactor_affected.specs.Steps.{MarksAboveSet, MarksOfHomes, MarksRenamed};
 
 use base_files::Refusal;
+use refactor_coupled::renamed_with;
 use refactor_plan::{PackageBindings, Proposal};
-use refs_binding::Declaration;
+use refs_binding::{Declaration, FaultlessWorkspace};
 use refs_lookup::declaration_in_package;
 use refs_places::declared_places::package_path;
+use refs_places::home_marks;
 use std::alloc::{AllocError, Global};
-use types_expr::symbol::SharedPath;
 use workspace_graph::Graph;
 
-/// Marks the packages in whose closures the package at a path is; none, where there is no such package.
-fn marks_above(alloc: Global, graph: &Graph, home: &SharedPath) -> Result<Vec<bool>, AllocError>
-    ensures { IfOk result (λ marks. MarksClosuresWith graph.now home.now marks.items) }
+/// Marks the packages in whose closures a package is that declares what is renamed with a declaration.
+fn marks_above(
+    alloc: Global,
+    graph: &Graph,
+    workspace: &FaultlessWorkspace<'_>,
+    declaration: &Declaration,
+) -> Result<Vec<bool>, AllocError>
+    ensures { IfOk result (λ marks. MarksAboveSet graph.now (IsCheckedPackage workspace.now.graph (known_in workspace.now.findings)) declaration.now marks.items) }
 {
-    match graph.number_of(home.path()) {
-        None => Ok(vec![in alloc; false; graph.len()]?),
-        Some(number) => graph.importing(alloc, number),
-    }
+    workspace.has_no_faults();
+    let set = renamed_with(alloc, workspace, declaration)?;
+    let listed = set.as_slice();
+    let homes = home_marks(alloc, graph, listed)?;
+    let starts = homes.as_slice();
+    graph.reaching(alloc, starts)
 }
 
 /// Marks the packages that the rename of a declaration affects. A predeclared one can't be renamed.
-fn marks_of_home(
+fn marks_of_homes(
     alloc: Global,
     graph: &Graph,
+    workspace: &FaultlessWorkspace<'_>,
     declaration: &Declaration,
 ) -> Result<Vec<bool>, Refusal>
-    ensures { MarksOfHome graph.now declaration.now result }
+    ensures { MarksOfHomes graph.now (IsCheckedPackage workspace.now.graph (known_in workspace.now.findings)) declaration.now result }
 {
     match package_path(declaration) {
         None => Err(Refusal::NotRenamable),
-        Some(home) => Ok(marks_above(alloc, graph, home)?),
+        Some(_) => Ok(marks_above(alloc, graph, workspace, declaration)?),
     }
 }
 
@@ -60,6 +70,6 @@ pub(crate) fn affected_packages(
         proposal.offset,
     ) {
         Err(refusal) => Err(refusal),
-        Ok(declaration) => marks_of_home(alloc, graph, &declaration),
+        Ok(declaration) => marks_of_homes(alloc, graph, proposal.workspace, &declaration),
     }
 }

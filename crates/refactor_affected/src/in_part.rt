@@ -51,7 +51,10 @@ fn after_faults(refusal: Refusal, faults: Result<(), Refusal>) -> Refusal
     ensures { result ≡ refusal_after refusal faults }
 {
     match refusal {
-        Refusal::Captured { .. } | Refusal::Lost { .. } | Refusal::TooLarge => match faults {
+        Refusal::Captured { .. }
+        | Refusal::Lost { .. }
+        | Refusal::Coupled { .. }
+        | Refusal::TooLarge => match faults {
             Err(fault) => fault,
             Ok(()) => refusal,
         },

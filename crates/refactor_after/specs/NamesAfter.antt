@@ -3,6 +3,8 @@
 use Rattle.std.specs.Prelude.{ℕ, ◌≡◌, List, Some, slice_get}
 use Rattle.base_files.specs.declared.place.Place.{Place}
 use Rattle.go_scope.specs.declared.model.Position.{Position}
+use Rattle.types_declared.specs.Laid.{is_exported}
+use Rattle.types_expr.specs.World.{Field, Method}
 use Rattle.types_declared.specs.Package.{Package, PlacedFunction, package_functions, function_place, spelled}
 use Rattle.types_declared.specs.Definitions.{PlacedField, package_fields}
 use Rattle.types_members.specs.MethodsView.{IsOwner}
@@ -29,3 +31,10 @@ pub record IsMethodAfter (r : Revision) (p : Package) (definition : ℕ) (name :
   pub has_rank : slice_get (package_functions p) rank ≡ Some method
   pub of_type : IsOwner p method definition
   pub called : HasNameAfter r p (function_place method) name
+
+-- a field or method under another name: the same, but for whether its name is exported
+abbrev pub field_called : List ℕ → Field → Field
+field_called name f = record { symbol = f.symbol; exported = is_exported name; form = f.form }
+
+abbrev pub method_called : List ℕ → Method → Method
+method_called name m = record { symbol = m.symbol; exported = is_exported name; on_pointer = m.on_pointer; signature = m.signature }

@@ -10,6 +10,7 @@ use Rattle.go_scope.specs.Bindings.{own}
 use Rattle.types_declared.specs.Package.{Package}
 use Rattle.workspace_check.specs.FaultLists.{ListsFaults}
 use Rattle.workspace_check.specs.Verdicts.{Verdicts, AreVerdicts}
+use Rattle.refs_binding.specs.declared.declaration.Declaration.{Declaration}
 use Rattle.refs_binding.specs.declared.declaration.Declaration.TheVariants.{Declared}
 use Rattle.refs_binding.specs.Binding.{by_scope}
 use Rattle.refs_binding.specs.DeclaredNames.{HasDeclaredName}
@@ -21,7 +22,7 @@ use Rattle.refactor_rename.specs.Naming.{IsFixed, IsReservedFor}
 use Rattle.refactor_rename.specs.NewName.{IsNewName}
 use Rattle.refactor_rename.specs.RenameEdits.{AreRenameEdits}
 use Rattle.refactor_conflict.specs.Conflicts.{IsFirstConflict}
-use Rattle.law_renamed_workspaces.specs.Renames.{IsPlainRename}
+use Rattle.law_renamed_workspaces.specs.Renames.{IsPlainRename, IsSetWith}
 use Rattle.law_renamed_workspaces.proofs.OwnNames.{identifies}
 use Rattle.law_renamed_workspaces.specs.KnownVerdicts.{IsHidden, IsHiddenIn}
 use Rattle.law_agreement.specs.ScopeRenames.{IsRenameIn}
@@ -65,8 +66,9 @@ module _ (w : Workspace) (known : Verdicts) (p : Package) (is : IsCheckedPackage
 
     pub plain : (s : FileChanges) → IsNewName name → (IsFixed (IsCheckedPackage w known) (Declared p.path n) → ⊥) →
         (IsReservedFor (IsCheckedPackage w known) (Declared p.path n) name → ⊥) → (HasDeclaredName (IsCheckedPackage w known) (Declared p.path n) name → ⊥) →
-        AreRenameEdits w known (Declared p.path n) name s → Fits s w → IsPlainRename w known (Declared p.path n) name s
-    plain s form renamable allowed other edits fit = record {
+        (set : List Declaration) → IsSetWith (IsCheckedPackage w known) (Declared p.path n) set →
+        AreRenameEdits w known (Declared p.path n) set name s → Fits s w → IsPlainRename w known (Declared p.path n) name s
+    plain s form renamable allowed other set is_set edits fit = record {
       rename = record {
         right = right;
         sound = sound;
@@ -75,11 +77,22 @@ module _ (w : Workspace) (known : Verdicts) (p : Package) (is : IsCheckedPackage
         allowed = allowed;
         other = other;
         used = used;
+        set = set;
+        is_set = is_set;
         edits = edits;
         fit = fit;
       };
       plain = no_literal (IsPathLiteralOf (IsCheckedPackage w known) (Declared p.path n)) has_name edits.renamed.literal edits.is_renamed.literal;
     }
+
+    -- what it renames
+    pub plain_set : (s : FileChanges) (form : IsNewName name) (renamable : IsFixed (IsCheckedPackage w known) (Declared p.path n) → ⊥)
+        (allowed : IsReservedFor (IsCheckedPackage w known) (Declared p.path n) name → ⊥)
+        (other : HasDeclaredName (IsCheckedPackage w known) (Declared p.path n) name → ⊥) (set : List Declaration)
+        (is_set : IsSetWith (IsCheckedPackage w known) (Declared p.path n) set) (edits : AreRenameEdits w known (Declared p.path n) set name s)
+        (fit : Fits s w) → (plain s form renamable allowed other set is_set edits fit).rename.set ≡ set
+    unfolding plain
+    plain_set s form renamable allowed other set is_set edits fit = refl
 
   -- other packages see the declaration under neither name
   pub is_hidden : IsHiddenIn p n name → IsHidden w known (Declared p.path n) name

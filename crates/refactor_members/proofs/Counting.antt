@@ -18,7 +18,8 @@ use Rattle.refactor_after.specs.NamesAfter.{HasNameAfter, IsFieldAfter, IsMethod
 use Rattle.refactor_after.specs.MembersAfter.{IsFirstField, IsFirstMethod, FieldCounts, MethodCounts, CountsAfter}
 use Rattle.refactor_after.specs.MembersFound.{IsRankFound}
 use Rattle.refactor_after.proofs.FieldsAfter.{one_first, mapped_in, of_one}
-use Rattle.refactor_members.specs.Renames.{EditedRename, KnowsRename, IsFieldOfNewName, IsMethodNamed, packages_before, rename_revision, workspace_before, verdicts_in}
+use Rattle.refactor_members.specs.Renames.{EditedRename, KnowsRename, IsFieldOfNewName, IsMethodNamed}
+use Rattle.refactor_members.specs.Renames.{packages_before, rename_revision, renamed_members, workspace_before, verdicts_in}
 
 -- A token has one name after a change.
 pub one_name_after : (r : Revision) (p : Package) (at : Position) (a b : List ℕ) → HasNameAfter r p at a → HasNameAfter r p at b → a ≡ b
@@ -79,7 +80,7 @@ module _ (m : EditedRename) (knows : KnowsRename m) (p : Package) (is : packages
   here : (P : Package → Type 0) → InPackage Known path P → P p
   here P h = of_one (workspace_before m.of) (verdicts_in m.of) p is path of P h
 
-  pub field_counts : (rank : ℕ) → IsFieldOfNewName m.of.member.now name p definition rank → (o : Option ℕ) → IsRankFound FirstField o → (b : Bool) →
+  pub field_counts : (rank : ℕ) → IsFieldOfNewName (renamed_members m.of) name p definition rank → (o : Option ℕ) → IsRankFound FirstField o → (b : Bool) →
       IsTrue b ↔ (o ≡ Some rank) → IsTrue b ↔ CountsAfter Known r (Field (record { «package» = path; rank = rank }))
   field_counts rank named o found b told = (
     (λ t. mapped_in Known path (λ q. IsFirstField r q definition name rank) (λ q. FieldCounts r q rank)
@@ -94,7 +95,7 @@ module _ (m : EditedRename) (knows : KnowsRename m) (p : Package) (is : packages
         (here (λ q. IsFirstField r q definition name y) k)) o found rank (record { inside = p; is_package = is; of_path = of; holds = first }))),
   )
 
-  pub method_counts : (rank : ℕ) → IsMethodNamed m.of.member.now name p definition rank → (o : Option ℕ) → IsRankFound FirstMethod o → (b : Bool) →
+  pub method_counts : (rank : ℕ) → IsMethodNamed (renamed_members m.of) name p definition rank → (o : Option ℕ) → IsRankFound FirstMethod o → (b : Bool) →
       IsTrue b ↔ (o ≡ Some rank) → IsTrue b ↔ CountsAfter Known r (Method (record { «package» = path; rank = rank }))
   method_counts rank named o found b told = (
     (λ t. mapped_in Known path (λ q. IsFirstMethod Known r q definition name rank) (λ q. MethodCounts Known r q rank)

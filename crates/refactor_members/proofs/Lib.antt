@@ -12,3 +12,6 @@ pub mod AllPackages
 pub mod Telling
 pub mod Unconcerned
 pub mod Unreached
+pub mod SetsApart
+pub mod MemberLists
+pub mod NamesOfAll

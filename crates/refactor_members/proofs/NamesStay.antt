@@ -1,7 +1,7 @@
 -- Identifiers that declare fields and methods stay where those of the new name do.
 use Rattle.std.proofs.Common.{ℕ, ◌≡◌, ◌<◌, ◌⊎◌, inl, inr, Bool, false, List, ap, sym, subst, refl, ◌∙◌, arith}
-use Rattle.std.specs.Prelude.{◌↔◌, IsTrue, Option, Some, None, slice_get}
-use Rattle.std.proofs.lemmas.Bool.{cases_eq, cases_lt, false≢true}
+use Rattle.std.specs.Prelude.{◌↔◌, Contains, IsTrue, Option, Some, None, slice_get}
+use Rattle.std.proofs.lemmas.Bool.{cases_lt, false≢true}
 use Rattle.std.proofs.lemmas.Option.{same_Some}
 use Rattle.base_files.specs.declared.place.Place.{Place}
 use Rattle.go_scope.specs.declared.model.Position.{Position}
@@ -28,12 +28,13 @@ use Rattle.refactor_conflict.specs.Conflicts.{Takes, HoldsBefore, IsConflictIn, 
 use Rattle.refactor_conflict.specs.Staying.{DeclaringNamesStayIn}
 use Rattle.refactor_conflict.specs.declared.conflict.Conflict.{Conflict}
 use Rattle.refactor_conflict.proofs.KeepingFirst.{takes_as, holds_as}
+use Rattle.law_renamed_workspaces.proofs.RenamedSets.{among_or_not}
 use Rattle.refactor_members.specs.Judging.{JudgesIn, IsNamedAt, NewNameCounts, ListedFieldStays, ListedMethodStays, FieldsStayOf, MethodsStayOf, NamesStayOf}
 use Rattle.refactor_members.specs.Naming.{HasField, HasMethod, IsFirstOld, IsRenamedField, IsRenamedMethod}
-use Rattle.refactor_members.specs.Renames.{EditedRename, KnowsRename, packages_before, rename_revision, workspace_before, verdicts_in}
+use Rattle.refactor_members.specs.Renames.{EditedRename, KnowsRename, packages_before, rename_revision, renamed_members, workspace_before, verdicts_in}
 use Rattle.refactor_members.proofs.Counting.{as_method}
 use Rattle.refactor_members.proofs.OldMembers.{AllCount, rank_of_field, rank_of_method, old_field_found, old_method_found}
-use Rattle.refactor_members.proofs.Renamed.{rank_in, renamed_field, renamed_method}
+use Rattle.refactor_members.proofs.Renamed.{one_field, one_method, renamed_field, renamed_method}
 
 -- A name that is lost unless its member counts.
 pub lost_unless : (m : EditedRename) (p : Package) (member : Declaration) (a b : Option Conflict) (counts : Bool) → counts ≡ false →
@@ -102,7 +103,7 @@ module _ (m : EditedRename) (p : Package) where
         elim named.named [
           | inl same ↦
               let s : Symbol = record { «package» = path; rank = definition } in
-              also rank (renamed_listed (IsRenamedField m.of s) (λ j k h g. ap rank_in (sym h.1 ∙ g.1)) b rank renamed
+              also rank (renamed_listed (IsRenamedField m.of s) (one_field m knows p is path of definition) b rank renamed
               (renamed_field m knows p is path of definition rank (record { field = named.field; has_rank = named.has_rank; of_struct = named.of_struct })
               same)) at
           | inr said ↦
@@ -134,7 +135,7 @@ module _ (m : EditedRename) (p : Package) where
         elim named.named [
           | inl same ↦
               let s : Symbol = record { «package» = path; rank = definition } in
-              also rank (renamed_listed (IsRenamedMethod m.of s) (λ j k h g. ap rank_in (sym h.1 ∙ g.1)) b rank renamed
+              also rank (renamed_listed (IsRenamedMethod m.of s) (one_method m knows p is path of definition) b rank renamed
               (renamed_method m knows p is path of definition rank (record { method = named.method; has_rank = named.has_rank; of_type = named.of_type })
               same)) at
           | inr said ↦
@@ -172,33 +173,6 @@ module _ (m : EditedRename) (p : Package) where
         (old_method_found p all called definition own are) in
         absurd (none rank (named.method, as_method p rank definition named.method named.has_rank named.of_type))
 
-abbrev symbol_of : Symbol → Declaration → Symbol
-symbol_of s (Predeclared n) = s
-symbol_of s (Declared path n) = s
-symbol_of s (Field t) = t
-symbol_of s (Method t) = t
-
-case_symbol : (s t : Symbol) → (s ≡ t) ⊎ (s ≡ t → ⊥)
-case_symbol s t = elim (cases_bytes s.package t.package) [
-  | inr other ↦ inr (λ e. other (ap (λ (x : Symbol). x.package) e))
-  | inl same ↦ elim (cases_eq s.rank t.rank) [
-    | inl e ↦ inl (ap (λ (q : List ℕ). record { «package» = q; rank = s.rank }) same ∙ ap (λ (n : ℕ). record { «package» = t.package; rank = n }) e)
-    | inr other ↦ inr (λ e. other (ap (λ (x : Symbol). x.rank) e))
-  ]
-]
-
-pub case_field : (s : Symbol) (d : Declaration) → (Field s ≡ d) ⊎ (Field s ≡ d → ⊥)
-case_field s (Predeclared n) = inr (λ e. let z : ⊥ = cc in z)
-case_field s (Declared path n) = inr (λ e. let z : ⊥ = cc in z)
-case_field s (Method t) = inr (λ e. let z : ⊥ = cc in z)
-case_field s (Field t) = elim (case_symbol s t) [ inl e ↦ inl (ap Field e) | inr n ↦ inr (λ e. n (ap (symbol_of s) e)) ]
-
-pub case_method : (s : Symbol) (d : Declaration) → (Method s ≡ d) ⊎ (Method s ≡ d → ⊥)
-case_method s (Predeclared n) = inr (λ e. let z : ⊥ = cc in z)
-case_method s (Declared path n) = inr (λ e. let z : ⊥ = cc in z)
-case_method s (Field t) = inr (λ e. let z : ⊥ = cc in z)
-case_method s (Method t) = elim (case_symbol s t) [ inl e ↦ inl (ap Method e) | inr n ↦ inr (λ e. n (ap (symbol_of s) e)) ]
-
 -- All names stay where those of the new name do.
 module _ (m : EditedRename) (knows : KnowsRename m) (p : Package) (is : packages_before m.of p) (place : Place)
     (stay : (definition : ℕ) → NamesStayOf m p definition place) where
@@ -216,15 +190,16 @@ module _ (m : EditedRename) (knows : KnowsRename m) (p : Package) (is : packages
       let f = c.counting.is_field in
       let same : symbol_in p s.rank ≡ s = ap (λ (q : List ℕ). record { «package» = q; rank = s.rank }) (sym h.0) in
       let named : IsNamedAt p (field_at p.path s.rank) place = (u, (begins, (refl, n))) in
-      let told : (Field (symbol_in p s.rank) ≡ m.of.member.now) ⊎ (spelled p c.field.file c.field.name ≡ m.of.name.now) → counts (Field s) = λ choice.
+      let told : Contains (renamed_members m.of) (Field (symbol_in p s.rank)) ⊎
+      (spelled p c.field.file c.field.name ≡ m.of.name.now) → counts (Field s) = λ choice.
       subst counts (ap Field same) ((stay c.definition).0 s.rank (record {
         field = c.field;
         has_rank = f.has_rank;
         of_struct = f.of_struct;
         named = choice;
       }) named) in
-      elim (case_field s m.of.member.now) [
-        | inl e ↦ told (inl (ap Field same ∙ e))
+      elim (among_or_not (renamed_members m.of) (Field s) tt) [
+        | inl e ↦ told (inl (subst (Contains (renamed_members m.of)) (sym (ap Field same)) e))
         | inr other ↦ elim (cases_bytes (spelled p c.field.file c.field.name) m.of.name.now) [
           | inl e ↦ told (inr e)
           | inr not ↦ knows.renames.declared p is u place begins (Field s) h other
@@ -239,15 +214,16 @@ module _ (m : EditedRename) (knows : KnowsRename m) (p : Package) (is : packages
       let f = c.counting.is_method in
       let same : symbol_in p s.rank ≡ s = ap (λ (q : List ℕ). record { «package» = q; rank = s.rank }) (sym h.0) in
       let named : IsNamedAt p (method_at p.path s.rank) place = (u, (begins, (refl, n))) in
-      let told : (Method (symbol_in p s.rank) ≡ m.of.member.now) ⊎ (spelled p c.method.file c.method.function.name ≡ m.of.name.now) → counts (Method s) = λ choice.
+      let told : Contains (renamed_members m.of) (Method (symbol_in p s.rank)) ⊎
+      (spelled p c.method.file c.method.function.name ≡ m.of.name.now) → counts (Method s) = λ choice.
       subst counts (ap Method same) ((stay c.definition).1 s.rank (record {
         method = c.method;
         has_rank = f.has_rank;
         of_type = record { receiver = f.receiver; received = f.received; declaration = f.declaration; binds = f.binds; of_type = f.of_type };
         named = choice;
       }) named) in
-      elim (case_method s m.of.member.now) [
-        | inl e ↦ told (inl (ap Method same ∙ e))
+      elim (among_or_not (renamed_members m.of) (Method s) tt) [
+        | inl e ↦ told (inl (subst (Contains (renamed_members m.of)) (sym (ap Method same)) e))
         | inr other ↦ elim (cases_bytes (spelled p c.method.file c.method.function.name) m.of.name.now) [
           | inl e ↦ told (inr e)
           | inr not ↦ knows.renames.declared p is u place begins (Method s) h other

@@ -22,9 +22,13 @@ use Rattle.refactor_after.specs.OldPlaces.{field_at, method_at}
 use Rattle.refactor_after.specs.MembersAfter.{IsFirst, IsFirstField}
 use Rattle.refactor_after.specs.MembersFound.{IsRankFound}
 use Rattle.refactor_after.proofs.FieldsAfter.{of_one, found_in}
-use Rattle.refactor_members.specs.Naming.{HasField, HasMethod, IsFirstOld, IsRenamedField, IsRenamedMethod, lesser_rank}
-use Rattle.refactor_members.specs.Renames.{EditedRename, KnowsRename, IsFieldOfNewName, IsMethodNamed, IsFieldOfDefinition, IsMethodOfDefinition, IsDefinitionOf}
-use Rattle.refactor_members.specs.Renames.{packages_before, rename_revision, workspace_before, verdicts_in}
+use Rattle.refactor_members.specs.Naming.{HasField, HasMethod, IsFirstOld, IsOwnField, IsOwnMethod, IsRenamedField, IsRenamedMethod, lesser_rank}
+use Rattle.refactor_members.specs.Renames.{EditedRename, KnowsRename, IsFieldOfNewName}
+use Rattle.refactor_members.specs.Renames.{IsMethodNamed, IsFieldOfDefinition, IsMethodOfDefinition, IsDefinitionOf}
+use Rattle.refactor_members.specs.Renames.{packages_before, rename_revision, renamed_members, workspace_before, verdicts_in}
+use Rattle.refactor_members.specs.declared.member_rename.RenamedMember.{RenamedMember}
+use Rattle.base_lemmas.proofs.Elements.{is_mapped}
+use Rattle.base_edits.proofs.Held.{mapped_from}
 use Rattle.refactor_members.proofs.FirstNamed.{first_of_two}
 use Rattle.refactor_members.proofs.Counting.{as_method}
 
@@ -70,49 +74,107 @@ module _ (m : EditedRename) (knows : KnowsRename m) (p : Package) (is : packages
       (spelled p f.method.file f.method.function.name) (spelled p x.method.file x.method.function.name) f.method x.method
       (as_method p rank definition f.method f.has_rank f.of_type) (as_method p rank d x.method x.has_rank x.of_type))
 
+  -- a renamed declaration, with its type definition
+  member_of : (d : Declaration) → Contains (renamed_members m.of) d → (x : RenamedMember) × Contains m.of.members.now x × (x.declaration.now ≡ d)
+  member_of d among = mapped_from (λ (x : RenamedMember). x.declaration.now) m.of.members.now d among
+
   pub renamed_field : (path : List ℕ) → p.path ≡ path → (definition rank : ℕ) → IsFieldOfDefinition p rank definition →
-      field_at p.path rank ≡ m.of.member.now → IsRenamedField m.of (record { «package» = path; rank = definition }) rank
-  renamed_field path of definition rank f same = (
-    field_definition definition rank f m.of.definition (subst (λ d. IsRankFound (IsDefinitionOf Known d) m.of.definition) (sym same) knows.definition),
-    sym same ∙ ap (λ q. field_at q rank) of,
-  )
+      Contains (renamed_members m.of) (field_at p.path rank) → IsRenamedField m.of (record { «package» = path; rank = definition }) rank
+  renamed_field path of definition rank f among =
+      let x = member_of (field_at p.path rank) among in
+      record {
+        member = x.0;
+        among = x.1;
+        is_own = (
+          field_definition definition rank f x.0.definition
+              (subst (λ d. IsRankFound (IsDefinitionOf Known d) x.0.definition) x.2 (knows.members.definition x.0 x.1)),
+          x.2 ∙ ap (λ q. field_at q rank) of,
+        );
+      }
 
   pub renamed_method : (path : List ℕ) → p.path ≡ path → (definition rank : ℕ) → IsMethodOfDefinition p rank definition →
-      method_at p.path rank ≡ m.of.member.now → IsRenamedMethod m.of (record { «package» = path; rank = definition }) rank
-  renamed_method path of definition rank f same = (
-    method_definition definition rank f m.of.definition (subst (λ d. IsRankFound (IsDefinitionOf Known d) m.of.definition) (sym same) knows.definition),
-    sym same ∙ ap (λ q. method_at q rank) of,
-  )
+      Contains (renamed_members m.of) (method_at p.path rank) → IsRenamedMethod m.of (record { «package» = path; rank = definition }) rank
+  renamed_method path of definition rank f among =
+      let x = member_of (method_at p.path rank) among in
+      record {
+        member = x.0;
+        among = x.1;
+        is_own = (
+          method_definition definition rank f x.0.definition
+              (subst (λ d. IsRankFound (IsDefinitionOf Known d) x.0.definition) x.2 (knows.members.definition x.0 x.1)),
+          x.2 ∙ ap (λ q. method_at q rank) of,
+        );
+      }
 
   -- and the renamed member is one of its members
-  has_definition : (definition : ℕ) → m.of.definition ≡ Some definition → (d : Declaration) → m.of.member.now ≡ d → IsDefinitionOf Known d definition
-  has_definition definition e d same =
-      subst (λ x. IsDefinitionOf Known x definition) same (subst (IsRankFound (IsDefinitionOf Known m.of.member.now)) e knows.definition)
+  has_definition : (x : RenamedMember) → Contains m.of.members.now x → (definition : ℕ) → x.definition ≡ Some definition → (d : Declaration) →
+      x.declaration.now ≡ d → IsDefinitionOf Known d definition
+  has_definition x among definition e d same =
+      subst (λ k. IsDefinitionOf Known k definition) same
+      (subst (IsRankFound (IsDefinitionOf Known x.declaration.now)) e (knows.members.definition x among))
+
+  own_among : (d : Declaration) (x : RenamedMember) → Contains m.of.members.now x → x.declaration.now ≡ d → Contains (renamed_members m.of) d
+  own_among d x among same =
+      subst (Contains (renamed_members m.of)) same (is_mapped (λ (y : RenamedMember). y.declaration.now) m.of.members.now x among)
 
   pub field_is_named : (path : List ℕ) → p.path ≡ path → (definition rank : ℕ) → IsRenamedField m.of (record { «package» = path; rank = definition }) rank →
-      IsFieldOfNewName m.of.member.now name p definition rank
+      IsFieldOfNewName (renamed_members m.of) name p definition rank
   field_is_named path of definition rank h =
       let x = of_one (workspace_before m.of) (verdicts_in m.of) p is path of (λ q. IsFieldOfDefinition q rank definition)
-      (has_definition definition h.0 (field_at path rank) h.1) in
-      record { field = x.field; has_rank = x.has_rank; of_struct = x.of_struct; named = inl (ap (λ q. field_at q rank) of ∙ sym h.1) }
+      (has_definition h.member h.among definition h.is_own.0 (field_at path rank) h.is_own.1) in
+      record {
+        field = x.field;
+        has_rank = x.has_rank;
+        of_struct = x.of_struct;
+        named = inl (subst (Contains (renamed_members m.of)) (h.is_own.1 ∙ ap (λ q. field_at q rank) (sym of))
+            (is_mapped (λ (y : RenamedMember). y.declaration.now) m.of.members.now h.member h.among));
+      }
 
   pub method_is_named : (path : List ℕ) → p.path ≡ path → (definition rank : ℕ) → IsRenamedMethod m.of (record { «package» = path; rank = definition }) rank →
-      IsMethodNamed m.of.member.now name p definition rank
+      IsMethodNamed (renamed_members m.of) name p definition rank
   method_is_named path of definition rank h =
       let x = of_one (workspace_before m.of) (verdicts_in m.of) p is path of (λ q. IsMethodOfDefinition q rank definition)
-      (has_definition definition h.0 (method_at path rank) h.1) in
-      record { method = x.method; has_rank = x.has_rank; of_type = x.of_type; named = inl (ap (λ q. method_at q rank) of ∙ sym h.1) }
+      (has_definition h.member h.among definition h.is_own.0 (method_at path rank) h.is_own.1) in
+      record {
+        method = x.method;
+        has_rank = x.has_rank;
+        of_type = x.of_type;
+        named = inl (subst (Contains (renamed_members m.of)) (h.is_own.1 ∙ ap (λ q. method_at q rank) (sym of))
+            (is_mapped (λ (y : RenamedMember). y.declaration.now) m.of.members.now h.member h.among));
+      }
 
-  pub old_field_named : (definition rank : ℕ) → HasField p definition name rank → IsFieldOfNewName m.of.member.now name p definition rank
+  pub old_field_named : (definition rank : ℕ) → HasField p definition name rank → IsFieldOfNewName (renamed_members m.of) name p definition rank
   old_field_named definition rank h = record { field = h.0; has_rank = h.1.has_rank; of_struct = h.1.of_struct; named = inr h.1.named }
 
-  pub old_method_named : (definition rank : ℕ) → HasMethod p definition name rank → IsMethodNamed m.of.member.now name p definition rank
+  pub old_method_named : (definition rank : ℕ) → HasMethod p definition name rank → IsMethodNamed (renamed_members m.of) name p definition rank
   old_method_named definition rank h = record {
     method = h.0;
     has_rank = h.1.has_rank;
     of_type = record { receiver = h.1.receiver; received = h.1.received; declaration = h.1.declaration; binds = h.1.binds; of_type = h.1.of_type };
     named = inr h.1.named;
   }
+
+  -- a type definition has one renamed member at most
+
+  pub one_field : (path : List ℕ) → p.path ≡ path → (definition j k : ℕ) → IsRenamedField m.of (record { «package» = path; rank = definition }) j →
+      IsRenamedField m.of (record { «package» = path; rank = definition }) k → j ≡ k
+  one_field path of definition j k h g =
+      let own = λ (rank : ℕ) (x : IsRenamedField m.of (record { «package» = path; rank = definition }) rank). field_is_named path of definition rank x in
+      knows.apart.fields p is definition j k
+      (record { field = (own j h).field; has_rank = (own j h).has_rank; of_struct = (own j h).of_struct })
+      (record { field = (own k g).field; has_rank = (own k g).has_rank; of_struct = (own k g).of_struct })
+      (own_among (field_at p.path j) h.member h.among (h.is_own.1 ∙ ap (λ q. field_at q j) (sym of)))
+      (own_among (field_at p.path k) g.member g.among (g.is_own.1 ∙ ap (λ q. field_at q k) (sym of)))
+
+  pub one_method : (path : List ℕ) → p.path ≡ path → (definition j k : ℕ) → IsRenamedMethod m.of (record { «package» = path; rank = definition }) j →
+      IsRenamedMethod m.of (record { «package» = path; rank = definition }) k → j ≡ k
+  one_method path of definition j k h g =
+      let own = λ (rank : ℕ) (x : IsRenamedMethod m.of (record { «package» = path; rank = definition }) rank). method_is_named path of definition rank x in
+      knows.apart.methods p is definition j k
+      (record { method = (own j h).method; has_rank = (own j h).has_rank; of_type = (own j h).of_type })
+      (record { method = (own k g).method; has_rank = (own k g).has_rank; of_type = (own k g).of_type })
+      (own_among (method_at p.path j) h.member h.among (h.is_own.1 ∙ ap (λ q. method_at q j) (sym of)))
+      (own_among (method_at p.path k) g.member g.among (g.is_own.1 ∙ ap (λ q. method_at q k) (sym of)))
 
   -- the first one
 
@@ -130,7 +192,7 @@ module _ (m : EditedRename) (knows : KnowsRename m) (p : Package) (is : packages
       ])
       (λ k h. (knows.renames.fields p is definition k).1 (field_is_named path of definition k h))
       (λ k h. (knows.renames.fields p is definition k).1 (old_field_named definition k h))
-      (λ j k h g. ap rank_in (sym h.1 ∙ g.1)) a b old renamed
+      (one_field path of definition) a b old renamed
 
   pub first_method : (path : List ℕ) → p.path ≡ path → (definition : ℕ) (a b : Option ℕ) → IsFirstOld (HasMethod p definition name) a →
       IsRankFound (IsRenamedMethod m.of (record { «package» = path; rank = definition })) b →
@@ -157,7 +219,7 @@ module _ (m : EditedRename) (knows : KnowsRename m) (p : Package) (is : packages
       ])
       (λ k h. (knows.renames.methods p is definition k).1 (method_is_named path of definition k h))
       (λ k h. (knows.renames.methods p is definition k).1 (old_method_named definition k h))
-      (λ j k h g. ap rank_in (sym h.1 ∙ g.1)) a b old renamed
+      (one_method path of definition) a b old renamed
 
 -- The package of a path that the workspace has.
 pub package_of_path : (w : Workspace) (found : Findings) → IsFaultless w found → (path : List ℕ) → Contains (package_paths w) path →
@@ -181,18 +243,20 @@ module _ (m : EditedRename) (sound : IsFaultless (workspace_before m.of) m.of.wo
   abbrev pub FirstMethod : ℕ → Type 0
   FirstMethod rank = InPackage (packages_before m.of) s.package (λ p. IsFirst (IsMethodAfter (rename_revision m) p s.rank m.of.name.now) rank)
 
-  definition_there : (d : Declaration) → m.of.member.now ≡ d → m.of.definition ≡ Some s.rank → IsDefinitionOf (packages_before m.of) d s.rank
-  definition_there d same e =
-      subst (λ x. IsDefinitionOf (packages_before m.of) x s.rank) same
-      (subst (IsRankFound (IsDefinitionOf (packages_before m.of) m.of.member.now)) e knows.definition)
+  definition_there : (d : Declaration) (x : RenamedMember) → Contains m.of.members.now x → x.declaration.now ≡ d → x.definition ≡ Some s.rank →
+      IsDefinitionOf (packages_before m.of) d s.rank
+  definition_there d x among same e =
+      subst (λ k. IsDefinitionOf (packages_before m.of) k s.rank) same
+      (subst (IsRankFound (IsDefinitionOf (packages_before m.of) x.declaration.now)) e (knows.members.definition x among))
 
   pub field_ranked : (a b : Option ℕ) → ((p : Package) → packages_before m.of p → p.path ≡ s.package → IsFirstOld (HasField p s.rank m.of.name.now) a) →
       MatchOption a (Unit {0}) (λ rank. Has) → IsRankFound (IsRenamedField m.of s) b → IsRankFound FirstField (lesser_rank a b)
   field_ranked None None old there renamed = λ rank k.
       first_field m knows k.inside k.is_package s.package k.of_path s.rank None None (old k.inside k.is_package k.of_path) renamed rank k.holds
   field_ranked None (Some n) old there renamed =
-      let x = definition_there (field_at s.package n) renamed.1 renamed.0 in
-      found_in (workspace_before m.of) (verdicts_in m.of) x.inside x.is_package s.package x.of_path (λ q rank. IsFirstField (rename_revision m) q s.rank m.of.name.now rank)
+      let x = definition_there (field_at s.package n) renamed.member renamed.among renamed.is_own.1 renamed.is_own.0 in
+      found_in (workspace_before m.of) (verdicts_in m.of) x.inside x.is_package s.package x.of_path (λ q rank. IsFirstField (rename_revision m) q s.rank
+      m.of.name.now rank)
       (Some n)
       (first_field m knows x.inside x.is_package s.package x.of_path s.rank None (Some n) (old x.inside x.is_package x.of_path) renamed)
   field_ranked (Some k) b old there renamed =
@@ -205,33 +269,34 @@ module _ (m : EditedRename) (sound : IsFaultless (workspace_before m.of) m.of.wo
   method_ranked None None old there renamed = λ rank k.
       first_method m knows k.inside k.is_package s.package k.of_path s.rank None None (old k.inside k.is_package k.of_path) renamed rank k.holds
   method_ranked None (Some n) old there renamed =
-      let x = definition_there (method_at s.package n) renamed.1 renamed.0 in
+      let x = definition_there (method_at s.package n) renamed.member renamed.among renamed.is_own.1 renamed.is_own.0 in
       found_in (workspace_before m.of) (verdicts_in m.of) x.inside x.is_package s.package x.of_path (λ q rank. IsFirst (IsMethodAfter
       (rename_revision m) q s.rank m.of.name.now) rank)
       (Some n)
       (first_method m knows x.inside x.is_package s.package x.of_path s.rank None (Some n) (old x.inside x.is_package x.of_path) renamed)
   method_ranked (Some k) b old there renamed =
       let x = package_of_path (workspace_before m.of) m.of.workspace.now.findings sound s.package there in
-      found_in (workspace_before m.of) (verdicts_in m.of) x.0 x.1.0 s.package x.1.1 (λ q rank. IsFirst (IsMethodAfter (rename_revision m) q s.rank m.of.name.now) rank)
+      found_in (workspace_before m.of) (verdicts_in m.of) x.0 x.1.0 s.package x.1.1 (λ q rank. IsFirst (IsMethodAfter (rename_revision m) q s.rank
+      m.of.name.now) rank)
       (lesser_rank (Some k) b) (first_method m knows x.0 x.1.0 s.package x.1.1 s.rank (Some k) b (old x.0 x.1.0 x.1.1) renamed)
 
--- The renamed member at a type definition, as the test decides it.
-pub own_field : (m : EditedRename) (of t : Symbol) → m.of.member.now ≡ Field t → (b : Bool) →
-    IsTrue b ↔ ((m.of.definition ≡ Some of.rank) × (t.package ≡ of.package)) → (o : Option ℕ) → (b ≡ true → o ≡ Some t.rank) → (b ≡ false → o ≡ None) →
-    IsRankFound (IsRenamedField m.of of) o
+-- A renamed member at a type definition, as the test decides it.
+pub own_field : (m : RenamedMember) (of t : Symbol) → m.declaration.now ≡ Field t → (b : Bool) →
+    IsTrue b ↔ ((m.definition ≡ Some of.rank) × (t.package ≡ of.package)) → (o : Option ℕ) → (b ≡ true → o ≡ Some t.rank) → (b ≡ false → o ≡ None) →
+    IsRankFound (IsOwnField of m) o
 own_field m of t is true told o some none =
     let k = told.0 refl in
-    subst (IsRankFound (IsRenamedField m.of of)) (sym (some refl)) (k.0, is ∙ ap (λ q. field_at q t.rank) k.1)
+    subst (IsRankFound (IsOwnField of m)) (sym (some refl)) (k.0, is ∙ ap (λ q. field_at q t.rank) k.1)
 own_field m of t is false told o some none =
-    subst (IsRankFound (IsRenamedField m.of of)) (sym (none refl))
+    subst (IsRankFound (IsOwnField of m)) (sym (none refl))
     (λ rank k. false≢true (told.1 (k.0, ap package_in (sym is ∙ k.1))))
 
-pub own_method : (m : EditedRename) (of t : Symbol) → m.of.member.now ≡ Method t → (b : Bool) →
-    IsTrue b ↔ ((m.of.definition ≡ Some of.rank) × (t.package ≡ of.package)) → (o : Option ℕ) → (b ≡ true → o ≡ Some t.rank) → (b ≡ false → o ≡ None) →
-    IsRankFound (IsRenamedMethod m.of of) o
+pub own_method : (m : RenamedMember) (of t : Symbol) → m.declaration.now ≡ Method t → (b : Bool) →
+    IsTrue b ↔ ((m.definition ≡ Some of.rank) × (t.package ≡ of.package)) → (o : Option ℕ) → (b ≡ true → o ≡ Some t.rank) → (b ≡ false → o ≡ None) →
+    IsRankFound (IsOwnMethod of m) o
 own_method m of t is true told o some none =
     let k = told.0 refl in
-    subst (IsRankFound (IsRenamedMethod m.of of)) (sym (some refl)) (k.0, is ∙ ap (λ q. method_at q t.rank) k.1)
+    subst (IsRankFound (IsOwnMethod of m)) (sym (some refl)) (k.0, is ∙ ap (λ q. method_at q t.rank) k.1)
 own_method m of t is false told o some none =
-    subst (IsRankFound (IsRenamedMethod m.of of)) (sym (none refl))
+    subst (IsRankFound (IsOwnMethod of m)) (sym (none refl))
     (λ rank k. false≢true (told.1 (k.0, ap package_in (sym is ∙ k.1))))

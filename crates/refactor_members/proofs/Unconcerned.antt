@@ -23,6 +23,7 @@ use Rattle.refactor_members.specs.Naming.{HasField, HasMethod, IsFirstOld}
 use Rattle.refactor_members.specs.Renames.{EditedRename, KnowsRename, packages_before, rename_revision, verdicts_in, workspace_before}
 use Rattle.refactor_members.proofs.OldMembers.{AllCount, rank_of_field, rank_of_method, old_field_found, old_method_found}
 use Rattle.refactor_members.proofs.Renamed.{renamed_field, renamed_method}
+use Rattle.refactor_members.specs.declared.member_rename.RenamedMember.{RenamedMember}
 
 module _ (m : EditedRename) (knows : KnowsRename m) (p : Package) (is : packages_before m.of p) where
   -- Uses of members that cannot have the new name afterwards stay.
@@ -49,18 +50,21 @@ module _ (m : EditedRename) (knows : KnowsRename m) (p : Package) (is : packages
       ap (option_map declaration_of) (sym (world.member t was.found.before) ∙ was.is_member) ∙ ap Some was.declares in
       knows.renames.used p is u place begins old was (λ stake. elim stake [
         | inr named ↦ not.not_new named
-        | inl renamed ↦ not.not_old ((knows.called not.old not.has_old p is).only world.definitions world.are_definitions (spelled p file t) was.found.before
-            (denotes ∙ ap Some renamed))
+        | inl renamed ↦ not.not_old ((knows.called old renamed not.old not.has_old p is).only world.definitions world.are_definitions (spelled p file t)
+            was.found.before denotes)
       ])
 
   -- A type definition stays that has no member of the new name, and is not that of the renamed member.
   module _ (all : AllCount p) (own : List Definition) (are : AreOwnDefinitions p own) (definition : ℕ) (d : Definition)
-      (here : slice_get own definition ≡ Some d) (no_field : (definition_of d).field m.of.name.now ≡ None) (no_method : (definition_of d).method m.of.name.now ≡ None)
-      (other : m.of.definition ≡ Some definition → ⊥) (place : Place) where
+      (here : slice_get own definition ≡ Some d) (no_field : (definition_of d).field m.of.name.now ≡ None) (no_method : (definition_of d).method
+      m.of.name.now ≡ None)
+      (other : (x : RenamedMember) → Contains m.of.members.now x → x.definition ≡ Some definition → ⊥) (place : Place) where
     fields_stay : FieldsStayOf m p definition place
     fields_stay = λ rank named at. elim named.named [
-      | inl same ↦ absurd (other (renamed_field m knows p is p.path refl definition rank
-          (record { field = named.field; has_rank = named.has_rank; of_struct = named.of_struct }) same).0)
+      | inl same ↦
+          let renamed = renamed_field m knows p is p.path refl definition rank
+          (record { field = named.field; has_rank = named.has_rank; of_struct = named.of_struct }) same in
+          absurd (other renamed.member renamed.among renamed.is_own.0)
       | inr said ↦ (
           let none : rank_of_field (definition_or_none (symbol_in p definition) (slice_get own definition)) m.of.name.now ≡ None =
           ap (λ o. rank_of_field (definition_or_none (symbol_in p definition) o) m.of.name.now) here ∙ ap (option_map (λ f. f.symbol.rank)) no_field in
@@ -70,8 +74,10 @@ module _ (m : EditedRename) (knows : KnowsRename m) (p : Package) (is : packages
 
     methods_stay : MethodsStayOf m p definition place
     methods_stay = λ rank named at. elim named.named [
-      | inl same ↦ absurd (other (renamed_method m knows p is p.path refl definition rank
-          (record { method = named.method; has_rank = named.has_rank; of_type = named.of_type }) same).0)
+      | inl same ↦
+          let renamed = renamed_method m knows p is p.path refl definition rank
+          (record { method = named.method; has_rank = named.has_rank; of_type = named.of_type }) same in
+          absurd (other renamed.member renamed.among renamed.is_own.0)
       | inr said ↦ (
           let t = named.of_type in
           let none : rank_of_method (definition_or_none (symbol_in p definition) (slice_get own definition)) m.of.name.now ≡ None =

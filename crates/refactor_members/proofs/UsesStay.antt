@@ -1,6 +1,6 @@
 -- Uses of members stay that have another name than the new one, and those of the new name as they are judged.
-use Rattle.std.proofs.Common.{ℕ, ◌≡◌, ◌⊎◌, inl, inr, List, ap, sym, subst, ◌∙◌}
-use Rattle.std.specs.Prelude.{Option, Some, None, slice_get}
+use Rattle.std.proofs.Common.{ℕ, ◌≡◌, ◌⊎◌, inl, inr, List, sym, subst, ◌∙◌}
+use Rattle.std.specs.Prelude.{Option, Some, None, slice_get, Contains}
 use Rattle.std.proofs.lemmas.Option.{same_Some}
 use Rattle.base_files.specs.declared.place.Place.{Place}
 use Rattle.base_edits.specs.Revisions.{Revision}
@@ -29,6 +29,7 @@ use Rattle.refactor_members.specs.Judging.{IsUncalled, Judges}
 use Rattle.refactor_members.specs.Naming.{IsUseIn}
 use Rattle.refactor_members.specs.Renames.{EditedRename, KnowsRename, packages_before, rename_revision}
 use Rattle.refactor_members.proofs.Judged.{judged_as}
+use Rattle.refactor_members.specs.Renames.{renamed_members}
 
 pub name_begins : (o : Option SourceFile) (token : ℕ) (place : Place) → NameBegins o token place.path place.offset → TokenBegins o token place
 name_begins None token place h = absurd h
@@ -54,7 +55,8 @@ module _ (m : EditedRename) (p : Package) (is : packages_before m.of p) (formed 
 
   -- A use that is not at stake stays.
   pub other_stays : KnowsRename m → IsUseIn p file x → (place : Place) →
-      ((old : Declaration) → member_at ds p file x.place x.before ≡ Some old → (old ≡ m.of.member.now) ⊎ (spelled p file x.place ≡ m.of.name.now) → ⊥) →
+      ((old : Declaration) → member_at ds p file x.place x.before ≡ Some old → Contains (renamed_members m.of) old ⊎ (spelled p file x.place ≡
+      m.of.name.now) → ⊥) →
       UseStays Known r ds p file x place
   other_stays knows one place not = λ old used.
       let u = used.at.0 in
@@ -64,9 +66,9 @@ module _ (m : EditedRename) (p : Package) (is : packages_before m.of p) (formed 
       let there = used_at p formed ds are file one.uses one.judged x one.among old used.is_member in
       let here : IsUsedAs ds p f t old x.before =
       subst (λ k. IsUsedAs ds p k t old x.before) (sym stands.1) (subst (λ n. IsUsedAs ds p file n old x.before) (sym stands.2) there) in
-      let other : (old ≡ m.of.member.now) ⊎ (spelled p f t ≡ m.of.name.now) → ⊥ =
-      subst (λ k. (old ≡ m.of.member.now) ⊎ (spelled p k t ≡ m.of.name.now) → ⊥) (sym stands.1)
-      (subst (λ n. (old ≡ m.of.member.now) ⊎ (spelled p file n ≡ m.of.name.now) → ⊥) (sym stands.2) (not old used.is_member)) in
+      let other : Contains (renamed_members m.of) old ⊎ (spelled p f t ≡ m.of.name.now) → ⊥ =
+      subst (λ k. Contains (renamed_members m.of) old ⊎ (spelled p k t ≡ m.of.name.now) → ⊥) (sym stands.1)
+      (subst (λ n. Contains (renamed_members m.of) old ⊎ (spelled p file n ≡ m.of.name.now) → ⊥) (sym stands.2) (not old used.is_member)) in
       let now = knows.renames.used p is u place used.at.1.0 old here.0 other in
       let plain : IsMemberAfter Known r p.path (r.called place (spelled p f t)) types x.before old =
       subst (λ b. IsMemberAfter Known r p.path (r.called place (spelled p f t)) types b old) here.1.0
@@ -74,18 +76,18 @@ module _ (m : EditedRename) (p : Package) (is : packages_before m.of p) (formed 
       subst (λ k. IsMemberAfter Known r p.path (r.called place (spelled p k x.place)) types x.before old) stands.1
       (subst (λ n. IsMemberAfter Known r p.path (r.called place (spelled p f n)) types x.before old) stands.2 plain)
 
-  -- A use stays that has neither the new name nor that of the renamed member.
-  pub uncalled_stays : KnowsRename m → IsUseIn p file x → (place : Place) → IsUncalled m.of (slice_get p.files file) x.place → UseStays Known r ds p file x place
+  -- A use stays that has neither the new name nor that of the renamed members.
+  pub uncalled_stays : KnowsRename m → IsUseIn p file x → (place : Place) → IsUncalled m.of (slice_get p.files file) x.place →
+      UseStays Known r ds p file x place
   uncalled_stays knows one place uncalled =
       other_stays knows one place (λ old used stake. elim stake [
         | inr named ↦ uncalled.not_new named
-        | inl same ↦ uncalled.not_old ((knows.called uncalled.old uncalled.has_old p is).only ds are (spelled p file x.place) x.before
-            (used ∙ ap Some same))
+        | inl renamed ↦ uncalled.not_old ((knows.called old renamed uncalled.old uncalled.has_old p is).only ds are (spelled p file x.place) x.before used)
       ])
 
   -- A use that is at stake has the new name.
   pub called_there : KnowsRename m → IsUseIn p file x → (place : Place) → AtToken p at place → (old : Declaration) →
-      member_at ds p file x.place x.before ≡ Some old → (old ≡ m.of.member.now) ⊎ (spelled p file x.place ≡ m.of.name.now) →
+      member_at ds p file x.place x.before ≡ Some old → Contains (renamed_members m.of) old ⊎ (spelled p file x.place ≡ m.of.name.now) →
       r.called place (spelled p file x.place) ≡ m.of.name.now
   called_there knows one place begins old used stake =
       let u = begins.0 in
@@ -95,9 +97,9 @@ module _ (m : EditedRename) (p : Package) (is : packages_before m.of p) (formed 
       let there = used_at p formed ds are file one.uses one.judged x one.among old used in
       let here : IsUsedAs ds p f t old x.before =
       subst (λ k. IsUsedAs ds p k t old x.before) (sym stands.1) (subst (λ n. IsUsedAs ds p file n old x.before) (sym stands.2) there) in
-      let at_stake : (old ≡ m.of.member.now) ⊎ (spelled p f t ≡ m.of.name.now) =
-      subst (λ k. (old ≡ m.of.member.now) ⊎ (spelled p k t ≡ m.of.name.now)) (sym stands.1)
-      (subst (λ n. (old ≡ m.of.member.now) ⊎ (spelled p file n ≡ m.of.name.now)) (sym stands.2) stake) in
+      let at_stake : Contains (renamed_members m.of) old ⊎ (spelled p f t ≡ m.of.name.now) =
+      subst (λ k. Contains (renamed_members m.of) old ⊎ (spelled p k t ≡ m.of.name.now)) (sym stands.1)
+      (subst (λ n. Contains (renamed_members m.of) old ⊎ (spelled p file n ≡ m.of.name.now)) (sym stands.2) stake) in
       let now : r.called place (spelled p f t) ≡ m.of.name.now = knows.renames.called p is u place begins.1.0 old here.0 at_stake in
       subst (λ k. r.called place (spelled p k x.place) ≡ m.of.name.now) stands.1
       (subst (λ n. r.called place (spelled p f n) ≡ m.of.name.now) stands.2 now)

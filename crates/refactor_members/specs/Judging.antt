@@ -17,7 +17,8 @@ use Rattle.refactor_conflict.specs.declared.conflict.Conflict.{Conflict}
 use Rattle.refactor_conflict.specs.Conflicts.{Takes, HoldsBefore, IsConflictIn}
 use Rattle.refactor_conflict.specs.Staying.{MembersStayIn, DeclaringNamesStayIn}
 use Rattle.refactor_members.specs.declared.member_rename.MemberRename.{MemberRename}
-use Rattle.refactor_members.specs.Renames.{EditedRename, KnowsRename, IsFieldOfNewName, IsMethodNamed, workspace_before, verdicts_in, packages_before, rename_revision}
+use Rattle.refactor_members.specs.Renames.{EditedRename, KnowsRename, IsFieldOfNewName, IsMethodNamed}
+use Rattle.refactor_members.specs.Renames.{workspace_before, verdicts_in, packages_before, rename_revision, renamed_members}
 
 -- For a rename that is known: the first conflict found so far stays, or becomes an earlier one of which `P` holds. `K` holds of the places
 -- before it.
@@ -46,12 +47,12 @@ ListedMethodStays m p listed place = (rank : ℕ) → listed ≡ Some rank → N
 -- The names of the fields stay that a type definition has under the new name.
 abbrev pub FieldsStayOf : EditedRename → Package → (definition : ℕ) → Place → Type 0
 FieldsStayOf m p definition place =
-    (rank : ℕ) → IsFieldOfNewName m.of.member.now m.of.name.now p definition rank → NewNameCounts m p (field_at p.path rank) place
+    (rank : ℕ) → IsFieldOfNewName (renamed_members m.of) m.of.name.now p definition rank → NewNameCounts m p (field_at p.path rank) place
 
 -- The names of its methods stay.
 abbrev pub MethodsStayOf : EditedRename → Package → (definition : ℕ) → Place → Type 0
 MethodsStayOf m p definition place =
-    (rank : ℕ) → IsMethodNamed m.of.member.now m.of.name.now p definition rank → NewNameCounts m p (method_at p.path rank) place
+    (rank : ℕ) → IsMethodNamed (renamed_members m.of) m.of.name.now p definition rank → NewNameCounts m p (method_at p.path rank) place
 
 -- Both.
 abbrev pub NamesStayOf : EditedRename → Package → (definition : ℕ) → Place → Type 0
@@ -66,7 +67,7 @@ MembersStayThere m p place = MembersStayIn (workspace_before m.of) (verdicts_in 
 abbrev pub AllMembersStayAt : EditedRename → Place → Type 0
 AllMembersStayAt m place = (p : Package) → packages_before m.of p → MembersStayThere m p place
 
--- A token has neither the new name nor the old one of the renamed member, if this was found.
+-- A token has neither the new name nor the old one of the renamed members, if this was found.
 pub record IsUncalled (m : MemberRename) (file : Option SourceFile) (token : ℕ) : Type 0 where
   pub not_new : spelled_at file token ≡ m.name.now → ⊥
   pub old : List ℕ

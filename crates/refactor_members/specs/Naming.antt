@@ -14,6 +14,7 @@ use Rattle.refactor_after.specs.MembersAfter.{IsFirst}
 use Rattle.refactor_after.specs.OldPlaces.{field_at, method_at}
 pub use Rattle.law_agreement.specs.ConflictsByTables.{HasField, HasMethod}
 use Rattle.refactor_members.specs.declared.member_rename.MemberRename.{MemberRename}
+use Rattle.refactor_members.specs.declared.member_rename.RenamedMember.{RenamedMember}
 use Rattle.refactor_members.specs.declared.judged_uses.PackageUses.{PackageUses}
 
 -- The first rank of which `Old` holds, or `None` where it holds of none.
@@ -21,12 +22,23 @@ abbrev pub IsFirstOld : (ℕ → Type 0) → Option ℕ → Type 0
 IsFirstOld Old found = MatchOption found ((rank : ℕ) → Old rank → ⊥) (IsFirst Old)
 
 -- The renamed member is the field of this rank in the package of the type definition `of`, in the struct that this writes.
-abbrev pub IsRenamedField : MemberRename → (of : Symbol) → (rank : ℕ) → Type 0
-IsRenamedField m of rank = (m.definition ≡ Some of.rank) × (m.member.now ≡ field_at of.package rank)
+abbrev pub IsOwnField : (of : Symbol) → RenamedMember → (rank : ℕ) → Type 0
+IsOwnField of m rank = (m.definition ≡ Some of.rank) × (m.declaration.now ≡ field_at of.package rank)
 
 -- The renamed member is the method of this rank in the package of the type definition `of`, and one of its methods.
-abbrev pub IsRenamedMethod : MemberRename → (of : Symbol) → (rank : ℕ) → Type 0
-IsRenamedMethod m of rank = (m.definition ≡ Some of.rank) × (m.member.now ≡ method_at of.package rank)
+abbrev pub IsOwnMethod : (of : Symbol) → RenamedMember → (rank : ℕ) → Type 0
+IsOwnMethod of m rank = (m.definition ≡ Some of.rank) × (m.declaration.now ≡ method_at of.package rank)
+
+-- So is one of the renamed members.
+pub record IsRenamedField (m : MemberRename) (of : Symbol) (rank : ℕ) : Type 0 where
+  pub member : RenamedMember
+  pub among : Contains m.members.now member
+  pub is_own : IsOwnField of member rank
+
+pub record IsRenamedMethod (m : MemberRename) (of : Symbol) (rank : ℕ) : Type 0 where
+  pub member : RenamedMember
+  pub among : Contains m.members.now member
+  pub is_own : IsOwnMethod of member rank
 
 -- The lesser of two ranks, where there are any.
 abbrev pub lesser_rank : Option ℕ → Option ℕ → Option ℕ

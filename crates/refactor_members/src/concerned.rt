@@ -1,11 +1,12 @@
 //! Decides which packages and type definitions a rename can concern, so that the others aren't judged: a use of a member is at stake only if it
-//! has the new name, or the name of the renamed member.
-ghost use Rattle.std.specs.Prelude.{ℕ, ◌≡◌, ◌↔◌, IsTrue, None, Some, false, length, map, slice_get};
+//! has the new name, or the name of the renamed members.
+ghost use Rattle.std.specs.Prelude.{ℕ, ◌≡◌, ◌↔◌, Contains, IsTrue, None, Some, false, length, map, slice_get};
 ghost use Rattle.go_ast.specs.SourceFile.{source_of, spelling_of};
 ghost use Rattle.types_expr.specs.Found.{use_of};
 ghost use Rattle.types_expr.specs.Judge.{MemberUse as Use};
 ghost use Rattle.types_expr.specs.WorldView.{definition_of};
 ghost use Rattle.refactor_members.specs.Judging.{AreUncalled, IsUncalled};
+ghost use Rattle.refactor_members.specs.declared.member_rename.RenamedMember.{RenamedMember};
 
 use crate::member_rename::MemberRename;
 use go_ast::FileTree;
@@ -32,7 +33,7 @@ fn has_name(file: &FileTree, uses: &[MemberUse], name: &[u8]) -> bool
     false
 }
 
-/// Whether a use of a member in a file may have the new name, or the name of the renamed member.
+/// Whether a use of a member in a file may have the new name, or the name of the renamed members.
 fn concerns_file(m: &MemberRename<'_>, file: &FileTree, uses: &[MemberUse]) -> bool
     ensures { result ≡ false → (k : ℕ) → (x : Use) → slice_get (map use_of uses.now) k ≡ Some x → IsUncalled m.now (Some (source_of file.now)) x.place }
 {
@@ -42,7 +43,7 @@ fn concerns_file(m: &MemberRename<'_>, file: &FileTree, uses: &[MemberUse]) -> b
     }
 }
 
-/// Whether a use of a member in a file of a package may have the new name, or the name of the renamed member.
+/// Whether a use of a member in a file of a package may have the new name, or the name of the renamed members.
 pub(crate) fn concerns_at(
     m: &MemberRename<'_>,
     files: &[FileTree],
@@ -58,7 +59,7 @@ pub(crate) fn concerns_at(
     }
 }
 
-/// Whether a use of a member in a package may have the new name, or the name of the renamed member.
+/// Whether a use of a member in a package may have the new name, or the name of the renamed members.
 pub(crate) fn concerns(m: &MemberRename<'_>, files: &[FileTree], members: &[Vec<MemberUse>]) -> bool
     ensures { result ≡ false → AreUncalled m.now (map source_of files.now) (length members.now) members.now }
 {
@@ -70,7 +71,19 @@ pub(crate) fn concerns(m: &MemberRename<'_>, files: &[FileTree], members: &[Vec<
     false
 }
 
-/// Whether the type definition of a rank has a field or method of the new name, or may have the renamed member.
+/// Whether one of the renamed members may be that of the type definition of a rank.
+fn has_renamed(m: &MemberRename<'_>, rank: usize) -> bool
+    ensures { result ≡ false → (x : RenamedMember) → Contains m.now.members.now x → x.definition ≡ Some rank → ⊥ }
+{
+    for member in m.members {
+        if is_rank(member.definition, rank) {
+            return true;
+        }
+    }
+    false
+}
+
+/// Whether the type definition of a rank has a field or method of the new name, or may have a renamed member.
 pub(crate) fn concerns_definition(
     m: &MemberRename<'_>,
     definition: &Definition,
@@ -78,9 +91,9 @@ pub(crate) fn concerns_definition(
 ) -> bool
     ensures field { result ≡ false → (definition_of definition.now).field m.now.name.now ≡ None }
     ensures method { result ≡ false → (definition_of definition.now).method m.now.name.now ≡ None }
-    ensures other { result ≡ false → m.now.definition ≡ Some rank → ⊥ }
+    ensures other { result ≡ false → (x : RenamedMember) → Contains m.now.members.now x → x.definition ≡ Some rank → ⊥ }
 {
     definition.fields.contains_key(m.name)
         || definition.methods.contains_key(m.name)
-        || is_rank(m.definition, rank)
+        || has_renamed(m, rank)
 }

@@ -29,7 +29,7 @@ fn judge_members(
     judge_names(alloc, first, m, number)
 }
 
-/// Judges the uses of members and the identifiers that declare them in the package of a number, if it can use the renamed member.
+/// Judges the uses of members and the identifiers that declare them in the package of a number, if it can use a renamed member.
 fn judge_package(
     alloc: Global,
     first: &mut Option<Conflict>,

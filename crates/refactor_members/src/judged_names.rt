@@ -10,7 +10,7 @@ ghost use Rattle.refactor_after.specs.MembersAfter.{CountsAfter};
 ghost use Rattle.refactor_conflict.specs.Conflicts.{HoldsBefore, IsPlaceBefore, Takes};
 ghost use Rattle.refactor_conflict.specs.Staying.{DeclaringNamesStayIn};
 ghost use Rattle.refactor_members.specs.Judging.{FieldsStayOf, IsNamedAt, JudgesIn, ListedFieldStays, ListedMethodStays, MethodsStayOf, NewNameCounts, NamesStayOf};
-ghost use Rattle.refactor_members.specs.Renames.{by, KnowsRename, IsFieldOfNewName, IsMethodNamed, packages_before, rename_revision, verdicts_in, workspace_before};
+ghost use Rattle.refactor_members.specs.Renames.{by, KnowsRename, IsFieldOfNewName, IsMethodNamed, packages_before, rename_revision, renamed_members, verdicts_in, workspace_before};
 ghost use Rattle.refactor_conflict.specs.declared.conflict.Conflict.{Conflict as Told};
 
 use crate::concerned::concerns_definition;
@@ -88,7 +88,7 @@ fn judge_field(
 ) -> Result<(), AllocError>
     requires { d.now.number < length (package_paths (workspace_before d.now.rename.now)) }
     ensures { OnOk result ((s : FileChanges) → (p : Checked) → IsPackageAt (workspace_before d.now.rename.now) (verdicts_in d.now.rename.now) d.now.number p → p.path ≡ d.now.of.now.package →
-        (KnowsRename (by d.now.rename.now s) → (rank : ℕ) → listed ≡ Some rank → IsFieldOfNewName d.now.rename.now.member.now d.now.rename.now.name.now p d.now.of.now.rank rank) →
+        (KnowsRename (by d.now.rename.now s) → (rank : ℕ) → listed ≡ Some rank → IsFieldOfNewName (renamed_members d.now.rename.now) d.now.rename.now.name.now p d.now.of.now.rank rank) →
         JudgesIn (by d.now.rename.now s) p (ListedFieldStays (by d.now.rename.now s) p listed) first.old first.new) }
 {
     match listed {
@@ -110,7 +110,7 @@ fn judge_method(
 ) -> Result<(), AllocError>
     requires { d.now.number < length (package_paths (workspace_before d.now.rename.now)) }
     ensures { OnOk result ((s : FileChanges) → (p : Checked) → IsPackageAt (workspace_before d.now.rename.now) (verdicts_in d.now.rename.now) d.now.number p → p.path ≡ d.now.of.now.package →
-        (KnowsRename (by d.now.rename.now s) → (rank : ℕ) → listed ≡ Some rank → IsMethodNamed d.now.rename.now.member.now d.now.rename.now.name.now p d.now.of.now.rank rank) →
+        (KnowsRename (by d.now.rename.now s) → (rank : ℕ) → listed ≡ Some rank → IsMethodNamed (renamed_members d.now.rename.now) d.now.rename.now.name.now p d.now.of.now.rank rank) →
         JudgesIn (by d.now.rename.now s) p (ListedMethodStays (by d.now.rename.now s) p listed) first.old first.new) }
 {
     match listed {

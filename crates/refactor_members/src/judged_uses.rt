@@ -1,5 +1,5 @@
 //! Judges the uses of members that have the new name: each must select the member that it selected.
-ghost use Rattle.std.specs.Prelude.{ℕ, ◌≡◌, ◌↔◌, ◌⊎◌, ◌<◌, false, List, length, map, slice_get, Some, IsTrue, IfOk, OnOk};
+ghost use Rattle.std.specs.Prelude.{ℕ, ◌≡◌, ◌↔◌, ◌⊎◌, ◌<◌, Contains, false, List, length, map, slice_get, Some, IsTrue, IfOk, OnOk};
 ghost use Rattle.base_files.specs.Packages.{package_paths};
 ghost use Rattle.base_edits.specs.EditSet.{FileChanges};
 ghost use Rattle.go_ast.specs.SourceFile.{source_of};
@@ -21,7 +21,7 @@ ghost use Rattle.refactor_conflict.specs.Conflicts.{IsMemberConflict, IsMemberCo
 ghost use Rattle.refactor_conflict.specs.Staying.{MembersStayIn};
 ghost use Rattle.refactor_members.specs.Judging.{Judges, JudgesIn};
 ghost use Rattle.refactor_members.specs.Naming.{HasUsesOf, IsUseIn};
-ghost use Rattle.refactor_members.specs.Renames.{by, KnowsRename, packages_before, rename_revision, verdicts_in, workspace_before};
+ghost use Rattle.refactor_members.specs.Renames.{by, KnowsRename, packages_before, rename_revision, renamed_members, verdicts_in, workspace_before};
 
 use crate::concerned::{concerns, concerns_at};
 use crate::declared_place::capturer;
@@ -156,7 +156,7 @@ fn judge_called(
     ensures { let x = use_of found.now in
         let ds = definitions_known of.now.types in
         OnOk result ((s : FileChanges) → (p : Checked) → HasUsesOf (workspace_before m.now) (verdicts_in m.now) p of.now → member_at ds p file x.place x.before ≡ Some (declaration_of (member_of old.entry)) →
-        IsUseIn p file x → (declaration_of (member_of old.entry) ≡ m.now.member.now) ⊎ (spelled p file x.place ≡ m.now.name.now) →
+        IsUseIn p file x → Contains (renamed_members m.now) (declaration_of (member_of old.entry)) ⊎ (spelled p file x.place ≡ m.now.name.now) →
         Judges (by m.now s) (IsMemberConflict (packages_before m.now) (rename_revision (by m.now s)) ds p file x) (UseStays (packages_before m.now) (rename_revision (by m.now s)) ds p file x) first.old first.new) }
 {
     let at = Position {
@@ -176,11 +176,23 @@ fn is_name(spelling: &[u8], name: &[u8]) -> bool
     spelling == name
 }
 
+/// Whether a member is one of those that are renamed.
+fn is_renamed(m: &MemberRename<'_>, old: Member<'_>) -> bool
+    ensures { IsTrue result ↔ Contains (renamed_members m.now) (declaration_of (member_of old.entry)) }
+{
+    for member in m.members {
+        if member.declaration.is_of(old) {
+            return true;
+        }
+    }
+    false
+}
+
 /// Whether a use of the member `old`, spelled so, has the new name after the rename.
 fn is_called(m: &MemberRename<'_>, spelling: &[u8], old: Member<'_>) -> bool
-    ensures { IsTrue result ↔ ((declaration_of (member_of old.entry) ≡ m.now.member.now) ⊎ (spelling.now ≡ m.now.name.now)) }
+    ensures { IsTrue result ↔ (Contains (renamed_members m.now) (declaration_of (member_of old.entry)) ⊎ (spelling.now ≡ m.now.name.now)) }
 {
-    m.member.is_of(old) || is_name(spelling, m.name)
+    is_renamed(m, old) || is_name(spelling, m.name)
 }
 
 /// Judges a use of a member that is spelled so.
@@ -214,7 +226,7 @@ fn judge_spelled(
     }
 }
 
-/// Whether a use of a member, spelled so, may have the new name after the rename: it has it, or has the name of the renamed member.
+/// Whether a use of a member, spelled so, may have the new name after the rename: it has it, or has the name of the renamed members.
 fn may_be_called(m: &MemberRename<'_>, spelling: &[u8]) -> bool
     ensures { result ≡ false → (spelling.now ≡ m.now.name.now → ⊥) × ((old : List ℕ) × ((name_value m.now.called ≡ Some old) × (spelling.now ≡ old → ⊥))) }
 {
@@ -224,7 +236,7 @@ fn may_be_called(m: &MemberRename<'_>, spelling: &[u8]) -> bool
     }
 }
 
-/// Judges a use of a member. One stays that has neither the new name nor the name of the renamed member.
+/// Judges a use of a member. One stays that has neither the new name nor the name of the renamed members.
 fn judge_use(
     alloc: Global,
     first: &mut Option<Conflict>,

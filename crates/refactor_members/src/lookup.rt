@@ -1,4 +1,4 @@
-//! Looks up the members that have the new name of a rename: by the old definitions, and the renamed member.
+//! Looks up the members that have the new name of a rename: by the old definitions, and the renamed members.
 ghost use Rattle.std.specs.Prelude.{ℕ, ◌≡◌, ◌↔◌, Contains, IsTrue, MatchOption, Some, IfOk, option_map, slice_get};
 ghost use Rattle.std.specs.Option.{option_copied};
 ghost use Rattle.base_edits.specs.EditSet.{FileChanges};
@@ -16,9 +16,9 @@ ghost use Rattle.refactor_after.specs.NamesAfter.{IsMethodAfter};
 ghost use Rattle.refactor_after.specs.MembersAfter.{HasFieldAfter, IsFieldIn, IsFirst, IsFirstField, IsFirstMethod, IsMemberAfter, IsMethodIn};
 ghost use Rattle.refactor_after.specs.MembersFound.{IsRankFound, IsStructFound, SelectsField, SelectsMethod};
 ghost use Rattle.refactor_members.specs.Renames.{by, KnowsRename, IsFieldOfNewName, IsMethodNamed, packages_before, rename_revision, workspace_before};
-ghost use Rattle.refactor_members.specs.Naming.{HasField, HasMethod, IsFirstOld, IsRenamedField, IsRenamedMethod, lesser_rank};
+ghost use Rattle.refactor_members.specs.Naming.{HasField, HasMethod, IsFirstOld, IsOwnField, IsOwnMethod, IsRenamedField, IsRenamedMethod, lesser_rank};
 
-use crate::member_rename::MemberRename;
+use crate::member_rename::{MemberRename, RenamedMember};
 use refactor_after::is_rank;
 use refs_binding::{Declaration, own_of};
 use std::alloc::AllocError;
@@ -103,19 +103,19 @@ pub(crate) fn old_method(m: &MemberRename<'_>, of: &Symbol) -> Option<usize>
     }
 }
 
-/// Whether the renamed member, which has the symbol `member`, belongs to a type definition.
-fn is_own(m: &MemberRename<'_>, of: &Symbol, member: &Symbol) -> bool
-    ensures { IsTrue result ↔ ((m.now.definition ≡ Some of.now.rank) × (member.now.package ≡ of.now.package)) }
+/// Whether a renamed member, which has the symbol `symbol`, belongs to a type definition.
+fn is_own(member: &RenamedMember<'_>, of: &Symbol, symbol: &Symbol) -> bool
+    ensures { IsTrue result ↔ ((member.now.definition ≡ Some of.now.rank) × (symbol.now.package ≡ of.now.package)) }
 {
-    is_rank(m.definition, of.rank) && member.package.path() == of.package.path()
+    is_rank(member.definition, of.rank) && symbol.package.path() == of.package.path()
 }
 
-/// The rank of the renamed member, if it is a field of the struct that a type definition writes.
-pub(crate) fn renamed_field(m: &MemberRename<'_>, of: &Symbol) -> Option<usize>
-    ensures { IsRankFound (IsRenamedField m.now of.now) result }
+/// The rank of a renamed member, if it is a field of the struct that a type definition writes.
+fn own_field(member: &RenamedMember<'_>, of: &Symbol) -> Option<usize>
+    ensures { IsRankFound (IsOwnField of.now member.now) result }
 {
-    match m.member {
-        Declaration::Field(symbol) => if is_own(m, of, symbol) {
+    match member.declaration {
+        Declaration::Field(symbol) => if is_own(member, of, symbol) {
             Some(symbol.rank)
         } else {
             None
@@ -124,18 +124,44 @@ pub(crate) fn renamed_field(m: &MemberRename<'_>, of: &Symbol) -> Option<usize>
     }
 }
 
-/// The rank of the renamed member, if it is a method of a type definition.
-pub(crate) fn renamed_method(m: &MemberRename<'_>, of: &Symbol) -> Option<usize>
-    ensures { IsRankFound (IsRenamedMethod m.now of.now) result }
+/// The rank of a renamed member, if it is a method of a type definition.
+fn own_renamed_method(member: &RenamedMember<'_>, of: &Symbol) -> Option<usize>
+    ensures { IsRankFound (IsOwnMethod of.now member.now) result }
 {
-    match m.member {
-        Declaration::Method(symbol) => if is_own(m, of, symbol) {
+    match member.declaration {
+        Declaration::Method(symbol) => if is_own(member, of, symbol) {
             Some(symbol.rank)
         } else {
             None
         },
         Declaration::Predeclared(_) | Declaration::Declared(_, _) | Declaration::Field(_) => None,
     }
+}
+
+/// The rank of the first renamed member that is a field of the struct that a type definition writes.
+pub(crate) fn renamed_field(m: &MemberRename<'_>, of: &Symbol) -> Option<usize>
+    ensures { IsRankFound (IsRenamedField m.now of.now) result }
+{
+    for member in m.members {
+        let own = own_field(member, of);
+        if own.is_some() {
+            return own;
+        }
+    }
+    None
+}
+
+/// The rank of the first renamed member that is a method of a type definition.
+pub(crate) fn renamed_method(m: &MemberRename<'_>, of: &Symbol) -> Option<usize>
+    ensures { IsRankFound (IsRenamedMethod m.now of.now) result }
+{
+    for member in m.members {
+        let own = own_renamed_method(member, of);
+        if own.is_some() {
+            return own;
+        }
+    }
+    None
 }
 
 /// The lesser of two ranks, where there are any.

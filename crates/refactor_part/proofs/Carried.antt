@@ -70,6 +70,8 @@ module _ (w : Workspace) (P Q : List ℕ → Type 0) (same : (p : List ℕ) → 
   refused_of refusal.Already h = absurd h
   refused_of refusal.NoJob h = absurd h
   refused_of refusal.BodyShort h = absurd h
+  refused_of (refusal.Coupled place) h = absurd h
+  refused_of refusal.Disk h = absurd h
 
   pub refuses_of : (r : Result (Unit {0}) Refusal) → RefusesFirstOf w P r → RefusesFirstOf w Q r
   refuses_of (Ok done) h = none_of h

@@ -12,13 +12,21 @@ use Rattle.refs_binding.specs.declared.indexed.Numbered.{Numbered}
 use Rattle.refs_binding.specs.DeclaringPlaces.{HasDeclarationAt, InHomePackage}
 use Rattle.refs_binding.specs.Identifiers.{named_by}
 use Rattle.refs_binding.specs.Uses.{IsCheckedPackage, HasDeclaration}
-use Rattle.refs_binding.specs.Workspaces.{home_path}
+use Rattle.refs_binding.specs.WorkspaceFindings.{WorkspaceFindings}
+use Rattle.refs_binding.specs.Workspaces.{home_path, known_in}
 use Rattle.refs_lookup.specs.Within.{IsDeclaredWithin, predeclared, stands}
 use Rattle.refs_lookup.proofs.Standing.{bound_within}
 use Rattle.refs_places.specs.Outside.{declaring_path}
+use Rattle.base_edits.specs.EditSet.{FileChanges}
 use Rattle.refactor_rename.specs.Naming.{IsFixed}
+use Rattle.refactor_rename.specs.RenameEdits.{AreRenameEdits}
+use Rattle.refactor_rename.specs.declared.renaming.Renaming.{Renaming}
+use Rattle.refactor_coupled.specs.CoupledEdits.{AreCoupledEdits}
+use Rattle.refactor_coupled.specs.Coupling.{IsRenamedSet}
+use Rattle.refactor_plan.specs.Proposals.{proposed_verdicts}
+use Rattle.refactor_plan.specs.declared.proposal.Proposal.{Proposal}
 use Rattle.refactor_plan.specs.declared.bindings.PackageBindings.{PackageBindings}
-use Rattle.refactor_plan.specs.Bindings.{IsRead, IsOfRead}
+use Rattle.refactor_plan.specs.Bindings.{IsRead, IsReadFor, IsOfRead, IsSetIn}
 
 -- two names of one path
 pub same_home : (d : Declaration) → home_path d ≡ declaring_path d
@@ -33,6 +41,17 @@ pub home_read : (at : Numbered) (read : PackageBindings) → read.at ≡ at → 
 home_read at read same is d home =
     sym (same_home d) ∙ sym (subst (λ (x : Numbered). slice_get (package_paths x.workspace.now.graph) x.number ≡ home_path d) (sym same) home)
     ∙ is.unit.has_number
+
+-- what is renamed in the workspace that was read is so in that of the proposal
+pub proposed_set : (p : Proposal) (read : PackageBindings) → IsReadFor p read → (r : Renaming) → IsSetIn read r →
+    IsRenamedSet (IsCheckedPackage p.workspace.now.graph (proposed_verdicts p)) r.declaration.now r.set.now
+proposed_set p read is r h =
+    subst (λ (v : WorkspaceFindings). IsRenamedSet (IsCheckedPackage v.graph (known_in v.findings)) r.declaration.now r.set.now) is.same h
+
+pub coupled_edits : (p : Proposal) (read : PackageBindings) → IsReadFor p read → (r : Renaming) → IsSetIn read r → (s : FileChanges) →
+    AreRenameEdits p.workspace.now.graph (proposed_verdicts p) r.declaration.now r.set.now r.name.now s →
+    AreCoupledEdits p.workspace.now.graph (proposed_verdicts p) r.declaration.now r.set.now r.name.now s
+coupled_edits p read is r h s edits = record { is_set = proposed_set p read is r h; edits = edits }
 
 -- The workspace has the package of a declaration that is not predeclared.
 module _ (w : Workspace) (known : Verdicts) (right : AreVerdicts w known) where

@@ -66,7 +66,7 @@ module _ (w : Workspace) (known : Verdicts) (r : Renamed) (s : FileChanges) (are
 pub renames_keep : RenamesKeepOtherBytes
 renames_keep snapshot path offset name change planned file text is start end some within kept =
     let renamed = planned.1 in
-    let rename = renamed.renaming.edits in
+    let rename = renamed.renaming.edits.edits in
     let h = bytes_kept snapshot.files renamed.renaming.may.renamable.asked.known rename.renamed change.edits rename.edits renamed.fit_files file text is
     start end some within kept in
     record {

@@ -1,6 +1,7 @@
 -- The lemmas of this crate.
 pub mod Proposed
 pub mod Premises
+pub mod ProposedRenames
 pub mod ImportUses
 pub mod DecidedRenames
 pub mod Homes
@@ -14,3 +15,6 @@ pub mod OwnExports
 pub mod BoundAlike
 pub mod Renaming
 pub mod Moving
+pub mod CalledNames
+pub mod FirstObstacles
+pub mod KeptBut

@@ -15,10 +15,9 @@ use Rattle.workspace_snapshot.specs.declared.snapshot.Snapshot.{Snapshot}
 use Rattle.workspace_snapshot.specs.declared.change.Change.{Change}
 use Rattle.refactor_rename.specs.NewName.{IsNewName}
 use Rattle.refactor_rename.specs.Naming.{IsFixed, IsReservedFor, RefusesName}
-use Rattle.refactor_rename.specs.RenameEdits.{AreRenameEdits}
+use Rattle.refactor_coupled.specs.CoupledEdits.{AreCoupledEdits}
 use Rattle.refactor_plan.specs.Plan.{IsValidRename, ResolvesIdentifier, IsRenamable, IsLegalName, RenamesIdentifier, PlansRename}
-use Rattle.workspace_snapshot.specs.declared.change.ChangeKind.TheVariants.{Rename}
-use Rattle.refactor_plan.specs.Proposals.{PlansChange}
+use Rattle.refactor_plan.specs.Proposals.{PlansRenaming}
 use Rattle.refactor_plan.specs.Steps.{PlansDeclaration, PlansAtByte}
 
 -- The declaration of the identifier at the byte.
@@ -54,6 +53,8 @@ module _ (snapshot : Snapshot) (path : List ℕ) (offset : ℕ) (name : List ℕ
   finds_refused refusal.Already h = absurd h
   finds_refused refusal.NoJob h = absurd h
   finds_refused refusal.BodyShort h = absurd h
+  finds_refused (refusal.Coupled place) h = absurd h
+  finds_refused refusal.Disk h = absurd h
 
   module _ (d : Declaration) (has : HasDeclaration snapshot.files known path offset d) where
     abbrev asked : ResolvesIdentifier snapshot.files path offset
@@ -91,13 +92,16 @@ module _ (snapshot : Snapshot) (path : List ℕ) (offset : ℕ) (name : List ℕ
     name_refused refusal.Already h = absurd h
     name_refused refusal.NoJob h = absurd h
     name_refused refusal.BodyShort h = absurd h
+    name_refused (refusal.Coupled place) h = absurd h
+    name_refused refusal.Disk h = absurd h
 
     module _ (ok : RefusesName (IsCheckedPackage snapshot.files known) d name (Ok tt)) where
-      renaming : (s : FileChanges) → AreRenameEdits snapshot.files known d name s → RenamesIdentifier snapshot.files path offset name s
-      renaming s are = record { may = may_be ok.0 ok.1; other = ok.2; edits = are }
+      renaming : (set : List Declaration) (s : FileChanges) → AreCoupledEdits snapshot.files known d set name s →
+          RenamesIdentifier snapshot.files path offset name s
+      renaming set s are = record { may = may_be ok.0 ok.1; other = ok.2; set = set; edits = are }
 
       edits_refused : (s : FileChanges) → RenamesIdentifier snapshot.files path offset name s → (r : Refusal) →
-          PlansChange snapshot known Rename s (Err r) → PlansAtByte snapshot path offset name (Err r)
+          PlansRenaming snapshot known s (Err r) → PlansAtByte snapshot path offset name (Err r)
       edits_refused s is refusal.Memory h = h
       edits_refused s is refusal.BadCommand h = absurd h
       edits_refused s is refusal.BadPath h = absurd h
@@ -125,18 +129,31 @@ module _ (snapshot : Snapshot) (path : List ℕ) (offset : ℕ) (name : List ℕ
       edits_refused s is refusal.Already h = absurd h
       edits_refused s is refusal.NoJob h = absurd h
       edits_refused s is refusal.BodyShort h = absurd h
+      edits_refused s is (refusal.Coupled place) h = (
+        sound,
+        record {
+          changes = s;
+          renaming = is;
+          not_preserved = h.0;
+          known = known;
+          right = right;
+          told =
+              h.1;
+        },
+      )
+      edits_refused s is refusal.Disk h = absurd h
 
-      edits_planned : (s : FileChanges) → AreRenameEdits snapshot.files known d name s → Fits s snapshot.files → (r : Result Change Refusal) →
-          PlansChange snapshot known Rename s r → PlansAtByte snapshot path offset name r
-      edits_planned s are fit (Err r) h = edits_refused s (renaming s are) r h
-      edits_planned s are fit (Ok change) h =
+      edits_planned : (set : List Declaration) (s : FileChanges) → AreCoupledEdits snapshot.files known d set name s → Fits s snapshot.files →
+          (r : Result Change Refusal) → PlansRenaming snapshot known s r → PlansAtByte snapshot path offset name r
+      edits_planned set s are fit (Err r) h = edits_refused s (renaming set s are) r h
+      edits_planned set s are fit (Ok change) h =
           subst (λ (c : Change). PlansAtByte snapshot path offset name (Ok c)) (sym h.2)
-          (sound, record { renaming = renaming s are; preserves = h.0; fits = h.1; fit_files = fit; is_change = refl })
+          (sound, record { renaming = renaming set s are; preserves = h.0; fits = h.1; fit_files = fit; is_change = refl })
 
       pub declaration_planned : (r : Result Change Refusal) → PlansDeclaration snapshot known d name r →
           PlansAtByte snapshot path offset name r
       declaration_planned r (inl none) = subst (PlansAtByte snapshot path offset name) (sym none) tt
-      declaration_planned r (inr h) = edits_planned h.0 h.1.0 h.1.1.0 r h.1.1.1
+      declaration_planned r (inr h) = edits_planned h.0 h.1.0 h.1.1.0 h.1.1.1.0 r h.1.1.1.1
 
 -- the first fault
 
@@ -166,6 +183,8 @@ faults_refused snapshot path offset name found (refusal.Stale a) h = absurd h
 faults_refused snapshot path offset name found refusal.Already h = absurd h
 faults_refused snapshot path offset name found refusal.NoJob h = absurd h
 faults_refused snapshot path offset name found refusal.BodyShort h = absurd h
+faults_refused snapshot path offset name found (refusal.Coupled place) h = absurd h
+faults_refused snapshot path offset name found refusal.Disk h = absurd h
 
 -- a file that is there, and a name that has its form
 
@@ -198,6 +217,8 @@ module _ (snapshot : Snapshot) (path : List ℕ) (offset : ℕ) (name : List ℕ
   refused refusal.Already h = absurd h
   refused refusal.NoJob h = absurd h
   refused refusal.BodyShort h = absurd h
+  refused (refusal.Coupled place) h = (well h.0, h.1)
+  refused refusal.Disk h = absurd h
 
   pub planned : (r : Result Change Refusal) → PlansAtByte snapshot path offset name r → PlansRename snapshot path offset name r
   planned (Ok change) h = (well h.0, h.1)

@@ -7,7 +7,7 @@ use Rattle.workspace_snapshot.specs.declared.change.Change.{Change}
 use Rattle.history_machine.specs.Machine.{Content, Machine}
 use Rattle.history_machine.proofs.RunLaws.{undo_restores}
 use Rattle.base_edits.specs.RevisionsOfEdits.{revision_of}
-use Rattle.refactor_preserve.specs.Preserved.{Preserves}
+use Rattle.refactor_coupled.specs.Obstacles.{PreservesAll}
 use Rattle.refactor_plan.specs.Plan.{RenamesIdentifier, IsRenamed}
 use Rattle.refactor_plan.specs.Renames.{HasRenamedExactly, RenamesKeepBindings, UndoTakesRenamesBack}
 
@@ -19,7 +19,7 @@ exactly snapshot path offset name change old new r base files =
     record {
       renaming = subst (λ (w : Workspace). RenamesIdentifier w path offset name change.edits) same r.renaming;
       files = files ∙ ap (λ (c : Change). c.files) r.is_change ∙ ap (λ (w : Workspace). edited change.edits w) same;
-      preserves = subst (λ (w : Workspace). Preserves w (revision_of w change.edits)) same r.preserves;
+      preserves = subst (λ (w : Workspace). PreservesAll w (revision_of w change.edits)) same r.preserves;
     }
 
 pub renames_keep : RenamesKeepBindings

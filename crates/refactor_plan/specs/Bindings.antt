@@ -6,8 +6,11 @@ use Rattle.workspace_check.specs.Verdicts.{Verdicts}
 use Rattle.refs_binding.specs.declared.declaration.Declaration.{Declaration}
 use Rattle.refs_binding.specs.declared.declaration.Declaration.TheVariants.{Declared}
 use Rattle.refs_binding.specs.Indexed.{IsPackageNumber, IsPackageNumbered, IsIndexed}
+use Rattle.refs_binding.specs.Uses.{IsCheckedPackage}
 use Rattle.refs_binding.specs.Workspaces.{known_in}
 use Rattle.refs_places.specs.Outside.{declaring_path}
+use Rattle.refactor_rename.specs.declared.renaming.Renaming.{Renaming}
+use Rattle.refactor_coupled.specs.Coupling.{IsRenamedSet}
 use Rattle.refactor_plan.specs.declared.bindings.PackageBindings.{PackageBindings}
 use Rattle.refactor_plan.specs.declared.proposal.Proposal.{Proposal}
 
@@ -32,6 +35,10 @@ path_read read = (package_of read.of.unit).path
 -- The declaration is one of the package.
 abbrev pub IsOfRead : PackageBindings → Declaration → Type 0
 IsOfRead read d = declaring_path d ≡ Some (path_read read)
+
+-- The set is what is renamed with the declaration, in the workspace of the package.
+abbrev pub IsSetIn : PackageBindings → Renaming → Type 0
+IsSetIn read r = IsRenamedSet (IsCheckedPackage (workspace_read read) (verdicts_read read)) r.declaration.now r.set.now
 
 -- It is the declaration of the number `n` in the package's scopes.
 abbrev pub HasScopeNumber : PackageBindings → Declaration → ℕ → Type 0

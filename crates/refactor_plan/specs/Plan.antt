@@ -5,14 +5,13 @@ use Rattle.base_files.specs.Path.{IsPath}
 use Rattle.base_files.specs.Workspace.{Workspace}
 use Rattle.base_files.specs.declared.refusal.Refusal.{Refusal}
 use Rattle.base_files.specs.declared.refusal.Refusal.TheVariants.{Memory, BadPath, NoFile, TooLarge, Faulty, NoIdentifier, NotRenamable, BadName, Same}
-use Rattle.base_files.specs.declared.refusal.Refusal.TheVariants.{Captured, Lost}
+use Rattle.base_files.specs.declared.refusal.Refusal.TheVariants.{Captured, Coupled, Lost}
 use Rattle.workspace_check.specs.Verdicts.{Verdicts, AreVerdicts}
 use Rattle.workspace_check.specs.FaultLists.{ListsFaults}
 use Rattle.refs_binding.specs.declared.declaration.Declaration.{Declaration}
 use Rattle.refs_binding.specs.Uses.{IsCheckedPackage, HasFileAt, HasDeclaration, HasNoIdentifier, HasNoDeclaration, HasFirstFault}
 use Rattle.refs_binding.specs.DeclaredNames.{HasDeclaredName}
 use Rattle.base_edits.specs.RevisionsOfEdits.{revision_of}
-use Rattle.refactor_preserve.specs.Preserved.{Preserves}
 use Rattle.base_edits.specs.EditSet.{FileChanges, edited}
 use Rattle.base_edits.specs.Fits.{Fits}
 use Rattle.workspace_snapshot.specs.Fits.{FitsLimits}
@@ -21,8 +20,9 @@ use Rattle.workspace_snapshot.specs.declared.change.Change.{Change}
 use Rattle.workspace_snapshot.specs.declared.change.ChangeKind.TheVariants.{Rename}
 use Rattle.refactor_rename.specs.NewName.{IsNewName}
 use Rattle.refactor_rename.specs.Naming.{IsFixed, IsReservedFor}
-use Rattle.refactor_rename.specs.RenameEdits.{AreRenameEdits}
-use Rattle.refactor_plan.specs.Proposals.{NamesFirstConflict}
+use Rattle.refactor_coupled.specs.CoupledEdits.{AreCoupledEdits}
+use Rattle.refactor_coupled.specs.Obstacles.{PreservesAll}
+use Rattle.refactor_plan.specs.Proposals.{NamesFirstObstacle}
 
 -- The path and the name have their forms, the file exists, and the workspace has no fault.
 pub record IsValidRename (w : Workspace) (path name : List ℕ) : Type 0 where
@@ -62,32 +62,35 @@ pub record ResolvesToNamesake (w : Workspace) (path : List ℕ) (offset : ℕ) (
   pub may : IsLegalName w path offset name
   pub called : HasDeclaredName (IsCheckedPackage w may.renamable.asked.known) may.renamable.asked.declaration name
 
--- These are the edits that rename the declaration of the identifier at the byte. The name is legal for it and is not its present name.
+-- These are the edits that rename the declaration of the identifier at the byte, and what is renamed with it. The name is legal for it and is
+-- not its present name.
 pub record RenamesIdentifier (w : Workspace) (path : List ℕ) (offset : ℕ) (name : List ℕ) (s : FileChanges) : Type 0 where
   pub may : IsLegalName w path offset name
   pub other : ¬ (HasDeclaredName (IsCheckedPackage w may.renamable.asked.known) may.renamable.asked.declaration name)
-  pub edits : AreRenameEdits w may.renamable.asked.known may.renamable.asked.declaration name s
+  pub set : List Declaration
+  pub edits : AreCoupledEdits w may.renamable.asked.known may.renamable.asked.declaration set name s
 
--- The edits of the rename do not preserve bindings. The refusal names the first identifier that they lose or capture.
+-- The edits of the rename do not preserve bindings, or which types implement which interfaces. The refusal names the first obstacle.
 pub record HasConflict (w : Workspace) (path : List ℕ) (offset : ℕ) (name : List ℕ) (refusal : Refusal) : Type 0 where
   pub changes : FileChanges
   pub renaming : RenamesIdentifier w path offset name changes
-  pub not_preserved : ¬ (Preserves w (revision_of w changes))
+  pub not_preserved : ¬ (PreservesAll w (revision_of w changes))
   pub known : Verdicts
   pub right : AreVerdicts w known
-  pub told : NamesFirstConflict w known (revision_of w changes) refusal
+  pub told : NamesFirstObstacle w known (revision_of w changes) refusal
 
--- The edits of the rename preserve bindings, but the files after them exceed a limit of the snapshot.
+-- The edits of the rename preserve bindings and implementing types, but the files after them exceed a limit of the snapshot.
 pub record IsRenameTooLarge (snapshot : Snapshot) (path : List ℕ) (offset : ℕ) (name : List ℕ) : Type 0 where
   pub changes : FileChanges
   pub renaming : RenamesIdentifier snapshot.files path offset name changes
-  pub preserves : Preserves snapshot.files (revision_of snapshot.files changes)
+  pub preserves : PreservesAll snapshot.files (revision_of snapshot.files changes)
   pub too_large : ¬ (FitsLimits snapshot.limits (edited changes snapshot.files))
 
--- The change has the edits of the rename and the files that they make of the snapshot's. They preserve bindings and keep within the limits.
+-- The change has the edits of the rename and the files that they make of the snapshot's. They preserve bindings and implementing types, and
+-- keep within the limits.
 pub record IsRenamed (snapshot : Snapshot) (path : List ℕ) (offset : ℕ) (name : List ℕ) (change : Change) : Type 0 where
   pub renaming : RenamesIdentifier snapshot.files path offset name change.edits
-  pub preserves : Preserves snapshot.files (revision_of snapshot.files change.edits)
+  pub preserves : PreservesAll snapshot.files (revision_of snapshot.files change.edits)
   pub fits : FitsLimits snapshot.limits (edited change.edits snapshot.files)
   pub fit_files : Fits change.edits snapshot.files
   pub is_change : change ≡ record { base = snapshot.files; kind = Rename; edits = change.edits; files = edited change.edits snapshot.files }
@@ -107,6 +110,8 @@ PlansRename snapshot path offset name (Err Same) = IsValidRename snapshot.files 
 PlansRename snapshot path offset name (Err (Captured used by)) = IsValidRename snapshot.files path name ×
     HasConflict snapshot.files path offset name (Captured used by)
 PlansRename snapshot path offset name (Err (Lost used)) = IsValidRename snapshot.files path name × HasConflict snapshot.files path offset name (Lost used)
+PlansRename snapshot path offset name (Err (Coupled place)) = IsValidRename snapshot.files path name ×
+    HasConflict snapshot.files path offset name (Coupled place)
 PlansRename snapshot path offset name (Err TooLarge) = IsValidRename snapshot.files path name × IsRenameTooLarge snapshot path offset name
 PlansRename snapshot path offset name (Err Memory) = ⊤
 PlansRename snapshot path offset name (Err refusal) = ⊥

@@ -4,7 +4,7 @@ use Rattle.base_edits.specs.EditSet.{edited}
 use Rattle.workspace_snapshot.specs.declared.snapshot.Snapshot.{Snapshot}
 use Rattle.workspace_snapshot.specs.declared.change.Change.{Change}
 use Rattle.base_edits.specs.RevisionsOfEdits.{revision_of}
-use Rattle.refactor_preserve.specs.Preserved.{Preserves}
+use Rattle.refactor_coupled.specs.Obstacles.{PreservesAll}
 use Rattle.refactor_plan.specs.Plan.{PlansRename, RenamesIdentifier}
 use Rattle.history_machine.specs.declared.event.Event.{Event}
 use Rattle.history_machine.specs.declared.event.Event.TheVariants.{Commit, Undo}
@@ -16,11 +16,11 @@ use Rattle.history_machine.specs.Step.{Step}
 use Rattle.history_machine.specs.Run.{Run, AdmitsNoChange, Restores}
 
 -- The state after the change has the files that its edits make of the state before. The edits rename the identifier at the byte and
--- preserve bindings.
+-- preserve bindings and implementing types.
 pub record HasRenamedExactly (path : List ℕ) (offset : ℕ) (name : List ℕ) (change : Change) (before after : State) : Type 0 where
   pub renaming : RenamesIdentifier before.files path offset name change.edits
   pub files : after.files ≡ edited change.edits before.files
-  pub preserves : Preserves before.files (revision_of before.files change.edits)
+  pub preserves : PreservesAll before.files (revision_of before.files change.edits)
 
 -- Where a planned rename is committed, the current state after it has exactly the files of the rename, and every binding is preserved.
 abbrev pub RenamesKeepBindings : Type 0

@@ -1,15 +1,23 @@
 //! A package that is read once for all steps of a rename, and what its bindings tell of the rename of one of its declarations.
-ghost use Rattle.std.specs.Prelude.{◌≡◌, IfOk};
+ghost use Rattle.std.specs.Prelude.{◌≡◌, IfOk, option_map};
 ghost use Rattle.types_declared.specs.PackageView.{package_of, IsIndexOf};
 ghost use Rattle.refs_binding.specs.Indexed.{IsPackageNumber, IsPackageNumbered};
 ghost use Rattle.law_renamed_workspaces.specs.NamesAfterwards.{IsMember};
-ghost use Rattle.refactor_plan.specs.Bindings.{IsRead, IsOfRead, HasScopeNumber, workspace_read, verdicts_read, path_read};
-ghost use Rattle.refactor_plan.specs.Decided.{IsLegalFor, DecidesRenames};
+ghost use Rattle.refactor_coupled.specs.Reached.{IsCalledName};
+ghost use Rattle.refactor_coupled.specs.RenamedTypesView.{types_of};
+ghost use Rattle.refactor_coupled.specs.declared.obstacle.Obstacle.TheVariants as obstacle;
+ghost use Rattle.refactor_plan.specs.Bindings.{IsRead, IsOfRead, IsSetIn, HasScopeNumber, workspace_read, verdicts_read};
+ghost use Rattle.refactor_plan.specs.Decided.{IsLegalFor, DecidesRenames, TellsImplementing, TellsMembers, TellsUnder, coupled_if, obstacles_of};
 
+use crate::decision::Decision;
+use base_files::Place;
+use refactor_conflict::Conflict;
+use refactor_coupled::{Obstacle, RenamedSet, called_name, first_change};
 use refactor_decide::{ScopeDecision, scope_decision};
 use refactor_members::member_conflict;
-use refs_binding::Declaration;
+use refactor_rename::Renaming;
 use refs_binding::indexed::{Indexed, Numbered, known_of};
+use refs_binding::{Declaration, FaultlessWorkspace};
 use std::alloc::{AllocError, Global};
 use types_declared::{Index, Package};
 
@@ -36,61 +44,150 @@ pub fn bindings_of<'a, 'w: 'a, 'i: 'a>(
     PackageBindings { at, of }
 }
 
+/// The obstacle that an interface is, if there is one whose implementing types change.
+fn coupled_if(place: Option<Place>) -> Option<Obstacle>
+    ensures { result ≡ coupled_if place }
+{
+    match place {
+        None => None,
+        Some(place) => Some(Obstacle::Coupled(place)),
+    }
+}
+
+/// The first interface whose implementing types the rename of members changes. They are called `old`.
+fn change_under(
+    alloc: Global,
+    workspace: &FaultlessWorkspace<'_>,
+    renaming: &Renaming<'_>,
+    old: &[u8],
+) -> Result<Option<Obstacle>, AllocError>
+    ensures { IfOk result (TellsUnder workspace.now renaming.now old.now) }
+{
+    let rename = RenamedSet {
+        set: renaming.set,
+        old,
+        new: renaming.name,
+    };
+    let place = first_change(alloc, workspace, rename)?;
+    Ok(coupled_if(place))
+}
+
+/// What stands against the rename of fields and methods that loses and captures nothing: the first interface whose implementing types it
+/// changes. The present name of the members is given. It is found for each that is used.
+fn change_called(
+    alloc: Global,
+    workspace: &FaultlessWorkspace<'_>,
+    renaming: &Renaming<'_>,
+    called: Option<&[u8]>,
+) -> Result<Option<Obstacle>, AllocError>
+    requires { IsCalledName (types_of workspace.now) renaming.now.declaration.now called }
+    ensures { IfOk result (TellsImplementing workspace.now renaming.now) }
+{
+    workspace.has_no_faults();
+    match called {
+        None => Ok(None),
+        Some(old) => change_under(alloc, workspace, renaming, old),
+    }
+}
+
+/// What stands against the rename of fields and methods: the first identifier that it loses or captures, or else the first interface whose
+/// implementing types it changes.
+fn member_obstacle(
+    alloc: Global,
+    workspace: &FaultlessWorkspace<'_>,
+    renaming: &Renaming<'_>,
+) -> Result<Option<Obstacle>, AllocError>
+    ensures { IfOk result (TellsMembers workspace.now renaming.now) }
+{
+    let conflict = member_conflict(alloc, workspace, renaming)?;
+    match conflict {
+        Some(conflict) => Ok(Some(Obstacle::Conflict(conflict))),
+        None => {
+            let called = called_name(workspace, renaming.declaration);
+            change_called(alloc, workspace, renaming, called)
+        }
+    }
+}
+
 /// Decides the rename of a field or method of the package that was read.
 fn member_decision(
     alloc: Global,
     read: &PackageBindings<'_>,
-    declaration: &Declaration,
-    name: &[u8],
-) -> Result<ScopeDecision, AllocError>
+    renaming: &Renaming<'_>,
+) -> Result<Decision, AllocError>
     requires read { IsRead read.now }
-    requires legal { IsLegalFor (workspace_read read.now) (verdicts_read read.now) declaration.now name.now }
-    requires home { IsOfRead read.now declaration.now }
-    requires member { IsMember declaration.now }
-    ensures { IfOk result (DecidesRenames (workspace_read read.now) (verdicts_read read.now) (path_read read.now) declaration.now name.now) }
+    requires legal { IsLegalFor (workspace_read read.now) (verdicts_read read.now) renaming.now.declaration.now renaming.now.name.now }
+    requires set { IsSetIn read.now renaming.now }
+    requires home { IsOfRead read.now renaming.now.declaration.now }
+    requires member { IsMember renaming.now.declaration.now }
+    ensures { IfOk result (DecidesRenames (workspace_read read.now) (verdicts_read read.now) renaming.now.declaration.now renaming.now.set.now renaming.now.name.now) }
 {
     let workspace = read.at.workspace;
     workspace.has_no_faults();
-    Ok(ScopeDecision {
-        conflict: member_conflict(alloc, workspace, declaration, name)?,
+    Ok(Decision {
+        obstacle: member_obstacle(alloc, workspace, renaming)?,
         is_hidden: false,
     })
+}
+
+/// The obstacle that a conflict is, if there is one.
+fn conflict_if(conflict: Option<Conflict>) -> Option<Obstacle>
+    ensures { result ≡ option_map obstacle.Conflict conflict }
+{
+    match conflict {
+        None => None,
+        Some(conflict) => Some(Obstacle::Conflict(conflict)),
+    }
+}
+
+/// A decision by scopes, as one of obstacles.
+fn obstacles_of(decision: ScopeDecision) -> Decision
+    ensures { result ≡ obstacles_of decision }
+{
+    let ScopeDecision {
+        conflict,
+        is_hidden,
+    } = decision;
+    Decision {
+        obstacle: conflict_if(conflict),
+        is_hidden,
+    }
 }
 
 /// Decides the rename of the declaration of a number in the scopes of the package that was read.
 fn scoped_decision(
     alloc: Global,
     read: &PackageBindings<'_>,
-    declaration: &Declaration,
+    renaming: &Renaming<'_>,
     n: usize,
-    name: &[u8],
-) -> Result<ScopeDecision, AllocError>
+) -> Result<Decision, AllocError>
     requires read { IsRead read.now }
-    requires legal { IsLegalFor (workspace_read read.now) (verdicts_read read.now) declaration.now name.now }
-    requires scoped { HasScopeNumber read.now declaration.now n }
-    ensures { IfOk result (DecidesRenames (workspace_read read.now) (verdicts_read read.now) (path_read read.now) declaration.now name.now) }
+    requires legal { IsLegalFor (workspace_read read.now) (verdicts_read read.now) renaming.now.declaration.now renaming.now.name.now }
+    requires set { IsSetIn read.now renaming.now }
+    requires scoped { HasScopeNumber read.now renaming.now.declaration.now n }
+    ensures { IfOk result (DecidesRenames (workspace_read read.now) (verdicts_read read.now) renaming.now.declaration.now renaming.now.set.now renaming.now.name.now) }
 {
     read.at.workspace.has_no_faults();
-    scope_decision(alloc, read.at, &read.of, n, name)
+    let decision = scope_decision(alloc, read.at, &read.of, n, renaming.name)?;
+    Ok(obstacles_of(decision))
 }
 
-/// Decides the rename of a declaration of the package that was read, by what is bound before it: its first conflict, or none. No edits are
-/// made.
-pub(crate) fn conflict_of(
+/// Decides a rename in the package that was read, by what is bound before it: its first obstacle, or none. No edits are made.
+pub(crate) fn decision_of(
     alloc: Global,
     read: &PackageBindings<'_>,
-    declaration: &Declaration,
-    name: &[u8],
-) -> Result<ScopeDecision, AllocError>
+    renaming: &Renaming<'_>,
+) -> Result<Decision, AllocError>
     requires read { IsRead read.now }
-    requires legal { IsLegalFor (workspace_read read.now) (verdicts_read read.now) declaration.now name.now }
-    requires home { IsOfRead read.now declaration.now }
-    ensures { IfOk result (DecidesRenames (workspace_read read.now) (verdicts_read read.now) (path_read read.now) declaration.now name.now) }
+    requires legal { IsLegalFor (workspace_read read.now) (verdicts_read read.now) renaming.now.declaration.now renaming.now.name.now }
+    requires set { IsSetIn read.now renaming.now }
+    requires home { IsOfRead read.now renaming.now.declaration.now }
+    ensures { IfOk result (DecidesRenames (workspace_read read.now) (verdicts_read read.now) renaming.now.declaration.now renaming.now.set.now renaming.now.name.now) }
 {
-    match declaration {
-        Declaration::Declared(_, n) => scoped_decision(alloc, read, declaration, *n, name),
-        Declaration::Field(_) => member_decision(alloc, read, declaration, name),
-        Declaration::Method(_) => member_decision(alloc, read, declaration, name),
+    match renaming.declaration {
+        Declaration::Declared(_, n) => scoped_decision(alloc, read, renaming, *n),
+        Declaration::Field(_) => member_decision(alloc, read, renaming),
+        Declaration::Method(_) => member_decision(alloc, read, renaming),
         Declaration::Predeclared(_) => unreachable!(),
     }
 }

@@ -1,23 +1,24 @@
-//! What is known of the packages after a rename that the scopes before it decide, and that loses and captures nothing.
-ghost use Rattle.std.specs.Prelude.{◌≡◌, ◌≢◌, Some, slice_get, IfOk};
-ghost use Rattle.workspace_check.specs.declared.known.KnownVerdict.{KnownVerdict as Verdict};
+//! What is known of the packages after a rename that the workspace before it decides, and that loses and captures nothing.
+ghost use Rattle.std.specs.Prelude.{◌≡◌, IfOk};
+ghost use Rattle.workspace_graph.specs.Search.{IsMarked};
 ghost use Rattle.law_renamed_workspaces.specs.KnownVerdicts.{HoldVerdictsBut};
 ghost use Rattle.refactor_plan.specs.Decided.{KeepsKnown, IsVerdictBut};
 
+use refs_binding::Declaration;
+use refs_places::home_marks;
 use std::alloc::{AllocError, Global};
-use types_expr::symbol::SharedPath;
-use workspace_check::{Known, KnownVerdict};
+use workspace_check::{Known, KnownVerdict, is_marked};
 use workspace_graph::Graph;
 
-/// The verdict on the package of a number, if it is known. That of the number `dropped` is left out.
+/// The verdict on the package of a number, if it is known. Those of the numbers that are marked in `dropped` are left out.
 fn verdict_but(
     known: &Known,
-    dropped: usize,
+    dropped: &[bool],
     number: usize,
 ) -> Result<Option<KnownVerdict>, AllocError>
-    ensures { IfOk result (IsVerdictBut dropped known.now.verdicts.items number) }
+    ensures { IfOk result (IsVerdictBut (IsMarked dropped.now) known.now.verdicts.items number) }
 {
-    if number == dropped {
+    if is_marked(dropped, number) {
         return Ok(None);
     }
     match known.get(number) {
@@ -26,14 +27,14 @@ fn verdict_but(
     }
 }
 
-/// The known verdicts on the first `count` packages. That on the package of the number `dropped` is left out.
+/// The known verdicts on the first `count` packages. Those on the packages that are marked in `dropped` are left out.
 fn known_but(
     alloc: Global,
     known: &Known,
-    dropped: usize,
+    dropped: &[bool],
     count: usize,
 ) -> Result<Known, AllocError>
-    ensures { IfOk result (λ rest. HoldVerdictsBut dropped known.now.verdicts.items rest.verdicts.items) }
+    ensures { IfOk result (λ rest. HoldVerdictsBut (IsMarked dropped.now) known.now.verdicts.items rest.verdicts.items) }
 {
     let mut rest = Known::new(alloc);
     for number in 0..count {
@@ -42,22 +43,20 @@ fn known_but(
     Ok(rest)
 }
 
-/// The known verdicts that stay after a rename of a declaration of the package at a path. All do where other packages see the declaration
-/// under neither name, else all but that on its package.
+/// The known verdicts that stay after a rename of the declarations of a list. All do where other packages see these under neither name, else
+/// all but those on their packages.
 pub(crate) fn kept_known(
     alloc: Global,
     graph: &Graph,
     known: &Known,
-    path: &SharedPath,
+    set: &[Declaration],
     is_hidden: bool,
 ) -> Result<Known, AllocError>
-    ensures { IfOk result (KeepsKnown graph.now path.now is_hidden known.now) }
+    ensures { IfOk result (KeepsKnown graph.now set.now is_hidden known.now) }
 {
     if is_hidden {
         return known.copy(alloc, 0);
     }
-    match graph.number_of(path.path()) {
-        None => Ok(Known::new(alloc)),
-        Some(number) => known_but(alloc, known, number, graph.len()),
-    }
+    let homes = home_marks(alloc, graph, set)?;
+    known_but(alloc, known, &homes, graph.len())
 }

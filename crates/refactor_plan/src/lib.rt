@@ -11,6 +11,7 @@ pub mod admitted_plans;
 mod bindings;
 mod decided;
 mod decided_moves;
+mod decision;
 pub mod exports;
 mod kept_known;
 pub mod laws;

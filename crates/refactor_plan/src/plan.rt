@@ -11,18 +11,19 @@ ghost use Rattle.refs_places.specs.Outside.{declaring_path};
 ghost use Rattle.refactor_preserve.specs.Planned.{change_in};
 ghost use Rattle.refactor_rename.specs.Naming.{RefusesName};
 ghost use Rattle.refactor_rename.specs.NewName.{IsNewName};
-ghost use Rattle.refactor_plan.specs.Bindings.{IsOfRead, IsReadFor};
+ghost use Rattle.refactor_plan.specs.Bindings.{IsOfRead, IsReadFor, IsSetIn};
 ghost use Rattle.refactor_plan.specs.Decided.{IsLegalFor};
 ghost use Rattle.refactor_plan.specs.Plan.{PlansRename};
 ghost use Rattle.refactor_plan.specs.Proposals.{IsProposed, proposed_snapshot, proposed_verdicts};
 ghost use Rattle.refactor_plan.specs.Steps.{PlansDeclaration, PlansAtByte};
 
-use crate::bindings::{PackageBindings, bindings_of, conflict_of};
+use crate::bindings::{PackageBindings, bindings_of, decision_of};
 use crate::decided::plan_decided;
 use crate::proposal::Proposal;
 use base_files::{Path, Refusal};
+use refactor_coupled::renamed_with;
 use refactor_preserve::Planned;
-use refactor_rename::{is_new_name, refuse_name};
+use refactor_rename::{Renaming, is_new_name, refuse_name};
 use refs_binding::indexed::Numbered;
 use refs_binding::{Declaration, FaultlessWorkspace, PackageReader, refuse_faults};
 use refs_lookup::declaration_in_package;
@@ -41,6 +42,25 @@ struct RenameRequest<'a> {
     name: &'a [u8],
 }
 
+/// Plans the change that gives a declaration of the package that was read, and what is renamed with it, a legal name.
+fn plan_renaming(
+    alloc: Global,
+    proposal: &Proposal<'_>,
+    read: &PackageBindings<'_>,
+    renaming: &Renaming<'_>,
+) -> Result<Planned, Refusal>
+    requires proposed { IsProposed proposal.now }
+    requires read { IsReadFor proposal.now read.now }
+    requires set { IsSetIn read.now renaming.now }
+    requires home { IsOfRead read.now renaming.now.declaration.now }
+    requires legal { IsLegalFor proposal.now.workspace.now.graph (proposed_verdicts proposal.now) renaming.now.declaration.now renaming.now.name.now }
+    ensures planned { PlansDeclaration (proposed_snapshot proposal.now) (proposed_verdicts proposal.now) renaming.now.declaration.now renaming.now.name.now (change_in result) }
+    ensures known { IfOk result (λ p. KnowsVerdicts p.change.files p.known) }
+{
+    let decision = decision_of(alloc, read, renaming)?;
+    plan_decided(alloc, proposal, read, renaming, decision)
+}
+
 /// Plans the change that gives a declaration of the package that was read the new name, which is legal for it.
 fn plan_declaration(
     alloc: Global,
@@ -56,8 +76,13 @@ fn plan_declaration(
     ensures planned { PlansDeclaration (proposed_snapshot proposal.now) (proposed_verdicts proposal.now) declaration.now name.now (change_in result) }
     ensures known { IfOk result (λ p. KnowsVerdicts p.change.files p.known) }
 {
-    let decision = conflict_of(alloc, read, declaration, name)?;
-    plan_decided(alloc, proposal, read, declaration, name, decision)
+    let set = renamed_with(alloc, proposal.workspace, declaration)?;
+    let renaming = Renaming {
+        declaration,
+        set: &set,
+        name,
+    };
+    plan_renaming(alloc, proposal, read, &renaming)
 }
 
 /// Refuses a name for a declaration of the package that was read.
@@ -323,7 +348,7 @@ fn plan_in(
 }
 
 /// Plans the rename of the identifier at `path:offset` to `name`: the declaration and every identifier that is bound to it get the new
-/// name.
+/// name. Where an interface asks for the declaration, so do all methods that are coupled with it.
 ///
 /// The offset is that of any byte of an identifier, or of an import's string literal, which stands for its import declaration. `found` has
 /// the findings of the snapshot's packages.

@@ -53,6 +53,8 @@ module _ (F G B C D E : Type 0) (fixed : Agree F G) (reserved : Agree B C) (call
   refused_as refusal.Already h = absurd h
   refused_as refusal.NoJob h = absurd h
   refused_as refusal.BodyShort h = absurd h
+  refused_as (refusal.Coupled place) h = absurd h
+  refused_as refusal.Disk h = absurd h
 
   pub refuses_as : (r : Result (Unit {0}) Refusal) → RefusesFor F B D r → RefusesFor G C E r
   refuses_as (Ok done) h = ((λ g. h.0 (fixed.back g)), (λ c. h.1 (reserved.back c)), (λ e. h.2 (called.back e)))

@@ -1,4 +1,4 @@
--- The edit set that gives a declaration another name.
+-- The edit set that gives a declaration, and what is renamed with it, another name.
 use Rattle.std.specs.Prelude.{ℕ, ◌≡◌, List, [], Contains}
 use Rattle.base_files.specs.Workspace.{Workspace}
 use Rattle.go_ast.specs.SourceFile.{SourceFile}
@@ -10,15 +10,15 @@ use Rattle.base_edits.specs.declared.change.FileChange.{FileChange}
 use Rattle.base_edits.specs.declared.change.Fate.TheVariants.{Stays}
 use Rattle.refs_binding.specs.declared.declaration.Declaration.{Declaration}
 use Rattle.refs_binding.specs.Uses.{IsCheckedPackage}
-use Rattle.refs_binding.specs.Workspaces.{ListsFound}
+use Rattle.refs_uses.specs.UsesOfEach.{ListsUsesOfEach}
 use Rattle.refactor_rename.specs.declared.renamed.Renamed.{Renamed}
 use Rattle.refactor_rename.specs.FileEdits.{AreFileEdits}
 use Rattle.refactor_rename.specs.Literals.{IsPathLiteralOf, IsLiteralFound}
 
--- `r` is what gets the name: the identifiers that are bound to the declaration `d`, and its string literal where it is an import without a
+-- `r` is what gets the name: the identifiers that are bound to one of the set, and the string literal of `d` where it is an import without a
 -- name.
-pub record IsRenamedBy (w : Workspace) (known : Verdicts) (d : Declaration) (name : List ℕ) (r : Renamed) : Type 0 where
-  pub uses : ListsFound w known d r.places
+pub record IsRenamedBy (w : Workspace) (known : Verdicts) (d : Declaration) (set : List Declaration) (name : List ℕ) (r : Renamed) : Type 0 where
+  pub uses : ListsUsesOfEach w known set r.places
   pub literal : IsLiteralFound (IsPathLiteralOf (IsCheckedPackage w known) d) r.literal
   pub named : r.name ≡ name
 
@@ -41,8 +41,8 @@ pub record AreEditsOf (w : Workspace) (known : Verdicts) (r : Renamed) (s : File
   pub only : (c : FileChange) → Contains s.changed c → EditsSource w known c
   pub none_added : s.added ≡ []
 
--- The edit set gives the declaration `d` the name `name`, at each identifier that is bound to it.
-pub record AreRenameEdits (w : Workspace) (known : Verdicts) (d : Declaration) (name : List ℕ) (s : FileChanges) : Type 0 where
+-- The edit set gives the declaration `d`, and all of the set, the name `name`: at each identifier that is bound to one of the set.
+pub record AreRenameEdits (w : Workspace) (known : Verdicts) (d : Declaration) (set : List Declaration) (name : List ℕ) (s : FileChanges) : Type 0 where
   pub renamed : Renamed
-  pub is_renamed : IsRenamedBy w known d name renamed
+  pub is_renamed : IsRenamedBy w known d set name renamed
   pub edits : AreEditsOf w known renamed s

@@ -15,8 +15,17 @@ use base_edits::EditSet;
 use base_files::FileText;
 use refs_binding::indexed::{Indexed, Numbered};
 use refs_binding::{Declaration, FaultlessWorkspace};
-use refs_uses::list_uses_from;
+use refs_uses::list_uses_of_each;
 use std::alloc::{AllocError, Global};
+
+/// What gets a name: a declaration, and all that is renamed with it. That is the declaration alone, but where it is a method that an interface
+/// asks for: then `set` has the methods that are coupled with it too.
+#[derive(Clone, Copy)]
+pub struct Renaming<'a> {
+    pub declaration: &'a Declaration,
+    pub set: &'a [Declaration],
+    pub name: &'a [u8],
+}
 
 /// A file text of these bytes.
 fn text_of(alloc: Global, bytes: &[u8]) -> Result<FileText, AllocError>
@@ -25,24 +34,23 @@ fn text_of(alloc: Global, bytes: &[u8]) -> Result<FileText, AllocError>
     FileText::new(alloc, Vec::from_slice(alloc, bytes)?)
 }
 
-/// The identifiers that are bound to a declaration of a package, its literal where it is an import without a name, and the new name.
+/// What gets the new name: the identifiers that are bound to what is renamed, and the literal of an import without a name.
 fn renamed_by(
     alloc: Global,
     at: Numbered<'_>,
     of: &Indexed<'_>,
-    declaration: &Declaration,
-    name: &[u8],
+    renaming: &Renaming<'_>,
 ) -> Result<Renamed, AllocError>
     requires numbered { IsPackageNumber at }
     requires unit { IsPackageNumbered at (package_of of.now.unit) }
     requires indexed { IsIndexed of.now }
-    requires home { home_path declaration.now ≡ Some (package_of of.now.unit).path }
-    ensures { IfOk result (IsRenamedBy at.entry.workspace.now.graph (known_in at.entry.workspace.now.findings) declaration.now name.now) }
+    requires home { home_path renaming.now.declaration.now ≡ Some (package_of of.now.unit).path }
+    ensures { IfOk result (IsRenamedBy at.entry.workspace.now.graph (known_in at.entry.workspace.now.findings) renaming.now.declaration.now renaming.now.set.now renaming.now.name.now) }
 {
     Ok(Renamed {
-        places: list_uses_from(alloc, at, of, declaration)?,
-        literal: literal_of(at, of.unit, declaration)?,
-        name: text_of(alloc, name)?,
+        places: list_uses_of_each(alloc, at, of, renaming.set)?,
+        literal: literal_of(at, of.unit, renaming.declaration)?,
+        name: text_of(alloc, renaming.name)?,
     })
 }
 
@@ -62,22 +70,21 @@ fn edits_by(
     Ok(edits)
 }
 
-/// The edits that give a declaration of a package another name, at each identifier that is bound to it. The package is given, and not read
-/// again. The workspace has no fault.
+/// The edits of a renaming of a declaration of a package, at each identifier that is bound to what is renamed. The package is given, and not
+/// read again. The workspace has no fault.
 pub fn rename_edits(
     alloc: Global,
     at: Numbered<'_>,
     of: &Indexed<'_>,
-    declaration: &Declaration,
-    name: &[u8],
+    renaming: &Renaming<'_>,
 ) -> Result<EditSet, AllocError>
     requires numbered { IsPackageNumber at }
     requires unit { IsPackageNumbered at (package_of of.now.unit) }
     requires indexed { IsIndexed of.now }
-    requires home { home_path declaration.now ≡ Some (package_of of.now.unit).path }
-    ensures edits { IfOk result (AreRenameEdits at.entry.workspace.now.graph (known_in at.entry.workspace.now.findings) declaration.now name.now) }
+    requires home { home_path renaming.now.declaration.now ≡ Some (package_of of.now.unit).path }
+    ensures edits { IfOk result (AreRenameEdits at.entry.workspace.now.graph (known_in at.entry.workspace.now.findings) renaming.now.declaration.now renaming.now.set.now renaming.now.name.now) }
     ensures fits { IfOk result (λ edits. Fits edits at.entry.workspace.now.graph) }
 {
-    let renamed = renamed_by(alloc, at, of, declaration, name)?;
+    let renamed = renamed_by(alloc, at, of, renaming)?;
     edits_by(alloc, at.workspace, &renamed)
 }

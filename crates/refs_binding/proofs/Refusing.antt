@@ -39,6 +39,8 @@ refusal_first w found (refusal.Stale a) h = absurd h
 refusal_first w found refusal.Already h = absurd h
 refusal_first w found refusal.NoJob h = absurd h
 refusal_first w found refusal.BodyShort h = absurd h
+refusal_first w found (refusal.Coupled place) h = absurd h
+refusal_first w found refusal.Disk h = absurd h
 
 -- without a first fault there is none
 pub sound_unless_refused : (w : Workspace) (found : Findings) → AreFindings w found → (r : Result (Unit {0}) Refusal) → RefusesFirst w r →
@@ -73,6 +75,8 @@ faults_refused w found path offset (refusal.Stale a) h = absurd h
 faults_refused w found path offset refusal.Already h = absurd h
 faults_refused w found path offset refusal.NoJob h = absurd h
 faults_refused w found path offset refusal.BodyShort h = absurd h
+faults_refused w found path offset (refusal.Coupled place) h = absurd h
+faults_refused w found path offset refusal.Disk h = absurd h
 
 -- a workspace without faults
 
@@ -102,6 +106,8 @@ refusal_told w path offset list (refusal.Stale a) h = absurd h
 refusal_told w path offset list refusal.Already h = absurd h
 refusal_told w path offset list refusal.NoJob h = absurd h
 refusal_told w path offset list refusal.BodyShort h = absurd h
+refusal_told w path offset list (refusal.Coupled place) h = absurd h
+refusal_told w path offset list refusal.Disk h = absurd h
 
 pub uses_told : (w : Workspace) (path : List ℕ) (offset : ℕ) → ListsFaults w [] → (r : Result (List Place) Refusal) → AnswersUsesAt w path offset r →
     AnswersUsesIn w path offset r
@@ -136,6 +142,8 @@ refusal_of_file w path offset is (refusal.Stale a) h = absurd h
 refusal_of_file w path offset is refusal.Already h = absurd h
 refusal_of_file w path offset is refusal.NoJob h = absurd h
 refusal_of_file w path offset is refusal.BodyShort h = absurd h
+refusal_of_file w path offset is (refusal.Coupled place) h = absurd h
+refusal_of_file w path offset is refusal.Disk h = absurd h
 
 pub uses_of_file : (w : Workspace) (path : List ℕ) (offset : ℕ) → HasFileAt w path → (r : Result (List Place) Refusal) → AnswersUsesIn w path offset r →
     AnswersUses w path offset r

@@ -59,6 +59,8 @@ module _ (w : Workspace) (known : Verdicts) (path : List ℕ) (offset : ℕ) (p 
   refused refusal.Already h = absurd h
   refused refusal.NoJob h = absurd h
   refused refusal.BodyShort h = absurd h
+  refused (refusal.Coupled place) h = absurd h
+  refused refusal.Disk h = absurd h
 
   pub found : (r : Result Declaration Refusal) → FindsDeclarationIn w known p path offset r → FindsDeclaration w known path offset r
   found (Ok d) h = record { asked_in = p; is_asked = is; number = h.0; at = h.1.0; bound = h.1.1 }
@@ -92,6 +94,8 @@ module _ (w : Workspace) (known : Verdicts) (n : ℕ) (path : List ℕ) (offset 
   refused_in refusal.Already h = absurd h
   refused_in refusal.NoJob h = absurd h
   refused_in refusal.BodyShort h = absurd h
+  refused_in (refusal.Coupled place) h = absurd h
+  refused_in refusal.Disk h = absurd h
 
   pub in_package : (r : Result Declaration Refusal) → FindsDeclarationIn w known p path offset r → FindsDeclarationAt w known n path offset r
   in_package (Ok d) h = (p, (is, h))
@@ -123,6 +127,8 @@ module _ (w : Workspace) (known : Verdicts) (n : ℕ) (path : List ℕ) (offset 
   refused_at refusal.Already h = absurd h.1.1
   refused_at refusal.NoJob h = absurd h.1.1
   refused_at refusal.BodyShort h = absurd h.1.1
+  refused_at (refusal.Coupled place) h = absurd h.1.1
+  refused_at refusal.Disk h = absurd h.1.1
 
   pub found_at : (r : Result Declaration Refusal) → FindsDeclarationAt w known n path offset r → FindsDeclaration w known path offset r
   found_at (Ok d) h = found w known path offset h.0 (asked w known n h.0 path h.1.0 at) (Ok d) h.1.1
@@ -157,6 +163,8 @@ tells_refusal w known right path offset (refusal.Stale a) h = absurd h
 tells_refusal w known right path offset refusal.Already h = absurd h
 tells_refusal w known right path offset refusal.NoJob h = absurd h
 tells_refusal w known right path offset refusal.BodyShort h = absurd h
+tells_refusal w known right path offset (refusal.Coupled place) h = absurd h
+tells_refusal w known right path offset refusal.Disk h = absurd h
 
 -- the list of uses
 

@@ -4,3 +4,4 @@ pub mod Found
 pub mod Starts
 pub mod Identifiers
 pub mod Range
+pub mod HomeMarks

@@ -2,4 +2,5 @@
 pub mod DeclaredPlaces
 pub mod Identified
 pub mod Outside
+pub mod Homes
 pub mod Beginnings

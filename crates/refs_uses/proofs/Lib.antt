@@ -5,3 +5,4 @@ pub mod MayUse
 pub mod UsedAbroad
 pub mod NameTokens
 pub mod MembersUsed
+pub mod UsesOfSome

@@ -4,3 +4,4 @@ pub mod MemberNames
 pub mod MembersAbroad
 pub mod Importing
 pub mod Sought
+pub mod UsesOfEach

@@ -2,7 +2,7 @@
 //!
 //! Crates above rely on: `uses` lists exactly the places of all identifiers with the declaration of the identifier at a byte, sorted, or
 //! refuses exactly where `AnswersUses` says so. `list_uses` lists exactly the places for a given declaration, and so does `list_uses_from`
-//! by a package that is read already. A name that `name_of_member` returns is the only one that denotes the field or method (`IsNameFound`).
+//! by a package that is read already. `list_uses_of_each` lists those of several declarations. A name that `name_of_member` returns is the only one that denotes the field or method (`IsNameFound`).
 #![tactic(auto)]
 
 mod exported_name;
@@ -21,4 +21,4 @@ mod workspace_uses;
 
 pub use member_name::name_of_member;
 pub use places::Places;
-pub use workspace_uses::{list_uses, list_uses_from, uses};
+pub use workspace_uses::{list_uses, list_uses_from, list_uses_of_each, uses};

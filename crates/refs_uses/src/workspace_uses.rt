@@ -9,6 +9,7 @@ ghost use Rattle.refs_binding.specs.declared.declaration.Declaration.TheVariants
 ghost use Rattle.refs_binding.specs.Indexed.{IsPackageNumber, IsPackageNumbered, IsIndexed};
 ghost use Rattle.refs_uses.specs.MemberNames.{IsNameFound};
 ghost use Rattle.refs_uses.specs.Sought.{IsSought};
+ghost use Rattle.refs_uses.specs.UsesOfEach.{IsUseOfSome, ListsUsesOfEach};
 ghost use Rattle.refs_binding.specs.Steps.{AddsPlaces};
 ghost use Rattle.refs_binding.specs.Uses.{IsUseOf, AnswersUses, AnswersUsesAt};
 ghost use Rattle.refs_binding.specs.Workspaces.{known_in, name_bytes, IsExportedUnder, IsUseAt, ListsFound, AnswersUsesIn};
@@ -253,20 +254,21 @@ fn bytes(name: &Option<Vec<u8>>) -> Option<&[u8]>
     }
 }
 
-/// Returns the places of all uses of a declaration, sorted. `name` is the name under which it is exported, if it is. The package `read` is
-/// not read again.
-fn list_named(
+/// Adds the places of all uses of a declaration. `name` is the name under which it is exported, if it is. The package `read` is not read
+/// again.
+fn add_named(
     alloc: Global,
+    spots: &mut Vec<PlaceKey>,
     read: Numbered<'_>,
     of: &Indexed<'_>,
     declaration: &Declaration,
     name: Option<&[u8]>,
-) -> Result<Places, AllocError>
+) -> Result<(), AllocError>
     requires numbered { IsPackageNumber read }
     requires unit { IsPackageNumbered read (package_of of.now.unit) }
     requires indexed { IsIndexed of.now }
     requires name { IsExportedUnder read.workspace.now.graph (known_in read.workspace.now.findings) declaration.now (name_value name) }
-    ensures { IfOk result (ListsFound read.entry.workspace.now.graph (known_in read.entry.workspace.now.findings) declaration.now) }
+    ensures { OnOk result (AddsPlaces spots.old.items spots.new.items (IsUseOf read.entry.workspace.now.graph (known_in read.entry.workspace.now.findings) declaration.now)) }
 {
     let home = home_of(read.workspace, declaration);
     let member = member_name(read.workspace, declaration, home);
@@ -278,9 +280,24 @@ fn list_named(
         home,
         importing: &importing,
     };
-    let mut spots = Vec::new(alloc);
-    add_uses_beyond(alloc, &mut spots, read, of, &sought)?;
-    Ok(Places::new(places(alloc, spots)?))
+    add_uses_beyond(alloc, spots, read, of, &sought)
+}
+
+/// Adds the places of all uses of a declaration. The package `read` is not read again.
+fn add_uses_from(
+    alloc: Global,
+    spots: &mut Vec<PlaceKey>,
+    read: Numbered<'_>,
+    of: &Indexed<'_>,
+    declaration: &Declaration,
+) -> Result<(), AllocError>
+    requires numbered { IsPackageNumber read }
+    requires unit { IsPackageNumbered read (package_of of.now.unit) }
+    requires indexed { IsIndexed of.now }
+    ensures { OnOk result (AddsPlaces spots.old.items spots.new.items (IsUseOf read.entry.workspace.now.graph (known_in read.entry.workspace.now.findings) declaration.now)) }
+{
+    let name = name_by_read(alloc, read, of.unit, declaration)?;
+    add_named(alloc, spots, read, of, declaration, bytes(&name))
 }
 
 /// Returns the places of all uses of a declaration, sorted. The package `read` is not read again.
@@ -295,8 +312,45 @@ pub fn list_uses_from(
     requires indexed { IsIndexed of.now }
     ensures { IfOk result (ListsFound read.entry.workspace.now.graph (known_in read.entry.workspace.now.findings) declaration.now) }
 {
-    let name = name_by_read(alloc, read, of.unit, declaration)?;
-    list_named(alloc, read, of, declaration, bytes(&name))
+    let mut spots = Vec::new(alloc);
+    add_uses_from(alloc, &mut spots, read, of, declaration)?;
+    Ok(Places::new(places(alloc, spots)?))
+}
+
+/// Adds the places of all uses of each declaration of a list. The package `read` is not read again.
+fn add_uses_of_each(
+    alloc: Global,
+    spots: &mut Vec<PlaceKey>,
+    read: Numbered<'_>,
+    of: &Indexed<'_>,
+    set: &[Declaration],
+) -> Result<(), AllocError>
+    requires numbered { IsPackageNumber read }
+    requires unit { IsPackageNumbered read (package_of of.now.unit) }
+    requires indexed { IsIndexed of.now }
+    ensures { OnOk result (AddsPlaces spots.old.items spots.new.items (IsUseOfSome read.entry.workspace.now.graph (known_in read.entry.workspace.now.findings) set.now)) }
+{
+    for declaration in set {
+        add_uses_from(alloc, spots, read, of, declaration)?;
+    }
+    Ok(())
+}
+
+/// Returns the places of all uses of the declarations of a list, sorted and without duplicates. The package `read` is not read again.
+pub fn list_uses_of_each(
+    alloc: Global,
+    read: Numbered<'_>,
+    of: &Indexed<'_>,
+    set: &[Declaration],
+) -> Result<Places, AllocError>
+    requires numbered { IsPackageNumber read }
+    requires unit { IsPackageNumbered read (package_of of.now.unit) }
+    requires indexed { IsIndexed of.now }
+    ensures { IfOk result (ListsUsesOfEach read.entry.workspace.now.graph (known_in read.entry.workspace.now.findings) set.now) }
+{
+    let mut spots = Vec::new(alloc);
+    add_uses_of_each(alloc, &mut spots, read, of, set)?;
+    Ok(Places::new(places(alloc, spots)?))
 }
 
 /// Returns the places of all uses of a declaration, sorted. `name` is the name under which it is exported, if it is.

@@ -1,10 +1,10 @@
 -- What a server tells of itself in numbers.
-use Rattle.std.specs.Prelude.{◌≡◌, ◌+◌, ◌-◌, ℕ, List, Result, Ok, Err, length, sum_by}
+use Rattle.std.specs.Prelude.{◌≡◌, ◌+◌, ◌-◌, ℕ, Result, Ok, Err, length, sum_by}
 use Rattle.std.specs.Io.Iter.{u64_saturate}
 use Rattle.base_edits.specs.EditSet.{FileChanges}
-use Rattle.base_edits.specs.declared.edit.Edit.{Edit}
+use Rattle.base_edits.specs.Moved.{added_by}
 use Rattle.base_files.specs.declared.refusal.Refusal.{Refusal}
-use Rattle.history_machine.specs.Machine.{Machine}
+use Rattle.history_machine.specs.Machine.{Machine, content, snapshot_of}
 use Rattle.server_commands.specs.declared.numbers.BookNumbers.{BookNumbers}
 use Rattle.server_commands.specs.declared.numbers.ServerNumbers.{ServerNumbers}
 use Rattle.workspace_snapshot.specs.Fits.{total_bytes}
@@ -18,13 +18,9 @@ pub record AreNumbersOf (snapshot : Snapshot) (chapter entries : ℕ) (numbers :
   pub of_left : numbers.left ≡ snapshot.limits.journal - entries
   pub of_bytes : numbers.bytes ≡ u64_saturate (total_bytes snapshot.files)
 
--- the current state of a book, as a snapshot
-abbrev pub current_snapshot : Machine → Snapshot
-current_snapshot m = record { number = m.current.number; limits = m.limits; files = m.current.files }
-
 -- the numbers are those of this book
 abbrev pub AreBookNumbers : Machine → BookNumbers → Type 0
-AreBookNumbers m numbers = AreNumbersOf (current_snapshot m) m.begun (length m.journal) numbers
+AreBookNumbers m numbers = AreNumbersOf (snapshot_of (content m)) m.begun (length m.journal) numbers
 
 -- The numbers are those of a server over this book with one session and no worker. It closes no chapter before the journal is full. How many bytes the
 -- changes of the chapter keep, no clause says.
@@ -34,13 +30,9 @@ pub record AreSoloNumbers (m : Machine) (numbers : ServerNumbers) : Type 0 where
   pub at_limit : numbers.due ≡ numbers.book.left
   pub of_book : AreBookNumbers m numbers.book
 
--- how many bytes the texts of edits have
-abbrev pub edited_bytes : List Edit → ℕ
-edited_bytes = sum_by (λ e. length e.text)
-
 -- how many bytes the texts have that an edit set puts into files: those of added files, and of edits
 abbrev pub bytes_put : FileChanges → ℕ
-bytes_put set = sum_by (λ file. length file.1) set.added + sum_by (λ change. edited_bytes change.edits) set.changed
+bytes_put set = sum_by (λ file. length file.1) set.added + sum_by (λ change. added_by change.edits) set.changed
 
 -- how many bytes are kept behind a change that puts so many into files, by its outcome; so many were before
 abbrev pub kept_with : (kept bytes : ℕ) → Result ℕ Refusal → ℕ

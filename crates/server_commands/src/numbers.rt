@@ -1,7 +1,8 @@
 //! What a server tells of itself in numbers.
 ghost use Rattle.std.specs.Prelude.{◌≡◌, ◌+◌};
 ghost use Rattle.std.specs.Io.Iter.{u64_saturate};
-ghost use Rattle.server_commands.specs.Numbers.{AreNumbersOf, edited_bytes, kept_with, bytes_put};
+ghost use Rattle.base_edits.specs.Moved.{added_by};
+ghost use Rattle.server_commands.specs.Numbers.{AreNumbersOf, kept_with, bytes_put};
 ghost use Rattle.workspace_snapshot.specs.Fits.{total_bytes};
 
 use base_edits::{Edit, EditSet};
@@ -61,7 +62,7 @@ pub fn book_numbers(snapshot: &KnownSnapshot, chapter: u64, entries: u64) -> Boo
 
 /// So many bytes, and those of the texts of edits, or 2^64 - 1 where these are more.
 fn with_edits(before: u64, edits: &[Edit]) -> u64
-    ensures { result ≡ u64_saturate (before + edited_bytes edits.now) }
+    ensures { result ≡ u64_saturate (before + added_by edits.now) }
 {
     let mut bytes = before;
     for edit in edits {

@@ -31,6 +31,8 @@ code_of (refusal.Stale current) = 21
 code_of refusal.Already = 22
 code_of refusal.NoJob = 23
 code_of refusal.BodyShort = 24
+code_of (refusal.Coupled place) = 25
+code_of refusal.Disk = 26
 
 -- the place of a declaration, or `universe` for a predeclared one
 abbrev pub capturer_text : Option Place → List ℕ
@@ -47,6 +49,7 @@ refusal_body (refusal.Moved current) = number_line current
 refusal_body (refusal.Faulty place kind) = fault_line place kind
 refusal_body (refusal.Captured used by) = place_text used ++ codes " by " ++ capturer_text by ++ 10 ∷ []
 refusal_body (refusal.Lost used) = place_text used ++ 10 ∷ []
+refusal_body (refusal.Coupled place) = place_text place ++ 10 ∷ []
 refusal_body (refusal.Pending folder) = folder ++ 10 ∷ []
 refusal_body (refusal.Stale current) = number_line current
 refusal_body other = []

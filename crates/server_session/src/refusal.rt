@@ -42,6 +42,8 @@ pub(crate) fn refusal_code(refusal: &Refusal) -> u8
         Refusal::Already => 22,
         Refusal::NoJob => 23,
         Refusal::BodyShort => 24,
+        Refusal::Coupled { .. } => 25,
+        Refusal::Disk => 26,
     }
 }
 
@@ -90,8 +92,8 @@ pub(crate) fn refusal_body(refusal: &Refusal) -> ArrayString<LONGEST_BODY>
             }
             text.push_str("\n");
         }
-        Refusal::Lost { used } => {
-            text.push_str(place_text(used).as_str());
+        Refusal::Lost { used: place } | Refusal::Coupled { place } => {
+            text.push_str(place_text(place).as_str());
             text.push_str("\n");
         }
         Refusal::Pending { package } => {

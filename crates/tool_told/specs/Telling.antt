@@ -6,7 +6,7 @@ use Rattle.std.specs.FinMap as finmap
 use Rattle.base_files.specs.Workspace.{Workspace}
 use Rattle.base_files.specs.declared.place.Place.{Place}
 use Rattle.base_files.specs.declared.refusal.Refusal.{Refusal}
-use Rattle.base_files.specs.declared.refusal.Refusal.TheVariants.{Captured, Faulty, Lost}
+use Rattle.base_files.specs.declared.refusal.Refusal.TheVariants.{Captured, Coupled, Faulty, Lost}
 use Rattle.base_edits.specs.EditSet.{path_by}
 use Rattle.base_edits.specs.declared.change.Fate.{Fate}
 use Rattle.base_edits.specs.declared.change.Fate.TheVariants.{Dropped, Moves, Stays}
@@ -76,6 +76,7 @@ abbrev pub place_of : Refusal → Option Place → Option Place
 place_of (Faulty place kind) asked = Some place
 place_of (Captured used by) asked = Some used
 place_of (Lost used) asked = Some used
+place_of (Coupled place) asked = Some place
 place_of refusal asked = asked
 
 -- A sentence about a place, or about the word that was asked for where there is no place.

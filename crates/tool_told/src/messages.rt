@@ -26,6 +26,7 @@ pub(crate) fn message(refusal: &Refusal) -> &'static str
             "this identifier would be captured by a predeclared name"
         }
         Refusal::Lost { used: _ } => "this identifier would be lost",
+        Refusal::Coupled { place: _ } => "other types would implement this interface",
         Refusal::NoPackage => "there is no such package",
         Refusal::TargetTaken => "files lie there already",
         Refusal::InsideItself => "this lies in the folder that moves",

@@ -172,6 +172,7 @@ fn place_of<'a>(refusal: &'a Refusal, asked: Option<&'a Place>) -> Option<&'a Pl
         Refusal::Faulty { place, kind: _ } => Some(place),
         Refusal::Captured { used, by: _ } => Some(used),
         Refusal::Lost { used } => Some(used),
+        Refusal::Coupled { place } => Some(place),
         _ => asked,
     }
 }

@@ -41,5 +41,5 @@ returns-in-Ok c =
       at = h.1.0;
       bound = h.1.1;
     } in
-    marks_found v known c.has_no_faults.ensures.findings.right path p.offset Global c.args.graph.now c.in-Ok.declaration has c.marks_of_home.result
-    c.marks_of_home.ensures
+    marks_found v known c.has_no_faults.ensures.findings.right path p.offset Global c.args.graph.now c.in-Ok.declaration has c.marks_of_homes.result
+    c.marks_of_homes.ensures

@@ -2,7 +2,7 @@
 use Rattle.std.proofs.Common.{List, ℕ, ◌⊎◌, ap, subst, sym, ◌∙◌, ◌≡◌}
 use Rattle.std.proofs.lemmas.Bool.{false≢true}
 use Rattle.std.proofs.lemmas.Option.{same_Some}
-use Rattle.std.specs.Prelude.{Some, None, option_map, slice_get}
+use Rattle.std.specs.Prelude.{Some, None, option_map, slice_get, Contains}
 use Rattle.std.proofs.lemmas.Result.{on_ok_weaker}
 use Rattle.go_ast.specs.SourceFile.{SourceFile}
 use Rattle.types_expr.specs.Found.{use_of}
@@ -16,7 +16,7 @@ use Rattle.refs_binding.specs.Members.{definitions_known, member_at}
 use Rattle.refactor_conflict.specs.Conflicts.{IsMemberConflict, UseStays}
 use Rattle.refactor_conflict.proofs.MembersStay.{no_use_stays}
 use Rattle.refactor_conflict.proofs.KeepingFirst.{takes_none}
-use Rattle.refactor_members.specs.Renames.{by, packages_before, rename_revision, verdicts_in, workspace_before}
+use Rattle.refactor_members.specs.Renames.{by, renamed_members, packages_before, rename_revision, verdicts_in, workspace_before}
 use Rattle.refactor_members.proofs.Judged.{judged_none}
 use Rattle.refactor_members.proofs.UsesStay.{other_stays}
 use Rattle.refactor_members.proofs.judged_uses.judge_spelled.Goals as goal
@@ -52,7 +52,8 @@ returns-then-is_called c =
     let was : member_at ds p c.args.file x.place x.before ≡ Some d =
     subst (λ path. By path (spelled_at (slice_get p.files c.args.file) x.place)) k.path (subst (By types.path.now) spelling so) in
     h edits p k was one
-    (subst (λ n. (d ≡ c.args.m.now.member.now) ⊎ (n ≡ c.args.m.now.name.now)) spelling (c.is_called.ensures.0 c.if-is_called.true))) c.judge_called.ensures
+    (subst (λ n. Contains (renamed_members c.args.m.now) d ⊎ (n ≡ c.args.m.now.name.now)) spelling (c.is_called.ensures.0 c.if-is_called.true)))
+    c.judge_called.ensures
 
 pub returns-else-is_called : goal.returns-else-is_called
 returns-else-is_called c = λ edits p k one.
@@ -68,12 +69,14 @@ returns-else-is_called c = λ edits p k one.
     c.requires ∙ ap (λ (fs : List SourceFile). spelled_at (slice_get fs c.args.file) x.place) k.files in
     let was : member_at ds p c.args.file x.place x.before ≡ Some d =
     subst (λ path. By path (spelled_at (slice_get p.files c.args.file) x.place)) k.path (subst (By types.path.now) spelling so) in
-    let not : (d ≡ c.args.m.now.member.now) ⊎ (spelled_at (slice_get p.files c.args.file) x.place ≡ c.args.m.now.name.now) → ⊥ =
-    subst (λ n. (d ≡ c.args.m.now.member.now) ⊎ (n ≡ c.args.m.now.name.now) → ⊥) spelling
+    let not : Contains (renamed_members c.args.m.now) d ⊎ (spelled_at (slice_get p.files c.args.file) x.place ≡ c.args.m.now.name.now) → ⊥ =
+    subst (λ n. Contains (renamed_members c.args.m.now) d ⊎ (n ≡ c.args.m.now.name.now) → ⊥) spelling
     (λ stake. false≢true (sym c.if-is_called.false ∙ c.is_called.ensures.1 stake)) in
-    judged_none m (IsMemberConflict (packages_before m.of) (rename_revision m) ds p c.args.file x) (UseStays (packages_before m.of) (rename_revision m) ds p c.args.file x)
+    judged_none m (IsMemberConflict (packages_before m.of) (rename_revision m) ds p c.args.file x) (UseStays (packages_before m.of) (rename_revision m) ds p
+    c.args.file x)
     c.args.first.now
     (λ knows place. other_stays m p k.is_package (layout_formed (workspace_before m.of) (verdicts_in m.of) p.path p k.is_package.is_checked) ds k.definitions
     c.args.file x knows one place
-    (λ e is. subst (λ (y : Declaration). (y ≡ c.args.m.now.member.now) ⊎ (spelled_at (slice_get p.files c.args.file) x.place ≡ c.args.m.now.name.now) → ⊥)
+    (λ e is. subst (λ (y : Declaration). Contains (renamed_members c.args.m.now) y ⊎ (spelled_at (slice_get p.files c.args.file) x.place ≡
+    c.args.m.now.name.now) → ⊥)
     (same_Some d e (sym was ∙ is)) not))

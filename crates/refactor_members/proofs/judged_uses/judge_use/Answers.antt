@@ -1,5 +1,5 @@
 -- The answers to the goals of `judged_uses::judge_use`.
-use Rattle.std.proofs.Common.{◌≡◌, List, ap, sym, subst, ◌∙◌}
+use Rattle.std.proofs.Common.{◌≡◌, List, ap, ◌∙◌}
 use Rattle.std.specs.Prelude.{slice_get}
 use Rattle.go_ast.specs.SourceFile.{SourceFile}
 use Rattle.types_expr.specs.Found.{use_of}
@@ -27,7 +27,8 @@ returns-else-may_be_called c = λ edits p k one.
       has_old = not.1.1.0;
       not_old = λ e. not.1.1.1 (spelling ∙ e);
     } in
-    judged_none m (IsMemberConflict (packages_before m.of) (rename_revision m) ds p c.args.file x) (UseStays (packages_before m.of) (rename_revision m) ds p c.args.file x)
+    judged_none m (IsMemberConflict (packages_before m.of) (rename_revision m) ds p c.args.file x) (UseStays (packages_before m.of) (rename_revision m) ds p
+    c.args.file x)
     c.args.first.now
     (λ knows place. uncalled_stays m p k.is_package (layout_formed (workspace_before m.of) (verdicts_in m.of) p.path p k.is_package.is_checked) ds k.definitions
     c.args.file x knows one place uncalled)

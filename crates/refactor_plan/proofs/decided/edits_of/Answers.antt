@@ -9,11 +9,13 @@ use Rattle.refactor_plan.proofs.Homes.{same_home}
 use Rattle.refactor_plan.proofs.decided.edits_of.Goals as goal
 
 pub rename_edits-requires-clause-home : goal.rename_edits-requires-clause-home
-rename_edits-requires-clause-home c = same_home c.args.declaration.now ∙ c.requires.home
+rename_edits-requires-clause-home c = same_home c.args.renaming.now.declaration.now ∙ c.requires.home
 
 pub returns-clause-edits : goal.returns-clause-edits
 returns-clause-edits c =
-    subst (λ (v : WorkspaceFindings). IfOk c.rename_edits.result (AreRenameEdits v.graph (known_in v.findings) c.args.declaration.now c.args.name.now))
+    let asked = c.args.renaming.now in
+    subst (λ (v : WorkspaceFindings).
+    IfOk c.rename_edits.result (AreRenameEdits v.graph (known_in v.findings) asked.declaration.now asked.set.now asked.name.now))
     c.requires.read.same c.rename_edits.ensures.edits
 
 pub returns-clause-fits : goal.returns-clause-fits

@@ -1,18 +1,15 @@
 -- The answers to the goals of `kept_known::kept_known`.
-use Rattle.std.proofs.Common.{◌≡◌, inl, inr, Some, sym, subst}
-use Rattle.std.specs.Prelude.{slice_get}
-use Rattle.base_files.specs.Packages.{package_paths}
-use Rattle.types_expr.proofs.Equations.{ok_map}
+use Rattle.std.proofs.Common.{subst, sym}
+use Rattle.std.proofs.lemmas.Result.{IfOk-weaker}
 use Rattle.refactor_plan.specs.Decided.{KeepsKnown}
+use Rattle.refactor_plan.proofs.KeptBut.{but_homes}
 use Rattle.refactor_plan.proofs.kept_known.kept_known.Goals as goal
 
-pub returns-in-None : goal.returns-in-None
-returns-in-None c =
-    subst (λ b. KeepsKnown c.args.graph.now c.args.path.now b c.args.known.now c.new.result) (sym c.if-is_hidden.false) (inr c.new.ensures.right)
-
-pub returns-in-Some : goal.returns-in-Some
-returns-in-Some c =
+pub returns : goal.returns
+returns c =
     let w = c.args.graph.now in
-    let at = subst (λ q. slice_get (package_paths w) c.in-Some.number ≡ Some q) c.path.ensures c.in-Some.ensures in
-    ok_map c.known_but.result
-    (λ k h. subst (λ b. KeepsKnown w c.args.path.now b c.args.known.now k) (sym c.if-is_hidden.false) (inl (c.in-Some.number, (at, h)))) c.known_but.ensures
+    let set = c.args.set.now in
+    let known = c.args.known.now in
+    IfOk-weaker c.known_but.result _ (KeepsKnown w set c.args.is_hidden known)
+    (λ rest h. subst (λ b. KeepsKnown w set b known rest) (sym c.if-is_hidden.false)
+    (but_homes w set c.in_ok-homes.homes.items c.deref.result.now c.deref.ensures.value c.in_ok-homes.ensures known rest h)) c.known_but.ensures

@@ -1,5 +1,5 @@
 -- The answers to the goals of `move_plan::refuse_long`.
-use Rattle.std.proofs.Common.{ℕ, List, sym, subst}
+use Rattle.std.proofs.Common.{List, sym, subst}
 use Rattle.std.specs.Prelude.{Bool}
 use Rattle.std.specs.Global.{Vec}
 use Rattle.refs_binding.proofs.Units.{list_of_sound}

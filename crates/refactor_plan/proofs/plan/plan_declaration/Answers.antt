@@ -1,18 +1,17 @@
 -- The answers to the goals of `plan::plan_declaration`.
-use Rattle.std.proofs.Common.{sym, subst}
+use Rattle.std.proofs.Common.{List, sym, subst}
+use Rattle.refs_binding.specs.declared.declaration.Declaration.{Declaration}
+use Rattle.refs_binding.specs.Uses.{IsCheckedPackage}
 use Rattle.refs_binding.specs.WorkspaceFindings.{WorkspaceFindings}
 use Rattle.refs_binding.specs.Workspaces.{known_in}
-use Rattle.refactor_plan.specs.Bindings.{path_read}
-use Rattle.refactor_plan.specs.Decided.{DecidesRename, IsLegalFor}
+use Rattle.refactor_coupled.specs.Coupling.{IsRenamedSet}
+use Rattle.refactor_plan.specs.Bindings.{verdicts_read, workspace_read}
 use Rattle.refactor_plan.proofs.plan.plan_declaration.Goals as goal
 
-pub conflict_of-requires-clause-legal : goal.conflict_of-requires-clause-legal
-conflict_of-requires-clause-legal c =
-    subst (λ (v : WorkspaceFindings). IsLegalFor v.graph (known_in v.findings) c.args.declaration.now c.args.name.now) (sym c.requires.read.same) c.requires.legal
-
-pub plan_decided-requires-clause-decided : goal.plan_decided-requires-clause-decided
-plan_decided-requires-clause-decided c =
+pub plan_renaming-requires-clause-set : goal.plan_renaming-requires-clause-set
+plan_renaming-requires-clause-set c =
     let read = c.args.read.now in
-    let x = c.in_ok-decision.decision in
-    subst (λ (v : WorkspaceFindings). DecidesRename v.graph (known_in v.findings) (path_read read) c.args.declaration.now c.args.name.now x.is_hidden x.conflict)
-    c.requires.read.same c.in_ok-decision.ensures
+    let d = c.args.declaration.now in
+    subst (λ (l : List Declaration). IsRenamedSet (IsCheckedPackage (workspace_read read) (verdicts_read read)) d l) (sym c.deref.ensures.value)
+    (subst (λ (v : WorkspaceFindings). IsRenamedSet (IsCheckedPackage v.graph (known_in v.findings)) d c.in_ok-set.set.items) (sym c.requires.read.same)
+    c.in_ok-set.ensures.set)

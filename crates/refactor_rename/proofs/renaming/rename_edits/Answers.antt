@@ -11,5 +11,6 @@ pub returns-clause-edits : goal.returns-clause-edits
 returns-clause-edits c =
     let w = c.args.at.workspace.now.graph in
     let known = known_in c.args.at.workspace.now.findings in
-    IfOk-weaker c.edits_by.result (AreEditsOf w known c.in_ok-renamed.renamed) (AreRenameEdits w known c.args.declaration.now c.args.name.now)
+    let asked = c.args.renaming.now in
+    IfOk-weaker c.edits_by.result (AreEditsOf w known c.in_ok-renamed.renamed) (AreRenameEdits w known asked.declaration.now asked.set.now asked.name.now)
     (λ s h. record { renamed = c.in_ok-renamed.renamed; is_renamed = c.in_ok-renamed.ensures; edits = h }) c.edits_by.ensures.edits

@@ -1,0 +1,11 @@
+-- The definitions of this crate.
+pub mod Implementing
+pub mod Coupling
+pub mod Obstacles
+pub mod ObstacleRefusal
+pub mod RenamedTypes
+pub mod RenamedTypesView
+pub mod Called
+pub mod FirstTurns
+pub mod Reached
+pub mod CoupledEdits
