@@ -9,9 +9,10 @@ ghost use Rattle.gorefd_tests.specs.Asking.{IsAsked};
 use super::comparing::agrees;
 use go_scope::identifiers::PREDECLARED;
 use refactor_conflict::Conflict;
+use refactor_coupled::renamed_with;
 use refactor_decide::scope_decision;
 use refactor_members::member_conflict;
-use refactor_rename::{refuse_name, rename_edits};
+use refactor_rename::{Renaming, refuse_name, rename_edits};
 use refs_binding::indexed::{Indexed, Numbered};
 use refs_binding::own_names::symbol;
 use refs_binding::{Declaration, field_places, method_places};
@@ -60,14 +61,13 @@ fn ask(
     alloc: Global,
     tally: &mut Tally,
     asked: &AskedPackage<'_, '_>,
-    declaration: &Declaration,
-    name: &[u8],
+    renaming: &Renaming<'_>,
     told: Option<Conflict>,
 )
     requires asked { IsAsked asked.now.at asked.now.of asked.now.snapshot.now asked.now.known.now }
-    requires home { home_path declaration.now ≡ Some (package_of asked.now.of.unit).path }
+    requires home { home_path renaming.now.declaration.now ≡ Some (package_of asked.now.of.unit).path }
 {
-    let edits = rename_edits(alloc, asked.at, &asked.of, declaration, name).expect(rt, "memory");
+    let edits = rename_edits(alloc, asked.at, &asked.of, renaming).expect(rt, "memory");
     let change = MadeChange::of(alloc, asked.snapshot, ChangeKind::Rename, edits).expect(
         rt, "memory",
     );
@@ -96,7 +96,13 @@ fn ask_scoped(
         Err(refusal) => drop(refusal),
         Ok(()) => {
             let told = scope_decision(alloc, asked.at, &asked.of, n, name).expect(rt, "memory");
-            ask(rt, alloc, tally, asked, &declaration, name, told.conflict)
+            let set = renamed_with(alloc, asked.at.workspace, &declaration).expect(rt, "memory");
+            let renaming = Renaming {
+                declaration: &declaration,
+                set: &set,
+                name,
+            };
+            ask(rt, alloc, tally, asked, &renaming, told.conflict)
         }
     }
 }
@@ -129,9 +135,15 @@ fn ask_member(
     for name in NAMES.lines() {
         let name = name.as_bytes();
         if refuse_name(alloc, asked.at, &asked.of, declaration, name).is_ok() {
-            let told = member_conflict(alloc, asked.at.workspace, declaration, name);
+            let set = renamed_with(alloc, asked.at.workspace, declaration).expect(rt, "memory");
+            let renaming = Renaming {
+                declaration,
+                set: &set,
+                name,
+            };
+            let told = member_conflict(alloc, asked.at.workspace, &renaming);
             let told = told.expect(rt, "memory");
-            ask(rt, alloc, tally, asked, declaration, name, told);
+            ask(rt, alloc, tally, asked, &renaming, told);
         }
     }
 }

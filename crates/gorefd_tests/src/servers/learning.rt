@@ -141,12 +141,13 @@ fn known_around<L: Opening, R: Wait + Abort>(rt: &R, alloc: Global, blank: Blank
     requires parts { blank.parts ≡ L.parts }
     requires seats { blank.parts ≡ 2 }
     requires from { L.from ≡ 0 }
+    requires begun { L.begun ≡ 0 }
     requires most { L.most ≡ 1000000 }
     requires limits { L.limits ≡ full_limits }
     requires accounts { (receipts : List Receipt) → ∥ L.accounts receipts ∥₁ }
 {
     let book = Book::new(alloc, Limits::FULL).expect(rt, "memory");
-    let (shared, mut free) = Shared::<L>::new(alloc, blank, book, 2, 1_000);
+    let (shared, mut free) = Shared::<L>::new(alloc, blank, book, None, 2, 1_000);
     let mut one = free.take(alloc);
     let mut other = free.take(alloc);
     let known = known_there(rt, alloc, &shared, &mut one, &mut other);

@@ -35,12 +35,13 @@ fn settled<L: Opening, R: Wait>(
     requires parts { blank.parts ≡ L.parts }
     requires seats { blank.parts ≡ 2 }
     requires from { L.from ≡ 0 }
+    requires begun { L.begun ≡ 0 }
     requires most { L.most ≡ 1000000 }
     requires limits { L.limits ≡ full_limits }
     requires accounts { (receipts : List Receipt) → ∥ L.accounts receipts ∥₁ }
 {
     let book = Book::new(alloc, Limits::FULL)?;
-    let (shared, mut free) = Shared::<L>::new(alloc, blank, book, 2, 1_000);
+    let (shared, mut free) = Shared::<L>::new(alloc, blank, book, None, 2, 1_000);
     let mut seats = Vec::new(alloc);
     let mut one = free.take(alloc);
     let mut other = free.take(alloc);
