@@ -9,6 +9,7 @@ It runs sessions FIRST to LAST (0 to 99), each of a few dozen commands, of one K
 - `checked`: packages that import one another, with faults of all stages, and uses of all identifiers;
 - `objects`: packages that are built, with changes, undo, redo and entries of the journal in between;
 - `changed`: small changes of the workspaces of the stored sessions, with faults, uses and objects;
+- `interfaces`: workspaces of types that implement interfaces or nearly do, with faults, uses and objects;
 - `renames`, `moves`: mostly of workspaces without faults, with questions, undo, redo, objects and entries of the journal in between.
 
 It writes each session that is answered otherwise to a file, and ends with status 1 where there is one.

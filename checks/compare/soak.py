@@ -203,24 +203,29 @@ class Replay:
     """The history by the model, entry by entry, and the states that were current one after another."""
 
     def __init__(self, entries, asked):
-        self.entries, self.differences = entries, []
-        self.made = {a.number(): a for a in asked if a.verb in CHANGES and a.is_ok()}
         self.history = History()
         self.history.current.sure = set()
+        self.differences = []
+        self.begin(0, entries, asked)
+
+    def begin(self, first, entries, asked):
+        """Begins with the entries from a number on."""
+        self.first, self.entries = first, entries
+        self.made = {a.number(): a for a in asked if a.verb in CHANGES and a.is_ok()}
         self.points, self.point_of, self.events = [], {}, []
-        self.texts, self.maybe = {}, {}
+        self.states, self.maybe = {}, {}
         self.out = collections.Counter()
         self.begin_visit()
         self.add_point(None)
 
     def differ(self, number, text):
-        self.differences.append(f"entry {number} ({self.entries[number]}): {text}")
+        self.differences.append(f"entry {self.first + number} ({self.entries[number]}): {text}")
 
     def add_point(self, event):
         history = self.history
         self.points.append((history.current.number, history.cursor, len(history.states) - 1 - history.cursor))
         self.events.append(event)
-        self.texts[history.current.number] = history.current.texts
+        self.states[history.current.number] = history.current
         self.maybe[history.current.number] = history.current.finished
 
     def begin_visit(self):
@@ -256,7 +261,7 @@ class Replay:
             self.differ(number, "no session was told of it")
             return
         old = self.history.current
-        model = reply(self.history, asked.line, asked.body)
+        model = self.answer(asked)
         if model != asked.reply():
             self.differ(number, f"session {asked.session} was told {asked.reply()!r} on {asked.line!r}, by the model {model!r}")
             return
@@ -264,6 +269,14 @@ class Replay:
         self.begin_visit()
         self.point_of[told] = len(self.points)
         self.add_point(("commit", basis, told))
+
+    def answer(self, asked):
+        """Makes a change, and answers the model's reply to it."""
+        return reply(self.history, asked.line, asked.body)
+
+    def order(self):
+        """The packages of the current state."""
+        return self.history.current.workspace.order
 
     def step(self, kind, by, none, number, basis, ok, told):
         history = self.history
@@ -284,7 +297,7 @@ class Replay:
         state = self.history.current
         if basis != state.number or (ok, told) not in ((True, state.number), (False, 23)):
             self.differ(number, f"the current state is {state.number}")
-        order = state.workspace.order
+        order = self.order()
         may_wait = [p for p in order if p not in state.sure | self.surely_taken]
         must_wait = [p for p in order if p not in state.finished | self.maybe_taken]
         if not ok and must_wait:
@@ -311,7 +324,7 @@ class Replay:
             if told != state.number:
                 self.differ(number, f"the current state is {state.number}")
             # it may be of an earlier visit of this state
-            others = set(state.workspace.order)
+            others = set(self.order())
             state.finished |= self.maybe_taken if self.out[basis] == 0 and self.is_exact and self.maybe_taken else others
             self.delivered += 1
             if self.is_exact and self.out[basis] == 0 and self.delivered == len(self.surely_taken):
@@ -354,7 +367,7 @@ class Replies:
 
     @functools.lru_cache(maxsize=64)
     def state(self, number):
-        return State(number, self.replay.texts[number], set())
+        return State(number, self.replay.states[number].texts, set())
 
     @functools.lru_cache(maxsize=4096)
     def by_model(self, number, line, body):
@@ -362,6 +375,10 @@ class Replies:
         history = History()
         history.states = [self.state(number)]
         return reply(history, line, body)
+
+    def order(self, number):
+        """The packages of a state."""
+        return self.state(number).workspace.order
 
     def object(self, number, asked):
         """Whether the state may answer so for an object."""
@@ -374,8 +391,7 @@ class Replies:
         if package not in self.replay.maybe[number]:
             return False
         history = History()
-        texts = self.replay.texts[number]
-        history.states = [State(number, texts, {package})]
+        history.states = [State(number, self.state(number).texts, {package})]
         return asked.reply() == reply(history, asked.line)
 
     def is_right(self, asked, point):
@@ -398,7 +414,7 @@ class Replies:
         if verb == b"object":
             return self.object(number, asked)
         if verb == b"wait":
-            return asked.is_ok() and asked.told == b"" and set(self.state(number).workspace.order) <= self.replay.maybe[number]
+            return asked.is_ok() and asked.told == b"" and set(self.order(number)) <= self.replay.maybe[number]
         if verb == b"work":
             if asked.is_ok():
                 return asked.told.decode()[:-1] in self.replay.maybe[number]

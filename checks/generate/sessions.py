@@ -1,6 +1,6 @@
 """Random sessions with the replies that the model expects."""
 
-from checks.generate import changes, programs, shadows
+from checks.generate import changes, interfaces, programs, shadows
 from checks.model import lexer
 from checks.model.history import History, fault_lines, reply, uses_of
 from checks.model.workspace import SourceFile, Workspace
@@ -238,14 +238,34 @@ def objects_of_packages(generator, count):
     return talk.session
 
 
+def types_that_implement(generator, count):
+    """Workspaces with interfaces, each with its faults, some uses, and its objects."""
+    talk = Talk()
+    for _ in range(count):
+        talk.change_to(interfaces.any_implementing(generator, generator.choice([0.0, 0.0, 0.01, 0.05])))
+        talk.send("faults")
+        texts = talk.history.current.texts
+        for _ in range(generator.randrange(4)):
+            talk.send("uses %s:#%d" % a_place(generator, texts))
+        packages = talk.history.current.workspace.order
+        for _ in packages:
+            talk.send("work")
+        for path in packages:
+            talk.send(f"object {path}")
+    return talk.session
+
+
 NEW_NAMES = "x y z q X Y T len int nil append k b init main func _ 1x a.b é Ж x٣".split()
 FOLDERS = "a b c p q k/p k/q k/len x/init x/main x/a-b x/_ x/func p/x q/T z/X c-d a/ /b x/../y p/../q é".split()
 
 
 def a_workspace(generator, stored):
     """Texts, mostly without faults, in which there is much to rename and to move."""
-    if generator.random() < 0.7:
+    way = generator.random()
+    if way < 0.5:
         texts = shadows.shadowed(generator)
+    elif way < 0.75:
+        texts = interfaces.implementing(generator)
     else:
         texts = changes.changed(generator, generator.choice(stored))
     return with_fault(generator, texts) if generator.random() < 0.4 else texts
@@ -355,6 +375,7 @@ KINDS = {
     "checked": (checked_packages, 12),
     "objects": (objects_of_packages, 30),
     "changed": (changed_workspaces, 30),
+    "interfaces": (types_that_implement, 12),
     "renames": (renames_in_workspaces, 60),
     "moves": (moves_in_workspaces, 60),
 }

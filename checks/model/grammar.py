@@ -3,7 +3,7 @@
 An Earley recogniser finds after each token whether some file begins with the tokens so far. Productions whose names end in H are those between
 `if` or `for` and the block, outside any brackets, where no literal begins with a name.
 
-WITH_INTERFACES is the grammar with interface types, which no built program has yet.
+WITH_INTERFACES is the grammar with interface types, as programs have it.
 """
 
 GRAMMAR = {}
@@ -179,5 +179,5 @@ WITHOUT = Recogniser(GRAMMAR)
 WITH = Recogniser(WITH_INTERFACES)
 
 
-def first_fault(kinds, interfaces=False):
+def first_fault(kinds, interfaces=True):
     return (WITH if interfaces else WITHOUT).first_fault(kinds)

@@ -14,7 +14,7 @@ from checks.model.workspace import Workspace
 
 
 class State:
-    def __init__(self, number, texts, finished, interfaces=False):
+    def __init__(self, number, texts, finished, interfaces=True):
         self.number = number
         self.texts = texts
         self.finished = finished
@@ -46,7 +46,7 @@ ENTRIES = 1_000_000
 
 
 class History:
-    def __init__(self, journal=None, interfaces=False):
+    def __init__(self, journal=None, interfaces=True):
         self.interfaces = interfaces
         self.states = [State(0, {}, set(), interfaces)]
         self.cursor = 0
@@ -303,6 +303,6 @@ def answered(history, sent, answer=reply):
     return written
 
 
-def replies(sent, journal=None, interfaces=False):
+def replies(sent, journal=None, interfaces=True):
     """What a session on a new book writes to an input."""
     return answered(History(journal, interfaces), sent)

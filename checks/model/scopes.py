@@ -415,8 +415,7 @@ class Scopes:
             self.fault(node.name, "repeated")
 
     def method(self, node):
-        """It counts where no earlier one of its type has the name, no field of its type's struct, and no method of its type's
-        interface."""
+        """It counts where no earlier one of its type has the name, and no field of its type's struct."""
         method = node.declaration
         method.on_pointer = node.typ.flag
         base = self.bound[id(node.typ.at)]
@@ -424,7 +423,7 @@ class Scopes:
             self.bind(node.name, method)
             return
         written = self.written_by(base, set())
-        beside = base.methods + (written.fields + written.asked if written is not None else [])
+        beside = base.methods + (written.fields if written is not None else [])
         taken = any(self.same_name(method.name, method.package, other) for other in beside)
         self.bind(node.name, None if taken else method)
         if taken:

@@ -410,7 +410,7 @@ class Parser:
                 return node
 
 
-def first_fault(tokens, interfaces=False):
+def first_fault(tokens, interfaces=True):
     """The tree and None; or None and the number of the token at fault, their count at the end, with its kind."""
     parser = Parser(tokens, interfaces)
     try:

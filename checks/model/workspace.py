@@ -19,7 +19,7 @@ def tokens_of_file(path, source):
 class SourceFile:
     """A file. Its tree or its fault is found where one of them is first asked for."""
 
-    def __init__(self, path, source, interfaces=False):
+    def __init__(self, path, source, interfaces=True):
         self.path = path
         self.source = source
         self.interfaces = interfaces
@@ -68,9 +68,9 @@ class Package:
 
 
 class Workspace:
-    """With interfaces the subset has interface types, which no built program knows yet."""
+    """Without interfaces the subset has no interface types, as programs had before."""
 
-    def __init__(self, texts, interfaces=False):
+    def __init__(self, texts, interfaces=True):
         self.interfaces = interfaces
         self.files = {}
         folders = {}

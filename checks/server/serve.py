@@ -7,7 +7,7 @@ where one fails. The answers are those of the protocol, by hand or by the model.
 minute fails.
 """
 
-from checks.server import chapters, connections, editors, entries, late, limits, standing, statuses, story, streams, tools
+from checks.server import chapters, connections, editors, entries, journal, late, limits, standing, statuses, story, streams, tools
 from checks.server.server import check_program
 
 CHECKS = (
@@ -17,6 +17,7 @@ CHECKS = (
     + entries.CHECKS
     + chapters.CHECKS
     + standing.CHECKS
+    + journal.CHECKS
     + late.CHECKS
     + connections.CHECKS
     + streams.CHECKS

@@ -11,7 +11,7 @@ import tempfile
 import threading
 
 DEADLINE = 60
-TOLD = re.compile(rb"gorefd: (?:serving [^\n]*|ended, (?:0|[1-9][0-9]*) entries)\n")
+TOLD = re.compile(rb"gorefd: (?:recovered (?:0|[1-9][0-9]*) changes|serving [^\n]*|ended, (?:0|[1-9][0-9]*) entries)\n")
 A = b"package a\n\nvar x int\n\nfunc F(y int) int {\n\treturn x + y\n}\n"
 OBJECT = b"object a a\nvar a#x int\nfunc a#F (int) (int) 1 5\nglobal a#x\nlocal 0\nop +\nret 1\nend\n"
 PROGRAM = []

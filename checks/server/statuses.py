@@ -56,6 +56,7 @@ Options:
       --stop-after <K>     Ends after K connections, 1 to 1000000; else it does not end
       --idle <SECONDS>     Ends a session whose client sends or reads nothing for so long, 1 to 1000000
       --chapter <ENTRIES>  Closes the journal when it has so many entries, 1 to 900000; else 900000
+      --journal <DIR>      Keeps each change in this folder before it is answered, and goes on with those that are there
   -h, --help               Print help
 """
 GOOD = serve_words("s")

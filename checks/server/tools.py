@@ -212,7 +212,7 @@ def unsupported():
         ("const c = 1", "3:1: `const` is not supported (syntax)"),
         ("func f(n int) {\n\tswitch n {\n\t}\n}", "4:2: `switch` is not supported (syntax)"),
         ("func f(s []int) {\n\tfor i := range s {\n\t\tprint(i)\n\t}\n}", "4:11: `range` is not supported (syntax)"),
-        ("type T interface{}", "3:8: `interface` is not supported (syntax)"),
+        ("type T chan int", "3:8: `chan` is not supported (syntax)"),
         ("var m map[string]int", "3:7: `map` is not supported (syntax)"),
         ("func f() {\n\tdefer f()\n}", "4:2: `defer` is not supported (syntax)"),
         ("func f() {\n\tgo f()\n}", "4:2: `go` is not supported (syntax)"),
