@@ -2,9 +2,9 @@
 
 The workspace is that of check.py, with three types more in a file. Each interface asks for `Name` and for a method of its own name. Ten
 types of its package and of the packages behind it have both, and enter it as arguments. Without interfaces each interface is a struct, and
-the arguments are of that struct. Printed are the least seconds of the first `faults` of each, and of two coupled renames: of the method of
-one interface with those of its ten types, and of `Name` with those of all types. The exit status is 1 if the first `faults` takes more
-than 1.2 times as long with interfaces, or a rename more than 0.15 s.
+the arguments are of that struct. Printed are the least seconds of the first `faults` of each, and of two renames of a method of one interface
+with those of its ten types: of the one that it alone has, and of `Name`, which all interfaces and types have. The exit status is 1 if the
+first `faults` takes more than 1.2 times as long with interfaces, or a rename more than 0.15 s.
 
     usage: python3 bench/interfaces.py PROGRAM [LINES [ROUNDS]]
 """
@@ -95,7 +95,7 @@ def measure(program, lines, rounds):
             session.end()
     without, with_them = min(faults[0]), min(faults[1])
     print(f"  the first faults: {without:.3f} s without interfaces, {with_them:.3f} s with them, {with_them / without:.2f} times")
-    print(f"  rename of the method of one interface and {TYPES} types: {min(one):.4f} s; of that of all: {min(all_of):.4f} s")
+    print(f"  rename of the method of one interface and {TYPES} types: {min(one):.4f} s; of `Name`, which all have: {min(all_of):.4f} s")
     return with_them > BOUND * without or max(min(one), min(all_of)) > SECONDS
 
 

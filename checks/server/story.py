@@ -97,9 +97,14 @@ class Terminal:
         self.nc.stdout.close()
 
 
+def lines_of(cell):
+    """What a cell of a table spells out, a line for each."""
+    return "".join(line + "\n" for line in spans(cell)).encode()
+
+
 def typed_story(session):
     """Plays the table of README.md in two sessions, row by row."""
-    told = section(README, "From an editor")
+    told = section(README, "In an editor")
     script = blocks(told)[0][1]
     with Folder() as folder:
         path = os.path.join(folder, "gorefd.sock")
@@ -107,16 +112,16 @@ def typed_story(session):
         try:
             sessions, count = {"first": session(path), "second": session(path)}, 0
             for who, typed, shown in rows(told):
-                wanted = "".join(line + "\n" for line in spans(shown)).encode()
+                seen, _, ended = shown.partition("; of the server ")
+                wanted = lines_of(seen)
                 count += 1
-                if who == "server":
+                sessions[who].type(lines_of(typed))
+                same((typed, sessions[who].see(len(wanted))), (typed, wanted))
+                if ended:
                     for each in sessions.values():
                         each.close()
                     out, err = server.communicate(timeout=DEADLINE)
-                    same((server.returncode, re.sub(rb"[1-9][0-9]*", b"E", out), untold(err)), (0, wanted, b""))
-                    continue
-                sessions[who].type("".join(line + "\n" for line in spans(typed)).encode())
-                same((typed, sessions[who].see(len(wanted))), (typed, wanted))
+                    same((server.returncode, re.sub(rb"[1-9][0-9]*", b"E", out), untold(err)), (0, lines_of(ended), b""))
             same(server.poll(), 0)
         finally:
             server.kill()
@@ -199,6 +204,7 @@ def documented_ends():
     """docs/PROTOCOL.md tells of each exit status, with each text on standard error."""
     faults = {"memory fault", "read fault", "write fault", "turns fault", "socket fault", "unsettled"}
     faults |= {"another server is at work at this path", "no server is at work at this path"}
+    faults |= {"journal fault", "another server keeps its journal in this folder"}
     told = {}
     for status, texts, *_ in rows(section(PROTOCOL, "How the program ends")):
         told.setdefault(status, set()).update(text.removeprefix("gorefd: ") for text in spans(texts) if text != "gorefd: ")
