@@ -253,12 +253,18 @@ class Replay:
             self.differ(number, f"the current state is {current}, the answer by the model {wanted}")
         return ok and wanted == (ok, told)
 
-    def commit(self, number, basis, ok, told):
+    def committed(self, number, basis, ok, told):
+        """The command whose change an entry says was admitted, if the model says so too and a session was told of it."""
         if not self.moves_on(number, basis, ok, told, (True, self.history.numbers)):
-            return
+            return None
         asked = self.made.get(told)
         if asked is None:
             self.differ(number, "no session was told of it")
+        return asked
+
+    def commit(self, number, basis, ok, told):
+        asked = self.committed(number, basis, ok, told)
+        if asked is None:
             return
         old = self.history.current
         model = self.answer(asked)

@@ -247,12 +247,8 @@ class Replay(soak.Replay):
         return self.history.current.order
 
     def commit(self, number, basis, ok, told):
-        if not self.moves_on(number, basis, ok, told, (True, self.history.numbers)):
-            return
-        asked = self.made.get(told)
-        if asked is None:
-            self.differ(number, "no session was told of it")
-        elif self.makes(asked):
+        asked = self.committed(number, basis, ok, told)
+        if asked is not None and self.makes(asked):
             self.made_of.append((b"commit", basis))
 
     def makes(self, asked):

@@ -181,6 +181,15 @@ class Talk:
                 self.send(f"put {self.history.current.number} {path} {len(text)}", text)
 
 
+def build_and_show(talk):
+    """Builds the packages of the current state, and asks for their objects."""
+    packages = talk.history.current.workspace.order
+    for _ in packages:
+        talk.send("work")
+    for path in packages:
+        talk.send(f"object {path}")
+
+
 def changed_workspaces(generator, count):
     """What a workspace of a stored session is answered after small changes: its faults, some uses, and its objects."""
     talk = Talk()
@@ -192,11 +201,7 @@ def changed_workspaces(generator, count):
         for _ in range(generator.randrange(4)):
             talk.send("uses %s:#%d" % a_place(generator, texts))
         if generator.random() < 0.5:
-            packages = talk.history.current.workspace.order
-            for _ in packages:
-                talk.send("work")
-            for path in packages:
-                talk.send(f"object {path}")
+            build_and_show(talk)
     return talk.session
 
 
@@ -247,11 +252,7 @@ def types_that_implement(generator, count):
         texts = talk.history.current.texts
         for _ in range(generator.randrange(4)):
             talk.send("uses %s:#%d" % a_place(generator, texts))
-        packages = talk.history.current.workspace.order
-        for _ in packages:
-            talk.send("work")
-        for path in packages:
-            talk.send(f"object {path}")
+        build_and_show(talk)
     return talk.session
 
 
