@@ -1,4 +1,5 @@
 -- The lemmas of this crate.
+pub mod Blocks
 pub mod PackageFolders
 pub mod WorkspaceLaws
 pub mod Standing

@@ -4,6 +4,7 @@ ghost use Rattle.std.proofs.Common.{rules};
 ghost use Rattle.std.specs.Cmp.Rules.{comparing};
 ghost use Rattle.std.specs.Cmp.Lexicographic.{pointwise};
 
+use crate::bytes::same_bytes;
 use base_chunks::{Same, Share};
 use std::alloc::{AllocError, Global};
 use std::marker::Model;
@@ -77,7 +78,7 @@ impl Share for FileText {
 
 impl Same for FileText {
     fn same(&self, other: &FileText) -> bool {
-        self.bytes() == other.bytes()
+        same_bytes(self.bytes(), other.bytes())
     }
 }
 
@@ -87,7 +88,7 @@ impl PartialEq for FileText {
     ghost laws = { Prim.search (comparing, rules) };
 
     fn eq(&self, other: &FileText) -> bool {
-        self.bytes() == other.bytes()
+        same_bytes(self.bytes(), other.bytes())
     }
 }
 

@@ -5,6 +5,7 @@
 //! path. A value of `Limits` never exceeds `Limits::FULL`. `PathTable` does what would be done to a list of entries sorted by path.
 #![tactic(auto)]
 
+mod bytes;
 mod entries;
 mod fault_kind;
 mod file_text;

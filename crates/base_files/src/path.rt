@@ -163,7 +163,8 @@ impl PartialEq for Path {
     ghost laws = { Prim.search (comparing, rules) };
 
     fn eq(&self, other: &Path) -> bool {
-        self.text.as_bytes() == other.text.as_bytes()
+        let text = self.text.as_str();
+        text == other.text.as_str()
     }
 }
 
@@ -191,6 +192,7 @@ impl Ord for Path {
     ghost matches_eq = { Prim.search (comparing, rules) };
 
     fn cmp(&self, other: &Path) -> Ordering {
-        self.text.as_bytes().cmp(other.text.as_bytes())
+        let text = self.text.as_str();
+        text.cmp(other.text.as_str())
     }
 }

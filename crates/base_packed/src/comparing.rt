@@ -32,7 +32,7 @@ pub(crate) fn all_same<T: SameParts>(one: &[T], other: &[T]) -> bool
 fn same_text(one: &FileText, other: &FileText) -> bool
     ensures { IsTrue result ↔ (one.now ≡ other.now) }
 {
-    one.bytes() == other.bytes()
+    *one == *other
 }
 
 fn same_path(one: &Path, other: &Path) -> bool

@@ -9,7 +9,7 @@ pub fn has_text(files: &Files, path: &Path, text: &FileText) -> bool
     ensures { IsTrue result ↔ (map.get files.now path.now ≡ Some text.now) }
 {
     match files.get(path) {
-        Some(other) => other.bytes() == text.bytes(),
+        Some(other) => *other == *text,
         None => false,
     }
 }

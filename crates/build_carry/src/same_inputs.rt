@@ -20,7 +20,7 @@ use workspace_graph::{FaultyFile, Graph, ParsedPackage};
 fn is_same_file(path: &Path, text: &FileText, other_path: &Path, other_text: &FileText) -> bool
     ensures { IsTrue result ↔ ((path.now ≡ other_path.now) × (text.now ≡ other_text.now)) }
 {
-    *path == *other_path && text.bytes() == other_text.bytes()
+    *path == *other_path && *text == *other_text
 }
 
 /// Whether two lists of files with trees have the same paths and texts, one after another.

@@ -89,7 +89,7 @@ fn object_of<'a>(state: &'a SeenState, path: &[u8]) -> Option<&'a FileText>
 fn is_same_text(one: &FileText, other: &FileText) -> bool
     ensures { IsTrue result ↔ (one.now ≡ other.now) }
 {
-    one.bytes() == other.bytes()
+    *one == *other
 }
 
 /// How the object of the package of a number compares with that in the state `before`.

@@ -17,7 +17,7 @@ pub fn has_text(files: &Files, path: &Path, text: &FileText) -> bool
     ensures { IsTrue result ↔ (map.get files.now path.now ≡ Some text.now) }
 {
     match files.get(path) {
-        Some(old) => old.bytes() == text.bytes(),
+        Some(old) => *old == *text,
         None => false,
     }
 }
