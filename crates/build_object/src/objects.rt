@@ -262,7 +262,7 @@ fn laid<'a>(
     ensures { IfOk result (λ table. IsLaidOver (map source_of files.now) (known_name export_table.now) (scoped files.now) table) }
 {
     let plain = declare(alloc, files)?;
-    lay_names(alloc, &plain, files, export_table)
+    lay_names(alloc, plain, files, export_table)
 }
 
 /// Prints the object of a package with this scope table.

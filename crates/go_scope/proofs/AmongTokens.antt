@@ -1,7 +1,8 @@
 -- Identifiers at tokens of a list, in its order.
-use Rattle.std.proofs.Common.{ℕ, suc, ◌≡◌, ◌≤◌, inr, List, [], ◌∷◌, ◌++◌, ap, sym, ◌∙◌, arith}
+use Rattle.std.proofs.Common.{ℕ, suc, ◌≡◌, ◌≤◌, false, inr, List, [], ◌∷◌, ◌++◌, ap, sym, ◌∙◌, arith}
 use Rattle.go_ast.specs.declared.syntax.Token.{Token}
 use Rattle.go_scope.specs.declared.model.Position.{Position}
+use Rattle.go_scope.specs.Bindings.{is_implied}
 use Rattle.go_scope.specs.Site.{Site}
 use Rattle.go_scope.specs.Trees.{AreRising}
 use Rattle.go_scope.specs.WellFormed.{IsNotAfter}
@@ -50,4 +51,19 @@ places_rise rank n _ _ (takes {x = x} {xs = xs} {t = t} {ts = ts} e a) r =
             (λ y s. inr (file ∙ sym s.0, (let up : suc t.place ≤ y.place.index = s.1 in omega arith))) xs h.0,
         h.1,
       ),
+    )
+
+-- the two do not stand at one token, if the first is no predeclared name
+abbrev pub StandApart : Site → Site → Type 0
+StandApart x y = is_implied x.role ≡ false → x.place ≡ y.place → ⊥
+
+pub places_apart : (rank n : ℕ) (xs : List Site) (ts : List Token) → AreAmong rank xs ts → AreRising n ts → EachPair StandApart xs
+places_apart rank n _ _ ends r = tt
+places_apart rank n xs _ (skips {t = t} {ts = ts} a) r = places_apart rank (suc t.place) xs ts a r.1
+places_apart rank n _ _ (takes {x = x} {xs = xs} {t = t} {ts = ts} e a) r =
+    let at : x.place.index ≡ t.place = ap (λ (p : Position). p.index) e in (
+      each_map (StandsFrom rank (suc t.place)) (StandApart x)
+          (λ y s _ same. (let index : x.place.index ≡ y.place.index = ap (λ (p : Position). p.index) same in
+          let up : suc t.place ≤ y.place.index = s.1 in absurd (omega arith))) xs (places_rise rank (suc t.place) xs ts a r.1).0,
+      places_apart rank (suc t.place) xs ts a r.1,
     )

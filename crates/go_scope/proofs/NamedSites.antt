@@ -1,33 +1,25 @@
 -- Identifiers where imports without a name declare in their files: the identifier of each number, and the layout, which stays well formed.
-use Rattle.std.proofs.Common.{ℕ, ◌≡◌, ◌+◌, ◌<◌, ◌≤◌, ◌⊎◌, inl, inr, List, [], ◌∷◌, ◌++◌, length, take, get_or, map, Option, Some, None, Bool, true, false}
+use Rattle.std.proofs.Common.{ℕ, ◌≡◌, ◌+◌, ◌<◌, ◌≤◌, ◌⊎◌, inl, inr, List, [], ◌∷◌, length, set, get_or, map, Option, Some, None, Bool, true, false}
 use Rattle.std.proofs.Common.{ap, sym, ◌∙◌, refl, subst, arith, zero, suc}
 use Rattle.std.specs.Prelude.{slice_get}
 use Rattle.std.proofs.Math.ListN.{get_or-map}
-use Rattle.std.proofs.lemmas.List.{length-map, map-append}
+use Rattle.std.proofs.lemmas.List.{length-map, map-set, set-get_or, get_or_default}
 use Rattle.go_scope.specs.declared.model.Block.TheVariants.{File, Inner}
 use Rattle.go_scope.specs.declared.model.Identifier.{Identifier}
 use Rattle.go_scope.specs.declared.model.Position.{Position}
 use Rattle.go_scope.specs.declared.model.Role.{Role}
 use Rattle.go_scope.specs.declared.model.Role.TheVariants.{Use, Declaring, LeftName, Implied, NotLexical}
-use Rattle.go_scope.specs.Bindings.{Layout, MayDeclare, IsLeftName, block_of, start_of, may_declare, is_left_name}
+use Rattle.go_scope.specs.Bindings.{Layout, MayDeclare, IsLeftName, block_of, start_of, may_declare, is_implied, is_left_name}
 use Rattle.go_scope.specs.FileSites.{SpelledFile, package_sites}
 use Rattle.go_scope.specs.IdentifierViews.{site_of}
-use Rattle.go_scope.specs.Named.{is_unnamed_import, named_where, named_site, named_sites}
+use Rattle.go_scope.specs.Named.{is_unnamed_import, named_where, named_site, named_sites, NamesSite}
 use Rattle.go_scope.specs.Site.{Site, or_blank, sites_layout}
 use Rattle.go_scope.specs.Table.{layout_of}
 use Rattle.go_scope.specs.Trees.{AreNumbered}
-use Rattle.go_scope.specs.WellFormed.{WellFormed, ImportsCoverFiles, InBlockOrder, IsNotAfter, InPlaceOrder, IsLaidOut, InBlock}
+use Rattle.go_scope.specs.WellFormed.{WellFormed, ImportsCoverFiles, InBlockOrder, IsNotAfter, InPlaceOrder, HaveOwnPlaces, IsLaidOut, InBlock}
 use Rattle.go_scope.proofs.Declared.{layout-sites}
-use Rattle.go_scope.proofs.PackagePlaces.{package_follows_places}
+use Rattle.go_scope.proofs.PackagePlaces.{package_apart, package_follows_places}
 use Rattle.go_scope.proofs.PackageRegions.{From, may_at, each_at, not_may, package_agrees, package_well_formed, package_follows_blocks}
-
--- one more identifier
-pub named_next : (names : ℕ → Option (List ℕ)) (xs : List Site) (u : ℕ) (d : Site) → u < length xs →
-    named_sites names (take u xs) ++ (named_site (names u) (get_or xs u d) ∷ []) ≡ named_sites names (take (suc u) xs)
-unfolding named_sites
-named_next names [] u d lt = absurd (omega arith)
-named_next names (x ∷ xs) zero d lt = refl
-named_next names (x ∷ xs) (suc u) d lt = ap (λ z. named_site (names 0) x ∷ z) (named_next (λ k. names (suc k)) xs u d (omega arith))
 
 -- an identifier stays, or it declares in a file, from the file's start
 abbrev RoleStays : Role → Role → Type 0
@@ -56,6 +48,26 @@ unfolding named_sites
 place_stays names [] d = refl
 place_stays names (x ∷ xs) zero = stays_in_place (is_unnamed_import x.role) (names 0) x
 place_stays names (x ∷ xs) (suc d) = place_stays (λ u. names (suc u)) xs d
+
+unnamed_stands : (r : Role) → is_unnamed_import r ≡ true → is_implied r ≡ false
+unnamed_stands Use e = refl
+unnamed_stands (Declaring b start) e = refl
+unnamed_stands (LeftName b start) e = refl
+unnamed_stands (Implied b start) e = let z : ⊥ = cc in absurd z
+unnamed_stands (NotLexical p) e = refl
+
+stands_still : (b : Bool) (name : Option (List ℕ)) (x : Site) → is_unnamed_import x.role ≡ b → is_implied (named_where b name x).role ≡ is_implied x.role
+stands_still true (Some name) x e = sym (unnamed_stands x.role e)
+stands_still true None x e = refl
+stands_still false name x e = refl
+
+-- what is an identifier stays one
+pub identifier_stays : (names : ℕ → Option (List ℕ)) (xs : List Site) (u : ℕ) →
+    is_implied (or_blank (slice_get (named_sites names xs) u)).role ≡ is_implied (or_blank (slice_get xs u)).role
+unfolding named_sites
+identifier_stays names [] u = refl
+identifier_stays names (x ∷ xs) zero = stands_still (is_unnamed_import x.role) (names 0) x refl
+identifier_stays names (x ∷ xs) (suc u) = identifier_stays (λ k. names (suc k)) xs u
 
 file_not_inner : (h f a b : ℕ) → File h ≡ Inner f a b → ⊥
 file_not_inner h f a b e = cc
@@ -175,6 +187,12 @@ named_level names xs w level =
     imports_stay_level (sites_layout (named_sites names xs)) (sites_layout xs) (length (named_sites names xs)) (may_at (named_sites names xs))
     (role_stays names xs) (place_stays names xs) w level
 
+named_apart : (names : ℕ → Option (List ℕ)) (xs : List Site) → HaveOwnPlaces (sites_layout xs) (length xs) →
+    HaveOwnPlaces (sites_layout (named_sites names xs)) (length (named_sites names xs))
+named_apart names xs h u v less lt identifier same =
+    h u v less (subst (λ n. v < n) (named_length names xs) lt) (sym (identifier_stays names xs u) ∙ identifier)
+    (sym (place_stays names xs u) ∙ same ∙ place_stays names xs v)
+
 pub named_laid_out : (names : ℕ → Option (List ℕ)) (xs : List Site) → IsLaidOut (sites_layout xs) (length xs) →
     IsLaidOut (sites_layout (named_sites names xs)) (length (named_sites names xs))
 named_laid_out names xs h =
@@ -188,6 +206,7 @@ named_laid_out names xs h =
       ordered = follow_blocks_still k l n (may_at (named_sites names xs)) (role_stays names xs) (place_stays names xs) h.well_formed h.imports h.ordered;
       placed = subst P (sym (named_length names xs))
           (follow_places_still k l n (may_at (named_sites names xs)) (role_stays names xs) (place_stays names xs) h.well_formed h.imports (length xs) h.placed);
+      apart = named_apart names xs h.apart;
     }
 
 level_role : (r : Role) (f : ℕ) → (may_declare r ≡ true → (start_of r ≡ 0) ⊎ (block_of r ≡ File f → ⊥)) → block_of r ≡ File f → start_of r ≡ 0
@@ -208,22 +227,74 @@ pub package_level : (files : List SpelledFile) → AreNumbered files → Imports
 package_level files w d f i = level_site (or_blank (slice_get (package_sites files) d)) f
     (each_at (From 0) (λ m. not_may m) (package_sites files) (package_agrees files w).0 d) i
 
--- one more identifier of the program's list
-pub found_next : (names : ℕ → Option (List ℕ)) (xs old new : List Identifier) (u : ℕ) (d x : Identifier) (name : Option (List ℕ)) → u < length xs →
-    new ≡ old ++ (x ∷ []) →
-    name ≡ names u → site_of x ≡ named_site name (site_of (get_or xs u d)) → map site_of old ≡ named_sites names (take u (map site_of xs)) →
-    map site_of new ≡ named_sites names (take (u + 1) (map site_of xs))
-found_next names xs old new u d x name lt e en one h =
-    let sites = map site_of xs in
-    let lm : u < length sites = rw length-map lt in
-    ap (map site_of) e ∙ map-append site_of old (x ∷ []) ∙ ap (λ z. z ++ (site_of x ∷ [])) h ∙
-    ap (λ z. named_sites names (take u sites) ++ (z ∷ []))
-    (one ∙ ap (λ n. named_site n (site_of (get_or xs u d))) en ∙ ap (named_site (names u)) (sym (get_or-map site_of xs u d))) ∙
-    named_next names sites u (site_of d) lm ∙ ap (λ k. named_sites names (take k sites)) (let s : suc u ≡ u + 1 = omega arith in s)
+-- the first n identifiers, each with the package's name that `names` gives for its number, and the others as they are
+unfoldable pub named_below : (ℕ → Option (List ℕ)) → ℕ → List Site → List Site
+named_below names zero xs = xs
+named_below names (suc n) [] = []
+named_below names (suc n) (x ∷ xs) = named_site (names 0) x ∷ named_below (λ u. names (suc u)) n xs
 
-pub found_none : (names : ℕ → Option (List ℕ)) (none : List Identifier) (xs : List Site) → none ≡ [] → map site_of none ≡ named_sites names (take 0 xs)
-unfolding named_sites
-found_none names none xs e = ap (map site_of) e
+named_above : (names : ℕ → Option (List ℕ)) (xs : List Site) (u : ℕ) (d : Site) → get_or (named_below names u xs) u d ≡ get_or xs u d
+unfolding named_below
+named_above names xs zero d = refl
+named_above names [] (suc u) d = refl
+named_above names (x ∷ xs) (suc u) d = named_above (λ k. names (suc k)) xs u d
+
+named_set : (names : ℕ → Option (List ℕ)) (xs : List Site) (u : ℕ) (d : Site) → u < length xs →
+    set (named_below names u xs) u (named_site (names u) (get_or xs u d)) ≡ named_below names (suc u) xs
+unfolding named_below
+named_set names [] u d lt = absurd (omega arith)
+named_set names (x ∷ xs) zero d lt = refl
+named_set names (x ∷ xs) (suc u) d lt = ap (λ z. named_site (names 0) x ∷ z) (named_set (λ k. names (suc k)) xs u d (omega arith))
+
+not_named : (b : Bool) (x : Site) → named_where b None x ≡ x
+not_named true x = refl
+not_named false x = refl
+
+pub named_sized : (names : ℕ → Option (List ℕ)) (n : ℕ) (xs : List Site) → length (named_below names n xs) ≡ length xs
+unfolding named_below
+named_sized names zero xs = refl
+named_sized names (suc n) [] = refl
+named_sized names (suc n) (x ∷ xs) = let h : length (named_below (λ u. names (suc u)) n xs) ≡ length xs = named_sized (λ u. names (suc u)) n xs in omega arith
+
+-- the next identifier
+pub named_next : (names : ℕ → Option (List ℕ)) (xs old new : List Site) (u : ℕ) (name : Option (List ℕ)) → u < length xs → name ≡ names u →
+    NamesSite old new u name → old ≡ named_below names u xs → new ≡ named_below names (u + 1) xs
+named_next names xs old new u name lt given s h =
+    let d : Site = or_blank None in
+    let below = named_below names u xs in
+    s.named d ∙ ap (λ z. set z u (named_site name (get_or z u d))) h ∙
+    ap (λ y. set below u (named_site name y)) (named_above names xs u d) ∙
+    ap (λ n. set below u (named_site n (get_or xs u d))) given ∙ named_set names xs u d lt ∙
+    ap (λ k. named_below names k xs) (let e : suc u ≡ u + 1 = omega arith in e)
+
+-- without a name nothing changes
+pub names_nothing : (xs : List Site) (u : ℕ) → NamesSite xs xs u None
+names_nothing xs u = record {
+  named = λ d. sym (set-get_or xs u d) ∙ ap (set xs u) (sym (not_named (is_unnamed_import (get_or xs u d).role) (get_or xs u d)));
+}
+
+-- one identifier is named
+pub names_one : (old new : List Identifier) (u : ℕ) (before x : Identifier) (name : Option (List ℕ)) → u < length old → before ≡ get_or old u before →
+    new ≡ set old u x → site_of x ≡ named_site name (site_of before) → NamesSite (map site_of old) (map site_of new) u name
+names_one old new u before x name lt at e is =
+    let lm : u < length (map site_of old) = rw length-map lt in
+    record {
+      named = λ d.
+          let same : site_of before ≡ get_or (map site_of old) u d =
+          ap site_of at ∙ sym (get_or-map site_of old u before) ∙ get_or_default (map site_of old) u (site_of before) d lm in
+          ap (map site_of) e ∙ map-set site_of old u x ∙ ap (set (map site_of old) u) (is ∙ ap (named_site name) same);
+    }
+
+pub named_none : (names : ℕ → Option (List ℕ)) (xs : List Site) → named_below names 0 xs ≡ xs
+unfolding named_below
+named_none names xs = refl
+
+pub named_all : (names : ℕ → Option (List ℕ)) (n : ℕ) (xs : List Site) → length xs ≤ n → named_below names n xs ≡ named_sites names xs
+unfolding named_below named_sites
+named_all names zero [] le = refl
+named_all names zero (x ∷ xs) le = absurd (omega arith)
+named_all names (suc n) [] le = refl
+named_all names (suc n) (x ∷ xs) le = ap (λ z. named_site (names 0) x ∷ z) (named_all (λ u. names (suc u)) n xs (omega arith))
 
 -- a list of identifiers is laid out as its sites are
 pub list_laid_out : (xs : List Identifier) (zs : List Site) → map site_of xs ≡ zs → IsLaidOut (sites_layout zs) (length zs) →
@@ -244,6 +315,7 @@ package_laid_out files w = record {
   imports = package_level files w;
   ordered = package_follows_blocks files w;
   placed = package_follows_places files w;
+  apart = package_apart files w;
 }
 
 pub declared_laid_out : (xs : List Identifier) (files : List SpelledFile) → map site_of xs ≡ package_sites files → AreNumbered files →

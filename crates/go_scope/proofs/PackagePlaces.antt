@@ -1,17 +1,17 @@
 -- The identifiers of a package are numbered in the order of their positions, and a declaration in an inner block is before its scope.
-use Rattle.std.proofs.Common.{ℕ, zero, suc, ◌≡◌, ◌<◌, ◌≤◌, inl, inr, List, [], ◌∷◌, length, map, ap, sym, ◌∙◌, refl, arith}
+use Rattle.std.proofs.Common.{ℕ, zero, suc, ◌≡◌, ◌<◌, ◌≤◌, true, inl, inr, List, [], ◌∷◌, length, map, ap, sym, ◌∙◌, refl, arith}
 use Rattle.std.specs.Prelude.{slice_get}
-use Rattle.std.proofs.lemmas.Bool.{cases_order}
+use Rattle.std.proofs.lemmas.Bool.{cases_order, true≢false}
 use Rattle.std.proofs.lemmas.List.Elements.{All-head, All-tail}
 use Rattle.go_ast.specs.Flatten.{flatten}
 use Rattle.go_scope.specs.declared.model.Block.TheVariants.{Inner}
 use Rattle.go_scope.specs.declared.model.Position.{Position}
-use Rattle.go_scope.specs.Bindings.{MayDeclare, start_of}
+use Rattle.go_scope.specs.Bindings.{MayDeclare, is_implied, start_of}
 use Rattle.go_scope.specs.FileSites.{SpelledFile, file_sites, files_sites, universe, universe_site, package_sites}
 use Rattle.go_scope.specs.Site.{Site, TokenSpellings, or_blank, sites_layout}
 use Rattle.go_scope.specs.Trees.{IsNumbered, AreNumbered}
-use Rattle.go_scope.specs.WellFormed.{InBlock, InPlaceOrder}
-use Rattle.go_scope.proofs.AmongTokens.{UpTo, StandsFrom, position, places_rise}
+use Rattle.go_scope.specs.WellFormed.{InBlock, InPlaceOrder, HaveOwnPlaces}
+use Rattle.go_scope.proofs.AmongTokens.{UpTo, StandApart, StandsFrom, position, places_apart, places_rise}
 use Rattle.go_scope.proofs.AmongTrees.{file_among}
 use Rattle.go_scope.proofs.PackageRegions.{From, frame, package_agrees}
 use Rattle.go_scope.proofs.Regions.{Each, EachPair, Related, each_append, each_map, pairs_append, pairs_of_each, inner_file}
@@ -62,6 +62,41 @@ package_rises fs w =
     pairs_append UpTo IsFirstPlace (FileFrom 0) (λ x y h k. first_up_to x y h) names (files_sites 0 fs) first rest.0
     (pairs_of_each UpTo IsFirstPlace (λ x y h k. first_up_to x y h) names first) rest.1
 
+-- identifiers stand at tokens of their own
+
+files_apart : (rank : ℕ) (fs : List SpelledFile) → AreNumbered fs → EachPair StandApart (files_sites rank fs)
+unfolding files_sites
+files_apart rank [] w = tt
+files_apart rank (f ∷ fs) w =
+    let s : TokenSpellings = record { rank = rank; spell = f.spell } in
+    let one = All-head IsNumbered f fs w in
+    let xs = file_sites s f.tree in
+    let ts = flatten f.tree in
+    let later = All-tail IsNumbered f fs w in
+    pairs_append StandApart (StandsFrom rank 0) (FileFrom (suc rank))
+    (λ x y h k _ same. (let file : x.place.file ≡ y.place.file = ap (λ (p : Position). p.file) same in
+    let e : x.place.file ≡ rank = h.0 in let le : suc rank ≤ y.place.file = k in absurd (omega arith))) xs (files_sites (suc rank) fs)
+    (places_rise rank 0 xs ts (file_among s f.tree) one.rising).0 (files_rise (suc rank) fs later).0
+    (places_apart rank 0 xs ts (file_among s f.tree) one.rising) (files_apart (suc rank) fs later)
+
+abbrev IsPredeclaredSite : Site → Type 0
+IsPredeclaredSite x = is_implied x.role ≡ true
+
+names_predeclared : (names : List (List ℕ)) → Each IsPredeclaredSite (map universe_site names)
+names_predeclared [] = tt
+names_predeclared (x ∷ xs) = (refl, names_predeclared xs)
+
+predeclared_apart : (x y : Site) → IsPredeclaredSite x → StandApart x y
+predeclared_apart x y h identifier same = true≢false (sym h ∙ identifier)
+
+sites_apart : (fs : List SpelledFile) → AreNumbered fs → EachPair StandApart (package_sites fs)
+unfolding package_sites
+sites_apart fs w =
+    let names = map universe_site universe in
+    let predeclared = names_predeclared universe in
+    pairs_append StandApart IsPredeclaredSite (FileFrom 0) (λ x y h k. predeclared_apart x y h) names (files_sites 0 fs) predeclared (files_rise 0 fs w).0
+    (pairs_of_each StandApart IsPredeclaredSite (λ x y h k. predeclared_apart x y h) names predeclared) (files_apart 0 fs w)
+
 -- by the numbers of identifiers
 
 each_below : (P : Site → Type 0) (xs : List Site) → Each P xs → (v : ℕ) → v < length xs → P (or_blank (slice_get xs v))
@@ -89,3 +124,6 @@ package_follows_places fs w = record {
   rising = pair_below UpTo (package_sites fs) (package_rises fs w);
   before_scope = before_scope (package_sites fs) (package_agrees fs w).0 (package_agrees fs w).1;
 }
+
+pub package_apart : (fs : List SpelledFile) → AreNumbered fs → HaveOwnPlaces (sites_layout (package_sites fs)) (length (package_sites fs))
+package_apart fs w = pair_below StandApart (package_sites fs) (sites_apart fs w)

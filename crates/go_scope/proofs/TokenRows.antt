@@ -1,12 +1,11 @@
 -- Numbers at tokens, set one after another.
-use Rattle.std.proofs.Common.{ℕ, ◌≡◌, ◌+◌, ◌<◌, inl, inr, List, length, get_or, ap, sym, subst, refl, ◌∙◌, arith}
-use Rattle.std.specs.Prelude.{Option, Some, None, slice_get}
+use Rattle.std.proofs.Common.{ℕ, ◌≡◌, ◌+◌, ◌<◌, inl, inr, sym, subst, refl, ◌∙◌, arith}
+use Rattle.std.specs.Prelude.{Option, Some, None}
 use Rattle.std.proofs.lemmas.Bool.{cases_lt, cases_eq}
-use Rattle.std.proofs.lemmas.Option.{slice_get-get_or}
 use Rattle.go_scope.specs.declared.model.Position.{Position}
 use Rattle.go_scope.specs.Bindings.{Layout}
 use Rattle.go_scope.specs.Table.{LiesAt}
-use Rattle.go_scope.specs.ByToken.{Numbers, SetsIfUnset, first, later, EntersIdentifier, stands, stands_nowhere, IsFirstBelow, AreIdentifiers, AreRanksOf}
+use Rattle.go_scope.specs.ByToken.{Numbers, SetsIfUnset, first, later, EntersIdentifier, stands, stands_nowhere, IsFirstBelow, AreIdentifiers}
 
 -- one more number, which does not satisfy P
 pub widen : (P : ℕ → Type 0) (n : ℕ) (o : Option ℕ) → (P n → ⊥) → IsFirstBelow P n o → IsFirstBelow P (n + 1) o
@@ -18,7 +17,7 @@ pub widen_found : (P : ℕ → Type 0) (n u : ℕ) → IsFirstBelow P n (Some u)
 widen_found P n u h = record { within = let lt : u < n = h.within in omega arith; holds = h.holds; first = h.first }
 
 -- the first number that satisfies P
-first_now : (P : ℕ → Type 0) (n : ℕ) (o : Option ℕ) → o ≡ None → P n → IsFirstBelow P n o → IsFirstBelow P (n + 1) (Some n)
+pub first_now : (P : ℕ → Type 0) (n : ℕ) (o : Option ℕ) → o ≡ None → P n → IsFirstBelow P n o → IsFirstBelow P (n + 1) (Some n)
 first_now P n o e p h =
     let none : (u : ℕ) → u < n → P u → ⊥ = subst (IsFirstBelow P n) e h in
     record { within = omega arith; holds = p; first = λ u lt q. none u lt q }
@@ -53,14 +52,6 @@ note_more P n old new place s here only h f t =
 abbrev pub place_or : Position → Option Position → Position
 place_or d None = d
 place_or d (Some p) = p
-
--- the next of a list of positions
-pub next_rank : (places : List Position) (n : ℕ) (old new : Numbers) (d : Position) → n < length places → SetsIfUnset old new (get_or places n d) n →
-    AreRanksOf places n old → AreRanksOf places (n + 1) new
-next_rank places n old new d lt s h =
-    let is : slice_get places n ≡ Some (get_or places n d) = slice_get-get_or places n d lt in
-    note_more (λ f t rank. slice_get places rank ≡ Some (record { file = f; index = t })) n old new (get_or places n d) s is
-    (λ f t e. let same : record { file = f; index = t } ≡ get_or places n d = ap (place_or d) (sym e ∙ is) in (ap (λ p. p.file) same, ap (λ p. p.index) same)) h
 
 -- the next identifier
 pub next_identifier : (l : Layout) (n : ℕ) (old new : Numbers) → EntersIdentifier l n old new → AreIdentifiers l n old → AreIdentifiers l (n + 1) new

@@ -1,8 +1,8 @@
 -- Tables of numbers by file and token.
-use Rattle.std.specs.Prelude.{ℕ, ◌≡◌, ◌<◌, Bool, true, false, List, [], Option, Some, None, slice_get, slice_index_or, MatchOption}
+use Rattle.std.specs.Prelude.{ℕ, ◌≡◌, ◌<◌, List, [], Option, Some, None, slice_get, slice_index_or, MatchOption}
 use Rattle.std.specs.Global.{Vec}
 use Rattle.go_scope.specs.declared.model.Position.{Position}
-use Rattle.go_scope.specs.Bindings.{Layout, IsIdentifier, is_implied}
+use Rattle.go_scope.specs.Bindings.{Layout, IsIdentifier}
 use Rattle.go_scope.specs.Table.{LiesAt, IsFirstOf}
 use Rattle.go_scope.specs.declared.by_token.ByToken.{ByToken}
 
@@ -50,16 +50,3 @@ IsFirstBelow P n found = MatchOption found ((u : ℕ) → u < n → P u → ⊥)
 -- `found` gives for each token its first identifier below n, or none
 abbrev pub AreIdentifiers : Layout → ℕ → Numbers → Type 0
 AreIdentifiers l n found = (file token : ℕ) → IsFirstBelow (LiesAt l (record { file = file; index = token })) n (found file token)
-
--- `found` gives for each token the first rank below n at which the list `places` has its position, or none
-abbrev pub AreRanksOf : List Position → ℕ → Numbers → Type 0
-AreRanksOf places n found = (file token : ℕ) → IsFirstBelow (λ rank. slice_get places rank ≡ Some (record { file = file; index = token })) n (found file token)
-
--- the given number, or none for a predeclared name
-abbrev pub number_if : (implied : Bool) → Option ℕ → Option ℕ
-number_if true number = None
-number_if false number = number
-
--- the number at the position of d, or none where d is a predeclared name
-abbrev pub number_at_place_of : Layout → Numbers → ℕ → Option ℕ
-number_at_place_of l numbers d = number_if (is_implied (l.role d)) (numbers (l.place d).file (l.place d).index)

@@ -1,5 +1,5 @@
 -- The identifiers of a package in which imports without a name declare the names of the packages that they import.
-use Rattle.std.specs.Prelude.{ℕ, suc, Bool, true, false, List, [], ◌∷◌, Option, Some, None, slice_get}
+use Rattle.std.specs.Prelude.{ℕ, suc, ◌≡◌, get_or, set, Bool, true, false, List, [], ◌∷◌, Option, Some, None, slice_get}
 use Rattle.std.specs.Borrow.{Bor}
 use Rattle.go_scope.specs.declared.model.Block.TheVariants.{File}
 use Rattle.go_scope.specs.declared.model.Role.{Role}
@@ -26,6 +26,10 @@ named_where false name x = x
 -- the identifier, declaring the package's name if it is the string literal of an import without a name and a name is given
 abbrev pub named_site : Option (List ℕ) → Site → Site
 named_site name x = named_where (is_unnamed_import x.role) name x
+
+-- the identifier of number u declares the name, if one is given and it is the string literal of an import without a name; all others stay
+pub record NamesSite (old new : List Site) (u : ℕ) (name : Option (List ℕ)) : Type 0 where
+  pub named : (d : Site) → new ≡ set old u (named_site name (get_or old u d))
 
 -- the identifiers, each with the package's name that `names` gives for its number
 unfoldable pub named_sites : (ℕ → Option (List ℕ)) → List Site → List Site

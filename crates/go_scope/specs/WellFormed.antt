@@ -3,7 +3,7 @@ use Rattle.std.specs.Prelude.{ℕ, ◌≡◌, ◌<◌, ◌≤◌, ◌⊎◌}
 use Rattle.go_scope.specs.declared.model.Block.{Block}
 use Rattle.go_scope.specs.declared.model.Block.TheVariants.{File, Inner}
 use Rattle.go_scope.specs.declared.model.Position.{Position}
-use Rattle.go_scope.specs.Bindings.{Layout, MayDeclare, IsLeftName, SameBlock, block_of, start_of}
+use Rattle.go_scope.specs.Bindings.{Layout, MayDeclare, IsIdentifier, IsLeftName, SameBlock, block_of, start_of}
 
 -- d declares in the block b
 abbrev pub InBlock : Layout → ℕ → Block → Type 0
@@ -51,9 +51,14 @@ pub record InPlaceOrder (l : Layout) (size : ℕ) : Type 0 where
   pub rising : (u v : ℕ) → u < v → v < size → IsNotAfter (l.place u) (l.place v)
   pub before_scope : (d f a b : ℕ) → MayDeclare l d → InBlock l d (Inner f a b) → ((l.place d).file ≡ f) × ((l.place d).index < start_of (l.role d))
 
+-- no two of the first `size` identifiers stand at one token, predeclared names apart
+abbrev pub HaveOwnPlaces : Layout → ℕ → Type 0
+HaveOwnPlaces l size = (u v : ℕ) → u < v → v < size → IsIdentifier l u → l.place u ≡ l.place v → ⊥
+
 -- the layout of `size` identifiers has all properties of one that was taken from a package's files
 pub record IsLaidOut (l : Layout) (size : ℕ) : Type 0 where
   pub well_formed : WellFormed l
   pub imports : ImportsCoverFiles l
   pub ordered : InBlockOrder l
   pub placed : InPlaceOrder l size
+  pub apart : HaveOwnPlaces l size

@@ -66,15 +66,6 @@ impl ByToken {
         Ok(ByToken { rows })
     }
 
-    /// The empty table.
-    pub fn new(alloc: Global) -> ByToken
-        ensures { (file token : ℕ) → numbers_in result file token ≡ None }
-    {
-        ByToken {
-            rows: Vec::new(alloc),
-        }
-    }
-
     /// The number of a token, if it has one.
     pub fn get(&self, place: Position) -> Option<usize>
         ensures { result ≡ numbers_in self.now place.file place.index }
@@ -120,7 +111,7 @@ impl ByToken {
     }
 
     /// Sets the number of a token, unless it has one.
-    pub fn note(&mut self, alloc: Global, place: Position, number: usize) -> Result<(), AllocError>
+    fn note(&mut self, alloc: Global, place: Position, number: usize) -> Result<(), AllocError>
         ensures { OnOk result (SetsIfUnset (numbers_in self.old) (numbers_in self.new) place number) }
     {
         match self.get(place) {

@@ -128,6 +128,14 @@ impl<'a> Identifiers<'a> {
         &self.list
     }
 
+    /// All identifiers, predeclared names first, taken out.
+    pub(crate) fn into_list(self) -> Vec<Identifier<'a>>
+        ensures { map site_of result.items ≡ self.entry.sites }
+    {
+        let Identifiers { files: _, list } = self;
+        list
+    }
+
     /// Whether an identifier, or an import's string literal, begins at a place.
     fn begins_at(&self, u: usize, place: &Place) -> bool
         requires { u < length self.now.sites }

@@ -1,13 +1,12 @@
 //! Makes the table in which an import without a name declares the name of the package that it imports.
-ghost use Rattle.std.specs.Prelude.{◌≡◌, ◌<◌, map, IfOk};
+ghost use Rattle.std.specs.Prelude.{◌≡◌, ◌<◌, Some, length, map, IfOk};
 ghost use Rattle.go_scope.specs.IdentifierViews.{site_of};
-ghost use Rattle.go_scope.specs.Named.{is_unnamed_import, name_value, name_given, with_names, named_site, named_sites};
+ghost use Rattle.go_scope.specs.Named.{is_unnamed_import, name_value, name_given, with_names, named_site, named_sites, NamesSite};
 
 use crate::contents::table_contents;
 use crate::identifiers::Identifiers;
 use crate::model::{Block, Identifier, Purpose, Role};
 use crate::table::ScopeTable;
-use base_files::list_as_long;
 use std::alloc::{AllocError, Global};
 
 impl Role {
@@ -32,38 +31,34 @@ fn name_given<'a>(names: &[Option<&'a [u8]>], u: usize) -> Option<&'a [u8]>
     }
 }
 
-/// The identifier, which declares `name` in its file if it is the string literal of an import without a name.
-fn named_identifier<'a>(identifier: &Identifier<'a>, name: Option<&'a [u8]>) -> Identifier<'a>
-    ensures { site_of result ≡ named_site (name_value name.entry) (site_of identifier.now) }
+/// Lets an identifier declare `name` in its file if it is the string literal of an import without a name.
+fn name_identifier<'a>(identifier: &mut Identifier<'a>, name: &'a [u8])
+    ensures { site_of identifier.new ≡ named_site (Some name.now) (site_of identifier.old) }
 {
-    let place = identifier.place;
-    match name {
-        Some(name) if identifier.role.is_unnamed_import() => Identifier {
-            place,
-            name,
-            role: Role::Declaring(Block::File(place.file), 0),
-        },
-        _ => Identifier {
-            place,
-            name: identifier.name,
-            role: identifier.role,
-        },
+    if identifier.role.is_unnamed_import() {
+        identifier.name = name;
+        identifier.role = Role::Declaring(Block::File(identifier.place.file), 0);
     }
 }
 
-/// The identifiers, where the string literal of an import without a name declares the name that `names` gives for its number.
-fn named_identifiers<'a>(
-    alloc: Global,
-    identifiers: &[Identifier<'a>],
-    names: &[Option<&'a [u8]>],
-) -> Result<Vec<Identifier<'a>>, AllocError>
-    ensures { IfOk result (λ found. map site_of found.items ≡ named_sites (name_given names.now) (map site_of identifiers.now)) }
+/// Lets the identifier `u` declare the name that is given for it, if it is the string literal of an import without a name.
+fn name_numbered<'a>(identifiers: &mut Vec<Identifier<'a>>, u: usize, name: Option<&'a [u8]>)
+    requires { u < length identifiers.old.items }
+    ensures { NamesSite (map site_of identifiers.old.items) (map site_of identifiers.new.items) u (name_value name.entry) }
 {
-    let mut found = list_as_long(alloc, identifiers)?;
-    for u in 0..identifiers.len() {
-        found.push(named_identifier(&identifiers[u], name_given(names, u)))?;
+    match name {
+        None => {}
+        Some(name) => name_identifier(&mut identifiers[u], name),
     }
-    Ok(found)
+}
+
+/// Lets the string literal of each import without a name declare the name that `names` gives for its number.
+fn name_identifiers<'a>(identifiers: &mut Vec<Identifier<'a>>, names: &[Option<&'a [u8]>])
+    ensures { map site_of identifiers.new.items ≡ named_sites (name_given names.now) (map site_of identifiers.old.items) }
+{
+    for u in 0..identifiers.len() {
+        name_numbered(identifiers, u, name_given(names, u));
+    }
 }
 
 /// The table of a package's identifiers, with their bindings.
@@ -81,12 +76,14 @@ fn known_table<'a>(
 /// name by the number of the literal. An import whose package's name is not known declares nothing.
 pub fn name_imports<'a>(
     alloc: Global,
-    plain: &Identifiers<'a>,
+    plain: Identifiers<'a>,
     names: &[Option<&'a [u8]>],
 ) -> Result<ScopeTable<'a>, AllocError>
-    ensures { IfOk result (λ laid. laid ≡ with_names (name_given names.now) plain.now) }
+    ensures { IfOk result (λ laid. laid ≡ with_names (name_given names.now) plain.entry) }
 {
     plain.are_laid_out();
-    let list = named_identifiers(alloc, plain.as_slice(), names)?;
-    known_table(alloc, Identifiers::new(plain.files(), list))
+    let files = plain.files();
+    let mut list = plain.into_list();
+    name_identifiers(&mut list, names);
+    known_table(alloc, Identifiers::new(files, list))
 }

@@ -1,12 +1,13 @@
 //! The table of a package: its identifiers, their scopes, and their bindings.
 ghost use Rattle.std.specs.Prelude.{ℕ, ◌≡◌, ◌<◌, ◌↔◌, length, IsTrue, MatchOption};
 ghost use Rattle.go_scope.specs.Bindings.{Declares, Counts, IsUse};
-ghost use Rattle.go_scope.specs.ByToken.{numbers_in};
+ghost use Rattle.go_scope.specs.ByToken.{numbers_in, AreIdentifiers};
 ghost use Rattle.go_scope.specs.Contents.{AreTableContents};
 ghost use Rattle.go_scope.specs.Packages.{layout_in, names_in, IsBoundIn, IsAtPlace};
 ghost use Rattle.go_scope.specs.Table.{LiesAt, IsFirstOf, IsFoundAt};
-ghost use Rattle.go_scope.specs.WellFormed.{WellFormed};
+ghost use Rattle.go_scope.specs.WellFormed.{HaveOwnPlaces, WellFormed};
 
+use crate::by_token::ByToken;
 use crate::contents::TableContents;
 use crate::identifiers::Identifiers;
 use crate::model::{Position, Role};
@@ -63,6 +64,13 @@ impl<'a> ScopeTable<'a> {
         self.identifiers.is_well_formed();
     }
 
+    /// No two identifiers of a package stand at one token, as they come from syntax trees.
+    pub fn are_apart(&self)
+        ensures { HaveOwnPlaces (layout_in self.now) (length self.now.sites) }
+    {
+        self.identifiers.are_laid_out();
+    }
+
     /// The number of identifiers, predeclared names included.
     pub fn len(&self) -> usize
         ensures { result ≡ length self.now.sites }
@@ -115,6 +123,13 @@ impl<'a> ScopeTable<'a> {
         ensures { result.now ≡ self.now }
     {
         &self.identifiers
+    }
+
+    /// The identifier, or the import's string literal, of each token.
+    pub fn numbers(&self) -> &ByToken
+        ensures { AreIdentifiers (layout_in self.now) (length self.now.sites) (numbers_in result.now) }
+    {
+        &self.known.numbers
     }
 
     /// The identifier, or the import's string literal, of a token.

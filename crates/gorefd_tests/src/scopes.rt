@@ -30,7 +30,7 @@ fn files(rt: &impl Abort, alloc: Global, text: &str) -> Vec<FileTree> {
 fn plain_table<'a>(rt: &impl Abort, alloc: Global, files: &'a [FileTree]) -> ScopeTable<'a> {
     let plain = declare(alloc, files).expect(rt, "memory");
     let none: [Option<&[u8]>; 0] = [];
-    name_imports(alloc, &plain, &none).expect(rt, "memory")
+    name_imports(alloc, plain, &none).expect(rt, "memory")
 }
 
 /// The offset of the declaring identifier to which the identifier at a place is bound. `None` where it is bound to nothing or to a

@@ -28,7 +28,7 @@ use Rattle.go_scope.specs.SpelledFiles.{spelled_file}
 use Rattle.go_scope.specs.WellFormed.{IsLaidOut}
 use Rattle.go_scope.proofs.NamedSites.{package_level, named_laid_out}
 use Rattle.go_scope.proofs.PackageRegions.{package_well_formed, package_follows_blocks}
-use Rattle.go_scope.proofs.PackagePlaces.{package_follows_places}
+use Rattle.go_scope.proofs.PackagePlaces.{package_apart, package_follows_places}
 use Rattle.law_tokens.proofs.HeldBytes.{numbered_files}
 use Rattle.types_declared.specs.Package.{Package, PlacedVariable, PlacedType, PlacedFunction, package_variables, package_types, package_functions, spelled}
 use Rattle.types_declared.specs.Written.{BindsToken, DeclaresImport, written_types, signature_types, asked_types}
@@ -133,6 +133,7 @@ laid_out p h =
             imports = package_level files numbered;
             ordered = package_follows_blocks files numbered;
             placed = package_follows_places files numbered;
+            apart = package_apart files numbered;
           })),
     )
 

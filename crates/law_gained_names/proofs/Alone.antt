@@ -15,11 +15,11 @@ use Rattle.go_scope.specs.Site.{Site, or_blank, sites_layout}
 use Rattle.go_scope.specs.SpelledFiles.{spelled_file}
 use Rattle.go_scope.specs.Table.{LiesAt}
 use Rattle.go_scope.specs.Trees.{AreRising}
-use Rattle.go_scope.proofs.NamedSites.{place_stays}
+use Rattle.go_scope.proofs.NamedSites.{identifier_stays, place_stays}
 use Rattle.law_tokens.specs.Order.{StandInOrder}
 use Rattle.law_tokens.proofs.FileIdentifiers.{AreIdentifiers, files_identify, role_in, identifier_in}
 use Rattle.law_tokens.proofs.HeldBytes.{numbered_files}
-use Rattle.law_tokens.proofs.Ordered.{package_ordered, named_ordered, identifier_stays, one_stands}
+use Rattle.law_tokens.proofs.Ordered.{package_ordered, named_ordered, one_stands}
 use Rattle.law_rename.specs.Around.{AroundImport, bare_import, file_with, imports_with}
 use Rattle.law_rename.specs.Gained.{Gain, import_site}
 use Rattle.law_changed_types.specs.SameBindings.{IsParsedPackage}

@@ -19,7 +19,7 @@ use Rattle.go_scope.specs.Named.{named_sites}
 use Rattle.go_scope.specs.Site.{Site, or_blank}
 use Rattle.go_scope.specs.SpelledFiles.{spelled_file}
 use Rattle.law_tokens.proofs.FileIdentifiers.{AreIdentifiers, files_identify, identifier_in, role_in}
-use Rattle.law_tokens.proofs.Ordered.{identifier_stays}
+use Rattle.go_scope.proofs.NamedSites.{identifier_stays}
 use Rattle.law_rename.specs.Renaming.{IsRenaming, Renames}
 use Rattle.types_declared.specs.Package.{Package, ExportData}
 use Rattle.types_check.specs.Check.{exports_in}

@@ -1,5 +1,5 @@
 -- Identifiers that stand at rising tokens stand in order.
-use Rattle.std.proofs.Common.{ℕ, zero, suc, ◌≡◌, ◌<◌, ◌≤◌, inl, inr, List, [], ◌∷◌, ◌++◌, Option, Some, None, Bool, true, false, length, map, ap, sym, ◌∙◌}
+use Rattle.std.proofs.Common.{ℕ, zero, suc, ◌≡◌, ◌<◌, ◌≤◌, inl, inr, List, [], ◌∷◌, ◌++◌, Option, Bool, true, false, length, map, ap, sym, ◌∙◌}
 use Rattle.std.proofs.Common.{refl, subst, arith}
 use Rattle.std.specs.Prelude.{slice_get, cond}
 use Rattle.std.proofs.lemmas.Bool.{cases_lt, cond_both, true≢false}
@@ -7,16 +7,14 @@ use Rattle.std.proofs.lemmas.List.Elements.{All-head, All-tail}
 use Rattle.go_ast.specs.declared.syntax.Token.{Token}
 use Rattle.go_ast.specs.Flatten.{flatten}
 use Rattle.go_scope.specs.declared.model.Position.{Position}
-use Rattle.go_scope.specs.declared.model.Role.{Role}
-use Rattle.go_scope.specs.declared.model.Role.TheVariants.{Use, Declaring, LeftName, Implied, NotLexical}
 use Rattle.go_scope.specs.Bindings.{Layout, is_implied}
 use Rattle.go_scope.specs.FileSites.{SpelledFile, file_sites, files_sites, universe, universe_site, package_sites}
-use Rattle.go_scope.specs.Named.{is_unnamed_import, named_where, named_sites, with_names}
+use Rattle.go_scope.specs.Named.{named_sites, with_names}
 use Rattle.go_scope.specs.Packages.{ScopedPackage, layout_in}
 use Rattle.go_scope.specs.Site.{Site, TokenSpellings, or_blank, sites_layout}
 use Rattle.go_scope.specs.Table.{LiesAt}
 use Rattle.go_scope.specs.Trees.{AreRising, IsNumbered, AreNumbered}
-use Rattle.go_scope.proofs.NamedSites.{place_stays}
+use Rattle.go_scope.proofs.NamedSites.{identifier_stays, place_stays}
 use Rattle.law_tokens.specs.Order.{ComesBefore, StandInOrder}
 use Rattle.go_scope.specs.IdentifierTokens.{is_ident_token, is_header_name}
 use Rattle.law_tokens.specs.Tokens.{begins_declaration, names_among, identifiers_among}
@@ -150,26 +148,6 @@ package_ordered fs h = λ u v less lt i j. before_at (map universe_site universe
     (names_first universe (files_sites 0 fs) (files_ordered 0 fs h).0)
 
 -- where imports without a name declare
-
-unnamed_stands : (r : Role) → is_unnamed_import r ≡ true → is_implied r ≡ false
-unnamed_stands Use e = refl
-unnamed_stands (Declaring b start) e = refl
-unnamed_stands (LeftName b start) e = refl
-unnamed_stands (Implied b start) e = let z : ⊥ = cc in absurd z
-unnamed_stands (NotLexical p) e = refl
-
-site_stays : (b : Bool) (name : Option (List ℕ)) (x : Site) → is_unnamed_import x.role ≡ b → is_implied (named_where b name x).role ≡ is_implied x.role
-site_stays true (Some name) x e = sym (unnamed_stands x.role e)
-site_stays true None x e = refl
-site_stays false name x e = refl
-
--- what is an identifier stays one
-pub identifier_stays : (names : ℕ → Option (List ℕ)) (xs : List Site) (u : ℕ) →
-    is_implied (or_blank (slice_get (named_sites names xs) u)).role ≡ is_implied (or_blank (slice_get xs u)).role
-unfolding named_sites
-identifier_stays names [] u = refl
-identifier_stays names (x ∷ xs) zero = site_stays (is_unnamed_import x.role) (names 0) x refl
-identifier_stays names (x ∷ xs) (suc u) = identifier_stays (λ k. names (suc k)) xs u
 
 pub same_length : (names : ℕ → Option (List ℕ)) (xs : List Site) → length (named_sites names xs) ≡ length xs
 unfolding named_sites

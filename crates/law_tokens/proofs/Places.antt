@@ -16,11 +16,11 @@ use Rattle.go_scope.specs.SpelledFiles.{spelled_file}
 use Rattle.go_scope.specs.Packages.{ScopedPackage, scoped, layout_in}
 use Rattle.go_scope.specs.Site.{Site, TokenSpellings, sites_layout}
 use Rattle.go_scope.specs.Table.{LiesAt}
-use Rattle.go_scope.proofs.NamedSites.{place_stays}
+use Rattle.go_scope.proofs.NamedSites.{identifier_stays, place_stays}
 use Rattle.law_tokens.specs.Tokens.{identifiers_among}
 use Rattle.law_tokens.specs.Covered.{IsIdentifierPlace, HasIdentifierAt, AreSourceFiles}
 use Rattle.law_tokens.proofs.Covering.{Pairs, file_pairs}
-use Rattle.law_tokens.proofs.Ordered.{identifier_stays, same_length}
+use Rattle.law_tokens.proofs.Ordered.{same_length}
 
 -- one of some identifiers stands at a place
 

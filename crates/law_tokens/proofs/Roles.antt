@@ -27,14 +27,14 @@ use Rattle.go_scope.specs.Named.{is_unnamed_import, named_where, named_sites, wi
 use Rattle.go_scope.specs.SpelledFiles.{spelled_file}
 use Rattle.go_scope.specs.Packages.{scoped, layout_in}
 use Rattle.go_scope.specs.Site.{Site, TokenSpellings, or_blank}
-use Rattle.go_scope.proofs.NamedSites.{place_stays}
+use Rattle.go_scope.proofs.NamedSites.{identifier_stays, place_stays}
 use Rattle.law_tokens.specs.Covered.{AreSourceFiles}
 use Rattle.law_tokens.specs.Roles.{IsOfKind, FitsTokens}
 use Rattle.law_tokens.specs.Tokens.{identifiers_among}
 use Rattle.law_tokens.proofs.Covering.{file_pairs}
 use Rattle.law_tokens.proofs.FileIdentifiers.{paired_files}
 use Rattle.law_tokens.proofs.Links.{AreConsecutive, HasKind, Told, ToldIn, file_told}
-use Rattle.law_tokens.proofs.Ordered.{identifier_stays, same_length}
+use Rattle.law_tokens.proofs.Ordered.{same_length}
 
 -- the tokens of a cut are numbered one by one
 pub consecutive : (n : ℕ) (text : List ℕ) (ps : List Piece) → AreConsecutive n (kinds_from n text ps)

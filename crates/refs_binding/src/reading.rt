@@ -50,7 +50,7 @@ pub fn laid_table<'a>(
     ensures { IfOk result (λ laid. IsLaidOver (map source_of files.now) (name_in seen.now) (scoped files.now) laid) }
 {
     let plain = declare(alloc, files)?;
-    lay_names(alloc, &plain, files, seen)
+    lay_names(alloc, plain, files, seen)
 }
 
 /// The type definitions that `all` has of the package of a path.

@@ -14,7 +14,7 @@ use Rattle.go_scope.specs.Site.{Site, TokenSpellings, or_blank}
 use Rattle.law_tokens.specs.Tokens.{identifiers_among}
 use Rattle.law_tokens.proofs.Covering.{file_pairs}
 use Rattle.law_tokens.proofs.FileIdentifiers.{AreIdentifiers, files_identify, paired_files, role_in, identifier_in}
-use Rattle.law_tokens.proofs.Ordered.{identifier_stays}
+use Rattle.go_scope.proofs.NamedSites.{identifier_stays}
 
 abbrev pub file_in : List Site → ℕ → ℕ
 file_in xs u = (or_blank (slice_get xs u)).place.file

@@ -11,7 +11,7 @@ use Rattle.go_scope.specs.SpelledFiles.{spelled_file}
 use Rattle.go_scope.specs.Packages.{scoped, layout_in}
 use Rattle.go_scope.specs.Site.{Site}
 use Rattle.law_tokens.proofs.FileIdentifiers.{AreIdentifiers, files_identify, role_in, identifier_in}
-use Rattle.law_tokens.proofs.Ordered.{identifier_stays}
+use Rattle.go_scope.proofs.NamedSites.{identifier_stays}
 use Rattle.law_tokens.proofs.Roles.{role_keeps}
 use Rattle.types_declared.specs.Package.{Package}
 use Rattle.workspace_check.specs.Verdicts.{Verdicts, IsPackageIn}

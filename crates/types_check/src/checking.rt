@@ -219,7 +219,7 @@ fn laid<'a>(
     ensures { IfOk result (λ table. IsLaidOver (map source_of files.now) (name_in export_table.now) (scoped files.now) table) }
 {
     let plain = declare(alloc, files)?;
-    lay_names(alloc, &plain, files, export_table)
+    lay_names(alloc, plain, files, export_table)
 }
 
 /// Returns the scope table of a package in which each import without a name declares the name of the imported package; none where its

@@ -43,5 +43,5 @@ pub record IsIndexOf (p : plain.Package) (index : Index) : Type 0 where
   pub variable_ranks : AreRanks variable_place (package_variables p) p.layout p.size index.ranks.variables.items
   pub type_ranks : AreRanks type_place (package_types p) p.layout p.size index.ranks.types.items
   pub function_ranks : AreRanks function_place (package_functions p) p.layout p.size index.ranks.functions.items
-  pub identifiers : AreIdentifiers p.layout p.size (numbers_in index.identifiers)
+  pub identifiers : AreIdentifiers p.layout p.size (numbers_in index.identifiers.now)
   pub paths : ArePaths p p.size index.paths.items

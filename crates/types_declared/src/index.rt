@@ -9,9 +9,9 @@ ghost use Rattle.types_declared.specs.PackageView.{package_of, path_in, IsIndexO
 use crate::declared::Declared;
 use crate::export_tables::ExportTable;
 use crate::ranks::Ranks;
-use crate::token_ranks::{ByToken, identifiers_by_token};
 use crate::{is_import, path_of};
 use go_ast::FileTree;
+use go_scope::by_token::ByToken;
 use go_scope::model::Position;
 use go_scope::table::ScopeTable;
 use std::alloc::{AllocError, Global};
@@ -28,12 +28,12 @@ pub struct Package<'a> {
 }
 
 /// The index of a package: its declarations with their ranks, the identifier at each token, and the path of each import by the number of
-/// its declaration.
+/// its declaration. The identifiers are those of the package's scope table.
 #[derive(Drop)]
 pub struct Index<'a> {
     pub declared: Declared<'a>,
     pub ranks: Ranks,
-    pub identifiers: ByToken,
+    pub identifiers: &'a ByToken,
     pub paths: Vec<Option<Vec<u8>>>,
 }
 
@@ -93,7 +93,7 @@ impl<'a> Index<'a> {
         Ok(Index {
             declared,
             ranks,
-            identifiers: identifiers_by_token(alloc, pkg.table)?,
+            identifiers: pkg.table.numbers(),
             paths: import_paths(alloc, pkg)?,
         })
     }

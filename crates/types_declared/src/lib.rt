@@ -19,7 +19,6 @@ mod paths;
 mod ranks;
 mod reachability;
 mod states;
-mod token_ranks;
 mod written;
 
 pub use broken::{broken_definitions, no_links, note};
@@ -36,6 +35,5 @@ pub use paths::{is_import, literal_of, path_of};
 pub use ranks::Ranks;
 pub use reachability::{reached, reached_in_order, row};
 pub use states::{ImportState, ImportStates};
-pub use token_ranks::{ByToken, identifiers_by_token};
 pub use types_expr::exports::{Export, ExportData, ExportMeaning, PackageScope};
 pub use written::{defined_type, export_at, local_definition, mentioned, named_type};

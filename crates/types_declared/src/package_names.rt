@@ -79,12 +79,12 @@ fn package_names<'a, N: PackageNames>(
 /// is where the name of its package isn't known.
 pub fn lay_names<'a, N: PackageNames>(
     alloc: Global,
-    plain: &Identifiers<'a>,
+    plain: Identifiers<'a>,
     files: &[FileTree],
     packages: &'a N,
 ) -> Result<ScopeTable<'a>, AllocError>
-    ensures { IfOk result (λ laid. IsLaidOver (map source_of files.now) (N.name_of packages.now) plain.now laid) }
+    ensures { IfOk result (λ laid. IsLaidOver (map source_of files.now) (N.name_of packages.now) plain.entry laid) }
 {
-    let names = package_names(alloc, plain, files, packages)?;
+    let names = package_names(alloc, &plain, files, packages)?;
     name_imports(alloc, plain, &names)
 }

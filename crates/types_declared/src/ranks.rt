@@ -3,11 +3,10 @@ ghost use Rattle.std.specs.Prelude.{◌≡◌, ◌<◌, length, map, IfOk};
 ghost use Rattle.go_scope.specs.Packages.{layout_in};
 ghost use Rattle.types_declared.specs.Package.{variable_place, type_place, function_place};
 ghost use Rattle.types_declared.specs.DeclaredView.{variable_of, type_of, function_of};
-ghost use Rattle.go_scope.specs.ByToken.{numbers_in, number_at_place_of, row_number};
-ghost use Rattle.types_declared.specs.RanksView.{AreRanks};
+ghost use Rattle.go_scope.specs.ByToken.{row_number};
+ghost use Rattle.types_declared.specs.RanksView.{AreRanks, NotesRank, RanksIfFree};
 
 use crate::declared::{Declared, Function, TypeDef, Variable};
-use crate::token_ranks::{ByToken, ranks_by_token};
 use go_scope::model::Position;
 use go_scope::table::ScopeTable;
 use std::alloc::{AllocError, Global};
@@ -20,15 +19,33 @@ pub struct Ranks {
     functions: Vec<Option<usize>>,
 }
 
-/// The number that a table has for the token of the identifier `d`; none for a declaration without a token.
-fn number_at_place_of(table: &ScopeTable, numbers: &ByToken, d: usize) -> Option<usize>
-    requires { d < length table.now.sites }
-    ensures { result ≡ number_at_place_of (layout_in table.now) (numbers_in numbers.now) d }
+/// The rank of an identifier, if it has one.
+fn rank_at(ranks: &[Option<usize>], u: usize) -> Option<usize>
+    ensures { result ≡ row_number ranks.now u }
 {
-    if table.role(d).is_implied() {
-        None
-    } else {
-        numbers.get(table.place(d))
+    *ranks.get(u)?
+}
+
+/// Gives a rank to an identifier, unless it has one.
+fn note_free(ranks: &mut Vec<Option<usize>>, u: usize, rank: usize)
+    requires { u < length ranks.old.items }
+    ensures { RanksIfFree ranks.old.items ranks.new.items u rank }
+{
+    match rank_at(ranks, u) {
+        Some(_) => {}
+        None => ranks[u] = Some(rank),
+    }
+}
+
+/// Gives a rank to the identifier at a position, unless it has one.
+fn note_rank(ranks: &mut Vec<Option<usize>>, table: &ScopeTable, place: Position, rank: usize)
+    requires { length ranks.old.items ≡ length table.now.sites }
+    ensures { NotesRank (layout_in table.now) (length table.now.sites) place rank ranks.old.items ranks.new.items }
+{
+    table.are_apart();
+    match table.identifier_at(place) {
+        None => {}
+        Some(u) => note_free(ranks, u, rank),
     }
 }
 
@@ -40,10 +57,9 @@ fn ranks_of(
 ) -> Result<Vec<Option<usize>>, AllocError>
     ensures { IfOk result (λ ranks. AreRanks (λ p. p) places.now (layout_in table.now) (length table.now.sites) ranks.items) }
 {
-    let found = ranks_by_token(alloc, places)?;
-    let mut ranks = Vec::with_capacity(alloc, table.len())?;
-    for d in 0..table.len() {
-        ranks.push(number_at_place_of(table, &found, d))?;
+    let mut ranks = vec![in alloc; None; table.len()]?;
+    for rank in 0..places.len() {
+        note_rank(&mut ranks, table, places[rank], rank);
     }
     Ok(ranks)
 }

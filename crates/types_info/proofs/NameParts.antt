@@ -47,7 +47,7 @@ pub role_behind : (p : Package) (file token u : ℕ) → IsFoundAt p.layout p.si
 role_behind p file token u found b =
     ap p.layout.role (one_first (LiesAt p.layout (record { file = file; index = token })) p.size u b.identifier found b.found) ∙ b.selected
 
-selected_behind : (p : Package) (file token : ℕ) (e : seen.Export) → DenotesExport p file token e → IsNameAfterDot p file token
+pub selected_behind : (p : Package) (file token : ℕ) (e : seen.Export) → DenotesExport p file token e → IsNameAfterDot p file token
 selected_behind p file token e s = record { identifier = s.identifier; found = s.found; selected = s.selected }
 
 pub exported_before : (p : Package) (file token before : ℕ) (e : seen.Export) → token ≡ suc (suc before) → DenotesExport p file token e →
@@ -83,7 +83,8 @@ scope_found p file token d (Some b) binds only h = record { declaration = d; bin
 
 -- The meaning of the name at a token
 
-neither : (p : Package) (file token : ℕ) → ((b : plain.Bound) → IsBoundInScope p file token b → ⊥) → ((e : seen.Export) → DenotesExport p file token e → ⊥) →
+pub neither : (p : Package) (file token : ℕ) → ((b : plain.Bound) → IsBoundInScope p file token b → ⊥) → ((e : seen.Export) → DenotesExport p file token e →
+    ⊥) →
     (b : plain.Bound) → IsBoundAt p file token b → ⊥
 neither p file token scope selected b (by_scope {declaration = d} binds means) = scope b (record { declaration = d; binds = binds; means = means })
 neither p file token scope selected _ (by_package {e = e} s) = selected e s
@@ -98,6 +99,10 @@ pub placed_in_scope : (p : Package) (file token : ℕ) (list : List Bound) (plac
     IsScopeFound p file token (option_map bound_of (bound_at list place)) →
     ((i : ℕ) → place ≡ Some i → i < length list) → ((e : seen.Export) → DenotesExport p file token e → ⊥) → IsPlaced p file token list place
 placed_in_scope p file token list place h within selected = record { bound = name_in_scope p file token (bound_at list place) h selected; within = within }
+
+-- where a name has no meaning, it has no place in the list
+pub placed_nowhere : (p : Package) (file token : ℕ) (list : List Bound) → ((b : plain.Bound) → IsBoundAt p file token b → ⊥) → IsPlaced p file token list None
+placed_nowhere p file token list none = record { bound = is_unbound none; within = λ i e. absurd (none-some i e) }
 
 pub placed_behind : (p : Package) (file token : ℕ) (list : List Bound) (i : ℕ) (b : Bound) (e : seen.Export) → slice_get list i ≡ Some b →
     bound_of b ≡ Stands e.meaning → DenotesExport p file token e →

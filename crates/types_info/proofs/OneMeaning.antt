@@ -30,6 +30,7 @@ use Rattle.types_declared.specs.MeaningOf.{import_name, local, variable, broken_
 use Rattle.types_declared.specs.MeaningOf.{broken_function, definition, broken_definition, IsSignatureOf}
 use Rattle.types_declared.specs.Definitions.{IsFoundSignature}
 use Rattle.types_info.specs.MeaningsView.{IsPredeclaredMeaning}
+use Rattle.types_info.specs.NamesView.{IsNameAfterDot}
 use Rattle.types_info.specs.Uniqueness.{TokensRise}
 use Rattle.types_info.specs.Worlds.{DenotesExport, IsBoundAt, by_scope, by_package, IsName, is_bound, is_unbound}
 use Rattle.types_declared.proofs.Ranking.{one_rank}
@@ -37,7 +38,7 @@ use Rattle.types_declared.proofs.Binding.{one_first}
 use Rattle.types_declared.proofs.Naming.{one_binding, one_export, one_named}
 use Rattle.types_info.proofs.DeclaredMeanings.{universal_only, imported_only, variable_bound, function_bound}
 use Rattle.types_info.proofs.DeclKinds.{DeclaredAt, variable_at, type_at, function_at, one_kind}
-use Rattle.types_info.proofs.NameParts.{exported_before}
+use Rattle.types_info.proofs.NameParts.{exported_before, selected_behind}
 
 -- Predeclared names
 
@@ -233,11 +234,15 @@ lexical l names u d e (use_bound is b) = elim is [
 ]
 lexical l names u d e (own same counts) = false≢true (sym (ap may_declare e) ∙ ap (λ v. may_declare (l.role v)) same ∙ counts.declares.may)
 
-scope_or_package : (p : Package) (file token d : ℕ) (e : Export) → BindsToken p file token d → DenotesExport p file token e → ⊥
-scope_or_package p file token d e b s =
+-- scopes do not bind a name after a dot
+pub bound_or_after_dot : (p : Package) (file token d : ℕ) → BindsToken p file token d → IsNameAfterDot p file token → ⊥
+bound_or_after_dot p file token d b s =
     let same : b.identifier ≡ s.identifier = one_first (LiesAt p.layout (record { file = file; index = token })) p.size b.identifier s.identifier b.found
     s.found in
     lexical p.layout p.names b.identifier d (ap p.layout.role same ∙ s.selected) b.bound
+
+scope_or_package : (p : Package) (file token d : ℕ) (e : Export) → BindsToken p file token d → DenotesExport p file token e → ⊥
+scope_or_package p file token d e b s = bound_or_after_dot p file token d b (selected_behind p file token e s)
 
 one_selected : (p : Package) → WellFormed p.layout → (file token : ℕ) (e f : Export) → DenotesExport p file token e → DenotesExport p file token f → e ≡ f
 one_selected p w file token e f a b = one_export p w file a.before token e f a.exported (exported_before p file token a.before f a.behind_dot b)

@@ -1,5 +1,5 @@
 //! Lists of positions under the paths of imports: one list for each import, found by the number of the import's declaration.
-ghost use Rattle.std.specs.Prelude.{ℕ, ◌≡◌, ◌<◌, List, None, length, slice_index_or, OnOk};
+ghost use Rattle.std.specs.Prelude.{ℕ, ◌≡◌, ◌<◌, List, None, length, slice_index_or, IfOk, OnOk};
 ghost use Rattle.go_scope.specs.Named.{name_value};
 ghost use Rattle.go_scope.specs.declared.model.Position.{Position as Place};
 ghost use Rattle.types_info.specs.Lists.{IsListedUnder, path_for, AreWithin, AddsDeclaration, AddsList, AddsUnder, AddsPlace};
@@ -43,16 +43,16 @@ fn add_place(all: &mut Vec<Qualified>, number: usize, at: Position) -> Result<()
 }
 
 impl Lists {
-    /// No list and no declaration.
-    pub(crate) fn new(alloc: Global) -> Lists
-        ensures within { AreWithin result }
-        ensures size { length result.numbers.items ≡ 0 }
-        ensures listed { (path : List ℕ) → (at : Place) → IsListedUnder result.all.items path at → ⊥ }
+    /// No list and no declaration, with room for so many declarations.
+    pub(crate) fn with_room(alloc: Global, declarations: usize) -> Result<Lists, AllocError>
+        ensures within { IfOk result AreWithin }
+        ensures size { IfOk result (λ lists. length lists.numbers.items ≡ 0) }
+        ensures listed { IfOk result (λ lists. (path : List ℕ) → (at : Place) → IsListedUnder lists.all.items path at → ⊥) }
     {
-        Lists {
+        Ok(Lists {
             all: Vec::new(alloc),
-            numbers: Vec::new(alloc),
-        }
+            numbers: Vec::with_capacity(alloc, declarations)?,
+        })
     }
 
     /// Appends the next declaration, with an empty list if it has a path.

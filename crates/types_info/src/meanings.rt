@@ -246,7 +246,7 @@ impl MeaningTable {
     }
 }
 
-/// Finds the meanings of all declarations of a package.
+/// Finds the meanings of all declarations of a package. In a large package most identifiers are uses, so fewer have a meaning of their own.
 pub fn meanings_of(
     alloc: Global,
     pkg: Package<'_>,
@@ -258,8 +258,8 @@ pub fn meanings_of(
     ensures { IfOk result (λ b. AreMeanings (package_of pkg.entry) b.list.items b.of.items) }
 {
     let mut bounds = MeaningTable {
-        list: Vec::new(alloc),
-        of: Vec::new(alloc),
+        list: Vec::with_capacity(alloc, pkg.table.len() / 8)?,
+        of: Vec::with_capacity(alloc, pkg.table.len())?,
     };
     for d in 0..pkg.table.len() {
         bounds.note(meaning(alloc, pkg, index, broken, d)?)?;

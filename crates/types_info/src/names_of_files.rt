@@ -2,6 +2,7 @@
 ghost use Rattle.std.specs.Prelude.{◌≡◌, ◌≤◌, ◌<◌, ◌↔◌, ℕ, [], Some, None, length, slice_get, option_map, IsTrue, IfOk, OnOk};
 ghost use Rattle.go_scope.specs.declared.model.Role.TheVariants.{NotLexical};
 ghost use Rattle.go_scope.specs.declared.model.Purpose.TheVariants as purpose;
+ghost use Rattle.go_scope.specs.Table.{IsFoundAt};
 ghost use Rattle.types_expr.specs.WorldView.{bound_of, bound_at};
 ghost use Rattle.types_declared.specs.Package.{spelled};
 ghost use Rattle.go_scope.specs.ByToken.{numbers_in};
@@ -40,57 +41,83 @@ pub fn is_name_after_dot(pkg: Package<'_>, index: &Index<'_>, file: usize, token
     }
 }
 
-/// The export that the name at a token denotes as the `N` of a qualified identifier `p.N`, where `p` is two tokens before.
-fn selected_behind<'a>(
-    pkg: Package<'a>,
-    index: &Index<'_>,
-    file: usize,
-    token: usize,
-) -> Option<&'a Export>
-    requires index { IsIndexOf (package_of pkg) index.now }
-    requires late { 2 ≤ token }
-    ensures { IsOneExport (DenotesExport (package_of pkg.entry) file token) result }
-{
-    if is_name_after_dot(pkg, index, file, token) {
-        export_at(pkg, index, file, token - 2, token)
-    } else {
-        None
-    }
-}
-
-/// The export that the name at a token denotes as the `N` of a qualified identifier `p.N`; none where it denotes none.
+/// The export that the name after a dot at a token denotes as the `N` of a qualified identifier `p.N`; none where it denotes none.
 fn selected<'a>(
     pkg: Package<'a>,
     index: &Index<'_>,
     file: usize,
     token: usize,
 ) -> Option<&'a Export>
-    requires { IsIndexOf (package_of pkg) index.now }
+    requires index { IsIndexOf (package_of pkg) index.now }
+    requires after_dot { IsNameAfterDot (package_of pkg) file token }
     ensures { IsOneExport (DenotesExport (package_of pkg.entry) file token) result }
 {
     if token < 2 {
         None
     } else {
-        selected_behind(pkg, index, file, token)
+        export_at(pkg, index, file, token - 2, token)
     }
 }
 
-/// The index of the meaning of the declaration to which scopes bind the name at a token; none where there is none.
-fn scope_place(
+/// The index of the meaning of the name after a dot at a token. The meaning of a qualified identifier is appended to the list.
+fn selected_place(
+    alloc: Global,
     pkg: Package<'_>,
     index: &Index<'_>,
-    bounds: &MeaningTable,
+    bounds: &mut MeaningTable,
     file: usize,
     token: usize,
-) -> Option<usize>
+) -> Result<Option<usize>, AllocError>
     requires index { IsIndexOf (package_of pkg) index.now }
+    requires after_dot { IsNameAfterDot (package_of pkg) file token }
+    ensures placed { IfOk result (λ place. IsPlaced (package_of pkg.entry) file token bounds.new.list.items place) }
+    ensures extends { OnOk result (Extends bounds.old.list.items bounds.new.list.items) }
+    ensures same { OnOk result (bounds.new.of.items ≡ bounds.old.of.items) }
+{
+    match selected(pkg, index, file, token) {
+        None => Ok(None),
+        Some(export) => {
+            let bound = exported_bound(alloc, &export.meaning)?;
+            Ok(Some(bounds.add(bound)?))
+        }
+    }
+}
+
+/// The index of the meaning of the declaration to which scopes bind the identifier `u`, which stands at a token; none where there is none.
+fn scope_place(pkg: Package<'_>, bounds: &MeaningTable, at: Position, u: usize) -> Option<usize>
     requires bounds { AreMeanings (package_of pkg) bounds.now.list.items bounds.now.of.items }
-    ensures found { IsScopeFound (package_of pkg.entry) file token (option_map bound_of (bound_at bounds.now.list.items result)) }
+    requires found { IsFoundAt (package_of pkg).layout (package_of pkg).size at u }
+    ensures found { IsScopeFound (package_of pkg.entry) at.file at.index (option_map bound_of (bound_at bounds.now.list.items result)) }
     ensures within { (i : ℕ) → result ≡ Some i → i < length bounds.now.list.items }
 {
-    match index.binding(pkg, file, token) {
+    go_scope::laws::bindings_are_unique();
+    pkg.table.is_well_formed();
+    match pkg.table.binding(u) {
         None => None,
         Some(d) => bounds.get(d),
+    }
+}
+
+/// The index of the meaning of the identifier `u`, which stands at a token. The meaning of a qualified identifier is appended to the list.
+fn identifier_place(
+    alloc: Global,
+    pkg: Package<'_>,
+    index: &Index<'_>,
+    bounds: &mut MeaningTable,
+    at: Position,
+    u: usize,
+) -> Result<Option<usize>, AllocError>
+    requires index { IsIndexOf (package_of pkg) index.now }
+    requires bounds { AreMeanings (package_of pkg) bounds.old.list.items bounds.old.of.items }
+    requires found { IsFoundAt (package_of pkg).layout (package_of pkg).size at u }
+    ensures placed { IfOk result (λ place. IsPlaced (package_of pkg.entry) at.file at.index bounds.new.list.items place) }
+    ensures extends { OnOk result (Extends bounds.old.list.items bounds.new.list.items) }
+    ensures same { OnOk result (bounds.new.of.items ≡ bounds.old.of.items) }
+{
+    if is_selected(pkg.table.role(u)) {
+        selected_place(alloc, pkg, index, bounds, at.file, at.index)
+    } else {
+        Ok(scope_place(pkg, bounds, at, u))
     }
 }
 
@@ -109,12 +136,10 @@ fn place_at(
     ensures extends { OnOk result (Extends bounds.old.list.items bounds.new.list.items) }
     ensures same { OnOk result (bounds.new.of.items ≡ bounds.old.of.items) }
 {
-    match selected(pkg, index, file, token) {
-        None => Ok(scope_place(pkg, index, bounds, file, token)),
-        Some(export) => {
-            let bound = exported_bound(alloc, &export.meaning)?;
-            Ok(Some(bounds.add(bound)?))
-        }
+    let at = Position { file, index: token };
+    match index.identifiers.get(at) {
+        None => Ok(None),
+        Some(u) => identifier_place(alloc, pkg, index, bounds, at, u),
     }
 }
 
@@ -160,7 +185,7 @@ fn spelled_tokens(pkg: Package<'_>, file: usize) -> usize
 /// A number of tokens of a file after which no identifier comes.
 fn token_count(pkg: Package<'_>, index: &Index<'_>, file: usize) -> usize
     ensures spelled { (token : ℕ) → result ≤ token → spelled (package_of pkg.entry) file token ≡ [] }
-    ensures identified { (token : ℕ) → result ≤ token → numbers_in index.now.identifiers file token ≡ None }
+    ensures identified { (token : ℕ) → result ≤ token → numbers_in index.now.identifiers.now file token ≡ None }
 {
     let spelled = spelled_tokens(pkg, file);
     let identified = index.identifiers.width(file);
@@ -184,7 +209,8 @@ pub fn file_names<'a>(
     ensures named { IfOk result (λ names. AreNames (package_of pkg.entry) file bounds.new.list.items names.items) }
     ensures bounds { OnOk result (AreMeanings (package_of pkg.entry) bounds.new.list.items bounds.new.of.items) }
 {
-    let mut names = Vec::new(alloc);
+    let tokens = tokens_of(pkg, file);
+    let mut names = Vec::with_capacity(alloc, tokens.len())?;
     for token in 0..token_count(pkg, index, file) {
         names.push(name_at(alloc, pkg, index, bounds, file, token)?)?;
     }

@@ -16,7 +16,7 @@ fn empty_lists(alloc: Global, pkg: Package<'_>, index: &Index<'_>) -> Result<Lis
     ensures lists { IfOk result (AreListsBelow (package_of pkg.entry) (length pkg.entry.table.now.sites)) }
     ensures listed { IfOk result (λ lists. (path : List ℕ) → (at : Position) → IsListedUnder lists.all.items path at → ⊥) }
 {
-    let mut lists = Lists::new(alloc);
+    let mut lists = Lists::with_room(alloc, pkg.table.len())?;
     for d in 0..pkg.table.len() {
         lists.add(alloc, index.path(pkg, d))?;
     }

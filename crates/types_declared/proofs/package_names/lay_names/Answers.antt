@@ -9,11 +9,11 @@ use Rattle.types_declared.proofs.package_names.lay_names.Goals as goal
 
 pub returns : goal.returns
 returns g c =
-    let p = laid_in c.args.plain.now in
+    let p = laid_in c.args.plain in
     let files = map source_of c.args.files.now in
     let name_of = g.N.PackageNames.name_of c.args.packages.now in
     let names = name_given c.deref.result.now in
-    IfOk-weaker c.name_imports.result (λ laid. laid ≡ with_names names c.args.plain.now) (λ laid. IsLaidOver files name_of c.args.plain.now laid)
+    IfOk-weaker c.name_imports.result (λ laid. laid ≡ with_names names c.args.plain) (λ laid. IsLaidOver files name_of c.args.plain laid)
     (λ laid e. record {
       names = names;
       are_names = subst (λ ns. ArePackageNames files name_of p (name_given ns)) (sym c.deref.ensures.value) c.in_ok-names.ensures;

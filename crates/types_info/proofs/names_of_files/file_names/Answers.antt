@@ -7,8 +7,8 @@ use Rattle.types_info.proofs.names_of_files.file_names.Goals as goal
 
 pub loop-token-init : goal.loop-token-init
 loop-token-init c = record {
-  named = no_names (package_of c.args.pkg) c.args.file c.args.bounds.now.list.items c.new-names.result.items
-      c.new-names.ensures.items;
+  named = no_names (package_of c.args.pkg) c.args.file c.args.bounds.now.list.items c.in_ok-names.names.items
+      c.in_ok-names.ensures.items;
   kept = c.requires.bounds;
 }
 

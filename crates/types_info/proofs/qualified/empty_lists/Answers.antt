@@ -6,7 +6,7 @@ use Rattle.types_info.proofs.Gathered.{no_lists, next_list}
 use Rattle.types_info.proofs.qualified.empty_lists.Goals as goal
 
 pub loop-d-init : goal.loop-d-init
-loop-d-init c = (no_lists (package_of c.args.pkg) c.new-lists.result c.new-lists.ensures.within, c.new-lists.ensures.size, c.new-lists.ensures.listed)
+loop-d-init c = (no_lists (package_of c.args.pkg) c.in_ok-lists.lists c.in_ok-lists.ensures.within, c.in_ok-lists.ensures.size, c.in_ok-lists.ensures.listed)
 
 pub add-requires : goal.add-requires
 add-requires c = c.loop-d.invariant.0.within
