@@ -30,6 +30,10 @@ same_form r new f (AMethodOf g) (Some m) = refl
 pub same_asked : (r : SetRename) (new : Bool) (f : Written) (m : Option SetMethod) → has_if_asked (Some (written_as r new f)) m ≡ has_if_asked (Some f) m
 same_asked r new f m = same_form r new f f.form m
 
+pub asked_alike : (r : SetRename) (new : Bool) (f : Option Written) (m : Option SetMethod) → has_if_asked (option_map (written_as r new) f) m ≡ has_if_asked f m
+asked_alike r new None m = refl
+asked_alike r new (Some f) m = same_asked r new f m
+
 -- The names under which an interface asks for something after the rename: those that it had, and the new one
 
 holds_left : (xs ys : List (List ℕ)) (x : List ℕ) → Holds xs x → Holds (xs ++ ys) x

@@ -15,4 +15,5 @@ pub mod MethodOwners
 pub mod CoupledTypes
 pub mod RenamedSets
 pub mod TurnedNames
+pub mod Following
 pub mod SamePackages

@@ -12,9 +12,9 @@ use Rattle.refactor_coupled.specs.Coupling.{type_through}
 use Rattle.refactor_coupled.specs.FirstTurns.{NamesAreFree}
 use Rattle.refactor_coupled.specs.RenamedTypes.{SetRename, is_new_name_of, moves_if_received, moves_if_written, moves_received}
 use Rattle.refactor_coupled.specs.RenamedTypes.{moves_written, name_before, received_as, renamed_definitions, under_name, written_as}
-use Rattle.refactor_coupled.proofs.Implemented.{received_same, same_asked, through_any, written_same}
+use Rattle.refactor_coupled.proofs.Implemented.{asked_alike, received_same, through_any, written_same}
 
-none_of : {X : Type 0} (o : Option X) → is_some o ≡ false → o ≡ None
+pub none_of : {X : Type 0} (o : Option X) → is_some o ≡ false → o ≡ None
 none_of None e = refl
 none_of (Some x) e = absurd (true≢false e)
 
@@ -24,16 +24,16 @@ neither false b e = (refl, e)
 
 -- Where nothing moves, each member has its name.
 
-abbrev field_if : (r : SetRename) → Definition → (moves : Bool) → List ℕ → Option Written
+abbrev pub field_if : (r : SetRename) → Definition → (moves : Bool) → List ℕ → Option Written
 field_if r d moves name = option_map (written_as r (is_new_name_of r moves name)) (under_name d.field (name_before r moves name))
 
-abbrev method_if : (r : SetRename) → Definition → (moves : Bool) → List ℕ → Option Received
+abbrev pub method_if : (r : SetRename) → Definition → (moves : Bool) → List ℕ → Option Received
 method_if r d moves name = option_map (received_as r (is_new_name_of r moves name)) (under_name d.method (name_before r moves name))
 
-field_unmoved : (r : SetRename) (d : Definition) (moves : Bool) → moves ≡ false → (name : List ℕ) → field_if r d moves name ≡ d.field name
+pub field_unmoved : (r : SetRename) (d : Definition) (moves : Bool) → moves ≡ false → (name : List ℕ) → field_if r d moves name ≡ d.field name
 field_unmoved r d moves e name = ap (λ b. field_if r d b name) e ∙ written_same r (d.field name)
 
-method_unmoved : (r : SetRename) (d : Definition) (moves : Bool) → moves ≡ false → (name : List ℕ) → method_if r d moves name ≡ d.method name
+pub method_unmoved : (r : SetRename) (d : Definition) (moves : Bool) → moves ≡ false → (name : List ℕ) → method_if r d moves name ≡ d.method name
 method_unmoved r d moves e name = ap (λ b. method_if r d b name) e ∙ received_same r (d.method name)
 
 no_old_field : (r : SetRename) (d : Definition) → d.field r.old ≡ None → moves_written r d ≡ false
@@ -99,22 +99,17 @@ module _ (r : SetRename) (ds : Symbol → Definition) (s : Symbol) where
     abbrev HasNow : Type 0
     HasNow = (name : List ℕ) → has_if_asked ((after i).field name) (S name) ≡ true
 
-    -- what is asked for under another name
-    as_asked : (new : Bool) (f : Option Written) (m : Option SetMethod) → has_if_asked (option_map (written_as r new) f) m ≡ has_if_asked f m
-    as_asked new None m = refl
-    as_asked new (Some f) m = same_asked r new f m
-
     old_is_new : has_if_asked (asked r.old) (S r.old) ≡ has_if_asked (option_map (written_as r true) (asked r.old)) (S r.new)
-    old_is_new = ap (has_if_asked (asked r.old)) (has_none.old ∙ sym has_none.new) ∙ sym (as_asked true (asked r.old) (S r.new))
+    old_is_new = ap (has_if_asked (asked r.old)) (has_none.old ∙ sym has_none.new) ∙ sym (asked_alike r true (asked r.old) (S r.new))
 
     there_by : Has → (moves : Bool) (name : List ℕ) (new old : Bool) → same_path name r.new ≡ new → same_path name r.old ≡ old →
         has_if_asked (option_map (written_as r (moves && new)) (under_name asked (if moves && new then Some r.old else (if moves && old then None else Some
         name)))) (S name) ≡ true
-    there_by h false name new old is_new is_old = as_asked false (asked name) (S name) ∙ h name
+    there_by h false name new old is_new is_old = asked_alike r false (asked name) (S name) ∙ h name
     there_by h true name true old is_new is_old =
         ap (λ n. has_if_asked (option_map (written_as r true) (asked r.old)) (S n)) ((bytes_decides name r.new).0 is_new) ∙ sym old_is_new ∙ h r.old
     there_by h true name false true is_new is_old = refl
-    there_by h true name false false is_new is_old = as_asked false (asked name) (S name) ∙ h name
+    there_by h true name false false is_new is_old = asked_alike r false (asked name) (S name) ∙ h name
 
     pub there : Has → HasNow
     there h name = there_by h (moves_written r (ds i)) name (same_path name r.new) (same_path name r.old) refl refl
@@ -124,7 +119,7 @@ module _ (r : SetRename) (ds : Symbol → Definition) (s : Symbol) where
 
     back_by : (moves : Bool) → moves_written r (ds i) ≡ moves → ((name : List ℕ) → has_if_asked (now_if moves name) (S name) ≡ true) → (name : List ℕ)
         (new old : Bool) → same_path name r.new ≡ new → same_path name r.old ≡ old → has_if_asked (asked name) (S name) ≡ true
-    back_by false moved h name new old is_new is_old = sym (as_asked false (asked name) (S name)) ∙ h name
+    back_by false moved h name new old is_new is_old = sym (asked_alike r false (asked name) (S name)) ∙ h name
     back_by true moved h name true old is_new is_old =
         ap (λ n. has_if_asked (asked n) (S name)) ((bytes_decides name r.new).0 is_new) ∙ ap (λ f. has_if_asked f (S name)) (free.fields i moved)
     back_by true moved h name false true is_new is_old =
@@ -139,7 +134,7 @@ module _ (r : SetRename) (ds : Symbol → Definition) (s : Symbol) where
             r.new)))) (S r.new) ≡ true)
             new_is_new (h r.new)
     back_by true moved h name false false is_new is_old =
-        sym (as_asked false (asked name) (S name)) ∙
+        sym (asked_alike r false (asked name) (S name)) ∙
         subst (λ b. has_if_asked (option_map (written_as r b) (under_name asked (if b then Some r.old else (if same_path name r.old then None else Some
         name)))) (S name) ≡ true → has_if_asked (option_map (written_as r false) (asked name)) (S name) ≡ true)
         (sym is_new)
@@ -189,13 +184,13 @@ module _ (r : SetRename) (ds : Symbol → Definition) where
   other_method d name false false false e f = received_same r (d.method name)
 
   module _ (name : List ℕ) (not_new : same_path name r.new ≡ false) (not_old : same_path name r.old ≡ false) where
-    written_stays : (s : Symbol) → (renamed s).field name ≡ (ds s).field name
+    pub written_stays : (s : Symbol) → (renamed s).field name ≡ (ds s).field name
     written_stays s = other_field (ds s) name (moves_written r (ds s)) (same_path name r.new) (same_path name r.old) not_new not_old
 
     received_stays : (s : Symbol) → (renamed s).method name ≡ (ds s).method name
     received_stays s = other_method (ds s) name (moves_received r (ds s)) (same_path name r.new) (same_path name r.old) not_new not_old
 
-    set_stays : (star : Bool) (s : Symbol) (u : Underlying) → in_set_by renamed star s u name ≡ in_set_by ds star s u name
+    pub set_stays : (star : Bool) (s : Symbol) (u : Underlying) → in_set_by renamed star s u name ≡ in_set_by ds star s u name
     set_stays star s (Plain b) = ap (received_method star) (received_stays s)
     set_stays star s (PointerTo t) = ap (received_method star) (received_stays s)
     set_stays star s (SliceOf t) = ap (received_method star) (received_stays s)

@@ -7,5 +7,6 @@ pub mod RenamedTypes
 pub mod RenamedTypesView
 pub mod Called
 pub mod FirstTurns
+pub mod Turning
 pub mod Reached
 pub mod CoupledEdits

@@ -11,10 +11,12 @@ ghost use Rattle.refs_binding.specs.Workspaces.{known_in};
 ghost use Rattle.refs_places.specs.DeclaredPlaces.{IsChoice, TokenBeginsAt};
 ghost use Rattle.refactor_coupled.specs.Called.{AreCalled};
 ghost use Rattle.refactor_coupled.specs.FirstTurns.{IsBeforeFirst, IsTypeNameAt, IsTypeNameIn, KeepsFirst, KeepsFound, KeepsTurned, TellsFirstTurn, named_turns};
-ghost use Rattle.refactor_coupled.specs.RenamedTypesView.{any_turns, definitions_in, interface_of, rename_of};
+ghost use Rattle.refactor_coupled.specs.RenamedTypesView.{definitions_in, interface_of, rename_of};
+ghost use Rattle.refactor_coupled.specs.Turning.{HasParts};
 
-use crate::called::{interfaces_called, types_called, types_of};
+use crate::called::{interfaces_called, types_of};
 use crate::renamed_types::{RenamedSet, RenamedTypes};
+use crate::turning::{CalledTypes, called_types, turns_called};
 use base_files::Place;
 use go_ast::FileTree;
 use go_scope::model::Position;
@@ -39,22 +41,14 @@ fn interface_of<'a>(types: &'a Definitions, named: &Symbol) -> Option<&'a Symbol
     }
 }
 
-/// Whether a list has a type T for which T or `*T` implements the interface only before the rename, or only after it.
-fn turns_any(types: &RenamedTypes<'_>, called: &[Symbol], interface: &Symbol) -> bool
-    ensures { result ≡ any_turns types.now.types.now (rename_of types.now.rename) called.now interface.now }
-{
-    called
-        .iter()
-        .any(|symbol| types.either_turns(symbol, interface))
-}
-
-/// Whether the rename changes which types of a list implement the interface that a type definition names.
-fn turns_named(types: &RenamedTypes<'_>, called: &[Symbol], named: &Symbol) -> bool
-    ensures { result ≡ named_turns types.now.types.now (rename_of types.now.rename) called.now named.now }
+/// Whether the rename changes which of the called types implement the interface that a type definition names.
+fn turns_named(types: &RenamedTypes<'_>, called: &CalledTypes, named: &Symbol) -> bool
+    requires { HasParts types.now called.now }
+    ensures { result ≡ named_turns types.now.types.now (rename_of types.now.rename) called.now.all.items named.now }
 {
     match interface_of(types.types, named) {
         None => false,
-        Some(interface) => turns_any(types, called, interface),
+        Some(interface) => turns_called(types, called, interface),
     }
 }
 
@@ -155,10 +149,11 @@ fn keep_if_turned(
     first: &mut Option<Place>,
     workspace: &FaultlessWorkspace<'_>,
     types: &RenamedTypes<'_>,
-    called: &[Symbol],
+    called: &CalledTypes,
     named: &Symbol,
 ) -> Result<(), AllocError>
-    ensures { OnOk result (KeepsTurned workspace.now types.now called.now named.now first.old first.new) }
+    requires { HasParts types.now called.now }
+    ensures { OnOk result (KeepsTurned workspace.now types.now called.now.all.items named.now first.old first.new) }
 {
     if !turns_named(types, called, named) {
         return Ok(());
@@ -168,7 +163,7 @@ fn keep_if_turned(
     Ok(())
 }
 
-/// The first of the names of type definitions, by place, whose interface some type of a list turns.
+/// The first of the names of type definitions, by place, whose interface some type turns.
 fn first_turned(
     alloc: Global,
     workspace: &FaultlessWorkspace<'_>,
@@ -179,21 +174,14 @@ fn first_turned(
     ensures { IfOk result (TellsFirstTurn workspace.now (rename_of rename.entry)) }
 {
     workspace.has_no_faults();
-    let called = types_called(alloc, workspace, rename)?;
     let types = RenamedTypes {
         types: types_of(workspace),
         rename,
     };
+    let called = called_types(alloc, workspace, &types)?;
     let mut first = None;
     for named in interfaces {
-        keep_if_turned(
-            alloc,
-            &mut first,
-            workspace,
-            &types,
-            called.as_slice(),
-            named,
-        )?;
+        keep_if_turned(alloc, &mut first, workspace, &types, &called, named)?;
     }
     Ok(first)
 }

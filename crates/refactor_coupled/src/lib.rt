@@ -11,6 +11,7 @@ mod coupling;
 mod interfaces_turned;
 mod obstacle;
 mod renamed_types;
+mod turning;
 
 pub use coupling::{called_name, renamed_with};
 pub use interfaces_turned::first_change;

@@ -111,7 +111,7 @@ pub(crate) fn is_interface(underlying: &Underlying) -> bool
 
 impl<'a> RenamedTypes<'a> {
     /// Whether the rename moves the member that a definition writes under the old name.
-    fn moves_written(&self, definition: &Definition) -> bool
+    pub(crate) fn moves_written(&self, definition: &Definition) -> bool
         ensures { result ≡ moves_written (rename_of self.now.rename) (definition_of definition.now) }
     {
         match definition.fields.get(self.rename.old) {
@@ -121,7 +121,7 @@ impl<'a> RenamedTypes<'a> {
     }
 
     /// Whether the rename moves the method of a receiver that a definition has under the old name.
-    fn moves_received(&self, definition: &Definition) -> bool
+    pub(crate) fn moves_received(&self, definition: &Definition) -> bool
         ensures { result ≡ moves_received (rename_of self.now.rename) (definition_of definition.now) }
     {
         match definition.methods.get(self.rename.old) {

@@ -14,4 +14,4 @@ pub mod Unconcerned
 pub mod Unreached
 pub mod SetsApart
 pub mod MemberLists
-pub mod NamesOfAll
+pub mod OwnersListed

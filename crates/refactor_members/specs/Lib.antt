@@ -2,4 +2,5 @@
 pub mod Renames
 pub mod Naming
 pub mod Judging
+pub mod Owning
 pub mod Reaching

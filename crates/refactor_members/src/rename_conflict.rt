@@ -1,25 +1,21 @@
 //! The first conflict of a rename of fields or methods, by the old workspace and the new name alone.
-ghost use Rattle.std.specs.Prelude.{Contains, IfOk, IsTrue};
+ghost use Rattle.std.specs.Prelude.{IfOk};
 ghost use Rattle.base_edits.specs.EditSet.{FileChanges};
 ghost use Rattle.base_edits.specs.RevisionsOfEdits.{revision_of};
-ghost use Rattle.go_scope.specs.Named.{name_value};
-ghost use Rattle.types_declared.specs.Package.{Package as Checked};
-ghost use Rattle.refs_binding.specs.declared.declaration.Declaration.{Declaration as Named};
 ghost use Rattle.refs_binding.specs.Uses.{IsCheckedPackage};
 ghost use Rattle.refs_binding.specs.Workspaces.{known_in};
-ghost use Rattle.refs_uses.specs.MemberNames.{IsNameFound, IsOnlyName};
 ghost use Rattle.refactor_conflict.specs.Conflicts.{IsFirstConflict};
 ghost use Rattle.law_renamed_workspaces.specs.MemberRenames.{IsMemberRename};
 ghost use Rattle.refactor_members.specs.Renames.{AreMembersOf};
 
-use crate::definition::definition_of;
+use crate::definition::{definition_of, owners_of_homes};
 use crate::first::first_turned;
 use crate::member_rename::{MemberRename, RenamedMember};
 use crate::reaching::{NamesOfRename, reaching};
 use refactor_conflict::Conflict;
 use refactor_rename::Renaming;
 use refs_binding::{Declaration, FaultlessWorkspace};
-use refs_uses::name_of_member;
+use refs_uses::name_of_all;
 use std::alloc::{AllocError, Global};
 
 /// The members of a list, each with its type definition.
@@ -30,51 +26,16 @@ fn members_of<'a>(
 ) -> Result<Vec<RenamedMember<'a>>, AllocError>
     ensures { IfOk result (λ members. AreMembersOf (IsCheckedPackage workspace.now.graph (known_in workspace.now.findings)) set.now members.items) }
 {
+    let owners = owners_of_homes(alloc, workspace, set)?;
     let mut members = Vec::with_capacity(alloc, set.len())?;
     for declaration in set {
-        let definition = definition_of(alloc, workspace, declaration)?;
+        let definition = definition_of(workspace, &owners, declaration);
         members.push(RenamedMember {
             declaration,
             definition,
         })?;
     }
     Ok(members)
-}
-
-/// Whether a name was found for a field or method, and is this one.
-fn has_only_name(workspace: &FaultlessWorkspace<'_>, member: &Declaration, name: &[u8]) -> bool
-    ensures { IsTrue result → (p : Checked) → IsCheckedPackage workspace.now.graph (known_in workspace.now.findings) p → IsOnlyName p member.now name.now }
-{
-    match name_of_member(workspace, member) {
-        None => false,
-        Some(found) => found == name,
-    }
-}
-
-/// Whether this name was found for all members of a list.
-fn have_only_name(workspace: &FaultlessWorkspace<'_>, set: &[Declaration], name: &[u8]) -> bool
-    ensures { IsTrue result → (d : Named) → Contains set.now d → (p : Checked) → IsCheckedPackage workspace.now.graph (known_in workspace.now.findings) p → IsOnlyName p d name.now }
-{
-    for member in set {
-        if !has_only_name(workspace, member, name) {
-            return false;
-        }
-    }
-    true
-}
-
-/// The present name of the members that are renamed, if it was found for all of them.
-fn name_of_all<'a>(workspace: &FaultlessWorkspace<'a>, renaming: &Renaming<'_>) -> Option<&'a [u8]>
-    ensures { (d : Named) → Contains renaming.now.set.now d → IsNameFound workspace.now.graph (known_in workspace.now.findings) d (name_value result) }
-{
-    match name_of_member(workspace, renaming.declaration) {
-        None => None,
-        Some(name) => if have_only_name(workspace, renaming.set, name) {
-            Some(name)
-        } else {
-            None
-        },
-    }
 }
 
 /// The first identifier that a plain rename of fields or methods loses or captures, or `None` where it loses and captures none.
@@ -98,7 +59,7 @@ pub fn member_conflict(
     law_renamed_workspaces::member_renames::other_packages_keep_members();
     law_renamed_workspaces::member_renames::unexported_names_stay_at_home();
     let members = members_of(alloc, workspace, renaming.set)?;
-    let called = name_of_all(workspace, renaming);
+    let called = name_of_all(workspace, renaming.set);
     let names = NamesOfRename {
         called,
         name: renaming.name,

@@ -5,4 +5,6 @@ pub mod MayUse
 pub mod UsedAbroad
 pub mod NameTokens
 pub mod MembersUsed
+pub mod NamesOfAll
 pub mod UsesOfSome
+pub mod SomeMembers

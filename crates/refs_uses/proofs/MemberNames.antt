@@ -39,17 +39,25 @@ pub found_name : (Has : List ℕ → Type 0) (o : Option (Bor (List ℕ))) (name
 found_name Has None name h e = absurd (none-some name e)
 found_name Has (Some b) name h e = subst Has (same_Some b.now name e) h
 
--- the use of a member has its name
+-- the use of a member is spelled as its name
+pub use_spelled : (p : Package) (d : Declaration) (name : List ℕ) → IsOnlyName p d name → (file token : ℕ) → UsesMemberAt p file token d →
+    spelled p file token ≡ name
+use_spelled p d name only file token m =
+    let world = m.judged.judged_by in
+    let spelling = spelling_of m.judged.source token in
+    let is : Denotes world.definitions p spelling m.found.before d =
+    ap (option_map declaration_of) (sym (world.member token m.found.before) ∙ m.is_member) ∙ ap Some m.declares in
+    ap (λ o. spelled_at o token) m.judged.in_file ∙ only.only world.definitions world.are_definitions spelling m.found.before is
+
+-- the use of a member in another package has its name, which is exported
 pub use_named : (p : Package) (d : Declaration) (name : List ℕ) → IsOnlyName p d name → (file token : ℕ) → UsesMemberAt p file token d →
     (home_path d ≡ Some p.path → ⊥) → (spelled p file token ≡ name) × (is_exported name ≡ true)
 use_named p d name only file token m away =
     let world = m.judged.judged_by in
     let spelling = spelling_of m.judged.source token in
     let is : Denotes world.definitions p spelling m.found.before d =
-    ap (option_map declaration_of) (sym (world.member token m.found.before) ∙ m.is_member) ∙ ap Some m.declares in (
-      ap (λ o. spelled_at o token) m.judged.in_file ∙ only.only world.definitions world.are_definitions spelling m.found.before is,
-      only.shown world.definitions world.are_definitions spelling m.found.before is away,
-    )
+    ap (option_map declaration_of) (sym (world.member token m.found.before) ∙ m.is_member) ∙ ap Some m.declares in
+    (use_spelled p d name only file token m, only.shown world.definitions world.are_definitions spelling m.found.before is away)
 
 -- seen in another package, a member is exported
 away_shown : (own : List ℕ) (s : Symbol) (exported : Bool) → is_seen own s exported ≡ true → (s.package ≡ own → ⊥) → exported ≡ true

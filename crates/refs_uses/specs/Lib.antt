@@ -4,4 +4,5 @@ pub mod MemberNames
 pub mod MembersAbroad
 pub mod Importing
 pub mod Sought
+pub mod SoughtMembers
 pub mod UsesOfEach

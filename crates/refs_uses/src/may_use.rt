@@ -116,18 +116,41 @@ fn is_any_spelled(files: &[FileTree], members: &[Vec<MemberUse>], name: &[u8]) -
     false
 }
 
+/// Whether the package `number` has a use of a member that may have this name. With no name, each use of a member may.
+pub(crate) fn uses_name(
+    workspace: &FaultlessWorkspace<'_>,
+    number: usize,
+    member: Option<&[u8]>,
+) -> bool
+    requires in_range { number < length (package_paths workspace.now.graph) }
+    ensures { (p : Checked) → IsPackageAt workspace.now.graph (known_in workspace.now.findings) number p → (file token : ℕ) (d : Bound) → UsesMemberAt p file token d →
+        ((name : List ℕ) → name_value member.entry ≡ Some name → spelled p file token ≡ name) → IsTrue result }
+{
+    workspace.has_no_faults();
+    let uses = members_of(workspace, number);
+    match member {
+        None => uses_members(uses),
+        Some(name) => is_any_spelled(trees(workspace, number), uses, name),
+    }
+}
+
+/// Whether a name may be that of an exported member. With no name, it may.
+fn may_be_exported(member: Option<&[u8]>) -> bool
+    ensures { ((name : List ℕ) → name_value member.entry ≡ Some name → is_exported name ≡ true) → IsTrue result }
+{
+    match member {
+        None => true,
+        Some(name) => is_exported(name),
+    }
+}
+
 /// Whether the package `number` has a use of a member that may have this exported name. With no name, each use of a member may.
 fn may_name(workspace: &FaultlessWorkspace<'_>, number: usize, member: Option<&[u8]>) -> bool
     requires in_range { number < length (package_paths workspace.now.graph) }
     ensures { (p : Checked) → IsPackageAt workspace.now.graph (known_in workspace.now.findings) number p → (file token : ℕ) (d : Bound) → UsesMemberAt p file token d →
         ((name : List ℕ) → name_value member.entry ≡ Some name → (spelled p file token ≡ name) × (is_exported name ≡ true)) → IsTrue result }
 {
-    workspace.has_no_faults();
-    let uses = members_of(workspace, number);
-    match member {
-        None => uses_members(uses),
-        Some(name) => is_exported(name) && is_any_spelled(trees(workspace, number), uses, name),
-    }
+    may_be_exported(member) && uses_name(workspace, number, member)
 }
 
 /// Whether the package `number` may use a member of another package, `home`: it must import `home`, directly or indirectly, and use a

@@ -1,10 +1,14 @@
 //! Finds the name of a field or method among the type definitions of its package.
-ghost use Rattle.std.specs.Prelude.{◌≡◌, option_map, slice_get, IsTrue};
+ghost use Rattle.std.specs.Prelude.{◌≡◌, Contains, option_map, slice_get, IsTrue};
 ghost use Rattle.base_files.specs.Packages.{package_paths};
 ghost use Rattle.go_scope.specs.Named.{name_value};
 ghost use Rattle.types_expr.specs.WorldView.{definition_of, field_of, plain_method_of};
+ghost use Rattle.types_declared.specs.Package.{Package as Checked};
+ghost use Rattle.refs_binding.specs.declared.declaration.Declaration.{Declaration as Named};
+ghost use Rattle.refs_binding.specs.Uses.{IsCheckedPackage};
 ghost use Rattle.refs_binding.specs.Workspaces.{known_in, home_path, IsHome};
-ghost use Rattle.refs_uses.specs.MemberNames.{NamesField, NamesMethod, HasOneOf, IsFoundName, IsNameFound};
+ghost use Rattle.refs_uses.specs.MemberNames.{NamesField, NamesMethod, HasOneOf, IsFoundName, IsNameFound, IsOnlyName};
+ghost use Rattle.refs_uses.specs.SoughtMembers.{AllHaveName};
 
 use crate::may_use::home_of;
 use refs_binding::{Declaration, FaultlessWorkspace, own_of};
@@ -132,4 +136,54 @@ pub fn name_of_member<'a>(
     ensures { IsNameFound workspace.now.graph (known_in workspace.now.findings) declaration.now (name_value result) }
 {
     member_name(workspace, declaration, home_of(workspace, declaration))
+}
+
+/// Whether a name was found for a field or method, and is this one.
+fn has_only_name(workspace: &FaultlessWorkspace<'_>, member: &Declaration, name: &[u8]) -> bool
+    ensures { IsTrue result → (p : Checked) → IsCheckedPackage workspace.now.graph (known_in workspace.now.findings) p → IsOnlyName p member.now name.now }
+{
+    match name_of_member(workspace, member) {
+        None => false,
+        Some(found) => found == name,
+    }
+}
+
+/// Whether this name was found for all members of a list.
+fn have_only_name(workspace: &FaultlessWorkspace<'_>, set: &[Declaration], name: &[u8]) -> bool
+    ensures { IsTrue result → (d : Named) → Contains set.now d → (p : Checked) → IsCheckedPackage workspace.now.graph (known_in workspace.now.findings) p → IsOnlyName p d name.now }
+{
+    for member in set {
+        if !has_only_name(workspace, member, name) {
+            return false;
+        }
+    }
+    true
+}
+
+/// The name of a member, if it was found for it and for all members of a list.
+fn name_with_all<'a>(
+    workspace: &FaultlessWorkspace<'a>,
+    member: &Declaration,
+    set: &[Declaration],
+) -> Option<&'a [u8]>
+    ensures { AllHaveName workspace.now.graph (known_in workspace.now.findings) set.now (name_value result) }
+{
+    match name_of_member(workspace, member) {
+        None => None,
+        Some(name) => if have_only_name(workspace, set, name) {
+            Some(name)
+        } else {
+            None
+        },
+    }
+}
+
+/// The name of the members of a list, if it was found for all of them.
+pub fn name_of_all<'a>(workspace: &FaultlessWorkspace<'a>, set: &[Declaration]) -> Option<&'a [u8]>
+    ensures { AllHaveName workspace.now.graph (known_in workspace.now.findings) set.now (name_value result) }
+{
+    match set.first() {
+        None => None,
+        Some(first) => name_with_all(workspace, first, set),
+    }
 }

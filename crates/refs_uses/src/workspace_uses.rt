@@ -21,6 +21,7 @@ use crate::members_abroad::{add_members_abroad, is_member_abroad};
 use crate::own_names::is_own;
 use crate::places::Places;
 use crate::qualified_abroad::{add_abroad, path_abroad};
+use crate::set_uses::{add_uses_of_members, are_several_members};
 use crate::sorting::places;
 use crate::uses_in_package::add_uses_in_package;
 use base_files::{Path, Refusal};
@@ -336,7 +337,28 @@ fn add_uses_of_each(
     Ok(())
 }
 
-/// Returns the places of all uses of the declarations of a list, sorted and without duplicates. The package `read` is not read again.
+/// Adds the places of all uses of the declarations of a list. Several fields and methods are looked for together.
+fn add_uses_of_list(
+    alloc: Global,
+    spots: &mut Vec<PlaceKey>,
+    read: Numbered<'_>,
+    of: &Indexed<'_>,
+    set: &[Declaration],
+) -> Result<(), AllocError>
+    requires numbered { IsPackageNumber read }
+    requires unit { IsPackageNumbered read (package_of of.now.unit) }
+    requires indexed { IsIndexed of.now }
+    ensures { OnOk result (AddsPlaces spots.old.items spots.new.items (IsUseOfSome read.entry.workspace.now.graph (known_in read.entry.workspace.now.findings) set.now)) }
+{
+    if are_several_members(set) {
+        add_uses_of_members(alloc, spots, read.workspace, set)
+    } else {
+        add_uses_of_each(alloc, spots, read, of, set)
+    }
+}
+
+/// Returns the places of all uses of the declarations of a list, sorted and without duplicates. The package `read` is not read again, unless
+/// they are several fields and methods.
 pub fn list_uses_of_each(
     alloc: Global,
     read: Numbered<'_>,
@@ -349,7 +371,7 @@ pub fn list_uses_of_each(
     ensures { IfOk result (ListsUsesOfEach read.entry.workspace.now.graph (known_in read.entry.workspace.now.findings) set.now) }
 {
     let mut spots = Vec::new(alloc);
-    add_uses_of_each(alloc, &mut spots, read, of, set)?;
+    add_uses_of_list(alloc, &mut spots, read, of, set)?;
     Ok(Places::new(places(alloc, spots)?))
 }
 

@@ -6,4 +6,4 @@ use Rattle.refactor_coupled.proofs.TypeNames.{IsTurnedAmong}
 use Rattle.refactor_coupled.proofs.interfaces_turned.first_turned.Given as goal
 
 abbrev pub invariant-loop-named : goal.invariant-loop-named
-invariant-loop-named l = KeepsFirstOf (IsTurnedAmong l.workspace l.types l.called.items (take l.named-index l.interfaces)) None l.first
+invariant-loop-named l = KeepsFirstOf (IsTurnedAmong l.workspace l.types l.called.all.items (take l.named-index l.interfaces)) None l.first

@@ -1,18 +1,12 @@
 -- The answers to the goals of `definition::definition_by`.
-use Rattle.std.proofs.Common.{subst}
-use Rattle.std.proofs.lemmas.Result.{IfOk-weaker}
-use Rattle.types_declared.specs.Package.{Package}
-use Rattle.types_declared.specs.PackageView.{package_of}
-use Rattle.refs_binding.specs.Workspaces.{known_in}
-use Rattle.refs_binding.proofs.Units.{one_at}
-use Rattle.refactor_after.specs.MembersFound.{IsRankFound}
-use Rattle.refactor_members.specs.Renames.{IsDefinitionIn}
+use Rattle.std.proofs.Common.{sym, subst, ◌∙◌}
+use Rattle.std.proofs.lemmas.Option.{none-some, same_Some}
+use Rattle.refactor_members.specs.Owning.{AreOwnersIn}
 use Rattle.refactor_members.proofs.definition.definition_by.Goals as goal
 
-pub returns : goal.returns
-returns c =
-    let w = c.args.at.workspace.now in
-    IfOk-weaker c.definition_in.result _ _
-    (λ found h p is.
-    subst (λ (q : Package). IsRankFound (IsDefinitionIn q c.args.member.now) found)
-    (one_at w.graph (known_in w.findings) c.args.at.number (package_of c.unit_of.result) p c.unit_of.ensures is) h) c.definition_in.ensures
+pub returns-in-None : goal.returns-in-None
+returns-in-None c = λ owners is p are. absurd (none-some owners (sym c.in-None.is ∙ is))
+
+pub returns-in-Some : goal.returns-in-Some
+returns-in-Some c = λ owners is p are.
+    c.of.ensures p (subst (AreOwnersIn p) (same_Some owners c.in-Some.owners (sym is ∙ c.in-Some.is)) are)

@@ -6,13 +6,13 @@ use Rattle.workspace_check.specs.Verdicts.{Verdicts}
 use Rattle.refs_binding.specs.Members.{definitions_known}
 use Rattle.refs_binding.specs.Steps.{AddsPlaces}
 use Rattle.refs_binding.proofs.Adding.{Below}
-use Rattle.refs_binding.proofs.MemberPlaces.{IsFileUse}
-use Rattle.refs_uses.specs.MemberNames.{IsNameFound}
 use Rattle.refs_uses.specs.MembersAbroad.{IsKnownOf}
+use Rattle.refs_uses.specs.SoughtMembers.{AllHaveName}
+use Rattle.refs_uses.proofs.SomeMembers.{IsFileUseOfSome}
 use Rattle.refs_uses.proofs.members_abroad.add_known_members.Given as goal
 
 -- the member uses of the files that were passed were added
 abbrev pub invariant-loop-file : goal.invariant-loop-file
 invariant-loop-file l = (w : Workspace) (known : Verdicts) (p : Package) → IsKnownOf w known p l.of →
-    IsNameFound w known l.sought.declaration.now (name_value l.sought.member) →
-    AddsPlaces l.initial.spots.items l.spots.items (Below (IsFileUse (definitions_known l.of.types) p l.sought.declaration.now l.of.members.now) l.file)
+    AllHaveName w known l.sought.set.now (name_value l.sought.member) →
+    AddsPlaces l.initial.spots.items l.spots.items (Below (IsFileUseOfSome (definitions_known l.of.types) p l.sought.set.now l.of.members.now) l.file)

@@ -9,20 +9,13 @@ use Rattle.workspace_check.proofs.OneSeen.{one_export_table}
 use Rattle.refs_binding.specs.Members.{definitions_by}
 use Rattle.refs_binding.specs.Workspaces.{known_in}
 use Rattle.refs_binding.proofs.MemberParts.{known_definitions}
-use Rattle.refs_binding.proofs.Units.{package_there}
-use Rattle.refs_uses.proofs.MembersUsed.{members_used}
 use Rattle.refs_uses.proofs.members_abroad.add_members_by.Goals as goal
 
 pub returns : goal.returns
-returns c =
+returns c = on_ok_weaker c.add_known_members.result (λ adds p is.
     let w = c.args.at.workspace.now.graph in
-    let found = c.args.at.workspace.now.findings in
-    let known = known_in found in
-    let n = c.args.at.number in
+    let known = known_in c.args.at.workspace.now.findings in
     let seen = c.args.seen.now in
-    let there = package_there w found c.has_no_faults.ensures n c.requires.numbered.in_range in
-    let p = there.0 in
-    let is = there.1 in
     let checked = is.is_package.is_checked in
     let own = c.own_of.result.now in
     let path : c.path_of.result.now ≡ p.path = c.path_of.ensures p.path is.has_number in
@@ -33,12 +26,10 @@ returns c =
     let definitions : AreDefinitions p (definitions_by c.path_of.result.now own c.definitions.result.now) =
     subst (λ i. AreDefinitions p (definitions_by c.path_of.result.now own i)) (sym c.definitions.ensures)
     (subst (λ q. AreDefinitions p (definitions_by q own seen.definitions)) (sym path) (known_definitions p own seen (c.own_of.ensures p is) sees)) in
-    on_ok_weaker c.add_known_members.result (λ adds name. members_used w known n p is c.args.sought.now.declaration.now c.requires.abroad name
-    c.args.spots.now.items
-    c.add_known_members.new.spots.items (adds w known p (record {
+    adds w known p (record {
       is_package = is.is_package;
       files = one_sources (c.trees.ensures p.path is.has_number) checked.parsed ∙ sym (ap (λ (x : Package). x.files) checked.is_package.is_package);
       path = path;
       definitions = definitions;
       members = c.members_of.ensures p is;
-    }) c.requires.named)) c.add_known_members.ensures
+    }) c.requires.named) c.add_known_members.ensures

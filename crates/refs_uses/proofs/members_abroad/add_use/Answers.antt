@@ -8,9 +8,9 @@ use Rattle.types_expr.specs.Found.{use_of}
 use Rattle.refs_binding.specs.Identifiers.{NameBegins}
 use Rattle.refs_binding.specs.Members.{definitions_known, IsMemberUseOf}
 use Rattle.refs_binding.specs.Steps.{AddsPlaces}
-use Rattle.refs_binding.proofs.Adding.{adds_as}
-use Rattle.refs_binding.proofs.MemberPlaces.{use_skipped}
+use Rattle.refs_binding.proofs.Adding.{adds_as, adds_none}
 use Rattle.refs_binding.proofs.Tokens.{Begins, begins_token}
+use Rattle.refs_uses.specs.SoughtMembers.{IsPlaceOfSome}
 use Rattle.refs_uses.proofs.NameTokens.{name_at_token}
 use Rattle.refs_uses.proofs.members_abroad.add_use.Goals as goal
 
@@ -23,14 +23,18 @@ returns-then-is_use c =
     on_ok_weaker c.add_place.result (λ adds w known p is named.
     let here : AddsPlaces a b (Begins p at) =
     subst (λ fs. AddsPlaces a b (λ place. NameBegins (slice_get fs at.file) at.index place.path place.offset)) is.files adds in
-    adds_as a b (Begins p at) (IsMemberUseOf (definitions_known c.args.of.now.types) p c.args.file c.args.sought.now.declaration.now m)
+    let bound = (c.is_use.ensures w known p is named).0 c.if-is_use.true in
+    adds_as a b (Begins p at) (IsPlaceOfSome c.args.sought.now.set.now (λ d. IsMemberUseOf (definitions_known c.args.of.now.types) p c.args.file d m))
     (λ place begins. record {
-      at = name_at_token w known p.path p is.is_package.is_checked at place begins;
-      is_member = (c.is_use.ensures w known p is named).0 c.if-is_use.true;
+      declaration = bound.declaration;
+      among = bound.among;
+      holds = record { at = name_at_token w known p.path p is.is_package.is_checked at place begins; is_member = bound.is_found };
     })
-    (λ place u. begins_token p at place u.at) here) c.add_place.ensures
+    (λ place u. begins_token p at place u.holds.at) here) c.add_place.ensures
 
 pub returns-else-is_use : goal.returns-else-is_use
 returns-else-is_use c = λ w known p is named.
-    use_skipped (definitions_known c.args.of.now.types) p c.args.file c.args.sought.now.declaration.now (use_of c.args.member.now) c.args.spots.now.items
-    (λ e. false≢true (sym c.if-is_use.false ∙ (c.is_use.ensures w known p is named).1 e))
+    adds_none c.args.spots.now.items
+    (IsPlaceOfSome c.args.sought.now.set.now (λ d. IsMemberUseOf (definitions_known c.args.of.now.types) p c.args.file d (use_of c.args.member.now)))
+    (λ place u. false≢true (sym c.if-is_use.false ∙ (c.is_use.ensures w known p is named).1
+    (record { declaration = u.declaration; among = u.among; is_found = u.holds.is_member })))

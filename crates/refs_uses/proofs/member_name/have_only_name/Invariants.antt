@@ -1,4 +1,4 @@
--- What the loop of `rename_conflict::have_only_name` keeps.
+-- What the loop of `member_name::have_only_name` keeps.
 use Rattle.std.proofs.Common.{take}
 use Rattle.std.specs.Prelude.{Contains}
 use Rattle.types_declared.specs.Package.{Package}
@@ -6,7 +6,7 @@ use Rattle.refs_binding.specs.declared.declaration.Declaration.{Declaration}
 use Rattle.refs_binding.specs.Uses.{IsCheckedPackage}
 use Rattle.refs_binding.specs.Workspaces.{known_in}
 use Rattle.refs_uses.specs.MemberNames.{IsOnlyName}
-use Rattle.refactor_members.proofs.rename_conflict.have_only_name.Given as goal
+use Rattle.refs_uses.proofs.member_name.have_only_name.Given as goal
 
 -- those that were passed have the name
 abbrev pub invariant-loop-member : goal.invariant-loop-member

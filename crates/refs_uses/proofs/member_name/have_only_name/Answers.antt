@@ -1,4 +1,4 @@
--- The answers to the goals of `rename_conflict::have_only_name`.
+-- The answers to the goals of `member_name::have_only_name`.
 use Rattle.std.proofs.Common.{arith, subst}
 use Rattle.std.specs.Prelude.{Contains, List}
 use Rattle.std.proofs.lemmas.List.{take_all}
@@ -7,8 +7,8 @@ use Rattle.refs_binding.specs.declared.declaration.Declaration.{Declaration}
 use Rattle.refs_binding.specs.Uses.{IsCheckedPackage}
 use Rattle.refs_binding.specs.Workspaces.{known_in}
 use Rattle.refs_uses.specs.MemberNames.{IsOnlyName}
-use Rattle.refactor_members.proofs.NamesOfAll.{all_passed_have, none_has_yet}
-use Rattle.refactor_members.proofs.rename_conflict.have_only_name.Goals as goal
+use Rattle.refs_uses.proofs.NamesOfAll.{all_passed_have, none_has_yet}
+use Rattle.refs_uses.proofs.member_name.have_only_name.Goals as goal
 
 pub loop-member-init : goal.loop-member-init
 loop-member-init c = none_has_yet c.args.workspace.now.graph (known_in c.args.workspace.now.findings) c.args.name.now

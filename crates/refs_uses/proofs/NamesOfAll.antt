@@ -9,7 +9,8 @@ use Rattle.workspace_check.specs.Verdicts.{Verdicts}
 use Rattle.workspace_check.proofs.Members.{taken_or_next}
 use Rattle.refs_binding.specs.declared.declaration.Declaration.{Declaration}
 use Rattle.refs_binding.specs.Uses.{IsCheckedPackage}
-use Rattle.refs_uses.specs.MemberNames.{IsNameFound, IsOnlyName}
+use Rattle.refs_uses.specs.MemberNames.{IsOnlyName}
+use Rattle.refs_uses.specs.SoughtMembers.{AllHaveName}
 
 module _ (w : Workspace) (known : Verdicts) (name : List ℕ) where
   abbrev Have : List Declaration → Type 0
@@ -27,10 +28,9 @@ module _ (w : Workspace) (known : Verdicts) (name : List ℕ) where
 
 -- the name that was found for all
 pub found_for_all : (w : Workspace) (known : Verdicts) (name : List ℕ) (set : List Declaration) → Have w known name set → (o : Option (List ℕ)) →
-    o ≡ Some name →
-    (d : Declaration) → Contains set d → IsNameFound w known d o
+    o ≡ Some name → AllHaveName w known set o
 found_for_all w known name set all o e d has = λ other is p checked.
     subst (IsOnlyName p d) (same_Some name other (sym e ∙ is)) (all d has p checked)
 
-pub none_for_all : (w : Workspace) (known : Verdicts) (o : Option (List ℕ)) → o ≡ None → (d : Declaration) → IsNameFound w known d o
-none_for_all w known o e d = λ other is p checked. absurd (none-some other (sym e ∙ is))
+pub none_for_all : (w : Workspace) (known : Verdicts) (set : List Declaration) (o : Option (List ℕ)) → o ≡ None → AllHaveName w known set o
+none_for_all w known set o e d has = λ other is p checked. absurd (none-some other (sym e ∙ is))
