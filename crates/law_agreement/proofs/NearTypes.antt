@@ -1,4 +1,5 @@
--- In a workspace without faults, the struct whose fields a type's values have is of the type's package, or of one that this builds on. So it is where the type's definition has a method.
+-- In a workspace without faults, the struct whose fields a type's values have is of the type's package, or of one that this builds on.
+-- So it is where the type's definition has a method.
 use Rattle.std.proofs.Common.{◌≡◌, [], sym, subst}
 use Rattle.std.specs.Prelude.{Some}
 use Rattle.std.proofs.lemmas.Option.{none-some, same_Some}
