@@ -5,8 +5,8 @@ takes hours. Here the sum and the libraries of each crate are found once in a ru
 
 Order: a gate takes at least as long as its longest chain of crates. rt measures a chain in lines, plans for more memory than proofs take,
 and may give each proof one processor. Here a chain is measured by the seconds of checks/gate/seconds.txt. The proof with the longest chain
-above it has up to three processors, where that chain may take longer than what is left for each processor. Every other proof has one: with
-more it may take up to twice the processor time beside other proofs.
+above it has two processors, where that chain may take longer than what is left for each processor. Every other proof has one: with more it
+may take up to twice the processor time beside other proofs.
 
 Edits: each is tried by a check of the functions that it changes (must_fail.py).
 
@@ -37,7 +37,7 @@ from checks.gate import must_fail, replay
 
 # More memory than a proof was seen to take, in bytes.
 MEMORY_OF_ONE = 3_500_000_000
-PROCESSORS_OF_THE_FIRST = 3
+PROCESSORS_OF_THE_FIRST = 2
 # Has the prover keep the memory that it frees, as its allocator (mimalloc) calls it: to take it from the kernel again costs 2 % of a proof.
 KEEPS_FREED = ("MIMALLOC_PURGE_DELAY", "-1")
 # A chain is long that takes more than this part of what is left for each processor.
@@ -102,7 +102,7 @@ def processors():
 
 def lanes_at_once():
     """How many proofs with one processor each are run at a time, as far as memory holds them: one more than there are processors, since
-    a proof that was given three leaves them idle for a part of its time. With two processors hardly any is given more than one."""
+    a proof that was given two leaves one idle for a part of its time. With two processors hardly any is given more than one."""
     with open("/proc/meminfo", encoding="utf-8") as file:
         free = next(1024 * int(line.split()[1]) for line in file if line.startswith("MemAvailable:"))
     more = 1 if processors() > 2 else 0
