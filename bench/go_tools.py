@@ -1,7 +1,8 @@
-"""Measures `gorename`, `gomvpkg` and a running `gopls`, where they are installed, for rename.py and move.py."""
+"""Measures `gorename`, `gomvpkg` and a running `gopls`, where they are installed, for scripts that compare with them."""
 import json
 import os
 import shutil
+import signal
 import subprocess
 import tempfile
 import time
@@ -46,6 +47,7 @@ class Gopls:
             stderr=subprocess.DEVNULL,
             cwd=self.root,
             env=environment_in(top, "on"),
+            start_new_session=True,
         )
 
     def place(self, path):
@@ -77,6 +79,11 @@ class Gopls:
                     raise RuntimeError(f"{method}: {message['error']}")
                 return message["result"], time.perf_counter() - begin
 
+    def end(self):
+        """Kills it, and the commands of go that it has started."""
+        os.killpg(self.child.pid, signal.SIGKILL)
+        self.child.wait()
+
     def peak(self):
         with open(f"/proc/{self.child.pid}/status") as status:
             return next(int(line.split()[1]) for line in status if line.startswith("VmHWM")) / 1024
@@ -92,7 +99,7 @@ def running(files, module, asked):
     if shutil.which("gopls") is None:
         print("  gopls: skipped, since it is not there")
         return
-    with tempfile.TemporaryDirectory() as top:
+    with tempfile.TemporaryDirectory(ignore_cleanup_errors=True) as top:
         server = Gopls(top, files, module)
         server.ask("initialize", processId=None, rootUri="file://" + server.root, capabilities={})
         server.tell("initialized")
@@ -109,5 +116,4 @@ def running(files, module, asked):
                 told = f"{sum(len(change['edits']) for change in found.get('documentChanges', []))} edits"
             print(f"  gopls: {label:63} {seconds:8.3f} s, {told}")
         print(f"  gopls: most memory {server.peak():.0f} MiB")
-        server.child.kill()
-        server.child.wait()
+        server.end()

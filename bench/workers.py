@@ -35,13 +35,13 @@ TICK = os.sysconf("SC_CLK_TCK")
 
 
 class Server:
-    """A server on a socket of its own, which is killed at the end."""
+    """A server on a socket of its own, which is killed at the end. It is started with more words, if there are some."""
 
-    def __init__(self, program, workers):
+    def __init__(self, program, workers, *more):
         self.folder = tempfile.TemporaryDirectory()
         self.path = os.path.join(self.folder.name, "s")
         words = ["serve", "--socket", self.path, "--workers", str(workers), "--sessions", str(EDITORS + 4)]
-        self.child = subprocess.Popen([program, *words])
+        self.child = subprocess.Popen([program, *words, *more])
         while not os.path.exists(self.path):
             if self.child.poll() is not None:
                 sys.exit("the server has ended")
