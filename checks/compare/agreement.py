@@ -26,7 +26,7 @@ import sys
 import time
 
 from checks.generate import changes, interfaces, sessions, shadows
-from checks.generate.sessions import Talk
+from checks.generate.sessions import Talk, build_and_show
 from checks.model.conflicts import first_obstacle, implementing_places, is_moved, is_preserved
 from checks.model.identifiers import Identifiers, in_order, place_of
 from checks.model.implementing import Coupled, definitions_of, renamed_set
@@ -243,28 +243,18 @@ def bodies_of(program, session):
     return bodies
 
 
-def build_all(talk):
-    """Builds all packages, and asks for the object of each."""
-    packages = talk.history.current.workspace.order
-    for _ in packages:
-        talk.send("work")
-    for path in packages:
-        talk.send(f"object {path}")
-    return packages
-
-
 def fault_of_objects(program, edit):
     """What is wrong with the objects behind a rename of a workspace whose packages are built, or None."""
     talk = Talk()
     talk.change_to(edit.texts)
-    packages = build_all(talk)
+    packages = build_and_show(talk)
     number = talk.history.current.number
     talk.send("rename %d %s:#%d %s" % (number, *edit.argument, edit.name))
-    build_all(talk)
+    build_and_show(talk)
     talk.send(f"objects {number}")
     anew = Talk()
     anew.change_to(edit.edits.edited(edit.texts))
-    build_all(anew)
+    build_and_show(anew)
     told, told_anew = bodies_of(program, talk.session), bodies_of(program, anew.session)
     if told is None or told_anew is None:
         return "the model answers otherwise"

@@ -182,12 +182,13 @@ class Talk:
 
 
 def build_and_show(talk):
-    """Builds the packages of the current state, and asks for their objects."""
+    """Builds the packages of the current state, and asks for their objects. Returns their paths."""
     packages = talk.history.current.workspace.order
     for _ in packages:
         talk.send("work")
     for path in packages:
         talk.send(f"object {path}")
+    return packages
 
 
 def changed_workspaces(generator, count):
