@@ -1,7 +1,6 @@
 //! Tests of what neither a stored session nor a run of the program shows. They use public functions alone.
 //!
 //! - `scopes`: what names are bound to in packages with faults.
-//! - `renames`: two ways tell the first conflict of a rename, and agree.
 //! - `sessions`: sessions with lowered limits, and over streams that move one byte at a time or fail at a call.
 //! - `servers`: Jobs that come late or twice, a seat that is left out of settling, and what other seats know.
 //!
@@ -13,8 +12,6 @@
 
 #[cfg(test)]
 mod assertion;
-#[cfg(test)]
-mod renames;
 #[cfg(test)]
 mod scopes;
 #[cfg(test)]

@@ -16,10 +16,10 @@ use Rattle.refs_binding.specs.Binding.{BindsByScope}
 use Rattle.refs_binding.specs.DeclaringPlaces.{IsDeclaredAt}
 use Rattle.refs_binding.specs.Identifiers.{BeginsAt}
 use Rattle.refs_binding.specs.Uses.{IsCheckedPackage}
-use Rattle.refs_index.specs.Becoming.{IsSamePredeclared}
-use Rattle.refs_index.specs.Corresponding.{predeclared}
-use Rattle.refs_index.proofs.Becoming.{StandBoth, by_cases}
-use Rattle.refactor_after.specs.ScopedPackages.{IsScopedIn}
+use Rattle.refactor_conflict.specs.Corresponding.{IsSamePredeclared}
+use Rattle.refactor_conflict.specs.Corresponding.{predeclared}
+use Rattle.refactor_conflict.proofs.Becoming.{StandBoth, by_cases}
+use Rattle.refactor_conflict.specs.ScopedPackages.{IsScopedIn}
 use Rattle.refactor_conflict.specs.BoundAfter.{HasBecome}
 use Rattle.refactor_conflict.specs.ScopesAfter.{IsBindable}
 use Rattle.refactor_conflict.specs.Staying.{StaysByMember, StaysByName, StaysByScope}

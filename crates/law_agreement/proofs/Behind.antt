@@ -30,7 +30,7 @@ use Rattle.refs_binding.specs.Identifiers.{BeginsAt}
 use Rattle.refs_binding.specs.Uses.{IsCheckedPackage, IsBoundToDeclaration}
 use Rattle.refs_binding.proofs.Units.{one_package}
 use Rattle.refs_lookup.proofs.OneDeclaration.{one_declaration}
-use Rattle.refactor_after.proofs.OneScoped.{one_scoped}
+use Rattle.refactor_conflict.proofs.OneScoped.{one_scoped}
 use Rattle.refactor_conflict.specs.BoundAfter.{HasBecome, IsExportAfter, IsBoundByPackage}
 use Rattle.refactor_conflict.specs.Conflicts.{IsCapturer, LostOrCaptured, is_lost, is_captured}
 use Rattle.refactor_conflict.specs.Staying.{StaysBound, StaysByPackage}

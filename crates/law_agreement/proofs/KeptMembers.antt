@@ -22,7 +22,7 @@ use Rattle.refs_binding.specs.DeclaringPlaces.{TokenBegins}
 use Rattle.refs_binding.specs.Identifiers.{BeginsAt, NameBegins, file_of}
 use Rattle.refs_binding.specs.Uses.{IsCheckedPackage}
 use Rattle.refs_binding.proofs.Folders.{some_file}
-use Rattle.refactor_after.specs.MembersAfter.{IsMemberAfter}
+use Rattle.refactor_conflict.specs.MembersAfter.{IsMemberAfter}
 use Rattle.refactor_conflict.specs.Staying.{StaysByMember, StaysByName}
 use Rattle.law_faultless.proofs.PackageWorlds.{have_worlds}
 use Rattle.law_faultless.proofs.WholeBound.{method_of}

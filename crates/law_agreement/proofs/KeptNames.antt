@@ -27,8 +27,8 @@ use Rattle.refs_lookup.proofs.ExportedNames.{bound_behind}
 use Rattle.refs_lookup.proofs.NamedMembers.{name_member}
 use Rattle.refs_lookup.proofs.OneDeclaration.{one_declaration, same_package}
 use Rattle.refs_lookup.proofs.OnePlace.{one_begins}
-use Rattle.refs_index.specs.Corresponding.{Corresponds}
-use Rattle.refs_index.proofs.Becoming.{StandBoth, by_cases}
+use Rattle.refactor_conflict.specs.Corresponding.{Corresponds}
+use Rattle.refactor_conflict.proofs.Becoming.{StandBoth, by_cases}
 use Rattle.law_renamed_workspaces.specs.Layouts.{IsRelaid}
 use Rattle.law_renamed_workspaces.proofs.Relaid.{packages_are}
 use Rattle.law_renamed_workspaces.proofs.Apart.{literal_stands, name_token, one_stands}

@@ -29,8 +29,8 @@ use Rattle.refs_binding.specs.Uses.{IsCheckedPackage}
 use Rattle.refs_lookup.proofs.OneDeclaration.{one_declaration}
 use Rattle.refs_lookup.proofs.OnePlace.{one_begins}
 use Rattle.refs_places.proofs.Starts.{token_once}
-use Rattle.refs_index.specs.Corresponding.{Corresponds}
-use Rattle.refactor_after.specs.MembersAfter.{IsMemberAfter}
+use Rattle.refactor_conflict.specs.Corresponding.{Corresponds}
+use Rattle.refactor_conflict.specs.MembersAfter.{IsMemberAfter}
 use Rattle.law_changed_types.proofs.Alike.{Alike, of_bound}
 use Rattle.law_changed_types.proofs.Worlds.{bind_alike}
 use Rattle.law_renamed_workspaces.specs.Layouts.{IsRelaid}

@@ -21,7 +21,7 @@ use Rattle.refs_binding.specs.DeclaringPlaces.{TokenAt, IsDeclaredAt}
 use Rattle.refs_binding.specs.Identifiers.{BeginsAt}
 use Rattle.refs_binding.specs.Uses.{IsCheckedPackage}
 use Rattle.refs_binding.proofs.NamedPlaces.{stands_once}
-use Rattle.refs_index.specs.Corresponding.{Corresponds, stands}
+use Rattle.refactor_conflict.specs.Corresponding.{Corresponds, stands}
 use Rattle.refactor_preserve.specs.BoundToOne.{IsBoundToOne}
 use Rattle.law_renamed_workspaces.specs.Layouts.{IsRelaid}
 use Rattle.law_renamed_workspaces.proofs.Packages.{same_imports}

@@ -15,8 +15,8 @@ use Rattle.types_check.specs.Exports.{IsExportData}
 use Rattle.workspace_check.specs.FaultLists.{ListsFaults}
 use Rattle.workspace_check.specs.Verdicts.{Verdicts, AreVerdicts}
 use Rattle.refs_binding.specs.Uses.{IsCheckedPackage}
-use Rattle.refactor_after.specs.MembersAfter.{IsFirstField}
-use Rattle.refactor_after.proofs.FieldsAfter.{of_one}
+use Rattle.refactor_conflict.specs.MembersAfter.{IsFirstField}
+use Rattle.refactor_conflict.proofs.FieldsAfter.{of_one}
 use Rattle.law_changed_types.proofs.Alike.{Alike}
 use Rattle.law_renamed_workspaces.specs.Layouts.{IsRelaid}
 use Rattle.law_renamed_workspaces.specs.MembersMoved.{HasFirstField, HasFirstMethod, AreFieldsSeenAfter}

@@ -25,8 +25,8 @@ use Rattle.refs_binding.specs.Identifiers.{BeginsAt}
 use Rattle.refs_binding.specs.Uses.{IsCheckedPackage, IsUseOf}
 use Rattle.refs_binding.specs.Uses as uses
 use Rattle.refs_lookup.proofs.OneDeclaration.{one_used}
-use Rattle.refs_index.specs.Corresponding.{Corresponds, predeclared, stands}
-use Rattle.refactor_after.specs.ScopedPackages.{IsScopedIn}
+use Rattle.refactor_conflict.specs.Corresponding.{Corresponds, predeclared, stands}
+use Rattle.refactor_conflict.specs.ScopedPackages.{IsScopedIn}
 use Rattle.refactor_preserve.specs.BoundToOne.{IsBoundToOne}
 use Rattle.refactor_conflict.specs.BoundAfter.{HasBecome, IsBoundByScopes, IsBoundByPackage}
 use Rattle.refactor_conflict.specs.Staying.{StaysBound}

@@ -25,10 +25,10 @@ use Rattle.refs_lookup.proofs.NamedMembers.{name_not_scope, name_not_package}
 use Rattle.refs_lookup.proofs.UsedMembers.{member_not_scope, member_not_name}
 use Rattle.refs_lookup.proofs.BoundUsedMembers.{member_not_package}
 use Rattle.refs_places.proofs.Declared.{one_place}
-use Rattle.refs_index.specs.Becoming.{IsSamePredeclared}
-use Rattle.refs_index.proofs.Becoming.{StandBoth, by_cases}
-use Rattle.refactor_after.specs.ScopedPackages.{IsScopedIn}
-use Rattle.refactor_after.proofs.OneUse.{one_scope_use}
+use Rattle.refactor_conflict.specs.Corresponding.{IsSamePredeclared}
+use Rattle.refactor_conflict.proofs.Becoming.{StandBoth, by_cases}
+use Rattle.refactor_conflict.specs.ScopedPackages.{IsScopedIn}
+use Rattle.refactor_conflict.proofs.OneUse.{one_scope_use}
 use Rattle.refactor_conflict.specs.BoundAfter.{HasBecome, IsBoundByScopes, IsExportAfter, IsBoundByPackage, IsBoundByMember}
 use Rattle.refactor_conflict.specs.Conflicts.{IsCapturer, LostOrCaptured, is_lost, is_captured}
 use Rattle.refactor_conflict.specs.Conflicts.{LosesMember, ChangesBinding, IsConflictIn, IsConflict, IsFirstConflict}

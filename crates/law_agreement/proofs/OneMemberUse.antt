@@ -23,7 +23,7 @@ use Rattle.refs_binding.specs.Uses.{IsCheckedPackage}
 use Rattle.refs_binding.proofs.MemberParts.{one_list}
 use Rattle.refs_lookup.proofs.LinkPlaces.{one_at_token}
 use Rattle.refs_lookup.proofs.OnePlace.{same_files}
-use Rattle.refactor_after.specs.MembersAfter.{IsMemberAfter}
+use Rattle.refactor_conflict.specs.MembersAfter.{IsMemberAfter}
 use Rattle.refactor_conflict.specs.BoundAfter.{IsBoundByMember}
 
 module _ (w : Workspace) (known : Verdicts) (p : Package) (is : IsCheckedPackage w known p) where

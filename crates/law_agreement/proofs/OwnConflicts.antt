@@ -23,12 +23,12 @@ use Rattle.refs_binding.specs.Binding.{IsPredeclaredNumber, BindsByScope}
 use Rattle.refs_binding.specs.DeclaringPlaces.{IsDeclaredAt}
 use Rattle.refs_binding.specs.Identifiers.{BeginsAt}
 use Rattle.refs_binding.specs.Uses.{IsCheckedPackage}
-use Rattle.refs_index.specs.Becoming.{IsSamePredeclared}
-use Rattle.refs_index.specs.Corresponding.{predeclared}
-use Rattle.refs_index.proofs.Becoming.{StandBoth, by_cases}
-use Rattle.refactor_after.specs.ScopedPackages.{IsScopedIn}
-use Rattle.refactor_after.specs.ScopeBindings.{IsScopeUse}
-use Rattle.refactor_after.proofs.OneUse.{one_scope_use}
+use Rattle.refactor_conflict.specs.Corresponding.{IsSamePredeclared}
+use Rattle.refactor_conflict.specs.Corresponding.{predeclared}
+use Rattle.refactor_conflict.proofs.Becoming.{StandBoth, by_cases}
+use Rattle.refactor_conflict.specs.ScopedPackages.{IsScopedIn}
+use Rattle.refactor_conflict.specs.ScopeBindings.{IsScopeUse}
+use Rattle.refactor_conflict.proofs.OneUse.{one_scope_use}
 use Rattle.refactor_conflict.specs.BoundAfter.{HasBecome, IsBoundByScopes}
 use Rattle.refactor_conflict.specs.Conflicts.{IsCapturer, LostOrCaptured, is_lost, is_captured}
 use Rattle.refactor_conflict.specs.declared.conflict.Capturer.{Capturer}

@@ -37,9 +37,9 @@ use Rattle.refs_lookup.proofs.NamedMembers.{name_member}
 use Rattle.refs_lookup.proofs.UsedMembers.{link_role}
 use Rattle.refs_lookup.proofs.OnePlace.{same_files}
 use Rattle.refs_places.specs.Identified.{IsIdentifierAt}
-use Rattle.refs_index.specs.Corresponding.{Corresponds, predeclared, stands}
-use Rattle.refs_index.proofs.Becoming.{StandBoth, by_cases}
-use Rattle.refactor_after.specs.ScopedPackages.{IsScopedIn}
+use Rattle.refactor_conflict.specs.Corresponding.{Corresponds, predeclared, stands}
+use Rattle.refactor_conflict.proofs.Becoming.{StandBoth, by_cases}
+use Rattle.refactor_conflict.specs.ScopedPackages.{IsScopedIn}
 use Rattle.refactor_preserve.specs.BoundToOne.{IsBoundToOne}
 use Rattle.refactor_preserve.specs.Preserved.{KeepsBindings}
 use Rattle.refactor_conflict.specs.BoundAfter.{HasBecome, IsBoundByScopes, IsBoundByPackage}

@@ -15,9 +15,9 @@ use Rattle.refs_binding.specs.declared.declaration.Declaration.{Declaration}
 use Rattle.refs_binding.specs.Binding.{BindsByScope}
 use Rattle.refs_binding.specs.Identifiers.{NameBegins, BeginsAt}
 use Rattle.refs_binding.proofs.Files.{place_of_name}
-use Rattle.refactor_after.specs.ScopedPackages.{IsScopedIn}
-use Rattle.refactor_after.specs.ScopeBindings.{IsScopeUse}
-use Rattle.refactor_after.proofs.OneScoped.{one_scoped}
+use Rattle.refactor_conflict.specs.ScopedPackages.{IsScopedIn}
+use Rattle.refactor_conflict.specs.ScopeBindings.{IsScopeUse}
+use Rattle.refactor_conflict.proofs.OneScoped.{one_scoped}
 use Rattle.law_renamed_workspaces.proofs.Apart.{scoped_in_folder}
 
 abbrev Begins : List SourceFile → Layout → List ℕ → ℕ → ℕ → Type 0

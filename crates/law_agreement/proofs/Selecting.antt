@@ -11,7 +11,7 @@ use Rattle.types_declared.specs.Laid.{is_exported}
 use Rattle.types_declared.specs.Package.{Package}
 use Rattle.refs_binding.specs.declared.declaration.Declaration.{Declaration}
 use Rattle.refs_binding.specs.Binding.{declaration_of}
-use Rattle.refactor_after.specs.MembersAfter.{IsFieldOfStruct, IsMethodOfOwner, IsMemberAfter}
+use Rattle.refactor_conflict.specs.MembersAfter.{IsFieldOfStruct, IsMethodOfOwner, IsMemberAfter}
 use Rattle.law_renamed_workspaces.specs.MembersMoved.{HasFirstField, IsDefinitionAfter}
 use Rattle.law_renamed_workspaces.proofs.UsersReach.{FirstIs, a_field, no_field as method_alone, first_is, field_there, method_there}
 use Rattle.law_agreement.proofs.MembersThere.{HasNewMembers}

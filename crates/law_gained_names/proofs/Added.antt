@@ -20,9 +20,9 @@ use Rattle.refs_binding.specs.DeclaringPlaces.{HasDeclarationAt, IsDeclaredAt, T
 use Rattle.refs_binding.specs.Identifiers.{BeginsAt}
 use Rattle.refs_binding.specs.Uses.{IsCheckedPackage, IsUseOf}
 use Rattle.refs_lookup.proofs.OneDeclaration.{one_used}
-use Rattle.refs_index.specs.Corresponding.{Corresponds, stands}
-use Rattle.refactor_after.specs.ScopedPackages.{IsScopedIn}
-use Rattle.refactor_after.proofs.OneScoped.{one_scoped}
+use Rattle.refactor_conflict.specs.Corresponding.{Corresponds, stands}
+use Rattle.refactor_conflict.specs.ScopedPackages.{IsScopedIn}
+use Rattle.refactor_conflict.proofs.OneScoped.{one_scoped}
 use Rattle.law_renamed_workspaces.specs.Layouts.{IsRelaid}
 use Rattle.law_renamed_workspaces.specs.Renames.{IsPlainRename}
 use Rattle.law_renamed_workspaces.proofs.Packages.{package_there}

@@ -31,7 +31,7 @@ use Rattle.refs_binding.specs.declared.declaration.Declaration.TheVariants.{Decl
 use Rattle.refs_binding.specs.Binding.{IsPredeclaredNumber}
 use Rattle.refs_binding.specs.Uses.{IsCheckedPackage}
 use Rattle.refs_lookup.proofs.Faultless.{no_fault_later}
-use Rattle.refactor_after.specs.ScopedPackages.{IsScopedIn}
+use Rattle.refactor_conflict.specs.ScopedPackages.{IsScopedIn}
 use Rattle.law_faultless.proofs.Declared.{may_within}
 use Rattle.law_gained_names.specs.NamedPackage.{IsNamedPackage, numbers_of}
 use Rattle.law_gained_names.specs.GainedName.{gained_by}

@@ -30,10 +30,10 @@ use Rattle.refs_binding.specs.Uses.{IsCheckedPackage}
 use Rattle.refs_binding.proofs.Excluding.{one_behind}
 use Rattle.refs_binding.proofs.Folders.{begins_in_folder}
 use Rattle.refs_binding.proofs.Units.{one_package}
-use Rattle.refs_index.specs.Becoming.{IsSamePredeclared}
-use Rattle.refs_index.proofs.Becoming.{StandBoth, by_cases, same_names}
-use Rattle.refactor_after.specs.ScopedPackages.{IsScopedIn}
-use Rattle.refactor_after.specs.ScopeBindings.{IsScopeUse}
+use Rattle.refactor_conflict.specs.Corresponding.{IsSamePredeclared}
+use Rattle.refactor_conflict.proofs.Becoming.{StandBoth, by_cases, same_names}
+use Rattle.refactor_conflict.specs.ScopedPackages.{IsScopedIn}
+use Rattle.refactor_conflict.specs.ScopeBindings.{IsScopeUse}
 use Rattle.refactor_conflict.specs.BoundAfter.{HasBecome, IsBoundByScopes, IsExportAfter}
 use Rattle.refactor_conflict.specs.Staying.{StaysByPackage, StaysByScope}
 use Rattle.refactor_conflict.proofs.BoundAfter.{one_goal}

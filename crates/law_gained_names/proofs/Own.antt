@@ -18,10 +18,10 @@ use Rattle.refs_binding.specs.DeclaringPlaces.{IsDeclaredAt}
 use Rattle.refs_binding.specs.Identifiers.{BeginsAt}
 use Rattle.refs_binding.specs.Uses.{IsCheckedPackage}
 use Rattle.refs_places.proofs.Declared.{one_place}
-use Rattle.refs_index.specs.Becoming.{IsSamePredeclared}
-use Rattle.refs_index.specs.Corresponding.{predeclared, stands}
-use Rattle.refs_index.proofs.Becoming.{StandBoth, by_cases}
-use Rattle.refactor_after.specs.ScopedPackages.{IsScopedIn}
+use Rattle.refactor_conflict.specs.Corresponding.{IsSamePredeclared}
+use Rattle.refactor_conflict.specs.Corresponding.{predeclared, stands}
+use Rattle.refactor_conflict.proofs.Becoming.{StandBoth, by_cases}
+use Rattle.refactor_conflict.specs.ScopedPackages.{IsScopedIn}
 use Rattle.refactor_conflict.specs.BoundAfter.{HasBecome, IsBoundByScopes}
 use Rattle.refactor_conflict.proofs.BoundAfter.{counted_use}
 use Rattle.law_renamed_workspaces.proofs.OwnNames.{counted}

@@ -15,8 +15,8 @@ use Rattle.workspace_check.specs.FaultLists.{ListsFaults}
 use Rattle.workspace_check.specs.Verdicts.{Verdicts, AreVerdicts}
 use Rattle.refs_binding.specs.Uses.{IsCheckedPackage}
 use Rattle.refs_binding.proofs.Units.{one_package}
-use Rattle.refactor_after.specs.MembersAfter.{IsFirstField, IsFirstMethod}
-use Rattle.refactor_after.specs.NamesAfter.{IsFieldAfter, IsMethodAfter, field_called, method_called}
+use Rattle.refactor_conflict.specs.MembersAfter.{IsFirstField, IsFirstMethod}
+use Rattle.refactor_conflict.specs.NamesAfter.{IsFieldAfter, IsMethodAfter, field_called, method_called}
 use Rattle.refactor_conflict.specs.Staying.{NoneIsLost}
 use Rattle.refactor_coupled.specs.Implementing.{AreDefinitionsAfter, HasMembersAfter, IsMethodFoundAfter, IsTypeSymbol, IsWrittenAfter}
 use Rattle.law_renamed_workspaces.proofs.NewLookups.{field_first, had_field, had_method, method_first}

@@ -19,8 +19,8 @@ use Rattle.workspace_check.specs.Verdicts.{Verdicts, AreVerdicts}
 use Rattle.workspace_check.proofs.OnePackage.{layout_formed}
 use Rattle.refs_binding.specs.Uses.{IsCheckedPackage}
 use Rattle.refs_binding.proofs.Units.{one_package}
-use Rattle.refactor_after.specs.NamesAfter.{IsFieldAfter, IsMethodAfter}
-use Rattle.refactor_after.proofs.FieldsAfter.{one_first}
+use Rattle.refactor_conflict.specs.NamesAfter.{IsFieldAfter, IsMethodAfter}
+use Rattle.refactor_conflict.proofs.FieldsAfter.{one_first}
 use Rattle.refactor_coupled.specs.Implementing.{AreAllDefinitions, AreDefinitionsAfter, GiveEach, HasMembersAfter, IsMethodFoundAfter, IsTypeSymbol}
 use Rattle.refactor_coupled.specs.Implementing.{IsWrittenAfter}
 use Rattle.law_renamed_workspaces.proofs.Packages.{package_there}

@@ -21,8 +21,8 @@ use Rattle.refs_binding.specs.declared.declaration.Declaration.{Declaration}
 use Rattle.refs_binding.specs.declared.declaration.Declaration.TheVariants.{Field, Method}
 use Rattle.refs_binding.specs.DeclaredNames.{HasDeclaredName, HasDeclaredNameIn}
 use Rattle.refs_binding.specs.Uses.{IsCheckedPackage}
-use Rattle.refactor_after.specs.NamesAfter.{IsFieldAfter, IsMethodAfter}
-use Rattle.refactor_after.proofs.FieldsAfter.{of_one, one_first}
+use Rattle.refactor_conflict.specs.NamesAfter.{IsFieldAfter, IsMethodAfter}
+use Rattle.refactor_conflict.proofs.FieldsAfter.{of_one, one_first}
 use Rattle.refactor_conflict.specs.Staying.{NoneIsLost}
 use Rattle.refactor_coupled.specs.FirstTurns.{NamesAreFree, TurnsBetween}
 use Rattle.refactor_coupled.specs.Implementing.{AreAllDefinitions, AreDefinitionsAfter, HasMembersAfter, IsMethodFoundAfter, IsTypeSymbol, IsWrittenAfter}

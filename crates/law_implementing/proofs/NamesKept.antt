@@ -11,7 +11,7 @@ use Rattle.types_declared.specs.Package.{Package, symbol_in}
 use Rattle.workspace_check.specs.FaultLists.{ListsFaults}
 use Rattle.workspace_check.specs.Verdicts.{Verdicts, AreVerdicts}
 use Rattle.refs_binding.specs.Uses.{IsCheckedPackage}
-use Rattle.refactor_after.specs.NamesAfter.{IsFieldAfter, IsMethodAfter}
+use Rattle.refactor_conflict.specs.NamesAfter.{IsFieldAfter, IsMethodAfter}
 use Rattle.refactor_conflict.specs.Staying.{NoneIsLost}
 use Rattle.refactor_coupled.specs.Implementing.{AreAllDefinitions, AreDefinitionsAfter, HasMembersAfter, IsMethodFoundAfter, IsWrittenAfter}
 use Rattle.refactor_coupled.specs.Obstacles.{NoneChanges}

@@ -20,9 +20,9 @@ use Rattle.workspace_check.proofs.OnePackage.{layout_formed}
 use Rattle.workspace_check.proofs.SameImports.{builds_by, imports_back}
 use Rattle.refs_binding.specs.declared.declaration.Declaration.{Declaration}
 use Rattle.refs_binding.specs.Uses.{IsCheckedPackage}
-use Rattle.refactor_after.specs.MembersAfter.{IsFirstField}
-use Rattle.refactor_after.specs.NamesAfter.{IsFieldAfter}
-use Rattle.refactor_after.proofs.FieldsAfter.{one_first}
+use Rattle.refactor_conflict.specs.MembersAfter.{IsFirstField}
+use Rattle.refactor_conflict.specs.NamesAfter.{IsFieldAfter}
+use Rattle.refactor_conflict.proofs.FieldsAfter.{one_first}
 use Rattle.refactor_coupled.specs.Coupling.{type_through}
 use Rattle.refactor_coupled.specs.Implementing.{AreDefinitionsAfter, HasMembersAfter, IsTypeSymbol, IsWrittenAfter}
 use Rattle.refactor_coupled.specs.Obstacles.{KeepsImplementing}

@@ -34,7 +34,7 @@ use Rattle.workspace_check.specs.Verdicts.{Verdicts, BuildsOn, IsSeenAs, seen, u
 use Rattle.workspace_check.proofs.Closed.{to_package}
 use Rattle.workspace_check.proofs.Members.{cases_contains}
 use Rattle.refs_binding.specs.Uses.{IsCheckedPackage}
-use Rattle.refactor_after.specs.ScopedPackages.{AreClauseNames, IsClauseName, IsScopedIn, unnamed}
+use Rattle.refactor_conflict.specs.ScopedPackages.{AreClauseNames, IsClauseName, IsScopedIn, unnamed}
 use Rattle.refactor_move.specs.declared.moved.Moved.{Moved}
 use Rattle.law_faultless.proofs.Declared.{name_is, old_site}
 use Rattle.law_faultless.proofs.Spellings.{string_known}

@@ -33,7 +33,7 @@ use Rattle.refs_lookup.proofs.OneDeclaration.{one_used}
 use Rattle.refs_lookup.proofs.OnePlace.{one_begins}
 use Rattle.refs_lookup.proofs.UsedMembers.{link_role}
 use Rattle.refs_places.specs.Identified.{IsIdentifierAt}
-use Rattle.refs_index.specs.Corresponding.{predeclared}
+use Rattle.refactor_conflict.specs.Corresponding.{predeclared}
 use Rattle.refactor_preserve.specs.BoundToOne.{IsBoundToOne}
 use Rattle.refactor_preserve.specs.Preserved.{Preserves}
 use Rattle.law_faultless.specs.Roles.{is_bound_role}

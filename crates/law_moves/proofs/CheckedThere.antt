@@ -22,7 +22,7 @@ use Rattle.workspace_check.specs.Verdicts.{Verdicts, BuildsOn, IsSeenAs, seen, u
 use Rattle.workspace_check.proofs.Closed.{to_package}
 use Rattle.workspace_check.proofs.OnePackage.{one_sources}
 use Rattle.refs_binding.specs.Uses.{IsCheckedPackage}
-use Rattle.refactor_after.specs.ScopedPackages.{IsClauseName, named, unnamed}
+use Rattle.refactor_conflict.specs.ScopedPackages.{IsClauseName, named, unnamed}
 use Rattle.refactor_move.specs.declared.moved.Moved.{Moved}
 use Rattle.refs_lookup.proofs.OnePlace.{same_files}
 use Rattle.law_rename.specs.Renaming.{HasSameBindings}

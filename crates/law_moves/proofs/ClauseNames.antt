@@ -16,7 +16,7 @@ use Rattle.workspace_check.specs.Verdicts.{Verdicts}
 use Rattle.workspace_check.proofs.PackageFiles.{package_file, some_tree}
 use Rattle.refs_binding.specs.Uses.{IsCheckedPackage}
 use Rattle.refs_lookup.proofs.OnePlace.{same_files}
-use Rattle.refactor_after.specs.ScopedPackages.{IsClauseName, named}
+use Rattle.refactor_conflict.specs.ScopedPackages.{IsClauseName, named}
 use Rattle.refactor_move.specs.declared.moved.Moved.{Moved}
 use Rattle.law_moves.specs.Moves.{IsMove, moved_path}
 use Rattle.law_moves.specs.MovedPackages.{AreMovedFiles, PackagesHaveMovedFiles, name_after}

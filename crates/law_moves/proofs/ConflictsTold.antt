@@ -32,8 +32,8 @@ use Rattle.refs_binding.specs.DeclaringPlaces.{IsDeclaredAt, TokenAt, TokenBegin
 use Rattle.refs_binding.specs.Identifiers.{BeginsAt, NameBegins, file_of}
 use Rattle.refs_binding.specs.Uses.{IsCheckedPackage}
 use Rattle.refs_binding.proofs.Excluding.{exported_as}
-use Rattle.refs_index.specs.Corresponding.{predeclared, stands}
-use Rattle.refactor_after.specs.ScopedPackages.{IsScopedIn}
+use Rattle.refactor_conflict.specs.Corresponding.{predeclared, stands}
+use Rattle.refactor_conflict.specs.ScopedPackages.{IsScopedIn}
 use Rattle.refactor_conflict.specs.BoundAfter.{HasBecome, IsBoundByPackage, IsBoundByScopes}
 use Rattle.refactor_conflict.specs.Conflicts.{ChangesBinding, IsCapturer, IsConflictIn, LosesMember, LostOrCaptured, by_member, by_name, by_package, by_scope}
 use Rattle.refactor_conflict.specs.Conflicts.{is_captured, is_lost}

@@ -25,8 +25,8 @@ use Rattle.refs_binding.specs.DeclaringPlaces.{TokenAt, IsDeclaredAt}
 use Rattle.refs_binding.specs.Identifiers.{BeginsAt}
 use Rattle.refs_binding.specs.Uses.{IsCheckedPackage}
 use Rattle.refs_binding.proofs.Excluding.{exported_as}
-use Rattle.refs_index.specs.Corresponding.{stands}
-use Rattle.refactor_after.specs.ScopedPackages.{IsScopedIn}
+use Rattle.refactor_conflict.specs.Corresponding.{stands}
+use Rattle.refactor_conflict.specs.ScopedPackages.{IsScopedIn}
 use Rattle.refactor_conflict.specs.BoundAfter.{HasBecome, IsBoundByPackage}
 use Rattle.refactor_conflict.specs.Staying.{StaysBound}
 use Rattle.law_renamed_workspaces.proofs.OwnNames.{identifies, in_universe, role_inside}

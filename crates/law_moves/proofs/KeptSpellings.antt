@@ -35,7 +35,7 @@ use Rattle.refs_binding.proofs.Tokens.{Begins}
 use Rattle.refs_lookup.proofs.NamedMembers.{name_member}
 use Rattle.refs_lookup.proofs.UsedMembers.{link_role}
 use Rattle.refs_uses.proofs.NameTokens.{name_at_token}
-use Rattle.refactor_after.specs.OldPlaces.{field_at}
+use Rattle.refactor_conflict.specs.OldPlaces.{field_at}
 use Rattle.law_faultless.proofs.FunctionsSettled.{function_kept, function_name_kept, in_file_of, no_import_role}
 use Rattle.law_faultless.proofs.TypesBound.{Kept, Stands, all_kept}
 use Rattle.law_changed_types.specs.SameBindings.{IsSelectedAt}

@@ -25,8 +25,8 @@ use Rattle.refs_binding.proofs.Tokens.{Begins}
 use Rattle.refs_lookup.proofs.NamedMembers.{IsMemberIn, field_in_tree, method_in_tree, role_of}
 use Rattle.refs_lookup.proofs.UsedMembers.{link_role}
 use Rattle.refs_uses.proofs.NameTokens.{name_at_token}
-use Rattle.refactor_after.specs.MembersAfter.{CountsAfter}
-use Rattle.refactor_after.specs.NamesAfter.{HasNameAfter}
+use Rattle.refactor_conflict.specs.MembersAfter.{CountsAfter}
+use Rattle.refactor_conflict.specs.NamesAfter.{HasNameAfter}
 use Rattle.refactor_conflict.specs.BoundAfter.{IsBoundByMember}
 use Rattle.law_renamed_workspaces.proofs.RenamedMembersNameTokens.{IsNamedIn, field_name, function_name}
 use Rattle.law_renamed_workspaces.proofs.NewNames.{name_stands}

@@ -17,9 +17,9 @@ use Rattle.refs_binding.specs.Binding.{IsPredeclaredNumber, IsFieldAt, IsMethodA
 use Rattle.refs_binding.specs.DeclaringPlaces.{TokenAt, TokenBegins, IsDeclaredAt}
 use Rattle.refs_binding.specs.Identifiers.{BeginsAt}
 use Rattle.refs_binding.specs.Uses.{IsCheckedPackage}
-use Rattle.refs_index.specs.Corresponding.{Corresponds, stands}
-use Rattle.refactor_after.specs.ScopedPackages.{IsScopedIn}
-use Rattle.refactor_after.proofs.OneScoped.{one_scoped}
+use Rattle.refactor_conflict.specs.Corresponding.{Corresponds, stands}
+use Rattle.refactor_conflict.specs.ScopedPackages.{IsScopedIn}
+use Rattle.refactor_conflict.proofs.OneScoped.{one_scoped}
 use Rattle.law_renamed_workspaces.specs.Layouts.{IsToken}
 use Rattle.law_renamed_workspaces.specs.ScopedPackages.{HasMovedTokens, HasSameScopes}
 use Rattle.law_renamed_workspaces.proofs.FaultlessScopes.{faultless_scoped}

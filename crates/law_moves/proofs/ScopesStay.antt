@@ -22,9 +22,9 @@ use Rattle.refs_binding.specs.Uses as uses
 use Rattle.refs_binding.proofs.Excluding.{number_bound, exported_as}
 use Rattle.refs_lookup.proofs.NamedMembers.{name_member}
 use Rattle.refs_lookup.proofs.UsedMembers.{link_role}
-use Rattle.refs_index.specs.Corresponding.{Corresponds, predeclared, stands}
-use Rattle.refs_index.proofs.Becoming.{by_cases}
-use Rattle.refactor_after.specs.ScopedPackages.{IsScopedIn}
+use Rattle.refactor_conflict.specs.Corresponding.{Corresponds, predeclared, stands}
+use Rattle.refactor_conflict.proofs.Becoming.{by_cases}
+use Rattle.refactor_conflict.specs.ScopedPackages.{IsScopedIn}
 use Rattle.refactor_preserve.specs.Preserved.{Preserves, KeepsBindings}
 use Rattle.refactor_conflict.specs.BoundAfter.{HasBecome, IsBoundByScopes}
 use Rattle.refactor_conflict.specs.Staying.{StaysBound, StaysByScope, NoneIsLost}

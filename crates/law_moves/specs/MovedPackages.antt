@@ -14,7 +14,7 @@ use Rattle.workspace_check.specs.Verdicts.{Verdicts, BuildsOn}
 use Rattle.workspace_graph.specs.Packages.{PackageImports}
 use Rattle.workspace_graph.specs.Parsed.{AreParsed}
 use Rattle.refs_binding.specs.Uses.{IsCheckedPackage}
-use Rattle.refactor_after.specs.ScopedPackages.{IsClauseName}
+use Rattle.refactor_conflict.specs.ScopedPackages.{IsClauseName}
 use Rattle.refactor_move.specs.declared.moved.Moved.{Moved}
 use Rattle.law_moves.specs.Moves.{IsMove, moved_path}
 use Rattle.law_moves.specs.Replacements.{replaced_file}

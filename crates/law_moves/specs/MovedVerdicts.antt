@@ -17,7 +17,7 @@ use Rattle.types_declared.specs.Written.{DeclaresImport}
 use Rattle.workspace_check.specs.FaultLists.{ListsFaults}
 use Rattle.workspace_check.specs.Verdicts.{Verdicts, AreVerdicts}
 use Rattle.refs_binding.specs.Uses.{IsCheckedPackage}
-use Rattle.refactor_after.specs.ScopedPackages.{IsScopedIn}
+use Rattle.refactor_conflict.specs.ScopedPackages.{IsScopedIn}
 use Rattle.refactor_conflict.specs.Staying.{NoneIsLost}
 use Rattle.refactor_move.specs.declared.moved.Moved.{Moved}
 use Rattle.refactor_move.specs.MoveEdits.{IsFree}

@@ -10,7 +10,7 @@ use Rattle.workspace_check.specs.FaultLists.{ListsFaults}
 use Rattle.workspace_check.specs.Verdicts.{Verdicts, AreVerdicts}
 use Rattle.refs_binding.specs.Identifiers.{BeginsAt}
 use Rattle.refs_binding.specs.Uses.{IsCheckedPackage}
-use Rattle.refactor_after.specs.ScopedPackages.{IsScopedIn}
+use Rattle.refactor_conflict.specs.ScopedPackages.{IsScopedIn}
 use Rattle.law_renamed_workspaces.specs.Layouts.{IsToken}
 use Rattle.law_renamed_workspaces.specs.ScopedPackages.{HasMovedTokens}
 use Rattle.law_moves.specs.KeptNames.{KeepsOtherNames}

@@ -20,7 +20,7 @@ use Rattle.workspace_check.specs.Verdicts.{Verdicts}
 use Rattle.workspace_graph.specs.FileImports.{import_literals}
 use Rattle.refs_binding.specs.Identifiers.{BeginsAt, IsNameToken}
 use Rattle.refs_binding.specs.Uses.{IsCheckedPackage}
-use Rattle.refactor_after.specs.ScopedPackages.{IsScopedIn}
+use Rattle.refactor_conflict.specs.ScopedPackages.{IsScopedIn}
 use Rattle.refactor_move.specs.declared.moved.Moved.{Moved}
 use Rattle.law_renamed_workspaces.specs.Layouts.{IsToken}
 use Rattle.law_renamed_workspaces.specs.ScopedPackages.{HasMovedTokens}

@@ -22,7 +22,7 @@ use Rattle.refs_binding.specs.declared.declaration.Declaration.{Declaration}
 use Rattle.refs_binding.specs.declared.declaration.Declaration.TheVariants.{Declared, Field, Method}
 use Rattle.refs_binding.specs.Uses.{IsCheckedPackage}
 use Rattle.refs_binding.proofs.Units.{one_package}
-use Rattle.refactor_after.proofs.FieldsAfter.{of_one}
+use Rattle.refactor_conflict.proofs.FieldsAfter.{of_one}
 use Rattle.build_object.specs.Lines.{GlobalName}
 use Rattle.build_object.specs.Lines as line
 use Rattle.law_renamed_workspaces.specs.Harmless.{IsHarmless}

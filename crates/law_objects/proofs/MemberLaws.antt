@@ -27,7 +27,7 @@ use Rattle.refs_binding.specs.DeclaredNames.{HasDeclaredName, HasMemberName}
 use Rattle.refs_binding.specs.Binding.{IsFieldAt, IsMethodAt}
 use Rattle.refs_binding.specs.Uses.{IsCheckedPackage}
 use Rattle.refs_binding.proofs.Units.{one_package}
-use Rattle.refactor_after.proofs.FieldsAfter.{of_one}
+use Rattle.refactor_conflict.proofs.FieldsAfter.{of_one}
 use Rattle.build_object.specs.Lines.{GlobalName, FunctionName, Plain, Initializer}
 use Rattle.build_object.specs.Lines as line
 use Rattle.law_faultless.proofs.AskedMembers.{IsAskedBy, asked_is, asked_has}

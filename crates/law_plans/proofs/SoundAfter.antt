@@ -25,7 +25,7 @@ use Rattle.refs_binding.specs.Uses.{IsCheckedPackage, IsUseOf}
 use Rattle.refs_binding.proofs.Folders.{begins_in_folder, some_file}
 use Rattle.refs_lookup.proofs.Bindings.{use_stays}
 use Rattle.refs_lookup.proofs.Packages.{known_stays, package_stays}
-use Rattle.refs_index.specs.Corresponding.{Corresponds}
+use Rattle.refactor_conflict.specs.Corresponding.{Corresponds}
 use Rattle.refs_places.specs.Identified.{IsIdentifierAt}
 use Rattle.refactor_preserve.specs.BoundToOne.{IsBoundToOne}
 use Rattle.refactor_preserve.specs.Preserved.{Preserves}

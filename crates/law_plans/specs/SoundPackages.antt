@@ -13,7 +13,7 @@ use Rattle.build_unit.specs.declared.unit.Unit.{Unit as PackageUnit}
 use Rattle.refs_binding.specs.declared.declaration.Declaration.{Declaration}
 use Rattle.refs_binding.specs.Uses.{IsCheckedPackage, IsUseOf}
 use Rattle.refs_places.specs.Identified.{IsIdentifierAt}
-use Rattle.refs_index.specs.Corresponding.{Corresponds}
+use Rattle.refactor_conflict.specs.Corresponding.{Corresponds}
 use Rattle.refactor_preserve.specs.BoundToOne.{IsBoundToOne}
 
 -- The path is that of a package of the workspace, and by these verdicts the package has no fault.

@@ -25,7 +25,7 @@ use Rattle.refs_binding.specs.Identifiers.{BeginsAt, NameBegins, file_of}
 use Rattle.refs_binding.proofs.Folders.{some_file}
 use Rattle.refs_lookup.proofs.ImportSites.{literal_within}
 use Rattle.refs_lookup.proofs.OnePlace.{names_of, laid_of, same_layout, same_size, same_files}
-use Rattle.refactor_after.specs.ScopedPackages.{IsScopedIn}
+use Rattle.refactor_conflict.specs.ScopedPackages.{IsScopedIn}
 use Rattle.law_faultless.proofs.Declared.{given, sites, role_is, may_within}
 use Rattle.law_renamed_workspaces.proofs.OwnNames.{identifies}
 use Rattle.law_renamed_workspaces.proofs.Standing.{literal_role}

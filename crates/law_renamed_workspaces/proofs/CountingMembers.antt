@@ -17,9 +17,9 @@ use Rattle.types_declared.specs.Definitions.{HasFieldNamed, of_own, of_imported}
 use Rattle.types_info.proofs.WorldParts.{is_other}
 use Rattle.workspace_check.specs.Verdicts.{Verdicts}
 use Rattle.refs_binding.specs.Uses.{IsCheckedPackage}
-use Rattle.refactor_after.specs.NamesAfter.{IsFieldAfter, IsMethodAfter}
-use Rattle.refactor_after.specs.MembersAfter.{IsFirst, IsFirstField, IsFirstMethod, HasFieldAfter}
-use Rattle.refactor_after.proofs.FieldsAfter.{of_one}
+use Rattle.refactor_conflict.specs.NamesAfter.{IsFieldAfter, IsMethodAfter}
+use Rattle.refactor_conflict.specs.MembersAfter.{IsFirst, IsFirstField, IsFirstMethod, HasFieldAfter}
+use Rattle.refactor_conflict.proofs.FieldsAfter.{of_one}
 use Rattle.law_changed_types.proofs.Alike.{Alike, turned, tokens}
 use Rattle.law_changed_types.proofs.Listed.{same_types, same_functions}
 use Rattle.law_changed_types.proofs.Types.{declares_type, has_underlying}

@@ -30,9 +30,9 @@ use Rattle.types_info.proofs.OneWorld.{one_form}
 use Rattle.workspace_check.specs.Verdicts.{Verdicts}
 use Rattle.workspace_check.proofs.OnePackage.{layout_formed}
 use Rattle.refs_binding.specs.Uses.{IsCheckedPackage}
-use Rattle.refactor_after.specs.NamesAfter.{IsFieldAfter, IsMethodAfter}
-use Rattle.refactor_after.specs.MembersAfter.{IsFirstField, IsFirstMethod}
-use Rattle.refactor_after.proofs.FieldsAfter.{one_first, of_one}
+use Rattle.refactor_conflict.specs.NamesAfter.{IsFieldAfter, IsMethodAfter}
+use Rattle.refactor_conflict.specs.MembersAfter.{IsFirstField, IsFirstMethod}
+use Rattle.refactor_conflict.proofs.FieldsAfter.{one_first, of_one}
 use Rattle.law_changed_types.specs.SameBindings.{IsDotted, AreTypesDotted}
 use Rattle.law_changed_types.proofs.Alike.{Alike, turned}
 use Rattle.law_changed_types.proofs.Types.{type_of, types_of, has_underlying}

@@ -19,7 +19,7 @@ use Rattle.workspace_check.proofs.OneList.{is_faultless}
 use Rattle.workspace_check.proofs.OneVerdict.{one_verdict, right_below, verdict_by}
 use Rattle.refs_binding.specs.Uses.{IsCheckedPackage}
 use Rattle.refs_lookup.proofs.OnePlace.{same_files}
-use Rattle.refactor_after.specs.ScopedPackages.{AreClauseNames, IsScopedIn, IsClauseName, named, unnamed}
+use Rattle.refactor_conflict.specs.ScopedPackages.{AreClauseNames, IsScopedIn, IsClauseName, named, unnamed}
 use Rattle.law_renamed_workspaces.proofs.GoodImports.{imports_are_good}
 use Rattle.law_renamed_workspaces.proofs.KeptBindings.{scoped_of}
 use Rattle.law_renamed_workspaces.proofs.ScopedAgain.{imported}

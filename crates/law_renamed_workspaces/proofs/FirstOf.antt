@@ -1,7 +1,7 @@
 -- The first of the numbers that have a property.
 use Rattle.std.proofs.Common.{ℕ, zero, suc, ◌≡◌, ◌<◌, ◌⊎◌, inl, inr, subst, arith}
 use Rattle.std.proofs.lemmas.Bool.{cases_lt}
-use Rattle.refactor_after.specs.MembersAfter.{IsFirst}
+use Rattle.refactor_conflict.specs.MembersAfter.{IsFirst}
 
 module _ (K : ℕ → Type 0) (decide : (n : ℕ) → K n ⊎ (K n → ⊥)) where
   first_below : (n : ℕ) → ((m : ℕ) × IsFirst K m) ⊎ ((j : ℕ) → j < n → K j → ⊥)

@@ -30,10 +30,10 @@ use Rattle.refs_binding.proofs.Folders.{begins_in_folder}
 use Rattle.refs_binding.proofs.Units.{one_package}
 use Rattle.refs_lookup.proofs.OnePlace.{one_begins}
 use Rattle.refs_places.proofs.Starts.{token_once}
-use Rattle.refs_index.specs.Corresponding.{Corresponds}
-use Rattle.refs_index.proofs.Becoming.{by_cases}
-use Rattle.refactor_after.specs.ScopeBindings.{IsScopeUse}
-use Rattle.refactor_after.specs.ScopedPackages.{IsScopedIn}
+use Rattle.refactor_conflict.specs.Corresponding.{Corresponds}
+use Rattle.refactor_conflict.proofs.Becoming.{by_cases}
+use Rattle.refactor_conflict.specs.ScopeBindings.{IsScopeUse}
+use Rattle.refactor_conflict.specs.ScopedPackages.{IsScopedIn}
 use Rattle.law_faultless.proofs.Declared.{given, old_site, new_site, role_is, kept, may_within, told_identifies, told_universe}
 use Rattle.law_faultless.proofs.FilesDecided.{IsGlobal}
 use Rattle.law_faultless.proofs.Numbers.{OfKind, IsTold, IsKept, universal, plain, laid}

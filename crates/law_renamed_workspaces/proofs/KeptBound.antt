@@ -14,7 +14,7 @@ use Rattle.refs_binding.specs.declared.declaration.Declaration.TheVariants.{Pred
 use Rattle.refs_binding.specs.Binding.{BindsByScope, IsPredeclaredNumber}
 use Rattle.refs_binding.specs.Identifiers.{BeginsAt}
 use Rattle.refs_binding.specs.Uses.{IsCheckedPackage}
-use Rattle.refs_index.specs.Corresponding.{predeclared}
+use Rattle.refactor_conflict.specs.Corresponding.{predeclared}
 use Rattle.refactor_conflict.specs.BoundAfter.{HasBecome}
 use Rattle.refactor_conflict.specs.Staying.{StaysByPackage, StaysByScope}
 use Rattle.law_renamed_workspaces.proofs.OwnNames.{counted, in_universe}

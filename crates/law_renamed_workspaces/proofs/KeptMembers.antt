@@ -30,8 +30,8 @@ use Rattle.refs_binding.specs.Binding.{BindsByMember, DeclaresMember, declaratio
 use Rattle.refs_binding.specs.Uses.{IsCheckedPackage}
 use Rattle.refs_binding.proofs.Units.{one_package}
 use Rattle.refs_lookup.proofs.Faultless.{no_fault_later}
-use Rattle.refactor_after.specs.NamesAfter.{IsFieldAfter, IsMethodAfter}
-use Rattle.refactor_after.specs.MembersAfter.{IsFirstField, IsFirstMethod, HasFieldAfter, IsFieldOfStruct, IsMethodOfOwner, IsMemberAfter, CountsAfter}
+use Rattle.refactor_conflict.specs.NamesAfter.{IsFieldAfter, IsMethodAfter}
+use Rattle.refactor_conflict.specs.MembersAfter.{IsFirstField, IsFirstMethod, HasFieldAfter, IsFieldOfStruct, IsMethodOfOwner, IsMemberAfter, CountsAfter}
 use Rattle.refactor_conflict.specs.BoundAfter.{IsBoundByMember}
 use Rattle.law_faultless.proofs.MembersWritten.{field_is_written}
 use Rattle.law_renamed_workspaces.proofs.SeenDefinitions.{definition_at}

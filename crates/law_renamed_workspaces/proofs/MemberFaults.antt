@@ -18,8 +18,8 @@ use Rattle.refs_binding.specs.Binding.{IsNameOf, IsFieldAt, IsMethodAt}
 use Rattle.refs_binding.specs.DeclaringPlaces.{InPackage}
 use Rattle.refs_binding.specs.Identifiers.{BeginsAt}
 use Rattle.refs_binding.specs.Uses.{IsCheckedPackage}
-use Rattle.refactor_after.specs.MembersAfter.{FieldCounts, MethodCounts}
-use Rattle.refactor_after.specs.OldPlaces.{field_at, method_at}
+use Rattle.refactor_conflict.specs.MembersAfter.{FieldCounts, MethodCounts}
+use Rattle.refactor_conflict.specs.OldPlaces.{field_at, method_at}
 use Rattle.refactor_conflict.specs.Staying.{NoneIsLost}
 use Rattle.law_changed_types.specs.SameBindings.{IsBoundAlike}
 use Rattle.law_changed_types.proofs.Alike.{Alike, of_bound, turned, tokens, got_by}

@@ -13,7 +13,7 @@ use Rattle.types_declared.specs.Package.{Package}
 use Rattle.refs_binding.specs.declared.declaration.Declaration.TheVariants.{Method as IsMethod}
 use Rattle.refs_binding.specs.Binding.{declaration_of}
 use Rattle.refs_binding.proofs.MemberParts.{method_declared}
-use Rattle.refactor_after.specs.MembersAfter.{IsFieldOfStruct, IsMethodOfOwner, IsMemberAfter}
+use Rattle.refactor_conflict.specs.MembersAfter.{IsFieldOfStruct, IsMethodOfOwner, IsMemberAfter}
 use Rattle.law_renamed_workspaces.specs.MovedExports.{field_called, method_called}
 use Rattle.law_renamed_workspaces.specs.MembersMoved.{HasFirstField, HasFirstMethod, IsDefinitionAfter}
 use Rattle.law_faultless.proofs.MembersSettled.{seen_one}

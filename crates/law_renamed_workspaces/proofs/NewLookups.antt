@@ -22,10 +22,10 @@ use Rattle.refs_binding.specs.Binding.{field_place}
 use Rattle.refs_binding.specs.DeclaringPlaces.{InPackage}
 use Rattle.refs_binding.specs.Uses.{IsCheckedPackage}
 use Rattle.refs_lookup.proofs.Faultless.{no_fault_later}
-use Rattle.refactor_after.specs.MembersAfter.{IsFirstField, IsFirstMethod, FieldCounts, MethodCounts}
-use Rattle.refactor_after.specs.NamesAfter.{HasNameAfter, IsFieldAfter, IsMethodAfter}
-use Rattle.refactor_after.specs.OldPlaces.{field_at, method_at}
-use Rattle.refactor_after.proofs.FieldsAfter.{of_one}
+use Rattle.refactor_conflict.specs.MembersAfter.{IsFirstField, IsFirstMethod, FieldCounts, MethodCounts}
+use Rattle.refactor_conflict.specs.NamesAfter.{HasNameAfter, IsFieldAfter, IsMethodAfter}
+use Rattle.refactor_conflict.specs.OldPlaces.{field_at, method_at}
+use Rattle.refactor_conflict.proofs.FieldsAfter.{of_one}
 use Rattle.refactor_conflict.specs.Staying.{NoneIsLost}
 use Rattle.law_faultless.proofs.MembersWritten.{field_is_written, member_found}
 use Rattle.law_renamed_workspaces.specs.MembersMoved.{IsDefinitionAfter}

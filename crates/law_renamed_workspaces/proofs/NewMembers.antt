@@ -32,7 +32,7 @@ use Rattle.workspace_check.proofs.OnePackage.{layout_formed}
 use Rattle.refs_binding.specs.Binding.{field_place}
 use Rattle.refs_binding.specs.DeclaringPlaces.{TokenBegins}
 use Rattle.refs_binding.specs.Uses.{IsCheckedPackage}
-use Rattle.refactor_after.specs.NamesAfter.{HasNameAfter, IsFieldAfter, IsMethodAfter}
+use Rattle.refactor_conflict.specs.NamesAfter.{HasNameAfter, IsFieldAfter, IsMethodAfter}
 use Rattle.law_faultless.proofs.Deciding.{Decided, some}
 use Rattle.law_faultless.proofs.TypesDecided.{token_bound, rank}
 use Rattle.law_changed_types.proofs.Alike.{Alike, turned}

@@ -12,7 +12,7 @@ use Rattle.workspace_check.specs.Verdicts.{Verdicts}
 use Rattle.refs_binding.specs.Binding.{field_place}
 use Rattle.refs_binding.specs.DeclaringPlaces.{TokenBegins}
 use Rattle.refs_binding.specs.Uses.{IsCheckedPackage}
-use Rattle.refactor_after.specs.NamesAfter.{HasNameAfter}
+use Rattle.refactor_conflict.specs.NamesAfter.{HasNameAfter}
 use Rattle.law_faultless.proofs.LinksBound.{source_is}
 use Rattle.law_renamed_workspaces.specs.Layouts.{IsToken, IsRelaid}
 use Rattle.law_renamed_workspaces.proofs.RenamedMembersNameTokens.{IsNamedIn, named_token, field_name, function_name}

@@ -12,8 +12,8 @@ use Rattle.refs_binding.specs.declared.declaration.Declaration.{Declaration}
 use Rattle.refs_binding.specs.declared.declaration.Declaration.TheVariants.{Field, Method}
 use Rattle.refs_binding.specs.DeclaredNames.{HasDeclaredName, HasDeclaredNameIn}
 use Rattle.refs_binding.specs.Uses.{IsCheckedPackage}
-use Rattle.refactor_after.specs.NamesAfter.{IsFieldAfter, IsMethodAfter}
-use Rattle.refactor_after.proofs.FieldsAfter.{of_one}
+use Rattle.refactor_conflict.specs.NamesAfter.{IsFieldAfter, IsMethodAfter}
+use Rattle.refactor_conflict.proofs.FieldsAfter.{of_one}
 use Rattle.law_renamed_workspaces.specs.Renames.{IsPlainRename}
 use Rattle.law_renamed_workspaces.specs.NamesAfterwards.{IsCalledAfter, gets_name, keeps_name, OtherFieldNamesStay, OtherMethodNamesStay}
 use Rattle.law_renamed_workspaces.proofs.Called.{fields, methods}

@@ -18,7 +18,7 @@ use Rattle.refs_binding.specs.declared.declaration.Declaration.TheVariants.{Pred
 use Rattle.refs_binding.specs.Binding.{BindsByScope}
 use Rattle.refs_binding.specs.Identifiers.{BeginsAt}
 use Rattle.refs_binding.proofs.Units.{one_package}
-use Rattle.refs_index.specs.Corresponding.{predeclared}
+use Rattle.refactor_conflict.specs.Corresponding.{predeclared}
 use Rattle.refactor_conflict.specs.BoundAfter.{HasBecome}
 use Rattle.refactor_conflict.specs.Staying.{StaysByScope}
 use Rattle.law_renamed_workspaces.proofs.OwnNames.{counted, own_renames}

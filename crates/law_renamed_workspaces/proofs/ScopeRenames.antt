@@ -13,7 +13,7 @@ use Rattle.refs_binding.specs.declared.declaration.Declaration.{Declaration}
 use Rattle.refs_binding.specs.declared.declaration.Declaration.TheVariants.{Predeclared, Declared, Field, Method}
 use Rattle.refs_binding.specs.Identifiers.{BeginsAt}
 use Rattle.refs_binding.specs.Uses.{IsCheckedPackage}
-use Rattle.refactor_after.specs.NamesAfter.{IsFieldAfter, IsMethodAfter}
+use Rattle.refactor_conflict.specs.NamesAfter.{IsFieldAfter, IsMethodAfter}
 use Rattle.refactor_conflict.specs.Staying.{StaysByMember, StaysByName}
 use Rattle.law_renamed_workspaces.specs.Renames.{IsPlainRename}
 use Rattle.law_renamed_workspaces.specs.MembersStay.{FieldStays, MethodStays, FieldsStay, MethodsStay, MembersStay}

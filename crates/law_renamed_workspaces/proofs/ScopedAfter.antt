@@ -16,7 +16,7 @@ use Rattle.workspace_check.proofs.Members.{cases_contains}
 use Rattle.workspace_check.proofs.SameImports.{builds_by}
 use Rattle.refs_binding.specs.declared.declaration.Declaration.{Declaration}
 use Rattle.refs_binding.specs.Uses.{IsCheckedPackage}
-use Rattle.refactor_after.specs.ScopedPackages.{AreClauseNames, IsScopedIn, IsClauseName, named, unnamed}
+use Rattle.refactor_conflict.specs.ScopedPackages.{AreClauseNames, IsScopedIn, IsClauseName, named, unnamed}
 use Rattle.law_renamed_workspaces.specs.Layouts.{AreSoundBelow, IsRelaid}
 use Rattle.law_renamed_workspaces.specs.Renames.{IsPlainRename}
 use Rattle.law_renamed_workspaces.proofs.Packages.{new_paths, new_trees, same_imports}

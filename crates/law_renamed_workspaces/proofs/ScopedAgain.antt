@@ -45,8 +45,8 @@ use Rattle.refs_binding.specs.Uses.{IsCheckedPackage}
 use Rattle.refs_lookup.proofs.HeaderStrings.{is_import_literal}
 use Rattle.refs_lookup.proofs.ImportSites.{literal_within, literal_file}
 use Rattle.refs_lookup.proofs.OnePlace.{same_files}
-use Rattle.refactor_after.specs.ScopedPackages.{IsScopedIn, IsClauseName, named, unnamed}
-use Rattle.refactor_after.proofs.OneScoped.{one_scoped}
+use Rattle.refactor_conflict.specs.ScopedPackages.{IsScopedIn, IsClauseName, named, unnamed}
+use Rattle.refactor_conflict.proofs.OneScoped.{one_scoped}
 use Rattle.law_renamed_workspaces.specs.Layouts.{AreSoundBelow}
 use Rattle.law_renamed_workspaces.specs.Renames.{IsPlainRename}
 use Rattle.law_renamed_workspaces.proofs.Packages.{new_paths, same_imports}

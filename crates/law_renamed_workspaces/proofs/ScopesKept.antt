@@ -26,7 +26,7 @@ use Rattle.refs_binding.specs.Uses.{IsCheckedPackage, IsBoundToDeclaration}
 use Rattle.refs_lookup.proofs.NamedMembers.{name_member, name_not_package}
 use Rattle.refs_lookup.proofs.UsedMembers.{link_role}
 use Rattle.refs_lookup.proofs.BoundUsedMembers.{member_not_package}
-use Rattle.refs_index.specs.Corresponding.{predeclared}
+use Rattle.refactor_conflict.specs.Corresponding.{predeclared}
 use Rattle.refactor_conflict.specs.BoundAfter.{HasBecome}
 use Rattle.refactor_conflict.specs.Staying.{StaysByPackage, StaysByScope}
 use Rattle.law_renamed_workspaces.specs.Layouts.{IsRelaid}

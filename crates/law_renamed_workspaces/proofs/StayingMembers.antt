@@ -26,8 +26,8 @@ use Rattle.refs_binding.specs.Binding.{DeclaresMember, field_place}
 use Rattle.refs_binding.specs.Identifiers.{BeginsAt}
 use Rattle.refs_binding.specs.Uses.{IsCheckedPackage}
 use Rattle.refs_binding.proofs.MemberParts.{one_list}
-use Rattle.refactor_after.specs.MembersAfter.{FieldCounts, MethodCounts}
-use Rattle.refactor_after.proofs.FieldsAfter.{of_one}
+use Rattle.refactor_conflict.specs.MembersAfter.{FieldCounts, MethodCounts}
+use Rattle.refactor_conflict.proofs.FieldsAfter.{of_one}
 use Rattle.refactor_conflict.specs.Staying.{NoneIsLost}
 use Rattle.law_changed_types.proofs.Alike.{Alike, of_bound}
 use Rattle.law_renamed_workspaces.specs.Layouts.{IsRelaid}

@@ -22,7 +22,7 @@ use Rattle.refs_binding.specs.Binding.{BindsByMember, declaration_of}
 use Rattle.refs_binding.specs.DeclaringPlaces.{TokenBegins}
 use Rattle.refs_binding.specs.Identifiers.{NameBegins}
 use Rattle.refs_binding.specs.Uses.{IsCheckedPackage}
-use Rattle.refactor_after.specs.MembersAfter.{IsMemberAfter}
+use Rattle.refactor_conflict.specs.MembersAfter.{IsMemberAfter}
 use Rattle.refactor_conflict.specs.Staying.{NoneIsLost}
 use Rattle.law_changed_types.proofs.Alike.{Alike, of_bound}
 use Rattle.law_changed_types.proofs.Worlds.{bind_alike}

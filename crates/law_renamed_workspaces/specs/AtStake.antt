@@ -13,7 +13,7 @@ use Rattle.refs_binding.specs.Binding.{BindsByMember, DeclaresMember}
 use Rattle.refs_binding.specs.Identifiers.{BeginsAt}
 use Rattle.refs_binding.specs.Places.{place_cmp}
 use Rattle.refs_binding.specs.Uses.{IsCheckedPackage}
-use Rattle.refactor_after.specs.MembersAfter.{CountsAfter}
+use Rattle.refactor_conflict.specs.MembersAfter.{CountsAfter}
 use Rattle.refactor_conflict.specs.BoundAfter.{IsBoundByMember}
 use Rattle.refactor_conflict.specs.Staying.{HoldsOfEachAt, StaysAt, NoneIsLost, NoneIsLostBefore}
 use Rattle.law_renamed_workspaces.specs.MemberRenames.{OfMemberRenames}

@@ -13,8 +13,8 @@ use Rattle.types_check.specs.Exports.{IsExportData}
 use Rattle.workspace_check.specs.Verdicts.{Verdicts, BuildsOn}
 use Rattle.refs_binding.specs.DeclaringPlaces.{InPackage}
 use Rattle.refs_binding.specs.Uses.{IsCheckedPackage}
-use Rattle.refactor_after.specs.MembersAfter.{IsFirstField, IsFirstMethod}
-use Rattle.refactor_after.specs.NamesAfter.{IsMethodAfter}
+use Rattle.refactor_conflict.specs.MembersAfter.{IsFirstField, IsFirstMethod}
+use Rattle.refactor_conflict.specs.NamesAfter.{IsMethodAfter}
 use Rattle.law_changed_types.specs.SameBindings.{IsBoundAlike}
 use Rattle.law_renamed_workspaces.specs.Layouts.{IsRelaid}
 use Rattle.law_renamed_workspaces.specs.MovedExports.{field_called, method_called}

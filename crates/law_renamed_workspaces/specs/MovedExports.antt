@@ -2,7 +2,7 @@
 use Rattle.std.specs.Prelude.{ℕ, ◌≡◌, ◌≢◌, true, List, Option, None}
 use Rattle.base_files.specs.Workspace.{Workspace}
 use Rattle.types_declared.specs.Laid.{is_exported}
-pub use Rattle.refactor_after.specs.NamesAfter.{field_called, method_called}
+pub use Rattle.refactor_conflict.specs.NamesAfter.{field_called, method_called}
 use Rattle.types_declared.specs.Package.{Export, ExportData}
 use Rattle.workspace_check.specs.Verdicts.{Verdicts, BuildsOn}
 use Rattle.law_renamed_workspaces.specs.Layouts.{AreSoundBelow}

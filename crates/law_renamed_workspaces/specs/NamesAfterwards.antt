@@ -15,7 +15,7 @@ use Rattle.refs_binding.specs.Binding.{BindsByMember, DeclaresMember}
 use Rattle.refs_binding.specs.DeclaredNames.{HasDeclaredName}
 use Rattle.refs_binding.specs.Identifiers.{BeginsAt}
 use Rattle.refs_binding.specs.Uses.{IsCheckedPackage}
-use Rattle.refactor_after.specs.NamesAfter.{IsFieldAfter, IsMethodAfter}
+use Rattle.refactor_conflict.specs.NamesAfter.{IsFieldAfter, IsMethodAfter}
 pub use Rattle.law_renamed_workspaces.specs.Renames.{IsMember}
 use Rattle.law_renamed_workspaces.specs.Renames.{IsPlainRename}
 

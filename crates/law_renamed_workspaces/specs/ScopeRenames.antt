@@ -12,7 +12,7 @@ use Rattle.workspace_check.specs.Verdicts.{Verdicts}
 use Rattle.refs_binding.specs.declared.declaration.Declaration.{Declaration}
 use Rattle.refs_binding.specs.declared.declaration.Declaration.TheVariants.{Declared}
 use Rattle.refs_binding.specs.Uses.{IsCheckedPackage, IsBoundToDeclaration}
-use Rattle.refactor_after.specs.NamesAfter.{IsFieldAfter, IsMethodAfter}
+use Rattle.refactor_conflict.specs.NamesAfter.{IsFieldAfter, IsMethodAfter}
 use Rattle.law_renamed_workspaces.specs.Layouts.{IsToken}
 use Rattle.law_renamed_workspaces.specs.Renames.{IsPlainRename}
 

@@ -7,7 +7,7 @@ use Rattle.workspace_check.specs.Verdicts.{Verdicts}
 use Rattle.refs_binding.specs.declared.declaration.Declaration.{Declaration}
 use Rattle.refs_binding.specs.DeclaringPlaces.{IsDeclaredAt}
 use Rattle.refs_binding.specs.Uses.{IsCheckedPackage}
-use Rattle.refs_index.specs.Corresponding.{Corresponds, predeclared, stands}
+use Rattle.refactor_conflict.specs.Corresponding.{Corresponds, predeclared, stands}
 use Rattle.refs_places.proofs.Declared.{one_place}
 use Rattle.law_renumbered.specs.TwoRevisions.{AreInTurn}
 

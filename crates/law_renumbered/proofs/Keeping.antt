@@ -12,8 +12,8 @@ use Rattle.refs_binding.specs.Binding.{Binds}
 use Rattle.refs_binding.specs.Identifiers.{BeginsAt}
 use Rattle.refs_binding.specs.Uses.{IsCheckedPackage, IsUseOf}
 use Rattle.refs_binding.proofs.Units.{one_package}
-use Rattle.refs_index.specs.Corresponding.{Corresponds, stands}
-use Rattle.refs_index.specs.Corresponding as becoming
+use Rattle.refactor_conflict.specs.Corresponding.{Corresponds, stands}
+use Rattle.refactor_conflict.specs.Corresponding as becoming
 use Rattle.refs_lookup.proofs.OneDeclaration.{one_used}
 use Rattle.refs_binding.proofs.Folders.{begins_in_folder}
 use Rattle.refs_places.specs.Identified.{IsIdentifierAt}

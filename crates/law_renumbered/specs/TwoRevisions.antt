@@ -6,7 +6,7 @@ use Rattle.base_edits.specs.Revisions.{Revision}
 use Rattle.workspace_check.specs.Verdicts.{Verdicts, AreVerdicts}
 use Rattle.refs_binding.specs.declared.declaration.Declaration.{Declaration}
 use Rattle.refs_binding.specs.Uses.{IsCheckedPackage, IsUseOf}
-use Rattle.refs_index.specs.Corresponding.{Corresponds}
+use Rattle.refactor_conflict.specs.Corresponding.{Corresponds}
 use Rattle.refs_places.specs.Identified.{IsIdentifierAt}
 use Rattle.refactor_preserve.specs.BoundToOne.{IsBoundToOne}
 use Rattle.refactor_preserve.specs.Preserved.{KeepsBindings, Preserves}

@@ -1,9 +1,8 @@
 -- Conflicts of identifiers that were bound.
 use Rattle.std.proofs.Common.{ℕ, ◌≡◌, ◌∙◌, List, map, ap, sym, subst, refl}
-use Rattle.std.specs.Prelude.{Option, Some, None, MatchOption, Contains, slice_get}
+use Rattle.std.specs.Prelude.{Option, Some, None, Contains, slice_get}
 use Rattle.std.specs.Global.{Vec}
 use Rattle.std.proofs.lemmas.Option.{none-some, slice_get_within, get_or_from_slice_get}
-use Rattle.base_files.specs.Packages.{package_paths}
 use Rattle.base_files.specs.Workspace.{Workspace}
 use Rattle.base_files.specs.declared.place.Place.{Place}
 use Rattle.go_scope.specs.declared.model.Position.{Position}
@@ -18,28 +17,19 @@ use Rattle.types_info.specs.MemberUses.{AreMemberUses, uses_in}
 use Rattle.workspace_check.specs.Verdicts.{Verdicts}
 use Rattle.base_edits.specs.Revisions.{Revision}
 use Rattle.refs_binding.specs.declared.declaration.Declaration.{Declaration}
-use Rattle.refs_binding.specs.declared.declaration.Declaration.TheVariants.{Predeclared, Declared, Field, Method}
-use Rattle.types_info.specs.QualifiedIdentifiers.{IsQualifiedByPath}
-use Rattle.refs_binding.specs.Binding.{BindsByScope, BindsQualified, IsFieldAt, IsMethodAt}
-use Rattle.refs_binding.specs.Identifiers.{BeginsAt}
 use Rattle.refs_binding.specs.Members.{member_at}
 use Rattle.refs_binding.specs.Steps.{AtToken, IsDeclarationResult}
 use Rattle.refs_binding.specs.Uses.{IsCheckedPackage}
-use Rattle.refs_binding.specs.Workspaces.{ExportsAs, IsPackageAt}
+use Rattle.refs_binding.specs.Workspaces.{IsPackageAt}
 use Rattle.refs_binding.proofs.MemberParts.{file_uses}
-use Rattle.refs_binding.proofs.NamedPlaces.{found_to_name}
 use Rattle.refactor_conflict.specs.declared.conflict.Capturer.{Capturer}
 use Rattle.refactor_conflict.specs.declared.conflict.Conflict.{Conflict}
-use Rattle.refactor_after.specs.MembersAfter.{CountsAfter, IsMemberAfter}
-use Rattle.refactor_conflict.specs.BoundAfter.{HasBecome, IsBoundByScopes, IsExportAfter, IsBoundByPackage, SelectsAfter}
-use Rattle.refactor_conflict.specs.Conflicts.{IsCapturer, LostOrCaptured, is_lost, is_captured, LosesMember}
-use Rattle.refactor_conflict.specs.Conflicts.{IsConflictIn, IsConflict, IsConflictOf, IsOtherMember, IsOtherAt}
-use Rattle.refactor_conflict.specs.Conflicts.{IsLostAt, IsLostAtFound, IsLostThere, UsedAfter, IsMemberConflict, IsMemberConflictIn}
-use Rattle.refactor_conflict.specs.Conflicts.{IsFirstConflict, Takes, HoldsBefore}
-use Rattle.refactor_conflict.specs.Staying.{StaysAt}
-use Rattle.refactor_conflict.specs.Conflicts.{by_scope, by_package, by_member, by_name}
-use Rattle.refactor_after.specs.OldPlaces.{field_at, method_at}
-use Rattle.refactor_conflict.proofs.KeepingFirst.{taken}
+use Rattle.refactor_conflict.specs.MembersAfter.{IsMemberAfter}
+use Rattle.refactor_conflict.specs.BoundAfter.{SelectsAfter}
+use Rattle.refactor_conflict.specs.Conflicts.{IsCapturer, LosesMember}
+use Rattle.refactor_conflict.specs.Conflicts.{IsConflictIn, IsConflict, IsOtherMember, IsOtherAt}
+use Rattle.refactor_conflict.specs.Conflicts.{UsedAfter, IsMemberConflict, IsMemberConflictIn}
+use Rattle.refactor_conflict.specs.Conflicts.{by_member}
 use Rattle.refactor_conflict.proofs.MemberUses.{IsUsedAs, used_at}
 
 -- `K` holds of the declaration that was found.
@@ -50,47 +40,6 @@ found_only : (K : Declaration → Type 0) → ((d e : Declaration) → K d → K
     (x : Declaration) → K x → o ≡ Some x
 found_only K one None found x k = absurd (found x k)
 found_only K one (Some y) found x k = ap Some (one y x found k)
-
--- An identifier is lost or captured also by an equivalent relation to what it is bound to.
-tells_as : (Becomes : Declaration → Declaration → Type 0) (Known : Package → Type 0) (K L : Declaration → Type 0) (old : Declaration) →
-    ((d : Declaration) → K d → L d) → ((d : Declaration) → L d → K d) → (by : Option Capturer) →
-    LostOrCaptured Becomes Known K old by → LostOrCaptured Becomes Known L old by
-tells_as Becomes Known K L old to from by (is_lost none) = is_lost (λ e c l become. none e c (from e l) become)
-tells_as Becomes Known K L old to from by (is_captured e c is become told not) = is_captured e c (to e is) become told (λ d l. not d (from d l))
-
-pub noted_as : (Becomes : Declaration → Declaration → Type 0) (Known : Package → Type 0) (K L : Declaration → Type 0) (used : Place) (old : Declaration) →
-    ((d : Declaration) → K d → L d) → ((d : Declaration) → L d → K d) → (c : Conflict) →
-    IsConflictOf Becomes Known K used old c → IsConflictOf Becomes Known L used old c
-noted_as Becomes Known K L used old to from c h = (h.0, tells_as Becomes Known K L old to from c.by h.1)
-
--- A conflict by the declaration that was found is a conflict by the relation that this declaration fulfils.
-pub noted_found : (Becomes : Declaration → Declaration → Type 0) (Known : Package → Type 0) (K : Declaration → Type 0) (used : Place) (old : Declaration)
-    (now : Option Declaration) → IsDeclarationResult K now → ((d e : Declaration) → K d → K e → d ≡ e) → (c : Conflict) →
-    IsConflictOf Becomes Known (λ e. now ≡ Some e) used old c → IsConflictOf Becomes Known K used old c
-noted_found Becomes Known K used old now found one c h =
-    noted_as Becomes Known (λ e. now ≡ Some e) K used old (found_so K now found) (found_only K one now found) c h
-
--- The conflict of an identifier that is bound to nothing after the change.
-pub lost : (Becomes : Declaration → Declaration → Type 0) (Known : Package → Type 0) (used : Place) (old : Declaration) (now : Option Declaration) →
-    now ≡ None → (c : Conflict) → (c.used ≡ used) × (c.by ≡ None) →
-    IsConflictOf Becomes Known (λ e. now ≡ Some e) used old c
-lost Becomes Known used old now none c h =
-    let is : LostOrCaptured Becomes Known (λ e. now ≡ Some e) old None = is_lost (λ e d some become. none-some e (sym none ∙ some)) in
-    (h.0, subst (LostOrCaptured Becomes Known (λ e. now ≡ Some e) old) (sym h.1) is)
-
--- and of one that is bound to a declaration which the old one has not become
-told_by_capturer : (Becomes : Declaration → Declaration → Type 0) (Known : Package → Type 0) (old e : Declaration) → (Becomes old e → ⊥) →
-    (by : Option Capturer) → MatchOption by ((c : Declaration) → Becomes c e → ⊥) (λ x. (c : Declaration) × (Becomes c e × IsCapturer Known c x)) →
-    LostOrCaptured Becomes Known (λ d. d ≡ e) old by
-told_by_capturer Becomes Known old e not None h = is_lost (λ d c same become. h c (subst (Becomes c) same become))
-told_by_capturer Becomes Known old e not (Some by) h =
-    is_captured e h.0 refl h.1.0 h.1.1 (λ d same become. not (subst (Becomes old) same become))
-
-pub told_of : (Becomes : Declaration → Declaration → Type 0) (Known : Package → Type 0) (used : Place) (old e : Declaration) → (Becomes old e → ⊥) →
-    (by : Option Capturer) → MatchOption by ((c : Declaration) → Becomes c e → ⊥) (λ x. (c : Declaration) × (Becomes c e × IsCapturer Known c x)) →
-    (c : Conflict) → (c.used ≡ used) × (c.by ≡ by) → IsConflictOf Becomes Known (λ d. d ≡ e) used old c
-told_of Becomes Known used old e not by h c is =
-    (is.0, subst (LostOrCaptured Becomes Known (λ d. d ≡ e) old) (sym is.1) (told_by_capturer Becomes Known old e not by h))
 
 -- The conflict of an identifier that was bound to a field or method.
 pub other_lost : (Known : Package → Type 0) (used : Place) (old : Declaration) (now : Option Declaration) → now ≡ None → (c : Conflict) →
@@ -125,65 +74,6 @@ other_found Known K used old now found one c h =
 pub in_package : (w : Workspace) (known : Verdicts) (r : Revision) (number : ℕ) (p : Package) → IsPackageAt w known number p → (c : Conflict) →
     IsConflictIn w known r p c → IsConflict w known r c
 in_package w known r number p is c h = record { used_in = p; is_package = is.is_package; conflict = h }
-
--- by scopes
-pub scope_turned : (w : Workspace) (known : Verdicts) (r : Revision) (p : Package) (u : ℕ) (old : Declaration) → BindsByScope p u old → (place : Place) →
-    BeginsAt p place.path place.offset u →
-    (c : Conflict) → IsConflictOf (HasBecome w known r) (IsCheckedPackage w known) (IsBoundByScopes r place) place old c → IsConflictIn w known r p c
-scope_turned w known r p u old was place begins c n = record {
-  user = u;
-  begins = subst (λ (x : Place). BeginsAt p x.path x.offset u) (sym n.0) begins;
-  turned = by_scope old was (subst (λ (x : Place). LostOrCaptured (HasBecome w known r) (IsCheckedPackage w known) (IsBoundByScopes r x) old c.by) (sym n.0)
-      n.1);
-}
-
--- Selectors of qualified identifiers.
-pub exported_binds : (w : Workspace) (known : Verdicts) (p : Package) (u : ℕ) (path : List ℕ) → IsQualifiedByPath p u path → (d : Declaration) →
-    ExportsAs w known path (p.names u) d →
-    BindsQualified (IsCheckedPackage w known) p u d
-exported_binds w known p u path behind (Predeclared n) h = h
-exported_binds w known p u path behind (Declared other n) h = record {
-  behind = subst (IsQualifiedByPath p u) (sym h.0) behind;
-  other = h.1.0;
-  is_package = h.1.1.0;
-  of_path = h.1.1.1.0 ∙ sym h.0;
-  seen = h.1.1.1.1.0;
-  named = h.1.1.1.1.1;
-}
-exported_binds w known p u path behind (Field s) h = h
-exported_binds w known p u path behind (Method s) h = h
-
--- a package that exports something is there
-pub exported_there : (w : Workspace) (known : Verdicts) (path name : List ℕ) (d : Declaration) → ExportsAs w known path name d → Contains (package_paths w) path
-exported_there w known path name (Predeclared n) h = absurd h
-exported_there w known path name (Declared other n) h = subst (Contains (package_paths w)) h.1.1.1.0 h.1.1.0.of_workspace
-exported_there w known path name (Field s) h = absurd h
-exported_there w known path name (Method s) h = absurd h
-
--- The selector belongs to one qualified identifier.
-pub bound_behind : (w : Workspace) (r : Revision) (p : Package) (u : ℕ) (path : List ℕ) → IsQualifiedByPath p u path → (place : Place) → (e : Declaration) →
-    IsExportAfter w r path (r.called place (p.names u)) e → IsBoundByPackage w r place p u e
-bound_behind w r p u path behind place e h = record { path = path; behind = behind; exports = h }
-
-behind_bound : (w : Workspace) (r : Revision) (p : Package) (u : ℕ) (path : List ℕ) → ((other : List ℕ) → IsQualifiedByPath p u other → other ≡ path) →
-    (place : Place) → (e : Declaration) → IsBoundByPackage w r place p u e → IsExportAfter w r path (r.called place (p.names u)) e
-behind_bound w r p u path only place e h =
-    subst (λ q. IsExportAfter w r q (r.called place (p.names u)) e) (only h.path h.behind) h.exports
-
-pub package_turned : (w : Workspace) (known : Verdicts) (r : Revision) (p : Package) (u : ℕ) (path : List ℕ) → IsQualifiedByPath p u path →
-    ((other : List ℕ) → IsQualifiedByPath p u other → other ≡ path) → (old : Declaration) → BindsQualified (IsCheckedPackage w known) p u old →
-    (place : Place) → BeginsAt p place.path place.offset u → (c : Conflict) →
-    IsConflictOf (HasBecome w known r) (IsCheckedPackage w known) (IsExportAfter w r path (r.called place (p.names u))) place old c → IsConflictIn w known r p c
-package_turned w known r p u path behind only old was place begins c n =
-    let B = HasBecome w known r in
-    let I = IsCheckedPackage w known in
-    let tells = (noted_as B I (IsExportAfter w r path (r.called place (p.names u))) (IsBoundByPackage w r place p u) place old
-    (bound_behind w r p u path behind place) (behind_bound w r p u path only place) c n).1 in
-    record {
-      user = u;
-      begins = subst (λ (x : Place). BeginsAt p x.path x.offset u) (sym n.0) begins;
-      turned = by_package old was (subst (λ (x : Place). LostOrCaptured B I (IsBoundByPackage w r x p u) old c.by) (sym n.0) tells);
-    }
 
 -- as a member
 pub noted_at : (Known : Package → Type 0) (E : Place → Declaration → Type 0) (p : Package) (at : Position) (old : Declaration) (place : Place) →
@@ -231,32 +121,3 @@ member_in w known r p formed ds are members all file v at c h =
           (subst (λ u. LosesMember Known (λ e. IsMemberAfter Known r p.path (r.called c.used (spelled p place.file place.index)) u x.found.before e) h.old c.by)
           (sym used.1.1) now));
     }
-
--- as the name of a field, of a method
-pub lost_there : (Known : Package → Type 0) (r : Revision) (old : Declaration) → (CountsAfter Known r old → ⊥) → (place : Place) → (c : Conflict) →
-    (c.used ≡ place) × (c.by ≡ None) → IsLostThere Known r place old c
-lost_there Known r old not place c n = (n.0, (not, n.1))
-
-pub lost_at : (Known : Package → Type 0) (r : Revision) (p : Package) (at : Position) (old : Declaration) (place : Place) → AtToken p at place →
-    (c : Conflict) → IsLostThere Known r place old c → IsLostAt Known r p at old c
-lost_at Known r p at old place is c n = (subst (AtToken p at) (sym n.0) is, n.1)
-
-pub field_in : (w : Workspace) (known : Verdicts) (r : Revision) (p : Package) (rank : ℕ) (o : Option Position) →
-    MatchOption o ((at : Position) → IsFieldAt p rank at → ⊥) (λ at. IsFieldAt p rank at) →
-    (c : Conflict) → IsLostAtFound (IsCheckedPackage w known) r p o (field_at p.path rank) c → IsConflictIn w known r p c
-field_in w known r p rank o is c h =
-    let n = found_to_name (IsFieldAt p) p rank o is c.used h.0 in
-    record { user = n.0; begins = n.1.0; turned = by_name (field_at p.path rank) (refl, n.1.1) h.1.0 h.1.1 }
-
-pub method_in : (w : Workspace) (known : Verdicts) (r : Revision) (p : Package) (rank : ℕ) (o : Option Position) →
-    MatchOption o ((at : Position) → IsMethodAt p rank at → ⊥) (λ at. IsMethodAt p rank at) →
-    (c : Conflict) → IsLostAtFound (IsCheckedPackage w known) r p o (method_at p.path rank) c → IsConflictIn w known r p c
-method_in w known r p rank o is c h =
-    let n = found_to_name (IsMethodAt p) p rank o is c.used h.0 in
-    record { user = n.0; begins = n.1.0; turned = by_name (method_at p.path rank) (refl, n.1.1) h.1.0 h.1.1 }
-
--- What was found first, once every identifier is judged.
-pub told_first : (w : Workspace) (known : Verdicts) (r : Revision) (first : Option Conflict) → Takes (IsConflict w known r) None first →
-    HoldsBefore (StaysAt w known r) first → IsFirstConflict w known r first
-told_first w known r None takes stays = λ place. stays place tt
-told_first w known r (Some c) takes stays = (taken (IsConflict w known r) c takes, stays)

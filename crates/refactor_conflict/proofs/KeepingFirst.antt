@@ -49,10 +49,6 @@ pub takes_then : (P : Conflict → Type 0) (a b c : Option Conflict) → Takes P
 takes_then P a b c h (inl e) = subst (Takes P a) (sym e) h
 takes_then P a b c h (inr x) = inr (x.0, (x.1.0, (x.1.1.0, ahead_of P a b h x.0.used x.1.1.1)))
 
-pub call_then : {E : Type 0} (P : Conflict → Type 0) (a b c : Option Conflict) (r : Result (Unit {0}) E) → Takes P a b → OnOk r (Takes P b c) →
-    OnOk r (Takes P a c)
-call_then P a b c r h k = on_ok_weaker r (λ t. takes_then P a b c h t) k
-
 -- The first conflict at the end, where none was found at the beginning.
 pub taken : (P : Conflict → Type 0) (c : Conflict) → Takes P None (Some c) → P c
 taken P c (inl e) = absurd (none-some c (sym e))
@@ -62,17 +58,9 @@ taken P c (inr x) = subst P (sym (same_Some c x.0 x.1.0)) x.1.1.0
 pub still_holds : (P : Conflict → Type 0) (K : Place → Type 0) (a b : Option Conflict) → Takes P a b → HoldsBefore K a → HoldsBefore K b
 still_holds P K a b t h = λ place ahead. h place (ahead_of P a b t place ahead)
 
-pub call_still : {E : Type 0} (P : Conflict → Type 0) (K : Place → Type 0) (a b : Option Conflict) (r : Result (Unit {0}) E) → HoldsBefore K a →
-    OnOk r (Takes P a b) → OnOk r (HoldsBefore K b)
-call_still P K a b r h t = on_ok_weaker r (λ x. still_holds P K a b x h) t
-
 -- A relation that holds of the places before the first conflict may be replaced by a weaker one.
 pub holds_as : (K L : Place → Type 0) (a : Option Conflict) → ((place : Place) → K place → L place) → HoldsBefore K a → HoldsBefore L a
 holds_as K L a to h = λ place ahead. to place (h place ahead)
-
-pub call_holds : {E : Type 0} (K L : Place → Type 0) (a : Option Conflict) (r : Result (Unit {0}) E) → ((place : Place) → K place → L place) →
-    OnOk r (HoldsBefore K a) → OnOk r (HoldsBefore L a)
-call_holds K L a r to h = on_ok_weaker r (λ x. holds_as K L a to x) h
 
 -- Two clauses about a call, as one.
 pub call_both : {E P Q R : Type 0} (r : Result (Unit {0}) E) → (P → Q → R) → OnOk r P → OnOk r Q → OnOk r R

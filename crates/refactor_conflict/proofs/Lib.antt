@@ -1,5 +1,9 @@
 -- The lemmas of this crate.
-pub mod Beginnings
+pub mod Becoming
+pub mod Structs
+pub mod OneScoped
+pub mod OneUse
+pub mod FieldsAfter
 pub mod OnePlace
 pub mod CorrespondingPlaces
 pub mod MembersStay
@@ -7,9 +11,6 @@ pub mod BoundAfter
 pub mod OneMember
 pub mod KeepingFirst
 pub mod MemberUses
-pub mod Types
 pub mod Conflicts
-pub mod Stayed
 pub mod Firsts
-pub mod LaterPackages
 pub mod ConflictsDiffer

@@ -1,15 +1,11 @@
 -- Members that stay bound, and their declaring identifiers.
 use Rattle.std.proofs.Common.{ℕ, ◌≡◌, ◌<◌, ◌≤◌, ◌+◌, inl, inr, List, length, map, sym, ap, subst, refl, ◌∙◌, arith}
-use Rattle.std.specs.Prelude.{Option, Some, None, Result, OnOk, Contains, MatchOption, option_map, slice_get}
+use Rattle.std.specs.Prelude.{Option, Some, None, Contains, option_map, slice_get}
 use Rattle.std.specs.Global.{Vec}
 use Rattle.std.proofs.lemmas.Bool.{cases_lt}
-use Rattle.std.proofs.lemmas.List.{get_or_past}
 use Rattle.std.proofs.lemmas.Option.{none-some, same_Some, slice_get_read}
-use Rattle.std.proofs.lemmas.Result.{on_ok_weaker}
 use Rattle.base_files.specs.Workspace.{Workspace}
 use Rattle.base_files.specs.declared.place.Place.{Place}
-use Rattle.go_ast.specs.SourceFile.{SourceFile}
-use Rattle.go_scope.specs.declared.model.Position.{Position}
 use Rattle.go_scope.specs.WellFormed.{WellFormed}
 use Rattle.types_expr.specs.declared.found.MemberUse.{MemberUse as FoundUse}
 use Rattle.types_expr.specs.declared.symbol.Symbol.{Symbol}
@@ -23,21 +19,14 @@ use Rattle.types_info.proofs.OneWorld.{has_one_world}
 use Rattle.workspace_check.specs.Verdicts.{Verdicts}
 use Rattle.workspace_check.proofs.OnePackage.{files_in_order}
 use Rattle.base_edits.specs.Revisions.{Revision}
-use Rattle.refs_binding.specs.declared.declaration.Declaration.{Declaration}
-use Rattle.refs_binding.specs.declared.declaration.Declaration.TheVariants.{Predeclared, Declared, Field, Method}
-use Rattle.refs_binding.specs.Binding.{DeclaresMember, IsNameOf, IsFieldAt, IsMethodAt, declaration_of}
-use Rattle.refs_binding.specs.Identifiers.{NameBegins, BeginsAt, file_of}
+use Rattle.refs_binding.specs.Binding.{declaration_of}
+use Rattle.refs_binding.specs.Identifiers.{BeginsAt}
 use Rattle.refs_binding.specs.Members.{member_at}
-use Rattle.refs_binding.specs.Steps.{ArePlaces, AtToken, UsesIn}
 use Rattle.refs_binding.specs.Uses.{IsCheckedPackage}
 use Rattle.refs_binding.proofs.MemberParts.{one_list, file_uses, has_uses}
-use Rattle.refs_binding.proofs.NamedPlaces.{name_to_found, stands_once}
-use Rattle.refs_binding.specs.DeclaringPlaces.{TokenBegins, TokenAt}
-use Rattle.refs_places.proofs.Starts.{token_once}
-use Rattle.refactor_after.specs.OldPlaces.{field_at, method_at}
-use Rattle.refactor_after.specs.MembersAfter.{CountsAfter, IsMemberAfter}
-use Rattle.refactor_conflict.specs.Conflicts.{IsPlaceBefore, HoldsBefore, HoldsAtToken, HoldsAtFound, UsedAfter, UseStays, UsesStay}
-use Rattle.refactor_conflict.specs.Staying.{StaysByMember, MembersStayIn, FieldsStayIn, MethodsStayIn, DeclaringNamesStayIn}
+use Rattle.refactor_conflict.specs.MembersAfter.{IsMemberAfter}
+use Rattle.refactor_conflict.specs.Conflicts.{HoldsBefore, UseStays, UsesStay}
+use Rattle.refactor_conflict.specs.Staying.{StaysByMember}
 use Rattle.refactor_conflict.specs.declared.conflict.Conflict.{Conflict}
 use Rattle.refactor_conflict.proofs.MemberUses.{in_world, definitions_in}
 
@@ -64,33 +53,6 @@ all_below K n first past h = λ place ahead k. elim (cases_lt k n) [
   | inl lt ↦ h place ahead k lt
   | inr ge ↦ past k place ge
 ]
-
--- the identifier at a token begins at one place
-named_token : (o : Option SourceFile) (token : ℕ) (place : Place) → NameBegins o token place.path place.offset → TokenBegins o token place
-named_token None token place h = absurd h
-named_token (Some f) token place h = (h.1, h.2)
-
-token_of : (p : Package) (at : Position) (place : Place) → AtToken p at place → TokenAt p at place
-token_of p at place h =
-    let u = h.0 in
-    subst (λ (x : Position). TokenAt p x place) (sym (stands_once p u at h.1.1)) (named_token (file_of p u) (p.layout.place u).index place h.1.0.1)
-
-pub holds_there : {E : Type 0} (p : Package) (at : Position) (K : Place → Type 0) (first : Option Conflict) (place : Place) (r : Result (Unit {0}) E) →
-    AtToken p at place → OnOk r (IsPlaceBefore first place → K place) → OnOk r (HoldsAtToken p at K first)
-holds_there p at K first place r is h =
-    on_ok_weaker r (λ k x ahead token.
-    let same : place ≡ x = token_once (slice_get p.files at.file) at.index place x (token_of p at place is) (token_of p at x token) in
-    subst K same (k (subst (IsPlaceBefore first) (sym same) ahead))) h
-
--- a use that was a member, and one that was none
-pub use_stays : {E : Type 0} (Known : Package → Type 0) (r : Revision) (ds : Symbol → Definition) (p : Package) (file : ℕ) (x : MemberUse)
-    (old : Declaration) (first : Option Conflict) (answer : Result (Unit {0}) E) → member_at ds p file x.place x.before ≡ Some old →
-    OnOk answer (HoldsAtToken p (record { file = file; index = x.place }) (λ place. UsedAfter Known r ds p file x place old) first) →
-    OnOk answer (HoldsBefore (UseStays Known r ds p file x) first)
-use_stays Known r ds p file x old first answer is h =
-    on_ok_weaker answer (λ k place ahead d u.
-    let same : old ≡ d = same_Some old d (sym is ∙ u.is_member) in
-    subst (λ (z : Declaration). UsedAfter Known r ds p file x place z) same (k place ahead u.at)) h
 
 pub no_use_stays : (Known : Package → Type 0) (r : Revision) (ds : Symbol → Definition) (p : Package) (file : ℕ) (x : MemberUse) (first : Option Conflict) →
     member_at ds p file x.place x.before ≡ None → HoldsBefore (UseStays Known r ds p file x) first
@@ -144,41 +106,3 @@ module _ (w : Workspace) (known : Verdicts) (r : Revision) (p : Package) (is : I
   no_file_stays file place le = λ u begins of_file old was.
       let lt : (p.layout.place u).file < length members = has_uses p members all (p.layout.place u).file was.uses was.judged in
       absurd (omega (arith, lt, of_file, le))
-
-pub all_files : (w : Workspace) (known : Verdicts) (r : Revision) (p : Package) (first : Option Conflict) →
-    HoldsBefore (λ place. (file : ℕ) → FileStays w known r p file place) first → HoldsBefore (MembersStayIn w known r p) first
-all_files w known r p first h = λ place ahead u begins. h place ahead (p.layout.place u).file u begins refl
-
--- the names of a rank, and of those beyond
-abbrev pub FieldStays : (Known : Package → Type 0) → Revision → Package → ℕ → Place → Type 0
-FieldStays Known r p rank place = UsesIn p (λ u. IsNameOf (IsFieldAt p) p u rank) place → CountsAfter Known r (field_at p.path rank)
-
-abbrev pub MethodStays : (Known : Package → Type 0) → Revision → Package → ℕ → Place → Type 0
-MethodStays Known r p rank place = UsesIn p (λ u. IsNameOf (IsMethodAt p) p u rank) place → CountsAfter Known r (method_at p.path rank)
-
-pub names_stay : (IsAt : (rank : ℕ) → Position → Type 0) → ((rank : ℕ) (a b : Position) → IsAt rank a → IsAt rank b → a ≡ b) → (p : Package) (rank : ℕ)
-    (o : Option Position) → MatchOption o ((at : Position) → IsAt rank at → ⊥) (λ at. IsAt rank at) → (K : Type 0) (first : Option Conflict) →
-    HoldsAtFound p o (λ place. K) first → HoldsBefore (λ place. UsesIn p (λ u. IsNameOf IsAt p u rank) place → K) first
-names_stay IsAt one p rank o is K first h = λ place ahead q. h place ahead (name_to_found IsAt one p rank o is place q)
-
-pub no_names_stay : (IsAt : (rank : ℕ) → Position → Type 0) (p : Package) (places : List (Option Position)) → ArePlaces IsAt places → (rank : ℕ) →
-    length places ≤ rank → (place : Place) → UsesIn p (λ u. IsNameOf IsAt p u rank) place → ⊥
-no_names_stay IsAt p places are rank le place q =
-    subst (λ (o : Option Position). MatchOption o ((at : Position) → IsAt rank at → ⊥) (λ at. IsAt rank at)) (get_or_past places rank None le) (are rank)
-    q.1.1.at q.1.1.is_at
-
--- the names of fields and methods
-declaring_stays : (Known : Package → Type 0) (r : Revision) (p : Package) (place : Place) (u : ℕ) → BeginsAt p place.path place.offset u →
-    FieldsStayIn Known r p place → MethodsStayIn Known r p place → (old : Declaration) → DeclaresMember p u old → CountsAfter Known r old
-declaring_stays Known r p place u begins fields methods (Predeclared n) h = absurd h
-declaring_stays Known r p place u begins fields methods (Declared path n) h = absurd h
-declaring_stays Known r p place u begins fields methods (Field s) h =
-    subst (λ q. CountsAfter Known r (Field (record { «package» = q; rank = s.rank }))) (sym h.0) (fields s.rank (u, (begins, h.1)))
-declaring_stays Known r p place u begins fields methods (Method s) h =
-    subst (λ q. CountsAfter Known r (Method (record { «package» = q; rank = s.rank }))) (sym h.0) (methods s.rank (u, (begins, h.1)))
-
-pub declaring_names_stay : (w : Workspace) (known : Verdicts) (r : Revision) (p : Package) (first : Option Conflict) →
-    HoldsBefore (FieldsStayIn (IsCheckedPackage w known) r p) first → HoldsBefore (MethodsStayIn (IsCheckedPackage w known) r p) first →
-    HoldsBefore (DeclaringNamesStayIn w known r p) first
-declaring_names_stay w known r p first fields methods = λ place ahead u begins.
-    declaring_stays (IsCheckedPackage w known) r p place u begins (fields place ahead) (methods place ahead)

@@ -13,10 +13,10 @@ use Rattle.refs_binding.specs.declared.declaration.Declaration.{Declaration}
 use Rattle.refs_binding.specs.declared.declaration.Declaration.TheVariants.{Predeclared, Declared, Field, Method}
 use Rattle.refs_binding.specs.Uses.{IsCheckedPackage}
 use Rattle.refs_binding.proofs.Units.{one_package}
-use Rattle.refactor_after.specs.NamesAfter.{IsFieldAfter, IsMethodAfter}
-use Rattle.refactor_after.specs.MembersAfter.{IsFirst, IsFirstField, IsFieldIn, IsMethodIn, IsFieldOfStruct}
-use Rattle.refactor_after.specs.MembersAfter.{IsMethodOfOwner, IsMemberAfter}
-use Rattle.refactor_after.proofs.FieldsAfter.{one_first}
+use Rattle.refactor_conflict.specs.NamesAfter.{IsFieldAfter, IsMethodAfter}
+use Rattle.refactor_conflict.specs.MembersAfter.{IsFirst, IsFirstField, IsFieldIn, IsMethodIn, IsFieldOfStruct}
+use Rattle.refactor_conflict.specs.MembersAfter.{IsMethodOfOwner, IsMemberAfter}
+use Rattle.refactor_conflict.proofs.FieldsAfter.{one_first}
 
 same_symbol : (s u : Symbol) → s.package ≡ u.package → s.rank ≡ u.rank → s ≡ u
 same_symbol s u e f =

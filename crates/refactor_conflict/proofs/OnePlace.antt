@@ -6,11 +6,11 @@ use Rattle.base_files.specs.declared.place.Place.{Place}
 use Rattle.types_declared.specs.Package.{Package}
 use Rattle.refs_binding.specs.declared.declaration.Declaration.{Declaration}
 use Rattle.refs_binding.specs.declared.declaration.Declaration.TheVariants.{Predeclared, Declared, Field, Method}
-use Rattle.refactor_after.specs.ScopedPackages.{IsScopedIn}
+use Rattle.refactor_conflict.specs.ScopedPackages.{IsScopedIn}
 use Rattle.refs_binding.specs.DeclaringPlaces.{InPackage, TokenAt, HasDeclarationAt, IsDeclaredAt}
 use Rattle.refs_places.proofs.Declared.{one_scope_place}
 use Rattle.refs_places.proofs.Starts.{token_once}
-use Rattle.refactor_after.proofs.OneScoped.{one_scoped}
+use Rattle.refactor_conflict.proofs.OneScoped.{one_scoped}
 use Rattle.refactor_conflict.specs.ScopesAfter.{IsBindable}
 
 -- A declaration has one place.

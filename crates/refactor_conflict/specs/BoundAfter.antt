@@ -15,10 +15,10 @@ use Rattle.types_info.specs.QualifiedIdentifiers.{IsQualifiedByPath}
 use Rattle.refs_binding.specs.Binding.{BindsByMember}
 use Rattle.refs_binding.specs.Uses.{IsCheckedPackage}
 use Rattle.base_edits.specs.Revisions.{Revision, PackageMovesTo}
-use Rattle.refactor_after.specs.MembersAfter.{IsMemberAfter}
-use Rattle.refactor_after.specs.ScopedPackages.{IsScopedIn}
-use Rattle.refs_index.specs.Corresponding.{Corresponds}
-use Rattle.refactor_after.specs.ScopeBindings.{IsScopeUse}
+use Rattle.refactor_conflict.specs.MembersAfter.{IsMemberAfter}
+use Rattle.refactor_conflict.specs.ScopedPackages.{IsScopedIn}
+use Rattle.refactor_conflict.specs.Corresponding.{Corresponds}
+use Rattle.refactor_conflict.specs.ScopeBindings.{IsScopeUse}
 
 -- The declaration `c` of the workspace before the change has become the declaration `e` of the scopes after it.
 abbrev pub HasBecome : Workspace → Verdicts → Revision → Declaration → Declaration → Type 0

@@ -1,9 +1,8 @@
 -- Identifiers that a change loses or captures, and the first of them. Known: the packages of the workspace before the change.
-use Rattle.std.specs.Prelude.{ℕ, ◌≡◌, ◌⊎◌, ⊤, All, List, Option, Some, None, MatchOption, slice_get}
+use Rattle.std.specs.Prelude.{ℕ, ◌≡◌, ◌⊎◌, ⊤, List, Option, Some, None, MatchOption, slice_get}
 use Rattle.std.specs.declared.cmp.Ordering.TheVariants.{Less}
 use Rattle.base_files.specs.Workspace.{Workspace}
 use Rattle.base_files.specs.declared.place.Place.{Place}
-use Rattle.go_ast.specs.SourceFile.{FileParts}
 use Rattle.go_scope.specs.declared.model.Position.{Position}
 use Rattle.types_expr.specs.declared.symbol.Symbol.{Symbol}
 use Rattle.types_expr.specs.Judge.{MemberUse}
@@ -11,17 +10,15 @@ use Rattle.types_expr.specs.World.{Definition}
 use Rattle.types_declared.specs.Package.{Package}
 use Rattle.workspace_check.specs.Verdicts.{Verdicts}
 use Rattle.refs_binding.specs.declared.declaration.Declaration.{Declaration}
-use Rattle.types_info.specs.QualifiedIdentifiers.{IsQualifiedByPath}
 use Rattle.refs_binding.specs.Binding.{BindsByScope, BindsQualified, BindsByMember, DeclaresMember}
 use Rattle.refs_binding.specs.Identifiers.{BeginsAt}
 use Rattle.refs_binding.specs.Places.{place_cmp}
 use Rattle.refs_binding.specs.Members.{IsMemberUseOf, IsMemberUseAmong}
-use Rattle.refs_binding.specs.Steps.{AtToken, AtFound}
+use Rattle.refs_binding.specs.Steps.{AtToken}
 use Rattle.refs_binding.specs.Uses.{IsCheckedPackage}
 use Rattle.base_edits.specs.Revisions.{Revision}
 use Rattle.refs_binding.specs.DeclaringPlaces.{IsDeclaredAt}
-use Rattle.refactor_after.specs.MembersAfter.{CountsAfter}
-use Rattle.refactor_after.specs.FilesAfter.{IsAfterPlace}
+use Rattle.refactor_conflict.specs.MembersAfter.{CountsAfter}
 use Rattle.refactor_conflict.specs.BoundAfter.{HasBecome, IsBoundByScopes, IsBoundByPackage, IsBoundByMember, SelectsAfter}
 use Rattle.refactor_conflict.specs.Staying.{NoneIsLost, NoneIsLostBefore}
 use Rattle.refactor_conflict.specs.declared.conflict.Capturer.{Capturer}
@@ -119,34 +116,14 @@ Takes P old new = (new ≡ old) ⊎ ((c : Conflict) × ((new ≡ Some c) × (P c
 abbrev pub HoldsBefore : (Place → Type 0) → Option Conflict → Type 0
 HoldsBefore K first = (place : Place) → IsPlaceBefore first place → K place
 
--- A conflict is found, and all these files come after its file in the order of paths.
-abbrev pub AreAfter : Option Conflict → List FileParts → Type 0
-AreAfter first files = (c : Conflict) × ((first ≡ Some c) × All (IsAfterPlace c.used) files)
-
 -- The conflict has this place and this capturer.
 abbrev pub IsConflictBy : Place → Option Capturer → Conflict → Type 0
 IsConflictBy used by c = (c.used ≡ used) × (c.by ≡ by)
-
--- The conflict of the identifier at `used`, which was bound to `old` and is bound to the declaration of which `E` holds after the change.
-abbrev pub IsConflictOf : (Becomes : Declaration → Declaration → Type 0) → (Package → Type 0) → (Declaration → Type 0) → Place → Declaration → Conflict → Type 0
-IsConflictOf Becomes Known E used old c = (c.used ≡ used) × LostOrCaptured Becomes Known E old c.by
 
 -- The conflict of the identifier at `used`, which was bound to the field or method `old`. After the change it selects the member of which
 -- `E` holds.
 abbrev pub IsOtherMember : (Known : Package → Type 0) → (Declaration → Type 0) → Place → Declaration → Conflict → Type 0
 IsOtherMember Known E used old c = (c.used ≡ used) × LosesMember Known E old c.by
-
--- The identifier `u` is the selector of a qualified identifier of the package with this path, and of no other package.
-abbrev pub IsOnlyQualifiedBy : Package → ℕ → List ℕ → Type 0
-IsOnlyQualifiedBy p u path = IsQualifiedByPath p u path × ((other : List ℕ) → IsQualifiedByPath p u other → other ≡ path)
-
--- `K` holds of the place at which the identifier at the token `at` begins, if that place is before the first conflict found so far.
-abbrev pub HoldsAtToken : Package → Position → (Place → Type 0) → Option Conflict → Type 0
-HoldsAtToken p at K first = HoldsBefore (λ place. AtToken p at place → K place) first
-
--- If a token was found and its identifier begins before the first conflict found so far, `K` holds of the place at which it begins.
-abbrev pub HoldsAtFound : Package → Option Position → (Place → Type 0) → Option Conflict → Type 0
-HoldsAtFound p at K first = HoldsBefore (λ place. AtFound p at place → K place) first
 
 -- The conflict of the member use at the token `at`, which was bound to `old`. `E` gives the member after the change for the place where the
 -- token begins.
@@ -179,19 +156,3 @@ pub record IsMemberConflictIn (Known : Package → Type 0) (r : Revision) (defin
   pub old : Declaration
   pub is_use : IsMemberUseAmong definitions p file old uses c.used
   pub tells : LosesMember Known (UsedAfter Known r definitions p file is_use.1.found c.used) old c.by
-
--- The declaring identifier of the member `old` is lost, since `old` does not count under its new name.
-abbrev pub IsNameLost : (Known : Package → Type 0) → Revision → Declaration → Conflict → Type 0
-IsNameLost Known r old c = (CountsAfter Known r old → ⊥) × (c.by ≡ None)
-
--- The declaring identifier of the member `old`, at the token `at`, is lost.
-abbrev pub IsLostAt : (Known : Package → Type 0) → Revision → Package → Position → Declaration → Conflict → Type 0
-IsLostAt Known r p at old c = AtToken p at c.used × IsNameLost Known r old c
-
--- The declaring identifier of the member `old`, at the token that was found, is lost.
-abbrev pub IsLostAtFound : (Known : Package → Type 0) → Revision → Package → Option Position → Declaration → Conflict → Type 0
-IsLostAtFound Known r p at old c = AtFound p at c.used × IsNameLost Known r old c
-
--- The declaring identifier of the member `old`, at the place `used`, is lost.
-abbrev pub IsLostThere : (Known : Package → Type 0) → Revision → Place → Declaration → Conflict → Type 0
-IsLostThere Known r used old c = (c.used ≡ used) × IsNameLost Known r old c

@@ -7,15 +7,12 @@ use Rattle.base_files.specs.declared.place.Place.{Place}
 use Rattle.types_declared.specs.Package.{Package}
 use Rattle.workspace_check.specs.Verdicts.{Verdicts}
 use Rattle.refs_binding.specs.declared.declaration.Declaration.{Declaration}
-use Rattle.refs_binding.specs.Binding.{BindsByScope, BindsQualified, BindsByMember, DeclaresMember, IsNameOf, IsFieldAt, IsMethodAt}
+use Rattle.refs_binding.specs.Binding.{BindsByScope, BindsQualified, BindsByMember, DeclaresMember}
 use Rattle.refs_binding.specs.Identifiers.{BeginsAt}
 use Rattle.refs_binding.specs.Places.{place_cmp}
-use Rattle.refs_binding.specs.Steps.{UsesIn}
 use Rattle.refs_binding.specs.Uses.{IsCheckedPackage}
-use Rattle.refs_binding.specs.Workspaces.{IsPackageAt}
 use Rattle.base_edits.specs.Revisions.{Revision}
-use Rattle.refactor_after.specs.MembersAfter.{CountsAfter}
-use Rattle.refactor_after.specs.OldPlaces.{field_at, method_at}
+use Rattle.refactor_conflict.specs.MembersAfter.{CountsAfter}
 use Rattle.refactor_conflict.specs.BoundAfter.{HasBecome, IsBoundByScopes, IsBoundByPackage, IsBoundByMember}
 
 -- The identifier that was bound to `old` is bound after the change to the declaration that `old` has become. `E` holds of what it is bound
@@ -57,10 +54,6 @@ HoldsOfEachAt p K place = (u : ℕ) → BeginsAt p place.path place.offset u →
 abbrev pub StaysIn : Workspace → Verdicts → Revision → Package → Place → Type 0
 StaysIn w known r p place = HoldsOfEachAt p (Stays w known r p) place
 
--- Each identifier that begins at the place in the package of this number stays bound.
-abbrev pub StaysInNumber : Workspace → Verdicts → Revision → ℕ → Place → Type 0
-StaysInNumber w known r number place = (p : Package) → IsPackageAt w known number p → StaysIn w known r p place
-
 -- Each identifier that begins at the place, in any package, stays bound.
 abbrev pub StaysAt : Workspace → Verdicts → Revision → Place → Type 0
 StaysAt w known r place = (p : Package) → IsCheckedPackage w known p → StaysIn w known r p place
@@ -89,18 +82,6 @@ NamesStayIn w known r p place = HoldsOfEachAt p (NameStays w known r p) place
 abbrev pub MembersStayIn : Workspace → Verdicts → Revision → Package → Place → Type 0
 MembersStayIn w known r p place = HoldsOfEachAt p (StaysByMember w known r p) place
 
--- The fields of the package that are declared at the place count under their new names.
-abbrev pub FieldsStayIn : (Known : Package → Type 0) → Revision → Package → Place → Type 0
-FieldsStayIn Known r p place = (rank : ℕ) → UsesIn p (λ u. IsNameOf (IsFieldAt p) p u rank) place → CountsAfter Known r (field_at p.path rank)
-
--- The methods of the package that are declared at the place count under their new names.
-abbrev pub MethodsStayIn : (Known : Package → Type 0) → Revision → Package → Place → Type 0
-MethodsStayIn Known r p place = (rank : ℕ) → UsesIn p (λ u. IsNameOf (IsMethodAt p) p u rank) place → CountsAfter Known r (method_at p.path rank)
-
 -- Each member of the package `p` that is declared at the place counts under its new name.
 abbrev pub DeclaringNamesStayIn : Workspace → Verdicts → Revision → Package → Place → Type 0
 DeclaringNamesStayIn w known r p place = HoldsOfEachAt p (StaysByName w known r p) place
-
--- If the identifier `u` of the package begins at the place, `K` holds of the place.
-abbrev pub IfBegins : Package → ℕ → (Place → Type 0) → Place → Type 0
-IfBegins p u K place = BeginsAt p place.path place.offset u → K place

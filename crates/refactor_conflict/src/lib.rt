@@ -1,20 +1,10 @@
-//! Finds the conflicts of a change: identifiers that it would lose, since nothing would bind them, or capture, since another declaration
-//! would.
+//! The conflicts of a change: identifiers that it would lose, since nothing would bind them, or capture, since another declaration would.
 //!
-//! Tests rely on: `first_conflict` returns the first identifier, by path and offset, that the change loses or captures, or `None`
-//! (`IsFirstConflict`). Crates above rely on the definitions of conflicts, and on the law that no conflict stays bound. No plan judges
-//! the edited workspace.
+//! Crates above rely on the definition of a change's first conflict (`IsFirstConflict`), and on the law that no conflict stays bound. Plans
+//! find that conflict by the scopes and members before the change.
 #![tactic(auto)]
 
-mod beginning;
-mod bound_after;
 mod conflict;
-mod correspondence;
-mod first;
-mod first_kept;
-mod judge;
-mod judging;
 pub mod laws;
 
 pub use conflict::{Capturer, Conflict, told};
-pub use first::first_conflict;

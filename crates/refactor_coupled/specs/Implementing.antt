@@ -9,7 +9,7 @@ use Rattle.types_declared.specs.Laid.{is_exported}
 use Rattle.types_declared.specs.Package.{Package, PlacedType, package_types, symbol_in}
 use Rattle.types_declared.specs.Definitions.{IsDefinition, IsUnderlyingOf, IsFoundSignature, HasForm, is_on_pointer}
 use Rattle.base_edits.specs.Revisions.{Revision}
-use Rattle.refactor_after.specs.MembersAfter.{IsFirstField, IsFirstMethod}
+use Rattle.refactor_conflict.specs.MembersAfter.{IsFirstField, IsFirstMethod}
 
 -- The symbol is that of a type definition of the workspace.
 pub record IsTypeSymbol (IsPackage : Package → Type 0) (s : Symbol) : Type 0 where

@@ -14,10 +14,10 @@ use Rattle.refs_binding.specs.declared.declaration.Declaration.TheVariants.{Fiel
 use Rattle.refs_binding.specs.Binding.{field_place}
 use Rattle.refs_binding.specs.DeclaringPlaces.{InPackage}
 use Rattle.refs_places.proofs.Starts.{token_once}
-use Rattle.refactor_after.specs.NamesAfter.{HasNameAfter, IsFieldAfter, IsMethodAfter}
-use Rattle.refactor_after.specs.MembersAfter.{IsFirstField, IsFirstMethod, FieldCounts, MethodCounts, CountsAfter}
-use Rattle.refactor_after.specs.MembersFound.{IsRankFound}
-use Rattle.refactor_after.proofs.FieldsAfter.{one_first, mapped_in, of_one}
+use Rattle.refactor_conflict.specs.NamesAfter.{HasNameAfter, IsFieldAfter, IsMethodAfter}
+use Rattle.refactor_conflict.specs.MembersAfter.{IsFirstField, IsFirstMethod, FieldCounts, MethodCounts, CountsAfter}
+use Rattle.refactor_conflict.specs.MembersFound.{IsRankFound}
+use Rattle.refactor_conflict.proofs.FieldsAfter.{one_first, mapped_in, of_one}
 use Rattle.refactor_members.specs.Renames.{EditedRename, KnowsRename, IsFieldOfNewName, IsMethodNamed}
 use Rattle.refactor_members.specs.Renames.{packages_before, rename_revision, renamed_members, workspace_before, verdicts_in}
 

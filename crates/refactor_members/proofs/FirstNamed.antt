@@ -2,8 +2,8 @@
 use Rattle.std.proofs.Common.{ℕ, ◌≡◌, ◌<◌, ◌⊎◌, inl, inr, arith}
 use Rattle.std.specs.Prelude.{Option, Some, None}
 use Rattle.std.proofs.lemmas.Bool.{cond_both, leb-true, leb-false}
-use Rattle.refactor_after.specs.MembersAfter.{IsFirst}
-use Rattle.refactor_after.specs.MembersFound.{IsRankFound}
+use Rattle.refactor_conflict.specs.MembersAfter.{IsFirst}
+use Rattle.refactor_conflict.specs.MembersFound.{IsRankFound}
 use Rattle.refactor_members.specs.Naming.{lesser_rank, IsFirstOld}
 
 module _ (After Old Is : ℕ → Type 0) (split : (k : ℕ) → After k → Is k ⊎ Old k) (is_after : (k : ℕ) → Is k → After k)

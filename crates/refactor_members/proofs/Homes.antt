@@ -25,8 +25,8 @@ use Rattle.refs_binding.proofs.Units.{one_package, package_there}
 use Rattle.refs_places.proofs.Starts.{token_once}
 use Rattle.refs_places.specs.DeclaredPlaces.{IsChoice}
 use Rattle.refs_places.specs.Outside.{declaring_path}
-use Rattle.refactor_after.specs.MembersFound.{IsRankFound}
-use Rattle.refactor_after.specs.OldPlaces.{field_at, method_at}
+use Rattle.refactor_conflict.specs.MembersFound.{IsRankFound}
+use Rattle.refactor_conflict.specs.OldPlaces.{field_at, method_at}
 use Rattle.refactor_members.specs.Judging.{IsNamedAt}
 use Rattle.refactor_members.specs.Renames.{IsFieldOfDefinition, IsMethodOfDefinition}
 use Rattle.refactor_members.proofs.Counting.{as_method}

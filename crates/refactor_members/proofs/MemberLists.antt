@@ -11,7 +11,7 @@ use Rattle.types_declared.specs.Package.{Package}
 use Rattle.types_expr.specs.declared.symbol.Symbol.{Symbol}
 use Rattle.workspace_check.proofs.Members.{taken_or_next}
 use Rattle.refs_binding.specs.declared.declaration.Declaration.{Declaration}
-use Rattle.refactor_after.specs.MembersFound.{IsRankFound}
+use Rattle.refactor_conflict.specs.MembersFound.{IsRankFound}
 use Rattle.refactor_members.specs.Naming.{IsOwnField, IsOwnMethod, IsRenamedField, IsRenamedMethod}
 use Rattle.refactor_members.specs.Renames.{AreMembersOf, IsDefinitionOf, renamed_members}
 use Rattle.refactor_members.specs.declared.member_rename.MemberRename.{MemberRename}

@@ -21,9 +21,9 @@ use Rattle.refs_binding.specs.Binding.{DeclaresMember, field_place}
 use Rattle.refs_binding.specs.Identifiers.{BeginsAt}
 use Rattle.refs_binding.specs.Members.{AreOwnDefinitions}
 use Rattle.refs_binding.proofs.NamedPlaces.{stands_once}
-use Rattle.refactor_after.specs.MembersAfter.{IsFirst, CountsAfter}
-use Rattle.refactor_after.specs.MembersFound.{IsRankFound}
-use Rattle.refactor_after.specs.OldPlaces.{field_at, method_at}
+use Rattle.refactor_conflict.specs.MembersAfter.{IsFirst, CountsAfter}
+use Rattle.refactor_conflict.specs.MembersFound.{IsRankFound}
+use Rattle.refactor_conflict.specs.OldPlaces.{field_at, method_at}
 use Rattle.refactor_conflict.specs.Conflicts.{Takes, HoldsBefore, IsConflictIn, by_name}
 use Rattle.refactor_conflict.specs.Staying.{DeclaringNamesStayIn}
 use Rattle.refactor_conflict.specs.declared.conflict.Conflict.{Conflict}

@@ -12,7 +12,7 @@ use Rattle.types_declared.specs.Definitions.{HasUnderlying, HasForm}
 use Rattle.types_expr.specs.Types.{Defined}
 use Rattle.types_declared.proofs.OneUnderlying.{none_beyond}
 use Rattle.refs_binding.specs.Members.{AreOwnDefinitions}
-use Rattle.refactor_after.proofs.Structs.{field_written}
+use Rattle.refactor_conflict.proofs.Structs.{field_written}
 use Rattle.refactor_members.specs.Naming.{HasField, HasMethod, IsFirstOld}
 
 -- In a package without faults each field and each method counts, and each field has a type.

@@ -17,11 +17,11 @@ use Rattle.refs_binding.specs.DeclaringPlaces.{InPackage}
 use Rattle.refs_binding.specs.Uses.{IsCheckedPackage}
 use Rattle.refs_binding.specs.Workspaces.{IsFaultless, known_in}
 use Rattle.refs_binding.proofs.Units.{package_there}
-use Rattle.refactor_after.specs.NamesAfter.{IsFieldAfter, IsMethodAfter}
-use Rattle.refactor_after.specs.OldPlaces.{field_at, method_at}
-use Rattle.refactor_after.specs.MembersAfter.{IsFirst, IsFirstField}
-use Rattle.refactor_after.specs.MembersFound.{IsRankFound}
-use Rattle.refactor_after.proofs.FieldsAfter.{of_one, found_in}
+use Rattle.refactor_conflict.specs.NamesAfter.{IsFieldAfter, IsMethodAfter}
+use Rattle.refactor_conflict.specs.OldPlaces.{field_at, method_at}
+use Rattle.refactor_conflict.specs.MembersAfter.{IsFirst, IsFirstField}
+use Rattle.refactor_conflict.specs.MembersFound.{IsRankFound}
+use Rattle.refactor_conflict.proofs.FieldsAfter.{of_one, found_in}
 use Rattle.refactor_members.specs.Naming.{HasField, HasMethod, IsFirstOld, IsOwnField, IsOwnMethod, IsRenamedField, IsRenamedMethod, lesser_rank}
 use Rattle.refactor_members.specs.Renames.{EditedRename, KnowsRename, IsFieldOfNewName}
 use Rattle.refactor_members.specs.Renames.{IsMethodNamed, IsFieldOfDefinition, IsMethodOfDefinition, IsDefinitionOf}

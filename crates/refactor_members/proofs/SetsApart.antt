@@ -19,7 +19,7 @@ use Rattle.refs_binding.specs.DeclaredNames.{HasDeclaredName, HasDeclaredNameIn}
 use Rattle.refs_binding.specs.Uses.{IsCheckedPackage, IsUseOf}
 use Rattle.refs_binding.specs.Workspaces.{IsFaultless, known_in}
 use Rattle.refs_lookup.proofs.OwnedMembers.{IsOwnedAs, member_named}
-use Rattle.refactor_after.proofs.FieldsAfter.{of_one}
+use Rattle.refactor_conflict.proofs.FieldsAfter.{of_one}
 use Rattle.law_renamed_workspaces.specs.MemberRenames.{IsMemberRename}
 use Rattle.law_renamed_workspaces.specs.Renames.{IsMember}
 use Rattle.refactor_members.specs.Renames.{IsFieldOfDefinition, IsMethodOfDefinition, StandApart}

@@ -21,7 +21,7 @@ use Rattle.law_renamed_workspaces.specs.NamesAfterwards.{IsCalledAfter, IsFieldC
 use Rattle.law_renamed_workspaces.specs.NamesAfterwards.{keeps_name, spelled_there, MembersAreCalled, FieldNamesAfter, MethodNamesAfter}
 use Rattle.refactor_members.specs.Renames.{RenamesMember}
 use Rattle.law_renamed_workspaces.proofs.RenamedSets.{among_or_not}
-use Rattle.refactor_after.specs.NamesAfter.{IsFieldAfter, IsMethodAfter}
+use Rattle.refactor_conflict.specs.NamesAfter.{IsFieldAfter, IsMethodAfter}
 
 module _ (w : Workspace) (known : Verdicts) (d : Declaration) (set : List Declaration) (name : List ℕ) (s : FileChanges)
     (rename : IsMemberRename w known d set name s) where

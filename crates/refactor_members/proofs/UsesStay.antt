@@ -20,7 +20,7 @@ use Rattle.refs_binding.specs.Members.{member_at}
 use Rattle.refs_binding.specs.Steps.{AtToken}
 use Rattle.refs_binding.proofs.Tokens.{begins_token}
 use Rattle.refs_places.proofs.Starts.{token_once}
-use Rattle.refactor_after.specs.MembersAfter.{IsMemberAfter}
+use Rattle.refactor_conflict.specs.MembersAfter.{IsMemberAfter}
 use Rattle.refactor_conflict.specs.Conflicts.{IsMemberConflict, IsOtherMember, UsedAfter, UseStays}
 use Rattle.refactor_conflict.specs.declared.conflict.Conflict.{Conflict}
 use Rattle.refactor_conflict.proofs.Conflicts.{member_conflict, noted_at, other_as}

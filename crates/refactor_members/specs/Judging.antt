@@ -11,8 +11,8 @@ use Rattle.types_declared.specs.Package.{Package, spelled_at}
 use Rattle.refs_binding.specs.declared.declaration.Declaration.{Declaration}
 use Rattle.refs_binding.specs.Binding.{DeclaresMember}
 use Rattle.refs_binding.specs.Steps.{UsesIn}
-use Rattle.refactor_after.specs.MembersAfter.{CountsAfter}
-use Rattle.refactor_after.specs.OldPlaces.{field_at, method_at}
+use Rattle.refactor_conflict.specs.MembersAfter.{CountsAfter}
+use Rattle.refactor_conflict.specs.OldPlaces.{field_at, method_at}
 use Rattle.refactor_conflict.specs.declared.conflict.Conflict.{Conflict}
 use Rattle.refactor_conflict.specs.Conflicts.{Takes, HoldsBefore, IsConflictIn}
 use Rattle.refactor_conflict.specs.Staying.{MembersStayIn, DeclaringNamesStayIn}

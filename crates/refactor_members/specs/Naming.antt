@@ -10,8 +10,8 @@ use Rattle.types_expr.specs.Judge.{MemberUse}
 use Rattle.workspace_check.specs.Verdicts.{Verdicts}
 use Rattle.refs_binding.specs.Members.{definitions_known}
 use Rattle.refs_binding.specs.Uses.{IsCheckedPackage}
-use Rattle.refactor_after.specs.MembersAfter.{IsFirst}
-use Rattle.refactor_after.specs.OldPlaces.{field_at, method_at}
+use Rattle.refactor_conflict.specs.MembersAfter.{IsFirst}
+use Rattle.refactor_conflict.specs.OldPlaces.{field_at, method_at}
 pub use Rattle.law_agreement.specs.ConflictsByTables.{HasField, HasMethod}
 use Rattle.refactor_members.specs.declared.member_rename.MemberRename.{MemberRename}
 use Rattle.refactor_members.specs.declared.member_rename.RenamedMember.{RenamedMember}

@@ -8,7 +8,7 @@ use Rattle.workspace_check.specs.Verdicts.{Verdicts}
 use Rattle.refs_binding.specs.declared.declaration.Declaration.{Declaration}
 use Rattle.refs_binding.specs.Workspaces.{IsPackageAt}
 use Rattle.refs_places.specs.Outside.{declaring_path}
-use Rattle.refactor_after.specs.MembersFound.{IsRankFound}
+use Rattle.refactor_conflict.specs.MembersFound.{IsRankFound}
 use Rattle.refactor_members.specs.Renames.{IsFieldOfDefinition, IsMethodOfDefinition}
 use Rattle.refactor_members.specs.declared.definition.MemberOwners.{MemberOwners}
 

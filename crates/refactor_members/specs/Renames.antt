@@ -19,9 +19,9 @@ use Rattle.refs_binding.specs.Identifiers.{BeginsAt}
 use Rattle.refs_binding.specs.Uses.{IsCheckedPackage}
 use Rattle.refs_binding.specs.Workspaces.{known_in, IsPackageAt}
 use Rattle.refs_uses.specs.MemberNames.{IsNameFound}
-use Rattle.refactor_after.specs.NamesAfter.{IsFieldAfter, IsMethodAfter}
-use Rattle.refactor_after.specs.MembersAfter.{CountsAfter}
-use Rattle.refactor_after.specs.MembersFound.{IsRankFound}
+use Rattle.refactor_conflict.specs.NamesAfter.{IsFieldAfter, IsMethodAfter}
+use Rattle.refactor_conflict.specs.MembersAfter.{CountsAfter}
+use Rattle.refactor_conflict.specs.MembersFound.{IsRankFound}
 use Rattle.refactor_conflict.specs.BoundAfter.{IsBoundByMember}
 use Rattle.refactor_conflict.specs.Staying.{MembersStayIn, DeclaringNamesStayIn}
 use Rattle.law_renamed_workspaces.specs.NamesAfterwards.{spelled_there}

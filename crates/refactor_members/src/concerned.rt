@@ -9,8 +9,8 @@ ghost use Rattle.refactor_members.specs.Judging.{AreUncalled, IsUncalled};
 ghost use Rattle.refactor_members.specs.declared.member_rename.RenamedMember.{RenamedMember};
 
 use crate::member_rename::MemberRename;
+use crate::ranks::is_rank;
 use go_ast::FileTree;
-use refactor_after::is_rank;
 use types_expr::found::MemberUse;
 use types_expr::world::Definition;
 

@@ -9,7 +9,7 @@ ghost use Rattle.refs_binding.specs.Indexed.{IsPackageNumber, IsPackageNumbered}
 ghost use Rattle.refs_binding.specs.Packages.{HoldsOfEach, IsTableAs};
 ghost use Rattle.refs_binding.specs.Uses.{IsCheckedPackage};
 ghost use Rattle.refs_binding.specs.Workspaces.{known_in};
-ghost use Rattle.refactor_after.specs.MembersFound.{IsRankFound};
+ghost use Rattle.refactor_conflict.specs.MembersFound.{IsRankFound};
 ghost use Rattle.refactor_members.specs.Owning.{AreOwnersIfMarked, AreOwnersIn, KnowsHomeOf};
 ghost use Rattle.refactor_members.specs.Renames.{IsDefinitionIn, IsDefinitionOf};
 

@@ -6,7 +6,7 @@ ghost use Rattle.types_declared.specs.Package.{Package as Checked};
 ghost use Rattle.refs_binding.specs.Indexed.{IsPackageNumber, IsPackageNumbered};
 ghost use Rattle.refs_binding.specs.Members.{AreOwnDefinitions};
 ghost use Rattle.refs_binding.specs.Workspaces.{home_path, IsPackageAt};
-ghost use Rattle.refactor_after.specs.MembersAfter.{CountsAfter};
+ghost use Rattle.refactor_conflict.specs.MembersAfter.{CountsAfter};
 ghost use Rattle.refactor_conflict.specs.Conflicts.{HoldsBefore, IsPlaceBefore, Takes};
 ghost use Rattle.refactor_conflict.specs.Staying.{DeclaringNamesStayIn};
 ghost use Rattle.refactor_members.specs.Judging.{FieldsStayOf, IsNamedAt, JudgesIn, ListedFieldStays, ListedMethodStays, MethodsStayOf, NewNameCounts, NamesStayOf};
@@ -20,7 +20,7 @@ use crate::lookup::{
     first_field, first_method, old_field, old_method, renamed_field, renamed_method, symbol,
 };
 use crate::member_rename::MemberRename;
-use refactor_after::is_rank;
+use crate::ranks::is_rank;
 use refactor_conflict::Conflict;
 use refs_binding::indexed::Numbered;
 use refs_binding::{Declaration, own_of, path_of};

@@ -16,7 +16,7 @@ ghost use Rattle.refs_binding.specs.Packages.{IsSeenBy};
 ghost use Rattle.refs_binding.specs.Steps.{IsDeclarationResult};
 ghost use Rattle.refs_binding.specs.Uses.{IsCheckedPackage};
 ghost use Rattle.refs_binding.specs.Workspaces.{known_in, IsPackageAt};
-ghost use Rattle.refactor_after.specs.MembersAfter.{IsMemberAfter};
+ghost use Rattle.refactor_conflict.specs.MembersAfter.{IsMemberAfter};
 ghost use Rattle.refactor_conflict.specs.Conflicts.{IsMemberConflict, IsMemberConflictIn, IsOtherMember, IsPlaceBefore, Takes, UseStays, UsesStay};
 ghost use Rattle.refactor_conflict.specs.Staying.{MembersStayIn};
 ghost use Rattle.refactor_members.specs.Judging.{Judges, JudgesIn};

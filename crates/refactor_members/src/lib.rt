@@ -14,6 +14,7 @@ mod judged_uses;
 mod keeping;
 mod lookup;
 mod member_rename;
+mod ranks;
 mod reaching;
 mod rename_conflict;
 

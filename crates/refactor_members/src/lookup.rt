@@ -12,14 +12,14 @@ ghost use Rattle.refs_binding.specs.DeclaringPlaces.{InPackage};
 ghost use Rattle.refs_binding.specs.Members.{AreOwnDefinitions};
 ghost use Rattle.refs_binding.specs.Steps.{IsDeclarationResult};
 ghost use Rattle.refs_binding.specs.declared.declaration.Declaration.TheVariants.{Field, Method};
-ghost use Rattle.refactor_after.specs.NamesAfter.{IsMethodAfter};
-ghost use Rattle.refactor_after.specs.MembersAfter.{HasFieldAfter, IsFieldIn, IsFirst, IsFirstField, IsFirstMethod, IsMemberAfter, IsMethodIn};
-ghost use Rattle.refactor_after.specs.MembersFound.{IsRankFound, IsStructFound, SelectsField, SelectsMethod};
+ghost use Rattle.refactor_conflict.specs.NamesAfter.{IsMethodAfter};
+ghost use Rattle.refactor_conflict.specs.MembersAfter.{HasFieldAfter, IsFieldIn, IsFirst, IsFirstField, IsFirstMethod, IsMemberAfter, IsMethodIn};
+ghost use Rattle.refactor_conflict.specs.MembersFound.{IsRankFound, IsStructFound, SelectsField, SelectsMethod};
 ghost use Rattle.refactor_members.specs.Renames.{by, KnowsRename, IsFieldOfNewName, IsMethodNamed, packages_before, rename_revision, workspace_before};
 ghost use Rattle.refactor_members.specs.Naming.{HasField, HasMethod, IsFirstOld, IsOwnField, IsOwnMethod, IsRenamedField, IsRenamedMethod, lesser_rank};
 
 use crate::member_rename::{MemberRename, RenamedMember};
-use refactor_after::is_rank;
+use crate::ranks::is_rank;
 use refs_binding::{Declaration, own_of};
 use std::alloc::AllocError;
 use types_declared::is_exported;

@@ -1,17 +1,15 @@
 -- When a change preserves all bindings.
-use Rattle.std.specs.Prelude.{[], Option, None, Some}
+use Rattle.std.specs.Prelude.{[]}
 use Rattle.base_files.specs.Workspace.{Workspace}
 use Rattle.base_files.specs.declared.place.Place.{Place}
 use Rattle.workspace_check.specs.Verdicts.{Verdicts, AreVerdicts}
-use Rattle.workspace_check.specs.declared.known.Known.{Known}
 use Rattle.workspace_check.specs.FaultLists.{ListsFaults}
-use Rattle.workspace_check.specs.Found.{KnowsVerdicts}
 use Rattle.refs_binding.specs.declared.declaration.Declaration.{Declaration}
 use Rattle.refs_binding.specs.Uses.{IsCheckedPackage, IsUseOf}
 use Rattle.refs_places.specs.Identified.{IsIdentifierAt}
 use Rattle.base_edits.specs.Revisions.{Revision}
 use Rattle.refactor_preserve.specs.BoundToOne.{IsBoundToOne}
-use Rattle.refs_index.specs.Corresponding.{Corresponds}
+use Rattle.refactor_conflict.specs.Corresponding.{Corresponds}
 
 -- Each identifier stays bound to what its declaration has become, and is bound to nothing more.
 pub record KeepsBindings (w : Workspace) (before : Verdicts) (r : Revision) (after : Verdicts) : Type 0 where
@@ -29,8 +27,3 @@ pub record Preserves (w : Workspace) (r : Revision) : Type 0 where
   pub right_after : AreVerdicts r.after after
   pub sound : ListsFaults r.after []
   pub kept : KeepsBindings w before r after
-
--- Whether a change preserves all bindings. `Some` has what is known of the packages after the change.
-abbrev pub FindsPreserved : Workspace → Revision → Option Known → Type 0
-FindsPreserved w r None = ¬ (Preserves w r)
-FindsPreserved w r (Some known) = Preserves w r × KnowsVerdicts r.after known

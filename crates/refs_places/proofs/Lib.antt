@@ -2,6 +2,4 @@
 pub mod Declared
 pub mod Found
 pub mod Starts
-pub mod Identifiers
-pub mod Range
 pub mod HomeMarks

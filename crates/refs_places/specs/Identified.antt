@@ -6,18 +6,10 @@ use Rattle.types_declared.specs.Package.{Package}
 use Rattle.workspace_check.specs.Verdicts.{Verdicts}
 use Rattle.refs_binding.specs.Identifiers.{BeginsAt}
 use Rattle.refs_binding.specs.Uses.{IsCheckedPackage}
-use Rattle.refs_binding.specs.Workspaces.{IsPackageAt}
 
 -- An identifier of some package begins at the place. It is no import's path literal.
 pub record IsIdentifierAt (w : Workspace) (known : Verdicts) (place : Place) : Type 0 where
   pub used_in : Package
   pub is_package : IsCheckedPackage w known used_in
-  pub user : ℕ
-  pub begins : BeginsAt used_in place.path place.offset user
-
--- An identifier of the package of this number begins at the place. It is no import's path literal.
-pub record BeginsInPackageAt (w : Workspace) (known : Verdicts) (number : ℕ) (place : Place) : Type 0 where
-  pub used_in : Package
-  pub is_package : IsPackageAt w known number used_in
   pub user : ℕ
   pub begins : BeginsAt used_in place.path place.offset user

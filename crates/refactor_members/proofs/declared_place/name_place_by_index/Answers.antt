@@ -5,7 +5,7 @@ use Rattle.std.proofs.lemmas.Result.{IfOk-weaker}
 use Rattle.types_declared.specs.PackageView.{package_of}
 use Rattle.refs_binding.specs.Workspaces.{home_path}
 use Rattle.refs_places.specs.DeclaredPlaces.{IsChoice}
-use Rattle.refactor_after.specs.OldPlaces.{field_at, method_at}
+use Rattle.refactor_conflict.specs.OldPlaces.{field_at, method_at}
 use Rattle.refactor_members.specs.Judging.{IsNamedAt}
 use Rattle.refactor_members.proofs.declared_place.name_place_by_index.Goals as goal
 

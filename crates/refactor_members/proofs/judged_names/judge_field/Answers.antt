@@ -6,8 +6,8 @@ use Rattle.std.proofs.lemmas.Result.{on_ok_weaker}
 use Rattle.types_expr.specs.declared.symbol.Symbol.{Symbol}
 use Rattle.refs_binding.specs.declared.declaration.Declaration.{Declaration}
 use Rattle.refs_binding.specs.declared.declaration.Declaration.TheVariants.{Field}
-use Rattle.refactor_after.specs.MembersAfter.{CountsAfter}
-use Rattle.refactor_after.specs.OldPlaces.{field_at}
+use Rattle.refactor_conflict.specs.MembersAfter.{CountsAfter}
+use Rattle.refactor_conflict.specs.OldPlaces.{field_at}
 use Rattle.refactor_conflict.specs.Conflicts.{IsConflictIn}
 use Rattle.refactor_members.specs.Judging.{JudgesIn, ListedFieldStays, NewNameCounts}
 use Rattle.refactor_members.specs.Renames.{by, packages_before, rename_revision, verdicts_in, workspace_before}

@@ -1,7 +1,7 @@
 -- The answers to the goals of `judged_names::judge_fields`.
 use Rattle.std.proofs.Common.{subst}
 use Rattle.std.proofs.lemmas.Result.{on_ok_weaker}
-use Rattle.refactor_after.specs.MembersFound.{IsRankFound}
+use Rattle.refactor_conflict.specs.MembersFound.{IsRankFound}
 use Rattle.refactor_conflict.specs.Conflicts.{IsConflictIn}
 use Rattle.refactor_members.specs.Judging.{ListedFieldStays, FieldsStayOf}
 use Rattle.refactor_members.specs.Naming.{HasField, IsFirstOld, IsRenamedField}

@@ -6,7 +6,7 @@ use Rattle.types_expr.specs.declared.symbol.Symbol.{Symbol}
 use Rattle.types_expr.specs.Types.{Underlying}
 use Rattle.refs_binding.specs.Members.{definitions_known}
 use Rattle.refs_binding.specs.Steps.{IsDeclarationResult}
-use Rattle.refactor_after.specs.MembersAfter.{IsMemberAfter}
+use Rattle.refactor_conflict.specs.MembersAfter.{IsMemberAfter}
 use Rattle.refactor_members.specs.Renames.{by, packages_before, rename_revision}
 use Rattle.refactor_members.proofs.judged_uses.member_now.Goals as goal
 

@@ -5,7 +5,7 @@ use Rattle.types_expr.specs.View.{type_of}
 use Rattle.types_expr.specs.WorldView.{member_of}
 use Rattle.refs_binding.specs.Binding.{declaration_of}
 use Rattle.refs_binding.specs.Members.{definitions_known}
-use Rattle.refactor_after.specs.MembersAfter.{IsMemberAfter}
+use Rattle.refactor_conflict.specs.MembersAfter.{IsMemberAfter}
 use Rattle.refactor_conflict.specs.Conflicts.{IsOtherMember, IsPlaceBefore}
 use Rattle.refactor_conflict.proofs.Conflicts.{found_so, other_found}
 use Rattle.refactor_conflict.proofs.KeepingFirst.{takes_as, call_both}

@@ -1,6 +1,6 @@
 -- The answers to the goals of `lookup::field`.
 use Rattle.std.proofs.Common.{sym, ◌∙◌}
-use Rattle.refactor_after.proofs.FieldsAfter.{field_seen, field_unseen}
+use Rattle.refactor_conflict.proofs.FieldsAfter.{field_seen, field_unseen}
 use Rattle.refactor_members.specs.Renames.{by, packages_before, rename_revision}
 use Rattle.refactor_members.proofs.lookup.field.Goals as goal
 

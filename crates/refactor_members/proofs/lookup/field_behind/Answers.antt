@@ -2,7 +2,7 @@
 use Rattle.std.proofs.lemmas.Result.{IfOk-weaker}
 use Rattle.types_expr.specs.View.{type_of}
 use Rattle.types_expr.specs.WorldView.{underlying_in}
-use Rattle.refactor_after.proofs.FieldsAfter.{no_field_behind, field_behind}
+use Rattle.refactor_conflict.proofs.FieldsAfter.{no_field_behind, field_behind}
 use Rattle.refactor_members.specs.Renames.{by, packages_before, rename_revision}
 use Rattle.refactor_members.proofs.lookup.field_behind.Goals as goal
 

@@ -1,7 +1,7 @@
 -- The answers to the goals of `lookup::first_method`.
 use Rattle.std.proofs.Common.{sym, ◌∙◌}
 use Rattle.std.proofs.lemmas.Bool.{false≢true}
-use Rattle.refactor_after.proofs.FieldsAfter.{method_first}
+use Rattle.refactor_conflict.proofs.FieldsAfter.{method_first}
 use Rattle.refactor_members.specs.Renames.{by, packages_before, rename_revision}
 use Rattle.refactor_members.proofs.lookup.first_method.Goals as goal
 

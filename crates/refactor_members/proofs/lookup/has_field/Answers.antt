@@ -1,9 +1,9 @@
 -- The answers to the goals of `lookup::has_field`.
 use Rattle.std.proofs.Common.{subst, sym, ◌∙◌}
 use Rattle.std.proofs.lemmas.Bool.{false≢true}
-use Rattle.refactor_after.proofs.FieldsAfter.{has_no_field, has_the_field}
-use Rattle.refactor_after.specs.MembersAfter.{IsFieldIn}
-use Rattle.refactor_after.specs.MembersFound.{IsRankFound}
+use Rattle.refactor_conflict.proofs.FieldsAfter.{has_no_field, has_the_field}
+use Rattle.refactor_conflict.specs.MembersAfter.{IsFieldIn}
+use Rattle.refactor_conflict.specs.MembersFound.{IsRankFound}
 use Rattle.refactor_members.specs.Renames.{by, packages_before, rename_revision, workspace_before, verdicts_in}
 use Rattle.refactor_members.proofs.lookup.has_field.Goals as goal
 

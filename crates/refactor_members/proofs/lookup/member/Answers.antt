@@ -4,8 +4,8 @@ use Rattle.std.proofs.lemmas.Result.{IfOk-weaker}
 use Rattle.types_expr.specs.View.{type_of}
 use Rattle.types_expr.specs.WorldView.{underlying_in}
 use Rattle.refs_binding.specs.Steps.{IsDeclarationResult}
-use Rattle.refactor_after.specs.MembersFound.{SelectsField}
-use Rattle.refactor_after.proofs.FieldsAfter.{method_is_member, field_is_member}
+use Rattle.refactor_conflict.specs.MembersFound.{SelectsField}
+use Rattle.refactor_conflict.proofs.FieldsAfter.{method_is_member, field_is_member}
 use Rattle.refactor_members.specs.Renames.{by, packages_before, rename_revision}
 use Rattle.refactor_members.proofs.lookup.member.Goals as goal
 

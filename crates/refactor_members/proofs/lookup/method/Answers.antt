@@ -1,6 +1,6 @@
 -- The answers to the goals of `lookup::method`.
 use Rattle.std.proofs.Common.{sym, ◌∙◌}
-use Rattle.refactor_after.proofs.FieldsAfter.{method_seen, method_unseen}
+use Rattle.refactor_conflict.proofs.FieldsAfter.{method_seen, method_unseen}
 use Rattle.refactor_members.specs.Renames.{by, packages_before, rename_revision}
 use Rattle.refactor_members.proofs.lookup.method.Goals as goal
 

@@ -1,7 +1,7 @@
 -- The answers to the goals of `lookup::method_behind`.
 use Rattle.std.proofs.lemmas.Result.{IfOk-weaker}
 use Rattle.types_expr.specs.View.{type_of}
-use Rattle.refactor_after.proofs.FieldsAfter.{no_method_behind, method_behind}
+use Rattle.refactor_conflict.proofs.FieldsAfter.{no_method_behind, method_behind}
 use Rattle.refactor_members.specs.Renames.{by, packages_before, rename_revision}
 use Rattle.refactor_members.proofs.lookup.method_behind.Goals as goal
 

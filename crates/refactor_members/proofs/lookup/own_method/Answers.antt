@@ -1,6 +1,6 @@
 -- The answers to the goals of `lookup::own_method`.
 use Rattle.std.proofs.Common.{subst, sym}
-use Rattle.refactor_after.specs.MembersFound.{IsRankFound}
+use Rattle.refactor_conflict.specs.MembersFound.{IsRankFound}
 use Rattle.refactor_members.specs.Renames.{by}
 use Rattle.refactor_members.proofs.Renamed as renamed
 use Rattle.refactor_members.proofs.lookup.own_method.Goals as goal

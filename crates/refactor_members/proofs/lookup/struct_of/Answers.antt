@@ -3,7 +3,7 @@ use Rattle.std.proofs.Common.{subst}
 use Rattle.std.specs.Option.{option_copied}
 use Rattle.std.specs.Prelude.{Contains}
 use Rattle.base_files.specs.Packages.{package_paths}
-use Rattle.refactor_after.proofs.Structs.{struct_found}
+use Rattle.refactor_conflict.proofs.Structs.{struct_found}
 use Rattle.refactor_members.specs.Renames.{workspace_before}
 use Rattle.refactor_members.proofs.lookup.struct_of.Goals as goal
 

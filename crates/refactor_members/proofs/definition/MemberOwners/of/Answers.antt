@@ -1,7 +1,7 @@
 -- The answers to the goals of `definition::MemberOwners::of`.
 use Rattle.std.proofs.Common.{sym, subst, ap, ◌∙◌}
 use Rattle.std.specs.Prelude.{None, slice_get, slice_index_or}
-use Rattle.refactor_after.specs.MembersFound.{IsRankFound}
+use Rattle.refactor_conflict.specs.MembersFound.{IsRankFound}
 use Rattle.refactor_members.specs.Renames.{IsDefinitionIn, IsFieldOfDefinition, IsMethodOfDefinition}
 use Rattle.refactor_members.proofs.definition.MemberOwners.of.Goals as goal
 
