@@ -1,4 +1,4 @@
-"""Runs rt ci with five things done otherwise, none of which changes what is proved or refused: python3 -m checks.gate.gate
+"""Runs rt ci with some things done otherwise, none of which changes what is proved or refused: python3 -m checks.gate.gate
 
 Sums: kit 13b sums up the sources of a library once for each path of crates.txt that leads to it. That is over a million times here, and
 takes hours. Here the sum and the libraries of each crate are found once in a run.
@@ -10,7 +10,8 @@ may take up to twice the processor time beside other proofs.
 
 Edits: each is tried by a check of the functions that it changes (must_fail.py).
 
-Memory: the prover keeps what it frees, so it takes less than half as many pages from the kernel.
+Memory: the prover keeps what it frees, so it takes less than half as many pages from the kernel. These are large, where root runs it
+(pages.py).
 
 Layout: rt ci refuses a crate with a file that rt fmt lays out otherwise, before it proves it. Here all crates are asked before the first
 proof, while rt reads them.
@@ -34,9 +35,10 @@ sys.dont_write_bytecode = True
 
 from checks import TOP
 from checks.gate import must_fail, replay
+from checks.gate.pages import large_pages
 
 # More memory than a proof was seen to take, in bytes.
-MEMORY_OF_ONE = 3_500_000_000
+MEMORY_OF_ONE = 4_000_000_000
 PROCESSORS_OF_THE_FIRST = 2
 # Has the prover keep the memory that it frees, as its allocator (mimalloc) calls it: to take it from the kernel again costs 2 % of a proof.
 KEEPS_FREED = ("MIMALLOC_PURGE_DELAY", "-1")
@@ -214,7 +216,7 @@ def main():
     crate.stamp, crate.below, crate.count = once(crate.stamp), once(crate.below), once(crate.count)
     # (its first call sets a signal's handler, which only the main thread may)
     rt.rtlib.guarded()
-    with ThreadPoolExecutor(1) as beside:
+    with large_pages(), ThreadPoolExecutor(1) as beside:
         layout = beside.submit(out_of_layout, rt)
         try:
             if hasattr(rt, "in_lanes"):
