@@ -132,6 +132,13 @@ impl Book {
         self.content.number()
     }
 
+    /// The current files. It is no event.
+    pub fn files(&self) -> &Graph
+        ensures { result.now ≡ self.now.current.files }
+    {
+        self.content.files()
+    }
+
     /// How many steps undo can make. It is no event.
     pub fn undo_steps(&self) -> usize
         ensures { result ≡ length self.now.earlier }
@@ -236,33 +243,37 @@ impl Book {
     }
 
     /// Makes the step of a `Changing::Commit` whose base is known to have the current files. It compares the basis with the current number,
-    /// and no text.
-    pub fn commit_on_current(&mut self, basis: u64, change: MadeChange) -> Result<u64, Refusal>
+    /// and no text. Returns the answer, and a copy of the entry that it adds.
+    pub fn commit_on_current(
+        &mut self,
+        basis: u64,
+        change: MadeChange,
+    ) -> (Result<u64, Refusal>, Option<Entry>)
         requires { change.base ≡ self.old.current.files }
-        ensures { Step self.old (Commit basis change) (done result) self.new }
+        ensures { JournalStep self.old (Commit basis change) (done result.0) result.1 self.new }
     {
         let asked = Asked::alone(EntryKind::Commit, basis);
         if !self.has_room(asked.entries_needed()) {
-            return Err(Refusal::JournalFull);
+            return (Err(Refusal::JournalFull), None);
         }
         match make_room(&mut self.journal, &self.content, &asked) {
-            Err(_) => Err(Refusal::Memory),
+            Err(_) => (Err(Refusal::Memory), None),
             Ok(()) => enter_on_current(&mut self.content, &mut self.journal, basis, change),
         }
     }
 
     /// Makes the step of a `HandingIn::Deliver`. The Job, and what was built, are known to have the inputs of their package in the current
-    /// files. It compares numbers and packages, and no text.
-    pub fn deliver_on_current(&mut self, job: Job, built: Built) -> Handed
+    /// files. It compares numbers and packages, and no text. Returns the answer, and a copy of the entry that it adds.
+    pub fn deliver_on_current(&mut self, job: Job, built: Built) -> (Handed, Option<Entry>)
         requires { HasCurrentInputs self.old.current.files job built }
-        ensures { Step self.old (Deliver job built) (handed result) self.new }
+        ensures { JournalStep self.old (Deliver job built) (handed result.0) result.1 self.new }
     {
         let asked = asked_of(EntryKind::Deliver, &job, &self.content);
         if !self.has_room(asked.entries_needed()) {
-            return Handed::Back(Refusal::JournalFull, job, Some(built));
+            return (Handed::Back(Refusal::JournalFull, job, Some(built)), None);
         }
         match make_room(&mut self.journal, &self.content, &asked) {
-            Err(_) => Handed::Back(Refusal::Memory, job, Some(built)),
+            Err(_) => (Handed::Back(Refusal::Memory, job, Some(built)), None),
             Ok(()) => enter_delivery(&mut self.content, &mut self.journal, job, built),
         }
     }

@@ -3,6 +3,7 @@ ghost use Rattle.std.specs.Prelude.{◌≡◌, ◌+◌, ◌≤◌, None, length,
 ghost use Rattle.history_machine.specs.Journal.{edits_of, subject_after, told_of};
 ghost use Rattle.history_book.specs.Questions.{changing_event, edits_made};
 ghost use Rattle.history_machine.specs.Machine.{HasNumbersLeft};
+ghost use Rattle.history_machine.specs.JournalSteps.{LeavesEntry};
 ghost use Rattle.history_machine.specs.Step.{AnswersOrLacks, EntersEvent, committed, done};
 ghost use Rattle.history_machine.specs.declared.event.Event.TheVariants.{Commit};
 
@@ -86,23 +87,24 @@ fn commit_on_current(
     answered_edits(content.commit_on_current(basis, change))
 }
 
-/// Answers a commit whose base is known to have the current files, and adds its entry to the journal, which has room for it.
+/// Answers a commit whose base is known to have the current files, and adds its entry to the journal, which has room for it. Returns the
+/// answer, and a copy of the entry.
 pub(crate) fn enter_on_current(
     content: &mut Content,
     journal: &mut Vec<Entry>,
     basis: u64,
     change: MadeChange,
-) -> Result<u64, Refusal>
+) -> (Result<u64, Refusal>, Option<Entry>)
     requires numbers { HasNumbersLeft content.old }
     requires base { change.base ≡ content.old.current.files }
     requires room { length journal.old.items + 1 ≤ vec_capacity journal.old }
-    ensures keeps { EntersEvent content.old journal.old.items (Commit basis change) (done result) content.new journal.new.items }
+    ensures keeps { EntersEvent content.old journal.old.items (Commit basis change) (done result.0) content.new journal.new.items }
+    ensures copy { LeavesEntry content.old.current.number (Commit basis change) (done result.0) result.1 }
     ensures capacity { vec_capacity journal.new ≡ vec_capacity journal.old }
 {
+    let asked = Asked::alone(EntryKind::Commit, basis);
     let answered = commit_on_current(content, basis, change);
-    let (answer, kept) = enter(journal, Asked::alone(EntryKind::Commit, basis), answered);
-    drop(kept);
-    answer
+    enter(journal, asked, answered)
 }
 
 impl Question for Changing {

@@ -18,6 +18,7 @@ ghost use Rattle.history_machine.specs.declared.event.Event.TheVariants.{Commit,
 use crate::deliveries::{DeliveryOutcome, outcome_of, outcome_on_current};
 use crate::following::state_after;
 use crate::handed::{Handed, take_in};
+use crate::learning::with_found;
 use crate::states::States;
 use crate::work_left::{are_all_finished, has_package_waiting};
 use base_edits::EditSet;
@@ -189,6 +190,13 @@ impl Content {
         ensures { result ≡ self.now.current.number }
     {
         self.history.current.number()
+    }
+
+    /// The current files.
+    pub fn files(&self) -> &Graph
+        ensures { result.now ≡ self.now.current.files }
+    {
+        &self.history.current.files
     }
 
     /// How many steps undo can make.
@@ -455,12 +463,14 @@ impl Content {
         self.history.current.learn(self.alloc, files, &known);
     }
 
-    /// Keeps the findings of the packages of the current files. No file is compared.
-    pub fn learn_current(&mut self, known: Known)
-        requires { KnowsVerdicts self.old.current.files known }
+    /// Keeps the findings of the packages of the current files, beside those that are known. No file is compared. For want of memory it learns
+    /// nothing.
+    pub fn learn_current(&mut self, found: Known)
+        requires { KnowsVerdicts self.old.current.files found }
         ensures { self.new ≡ self.old }
     {
-        if let Ok(known) = SharedKnown::new(self.alloc, known) {
+        let current = &self.history.current;
+        if let Ok(known) = with_found(self.alloc, &current.files, &current.known, &found) {
             self.history.current.learn_own(known);
         }
     }

@@ -2,6 +2,7 @@
 ghost use Rattle.std.specs.Prelude.{◌≡◌, ◌+◌, ◌≤◌, ◌↔◌, IsTrue, None, Some, length, vec_capacity};
 ghost use Rattle.build_unit.specs.Jobs.{IsOut};
 ghost use Rattle.history_machine.specs.Journal.{subject_after, told_of};
+ghost use Rattle.history_machine.specs.JournalSteps.{LeavesEntry};
 ghost use Rattle.history_machine.specs.Step.{AnswersOrLacks, EntersEvent};
 ghost use Rattle.history_machine.specs.declared.event.Event.TheVariants.{Deliver};
 ghost use Rattle.history_book.specs.CurrentInputs.{HasCurrentInputs};
@@ -72,23 +73,22 @@ fn deliver_on_current(content: &mut Content, job: Job, built: Built) -> Answered
 }
 
 /// Answers a delivery that is known to have the inputs of its package in the current files. Adds its entry to the journal, which has room
-/// for it.
+/// for it. Returns the answer, and a copy of the entry.
 pub(crate) fn enter_delivery(
     content: &mut Content,
     journal: &mut Vec<Entry>,
     job: Job,
     built: Built,
-) -> Handed
+) -> (Handed, Option<Entry>)
     requires brings { HasCurrentInputs content.old.current.files job built }
     requires room { length journal.old.items + 1 ≤ vec_capacity journal.old }
-    ensures keeps { EntersEvent content.old journal.old.items (Deliver job built) (handed result) content.new journal.new.items }
+    ensures keeps { EntersEvent content.old journal.old.items (Deliver job built) (handed result.0) content.new journal.new.items }
+    ensures copy { LeavesEntry content.old.current.number (Deliver job built) (handed result.0) result.1 }
     ensures capacity { vec_capacity journal.new ≡ vec_capacity journal.old }
 {
     let asked = asked_of(EntryKind::Deliver, &job, content);
     let answered = deliver_on_current(content, job, built);
-    let (answer, kept) = enter(journal, asked, answered);
-    drop(kept);
-    answer
+    enter(journal, asked, answered)
 }
 
 impl Question for HandingIn {

@@ -17,6 +17,7 @@ mod following;
 mod fresh;
 mod handed;
 mod handing;
+mod learning;
 mod looking_back;
 mod question;
 mod reasons;

@@ -32,11 +32,12 @@ pub trait Desk {
     /// What the desk says: the desk before it, how a wait ended or the numbers that it tells, and the desk after it.
     ghost waits: { Self → Aside → Self → Type 0 };
 
-    /// What the desk knows of files that a look or a commit has shown to be current, until the next event. A desk at a shared book knows
-    /// nothing of them.
+    /// What the desk knows of files that a look or a commit has shown to be current, until the next event. A desk at a shared book knows only
+    /// what was the end of a log then.
     ghost sees: { Self → Workspace → Type 0 };
 
-    /// What the desk knows of a Job that was taken here, until the next event. A desk at a shared book knows nothing of it.
+    /// What the desk knows of a Job that was taken here, until the next event. A desk at a shared book knows only of which files at the end of
+    /// a log it has the inputs.
     ghost brings: { Self → JobRecord → Type 0 };
 
     /// Answers one event. The type of the answer determines which replies it may get.
@@ -168,7 +169,7 @@ impl Desk for Solo {
     /// The basis alone is compared, and no text.
     fn commit(&mut self, basis: u64, change: MadeChange) -> Result<u64, Refusal> {
         let bytes = edit_bytes(&change.get().edits);
-        let done = self.book.commit_on_current(basis, change);
+        let (done, _entry) = self.book.commit_on_current(basis, change);
         self.kept = kept_behind(self.kept, bytes, &done);
         done
     }
@@ -179,7 +180,7 @@ impl Desk for Solo {
 
     /// Numbers and packages are compared, and no text.
     fn deliver(&mut self, job: Job, built: Built) -> Handed {
-        self.book.deliver_on_current(job, built)
+        self.book.deliver_on_current(job, built).0
     }
 
     /// Refuses the wait, since no one else builds.

@@ -1,5 +1,6 @@
 -- What a store holds stays the changes of the book's history.
 use Rattle.std.proofs.Common.{◌≡◌, ℕ, Bool, true, false, List, [], ◌∷◌, ◌++◌, Option, Some, None, append_assoc, refl, sym, ap, subst, inl, inr, ◌∙◌}
+use Rattle.std.proofs.Common.{Result, Ok, Err, IfErr, IfOk}
 use mathlib.Core.Logic.{∥∥₁_map}
 use Rattle.std.specs.Prelude.{◌⊎◌, IsSome, option_map, option_to_list}
 use Rattle.std.proofs.lemmas.Bool.{false≢true}
@@ -55,6 +56,16 @@ pub asks_other : (old : Machine) (event : Event) (change : KeptChange) → chang
     (IsPossible change (states_kept (content old)) → ⊥) → IsNeedless old event
 asks_other old event change is not (Done number) new step = absurd (not (done_possible old new event number change is step))
 asks_other old event change is not reply new step = refl
+
+-- what holds for each event that asks for a change holds for this one
+pub of_event : {E A : Type 0} (P : E → Bool → Type 0) (Q : E → Type 0) (answer : Result Bool A) (event : E) → Q event →
+    IfOk answer (λ added. (e : E) → Q e → P e added) → IfOk answer (P event)
+of_event P Q (Ok added) event asks all = all event asks
+of_event P Q (Err fault) event asks all = tt
+
+pub if_err : {T E P : Type 0} (r : Result T E) → P → IfErr r (λ _. P)
+if_err (Ok value) p = tt
+if_err (Err error) p = p
 
 -- ---- whether a change was done, by its entry
 

@@ -21,7 +21,7 @@ mod store;
 pub use beginning::keep_behind;
 pub use disk::DiskStore;
 pub use folder::{KeptBook, open_journal};
-pub use keeping::kept_step;
+pub use keeping::{kept_commit, kept_step};
 pub use kept::{Kept, KeptFault};
 pub use opened::{JournalFault, RecoveredBook, book_in};
 pub use recovery::recovered;

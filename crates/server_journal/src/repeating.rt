@@ -70,7 +70,8 @@ fn commit_again(
     ensures err { IfErr result (FailsToRepeat book.old (Commit basis edits)) }
 {
     let change = edited_change(alloc, book, edits)?;
-    is_done(book.commit_on_current(basis, change))
+    let (answer, _entry) = book.commit_on_current(basis, change);
+    is_done(answer)
 }
 
 /// Makes a change once more.

@@ -11,19 +11,19 @@ use Rattle.server_journal.proofs.repeating.commit_again.Goals as goal
 
 pub returns-clause-ok : goal.returns-clause-ok
 returns-clause-ok c =
-    done_again c.args.book.now c.commit_on_current.new.self (event.Commit c.args.basis c.in_ok-change.change) (Commit c.args.basis c.args.edits)
-    c.commit_on_current.result c.is_done.result (ap (λ (e : FileChanges). Some (Commit c.args.basis e)) c.in_ok-change.ensures.ok.1)
-    c.commit_on_current.ensures c.is_done.ensures.ok
+    done_again c.args.book.now c.commit_on_current-answer.new.self (event.Commit c.args.basis c.in_ok-change.change) (Commit c.args.basis c.args.edits)
+    c.commit_on_current-answer.result.0 c.is_done.result (ap (λ (e : FileChanges). Some (Commit c.args.basis e)) c.in_ok-change.ensures.ok.1)
+    c.commit_on_current-answer.ensures.0 c.is_done.ensures.ok
 
 pub returns-clause-err : goal.returns-clause-err
 returns-clause-err c =
     let old = c.args.book.now in
-    let new = c.commit_on_current.new.self in
+    let new = c.commit_on_current-answer.new.self in
     let basis = c.args.basis in
     let made = c.in_ok-change.change in
     let edited = c.in_ok-change.ensures.ok in
-    fails_again old new (event.Commit basis made) (Commit basis c.args.edits) c.commit_on_current.result c.is_done.result
+    fails_again old new (event.Commit basis made) (Commit basis c.args.edits) c.commit_on_current-answer.result.0 c.is_done.result
     (λ why step good possible.
     commit_refused old new basis made why edited.0 step good
     (subst (λ (e : FileChanges). IsPossible (Commit basis e) (states_kept (content old))) (sym edited.1) possible))
-    c.commit_on_current.ensures c.is_done.ensures.ok c.is_done.ensures.err
+    c.commit_on_current-answer.ensures.0 c.is_done.ensures.ok c.is_done.ensures.err

@@ -2,8 +2,10 @@
 -- journal's replay.
 use Rattle.std.proofs.Common.{◌+◌, ◌≤◌, ◌↔◌, IsTrue, sym, ap, subst, vec_capacity}
 use Rattle.history_machine.specs.Machine.{Machine, with_journal}
-use Rattle.history_machine.specs.Step.{Step, done, entries_due}
+use Rattle.history_machine.specs.JournalSteps.{JournalStep}
+use Rattle.history_machine.specs.Step.{done, entries_due}
 use Rattle.history_machine.specs.declared.event.Event.TheVariants.{Commit}
+use Rattle.history_machine.proofs.JournalSteps.{journal_step}
 use Rattle.history_machine.proofs.Legal.{holds_still}
 use Rattle.history_book.specs.declared.question.Asked.{Asked}
 use Rattle.history_book.proofs.BookUnits.{bounds_of, kept_on, kept_still}
@@ -25,10 +27,10 @@ invariant_of-self-in-Ok c =
     subst (λ (x : Machine). IsTrue c.has_room.result ↔ (entries_due x + c.entries_needed.result ≤ x.limits.journal)) (sym c.self.view_is) c.has_room.ensures in
     kept_on c.self.inside.content c.enter_on_current.new.content c.self.inside.journal.items c.enter_on_current.new.journal.items
     (vec_capacity c.self.inside.journal) (vec_capacity c.enter_on_current.new.journal) (Commit c.args.basis c.args.change)
-    (done c.enter_on_current.result) c.self.invariant
+    (done c.enter_on_current.result.0) c.self.invariant
     (entered_on c.self.inside.content c.self.inside.journal.items (vec_capacity c.self.inside.journal) c.make_room.new.journal.items
     (vec_capacity c.make_room.new.journal) c.alone-asked.result c.entries_needed.result (Commit c.args.basis c.args.change)
-    c.enter_on_current.new.content c.enter_on_current.new.journal.items (vec_capacity c.enter_on_current.new.journal) (done c.enter_on_current.result)
+    c.enter_on_current.new.content c.enter_on_current.new.journal.items (vec_capacity c.enter_on_current.new.journal) (done c.enter_on_current.result.0)
     (record {
       held = bounds_of c.self.inside.content c.self.inside.journal.items (vec_capacity c.self.inside.journal) c.self.invariant;
       same = c.make_room.ensures.items;
@@ -49,7 +51,7 @@ returns-in-Ok c =
     subst (λ (x : Machine). IsTrue c.has_room.result ↔ (entries_due x + c.entries_needed.result ≤ x.limits.journal)) (sym c.self.view_is) c.has_room.ensures in
     let on = entered_on c.self.inside.content c.self.inside.journal.items (vec_capacity c.self.inside.journal) c.make_room.new.journal.items
     (vec_capacity c.make_room.new.journal) c.alone-asked.result c.entries_needed.result (Commit c.args.basis c.args.change)
-    c.enter_on_current.new.content c.enter_on_current.new.journal.items (vec_capacity c.enter_on_current.new.journal) (done c.enter_on_current.result)
+    c.enter_on_current.new.content c.enter_on_current.new.journal.items (vec_capacity c.enter_on_current.new.journal) (done c.enter_on_current.result.0)
     (record {
       held = bounds_of c.self.inside.content c.self.inside.journal.items (vec_capacity c.self.inside.journal) c.self.invariant;
       same = c.make_room.ensures.items;
@@ -61,5 +63,7 @@ returns-in-Ok c =
       place = c.in-Ok.ensures.ok;
     })
     c.enter_on_current.ensures.capacity c.enter_on_current.ensures.keeps in
-    subst (λ (x : Machine). Step x (Commit c.args.basis c.args.change) (done c.enter_on_current.result)
-    (with_journal c.enter_on_current.new.content c.enter_on_current.new.journal.items)) c.self.view_is on.1
+    subst (λ (x : Machine). JournalStep x (Commit c.args.basis c.args.change) (done c.enter_on_current.result.0) c.enter_on_current.result.1
+    (with_journal c.enter_on_current.new.content c.enter_on_current.new.journal.items)) c.self.view_is
+    (journal_step m (Commit c.args.basis c.args.change) (done c.enter_on_current.result.0) c.enter_on_current.result.1
+    (with_journal c.enter_on_current.new.content c.enter_on_current.new.journal.items) on.1 c.enter_on_current.ensures.copy)

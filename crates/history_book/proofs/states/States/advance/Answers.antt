@@ -1,5 +1,5 @@
 -- One state more rests, and the oldest is gone where there are more than the history keeps.
-use Rattle.std.proofs.Common.{◌+◌, ◌-◌, ◌++◌, ◌∷◌, [], refl, ap, ◌∙◌}
+use Rattle.std.proofs.Common.{◌+◌, ◌++◌, ◌∷◌, [], refl, ap, ◌∙◌}
 use Rattle.base_edits.specs.EditSet.{FileChanges}
 use Rattle.history_inverses.specs.Inverses.{Inverses, latest}
 use Rattle.history_book.specs.declared.states.States.{States}

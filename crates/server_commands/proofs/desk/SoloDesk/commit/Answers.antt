@@ -14,4 +14,4 @@ made old new basis change (Err refusal) step = tt
 
 pub returns-clause-sees : goal.returns-clause-sees
 returns-clause-sees c =
-    made c.self.inside.book c.commit_on_current-done.new.self c.args.basis c.args.change c.commit_on_current-done.result c.commit_on_current-done.ensures
+    made c.self.inside.book c.commit_on_current-done.new.self c.args.basis c.args.change c.commit_on_current-done.result.0 c.commit_on_current-done.ensures.0

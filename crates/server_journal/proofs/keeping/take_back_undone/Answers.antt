@@ -2,7 +2,7 @@
 use Rattle.std.proofs.Common.{sym, ◌∙◌}
 use Rattle.std.proofs.lemmas.Bool.{false≢true}
 use Rattle.server_journal.proofs.KeptLaws.{back_or_lost}
-use Rattle.server_journal.proofs.keeping.make_intended.Goals as goal
+use Rattle.server_journal.proofs.keeping.take_back_undone.Goals as goal
 
 pub returns-then-is_done_entry-clause-back : goal.returns-then-is_done_entry-clause-back
 returns-then-is_done_entry-clause-back g c = λ not. absurd (not (c.is_done_entry.ensures.0 c.if-is_done_entry.true))
