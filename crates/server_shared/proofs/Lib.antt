@@ -9,6 +9,7 @@ pub mod ShiftLaws
 pub mod ReceiptLaws
 pub mod RoomLaws
 pub mod StepLaws
+pub mod SeenLaws
 pub mod TakeLaws
 pub mod WakeLaws
 pub mod WorkLaws

@@ -1,5 +1,5 @@
 -- Events for whose receipts there is no memory.
-use Rattle.std.proofs.Common.{◌≡◌, Result, Ok, Err, None, IfErr, inl, refl, subst}
+use Rattle.std.proofs.Common.{◌≡◌, None, inl, refl, subst}
 use Rattle.base_files.specs.declared.refusal.Refusal.TheVariants.{Memory}
 use Rattle.history_machine.specs.declared.entry.EntryKind.{EntryKind}
 use Rattle.history_machine.specs.declared.event.Event.{Event}
@@ -9,10 +9,6 @@ use Rattle.history_machine.specs.JournalSteps.{JournalStep}
 use Rattle.history_machine.specs.Machine.{Machine}
 use Rattle.history_machine.specs.Step.{BringsJob, refused}
 use Rattle.server_shared.specs.Reserved.{IsHandingIn}
-
-pub if_err : {T E P : Type 0} (r : Result T E) → P → IfErr r (λ _. P)
-if_err (Ok value) p = tt
-if_err (Err error) p = p
 
 by_kind : (event : Event) → (IsHandingIn (event_kind event) → ⊥) → BringsJob event → ⊥
 by_kind Look other h = h

@@ -2,6 +2,7 @@
 use denote.RattleType.{RattleType}
 use denote.Param.Send.{IsSend, IsSync, sendable}
 use Rattle.std.specs.declared.sync.ledger.Ledger.{Ghosts as Ledger}
+use Rattle.server_versions.specs.declared.versions.LogName.{Ghosts as LogName}
 use Rattle.std.proofs.Crossing.{crosses, send as Global-send, sync as Global-sync}
 use Rattle.std.proofs.MapsCrossing.{crosses as maps}
 use Rattle.std.proofs.sync.ledger.Book.TheSendSync.{the_send as Count-send}
@@ -24,6 +25,7 @@ use Rattle.history_book.specs.contracts.content.Content.{the_row as content}
 use Rattle.history_book.specs.contracts.book.Book.{the_row as book}
 use Rattle.server_shared.specs.contracts.seat.Seat.{the_row as seat}
 use Rattle.server_shared.specs.contracts.shared.Shared.{the_row as shared}
+use Rattle.server_shared.specs.contracts.files_log.FilesLog.{the_field as files_log_field}
 use Rattle.server_shared.specs.contracts.locked.Locked.{the_row as locked}
 use Rattle.server_shared.specs.declared.opening.Opening.{Ghosts as Opening}
 use Rattle.base_chunks.proofs.list.SharedList.TheSendSync.{the_send as SharedList-send, the_sync as SharedList-sync}
@@ -36,6 +38,8 @@ use Rattle.workspace_graph.proofs.shared_links.SharedLinks.TheSendSync.{the_send
 use Rattle.build_unit.proofs.out.Out.TheSendSync.{the_send as Out-send}
 use Rattle.history_machine.proofs.entry.Entry.TheSendSync.{the_send as Entry-send}
 use Rattle.server_shared.proofs.ahead.Crew.TheSendSync.{the_send as Crew-send}
+use Rattle.logbook.proofs.word.Word.TheSendSync.{the_send as Word-send}
+use Rattle.server_versions.proofs.versions.Versions.TheSendSync.{the_send as Versions-send}
 use Rattle.server_shared.proofs.chapters.Closing.TheSendSync.{the_send as Closing-send}
 use Rattle.server_shared.proofs.receipt.Receipt.TheSendSync.{the_send as Receipt-send}
 use Rattle.server_shared.proofs.seat.Seat.TheSendSync.{the_send as Seat-send}
@@ -131,11 +135,17 @@ content_sent = search (owned, states_field_sent, ready_field_sent, Out-send) dep
 pub book_sent : IsSend book
 book_sent = search (owned, content_sent, Entry-send) depth 30 fits 50000
 
-pub locked_sent : (L : RattleType) (o : Opening L.Denot) (l : Ledger L.Denot) → IsSend (locked L o l)
-locked_sent L o l = search (owned, book_sent, Closing-send, Crew-send, Count-send, DiskStore-send, Kept-send, Receipt-send, Share-send) depth 30 fits 50000
+-- as a field too
+files_log_sent : (L : RattleType) (n : LogName L.Denot) → IsSend (files_log_field L n).row
+files_log_sent L n = search (owned, Word-send, Versions-send) depth 30 fits 50000
 
-pub shared_shared : (L : RattleType) (o : Opening L.Denot) (l : Ledger L.Denot) → IsSync (shared L o l)
-shared_shared L o l = search (owned, locked_sent) depth 30 fits 50000
+pub locked_sent : (L : RattleType) (o : Opening L.Denot) (l : Ledger L.Denot) (n : LogName L.Denot) → IsSend (locked L o n l)
+locked_sent L o l n =
+    search (owned, book_sent, Closing-send, Crew-send, Count-send, DiskStore-send, files_log_sent, Kept-send, Receipt-send, Share-send)
+    depth 30 fits 50000
 
-pub seat_sent : (L : RattleType) (o : Opening L.Denot) (l : Ledger L.Denot) → IsSend (seat L o l)
-seat_sent L o l = search (owned, Seat-send) depth 30 fits 50000
+pub shared_shared : (L : RattleType) (o : Opening L.Denot) (l : Ledger L.Denot) (n : LogName L.Denot) → IsSync (shared L o n l)
+shared_shared L o l n = search (owned, locked_sent) depth 30 fits 50000
+
+pub seat_sent : (L : RattleType) (o : Opening L.Denot) (l : Ledger L.Denot) (n : LogName L.Denot) → IsSend (seat L o l n)
+seat_sent L o l n = search (owned, Seat-send) depth 30 fits 50000

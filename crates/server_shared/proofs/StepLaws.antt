@@ -27,6 +27,18 @@ pub step_of : (most : ℕ) (old : Machine) (event : Event) (reply : Reply) (kept
 step_of most old event reply (Some receipt) new is s = (old, new, is, s)
 step_of most old event reply None new is s = inr (old, new, is, s)
 
+-- the same of a step that leaves no entry, and of one that leaves the receipt's
+pub stepped_without : (most : ℕ) (old : Machine) (event : Event) (reply : Reply) (left : Option Entry) (new : Machine) → old.limits.journal ≡ most →
+    IsReplayed old → left ≡ None → JournalStep old event reply left new → IsReceiptOrNone most event reply None
+stepped_without most old event reply left new is legal none step =
+    inr (old, new, is, (legal, subst (λ (l : Option Entry). JournalStep old event reply l new) none step))
+
+pub stepped_with : (most : ℕ) (old : Machine) (event : Event) (reply : Reply) (left : Option Entry) (receipt : Receipt) (new : Machine) →
+    old.limits.journal ≡ most → IsReplayed old → left ≡ Some receipt.entry → receipt.index ≡ length old.journal →
+    JournalStep old event reply left new → IsReceiptOrNone most event reply (Some receipt)
+stepped_with most old event reply left receipt new is legal some index step =
+    (old, new, is, (legal, index, subst (λ (l : Option Entry). JournalStep old event reply l new) some step))
+
 -- the same of a book whose changes may be kept
 pub kept_step_of : (most : ℕ) (is_kept : Bool) (old : Machine) (event : Event) (reply : Reply) (kept : Option Receipt) (new : Machine)
     → old.limits.journal ≡ most → KeptReceiptStep is_kept old event reply kept new → IsReceiptOrNone most event reply kept

@@ -11,3 +11,4 @@ pub mod Working
 pub mod Waking
 pub mod Standing
 pub mod LimitNumbers
+pub mod SeenFiles

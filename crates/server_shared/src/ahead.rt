@@ -1,10 +1,15 @@
 //! What workers judge before they take a Job, so that several workers don't judge the same packages. Only speed rests on what is marked here:
 //! a Job is built with its own verdicts, whatever was judged before it.
-ghost use Rattle.std.specs.Prelude.{IfOk};
+ghost use Rattle.std.specs.Prelude.{IfOk, IfSome};
 ghost use Rattle.workspace_check.specs.Found.{KnowsVerdicts};
+ghost use Rattle.std.proofs.Props.{props};
+ghost use Rattle.server_versions.specs.Growing.{IsLastVersion};
+ghost use Rattle.server_shared.specs.SeenFiles.{IsLastVersion-prop};
 
+use crate::opening::Opening;
 use build_carry::judged_ahead;
 use history_machine::KnownSnapshot;
+use server_versions::Versions;
 use std::alloc::{AllocError, Global};
 use std::mem;
 use workspace_check::{Known, is_marked};
@@ -16,32 +21,41 @@ const PART_AHEAD: usize = 64;
 /// So many packages at least a worker judges before it hands the verdicts in, if as many may be judged.
 const LEAST_AHEAD: usize = 2;
 
+/// A snapshot of the current state, and what was seen of the log of files, which then ended with the state's files.
+#[derive(Drop)]
+pub struct ShownState<L: Opening> {
+    pub snapshot: KnownSnapshot,
+    pub seen: Option<Versions<Graph, L>>,
+    ghost ends: { IfSome seen (λ v. IsLastVersion v snapshot.files) } by { Prim.hlevel (props, IsLastVersion-prop) },
+}
+
 /// Packages that a worker is to judge, by their numbers in a snapshot of the current state.
 #[derive(Drop)]
-pub struct Ahead {
-    pub(crate) snapshot: KnownSnapshot,
+pub struct Ahead<L: Opening> {
+    pub(crate) state: ShownState<L>,
     numbers: Vec<usize>,
 }
 
-impl Ahead {
+impl<L: Opening> Ahead<L> {
     /// Judges the packages, and returns what is known then.
     pub(crate) fn judged(&self, alloc: Global) -> Result<Known, AllocError>
-        ensures { IfOk result (KnowsVerdicts self.now.snapshot.files) }
+        ensures { IfOk result (KnowsVerdicts self.now.state.snapshot.files) }
     {
+        let snapshot = &self.state.snapshot;
         judged_ahead(
             alloc,
-            self.snapshot.files(),
+            snapshot.files(),
             self.numbers.as_slice(),
-            self.snapshot.known(),
+            snapshot.known(),
         )
     }
 }
 
 /// What a worker does before it takes its next Job.
 #[derive(Drop)]
-pub enum NextStep {
+pub enum NextStep<L: Opening> {
     /// It judges packages.
-    Judge(Ahead),
+    Judge(Ahead<L>),
     /// It waits until another worker has judged packages.
     Wait,
     /// It takes the Job at once.
@@ -191,10 +205,10 @@ impl Crew {
     }
 
     /// Counts a worker that begins to judge packages, unless there are none. Then it waits for others that judge.
-    fn begun(&mut self, snapshot: KnownSnapshot, numbers: Vec<usize>) -> NextStep {
+    fn begun<L: Opening>(&mut self, state: ShownState<L>, numbers: Vec<usize>) -> NextStep<L> {
         if !numbers.is_empty() {
             self.judging = self.judging.wrapping_add(1);
-            return NextStep::Judge(Ahead { snapshot, numbers });
+            return NextStep::Judge(Ahead { state, numbers });
         }
         if self.judging == 0 {
             NextStep::Take
@@ -205,22 +219,23 @@ impl Crew {
 
     /// What a worker does before it takes a Job of the package `next`, the first that waits. Where each of its imports has a known verdict,
     /// the Job judges this package alone.
-    pub(crate) fn before(
+    pub(crate) fn before<L: Opening>(
         &mut self,
         alloc: Global,
-        snapshot: KnownSnapshot,
+        state: ShownState<L>,
         next: usize,
-    ) -> Result<NextStep, AllocError> {
+    ) -> Result<NextStep<L>, AllocError> {
+        let snapshot = &state.snapshot;
         let earlier = mem::replace(&mut self.marked, None);
-        let mut marked = marked_in(alloc, earlier, &snapshot)?;
+        let mut marked = marked_in(alloc, earlier, snapshot)?;
         if knows_imports(snapshot.files(), snapshot.known(), &[], next) {
             marked.mark(next);
             self.marked = Some(marked);
             return Ok(NextStep::Take);
         }
-        let numbers = marked.begin(alloc, &snapshot)?;
+        let numbers = marked.begin(alloc, snapshot)?;
         self.marked = Some(marked);
-        Ok(self.begun(snapshot, numbers))
+        Ok(self.begun(state, numbers))
     }
 
     /// Counts a worker that has judged packages.

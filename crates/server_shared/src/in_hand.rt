@@ -40,10 +40,12 @@ impl InHand {
 
     /// Delivers what was built for the Job. The Job comes back where the book doesn't take it.
     pub fn deliver<C: Caller>(self, caller: &mut C, built: Built) -> Result<(), InHand>
+        requires brings { C.brings caller.old self.job }
+        requires built { IsBuiltOf self.job built }
         ensures { (reply : Reply) × C.steps caller.old (Deliver self.job built) reply caller.new × MatchResult result (λ _. ¬ (ComesBack reply)) (λ hand. ComesBack reply × (hand.job ≡ self.job)) }
     {
         let InHand { job } = self;
-        match caller.call(HandingIn::Deliver(job, built)) {
+        match caller.deliver(job, built) {
             Handed::Done(_) => Ok(()),
             Handed::Refused(_refusal) => Ok(()),
             Handed::Back(_refusal, job, built) => {

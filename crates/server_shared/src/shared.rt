@@ -2,8 +2,12 @@
 ghost use Rattle.std.specs.Prelude.{◌≡◌, ◌+◌, ◌<◌, if◌then◌else◌, All, List, length, is_ok, is_some, IfOk, IfSome, MatchOption};
 ghost use Rattle.workspace_check.specs.Found.{KnowsVerdicts};
 ghost use Rattle.history_machine.specs.MayReply.{MayReply};
-ghost use Rattle.history_machine.specs.Step.{taken};
-ghost use Rattle.history_machine.specs.declared.event.Event.TheVariants.{Take};
+ghost use Rattle.history_machine.specs.Step.{done, taken};
+ghost use Rattle.history_machine.specs.declared.event.Event.TheVariants.{Commit, Deliver, Take};
+ghost use Rattle.build_unit.specs.Builds.{IsBuiltOf};
+ghost use Rattle.history_book.specs.Handed.{handed};
+ghost use Rattle.server_shared.specs.SeenFiles.{BringsInputs, EndsBehind};
+ghost use Rattle.server_versions.specs.Growing.{IsLastVersion};
 ghost use Rattle.history_book.specs.CurrentUnits.{AreKnownIn};
 ghost use Rattle.server_shared.specs.SettledBook.{IsSettling, book_in};
 ghost use Rattle.server_shared.specs.Steps.{IsReceiptOrNone};
@@ -16,6 +20,7 @@ ghost use Rattle.server_shared.specs.LimitNumbers.{limit_numbers};
 
 use crate::ahead::{Ahead, Crew, NextStep};
 use crate::chapters::Closing;
+use crate::files_log::FilesLog;
 use crate::free_seats::FreeSeats;
 use crate::locked::{Locked, is_news, may_wake, turn_away};
 use crate::opening::Opening;
@@ -25,15 +30,17 @@ use crate::settling::Unsettled;
 use crate::standing::Standing;
 use base_files::Refusal;
 use build_kept::KnownUnits;
-use build_unit::Job;
-use history_book::{Book, Question};
+use build_unit::{Built, Job};
+use history_book::{Book, Changing, Handed, HandingIn, Question};
 use history_machine::{EntryKind, Line, View};
 use server_journal::{DiskStore, Kept};
+use server_versions::{NewLog, Versions};
 use std::alloc::{AllocError, Global};
 use std::sync::ledger::{Blank, Share};
 use std::sync::{Condvar, Mutex, Wait};
 use workspace_check::Known;
 use workspace_graph::Graph;
+use workspace_snapshot::MadeChange;
 
 /// A book that threads share, under a lock. `settle` ends it.
 #[must_use]
@@ -61,8 +68,10 @@ impl<L: Opening> Shared<L> {
         records: Option<Kept<DiskStore>>,
         seats: u64,
         mark: u64,
+        log: NewLog<Graph>,
     ) -> (Shared<L>, FreeSeats<L>)
         requires name { blank.name ≡ L.name }
+        requires log { log ≡ L.versions }
         requires parts { blank.parts ≡ L.parts }
         requires seats { blank.parts ≡ seats }
         requires from { length book.journal ≡ L.from }
@@ -74,6 +83,8 @@ impl<L: Opening> Shared<L> {
         let from = book.journal().len() as u64;
         let (count, share) = blank.open::<L>();
         let free = FreeSeats { share, left: seats };
+        let (log, none) = log.named::<L>();
+        let files_log = FilesLog::new(log, none);
         let shared = Shared {
             locked: Mutex::new(Locked {
                 book,
@@ -87,6 +98,7 @@ impl<L: Opening> Shared<L> {
                 kept: 0,
                 crew: Crew::new(),
                 records,
+                files_log,
                 alloc,
             }),
             work: Condvar::new(),
@@ -108,12 +120,29 @@ impl<L: Opening> Shared<L> {
         ensures receipt { Calls L.most seat.old (Q.event question) (Q.reply result.0) result.1 seat.new }
         ensures kind { MayReply (Q.event question) (Q.reply result.0) }
     {
+        let mut seen = None;
+        self.call_and_see(rt, seat, question, &mut seen)
+    }
+
+    /// Does the same. What is then `seen` of the log of files ends with those that were current behind the event, under the same lock.
+    pub fn call_and_see<R: Wait, Q: Question>(
+        &self,
+        rt: &R,
+        seat: &mut Seat<L>,
+        question: Q,
+        seen: &mut Option<Versions<Graph, L>>,
+    ) -> (Q::Answer, Option<u64>)
+        ensures receipt { Calls L.most seat.old (Q.event question) (Q.reply result.0) result.1 seat.new }
+        ensures kind { MayReply (Q.event question) (Q.reply result.0) }
+        ensures seen { IfSome seen.new (EndsBehind (Q.event question) (Q.reply result.0)) }
+    {
+        *seen = None;
         let needed = match reserve(&mut seat.receipts, seat.jobs, question.kind()) {
             Err(error) => return (turn_away(question, error), None),
             Ok(needed) => needed,
         };
         let is_at_rest = seat.receipts.is_empty();
-        let (answer, kept) = self.step(rt, &mut seat.share, question, is_at_rest);
+        let (answer, kept) = self.step(rt, &mut seat.share, question, is_at_rest, seen);
         let Some(receipt) = kept else {
             return (answer, None);
         };
@@ -131,8 +160,10 @@ impl<L: Opening> Shared<L> {
         share: &mut Share<L>,
         question: Q,
         is_at_rest: bool,
+        seen: &mut Option<Versions<Graph, L>>,
     ) -> (Q::Answer, Option<Receipt>)
         requires { 0 < share.old.parts }
+        ensures seen { IfSome seen.new (EndsBehind (Q.event question) (Q.reply result.0)) }
         ensures step { IsReceiptOrNone L.most (Q.event question) (Q.reply result.0) result.1 }
         ensures kind { MayReply (Q.event question) (Q.reply result.0) }
         ensures amount { share.new.amount ≡ share.old.amount + (if is_some result.1 then 1 else 0) }
@@ -142,7 +173,7 @@ impl<L: Opening> Shared<L> {
             is_at_rest && locked.holds_up()
         });
         let closed = locked.close_if_due();
-        let (answer, kept) = locked.call(share, question);
+        let (answer, kept) = locked.call_and_show(share, question, seen);
         let is_over = locked.book.wait_end().is_some();
         drop(locked);
         drop(closed);
@@ -167,15 +198,21 @@ impl<L: Opening> Shared<L> {
     }
 
     /// Waits until a package waits to be built, and takes a Job of it at a seat. The Take is refused only for want of memory. After the book
-    /// was stopped it makes no event, and returns `None`.
-    pub fn take<R: Wait>(&self, rt: &R, seat: &mut Seat<L>) -> Option<Result<Job, Refusal>>
-        ensures { MatchOption result (seat.new ≡ seat.old) (λ answer. CallsWith L.most seat.old Take (taken answer) seat.new × LacksOnly answer) }
+    /// was stopped it makes no event, and returns `None`. The Job has the inputs of its package in the last files of what is then `seen`.
+    pub fn take<R: Wait>(
+        &self,
+        rt: &R,
+        seat: &mut Seat<L>,
+        seen: &mut Option<Versions<Graph, L>>,
+    ) -> Option<Result<Job, Refusal>>
+        ensures took { MatchOption result (seat.new ≡ seat.old) (λ answer. CallsWith L.most seat.old Take (taken answer) seat.new × LacksOnly answer) }
+        ensures brings { IfSome result (λ answer. IfOk answer (λ job. IfSome seen.new (λ v. BringsInputs v job))) }
     {
         let needed = match reserve(&mut seat.receipts, seat.jobs, EntryKind::Take) {
             Err(error) => return Some(Err(Refusal::from(error))),
             Ok(needed) => needed,
         };
-        let (answer, kept) = self.take_waiting(rt, &mut seat.share)?;
+        let (answer, kept) = self.take_waiting(rt, &mut seat.share, seen)?;
         let Some(gained) = kept else {
             return Some(answer);
         };
@@ -189,8 +226,10 @@ impl<L: Opening> Shared<L> {
         &self,
         rt: &R,
         share: &mut Share<L>,
+        seen: &mut Option<Versions<Graph, L>>,
     ) -> Option<(Result<Job, Refusal>, Option<Receipt>)>
         requires { 0 < share.old.parts }
+        ensures brings { IfSome result (λ took. IfOk took.0 (λ job. IfSome seen.new (λ v. BringsInputs v job))) }
         ensures step { IfSome result (λ took. IsReceiptOrNone L.most Take (taken took.0) took.1 × LacksOnly took.0) }
         ensures amount { MatchOption result (share.new.amount ≡ share.old.amount) (λ took. share.new.amount ≡ share.old.amount + (if is_some took.1 then 1 else 0)) }
         ensures parts { share.new.parts ≡ share.old.parts }
@@ -198,13 +237,140 @@ impl<L: Opening> Shared<L> {
         let mut locked = self
             .work
             .wait_while(rt, self.locked.lock(rt), |locked| locked.rests());
-        let taken = locked.take_job(share);
+        let taken = locked.take_and_show(share, seen);
         let is_more = locked.has_work();
         drop(locked);
         if is_more {
             self.work.notify_one();
         }
         taken
+    }
+
+    /// Delivers at a seat what was built for a Job. The Job has the inputs of its package in the last files of what was seen. Where these are still
+    /// current, no text is compared under the lock. It returns what `call` returns.
+    pub fn deliver<R: Wait>(
+        &self,
+        rt: &R,
+        seat: &mut Seat<L>,
+        job: Job,
+        built: Built,
+        seen: &Option<Versions<Graph, L>>,
+    ) -> (Handed, Option<u64>)
+        requires brings { IfSome seen.now (λ v. BringsInputs v job) }
+        requires built { IsBuiltOf job built }
+        ensures receipt { Calls L.most seat.old (Deliver job built) (handed result.0) result.1 seat.new }
+        ensures kind { MayReply (Deliver job built) (handed result.0) }
+    {
+        let needed = match reserve(&mut seat.receipts, seat.jobs, EntryKind::Deliver) {
+            Err(error) => return (turn_away(HandingIn::Deliver(job, built), error), None),
+            Ok(needed) => needed,
+        };
+        let is_at_rest = seat.receipts.is_empty();
+        let (answer, kept) = self.deliver_step(rt, &mut seat.share, job, built, seen, is_at_rest);
+        let Some(left) = kept else {
+            return (answer, None);
+        };
+        let at = left.index;
+        seat.jobs = jobs_after(seat.jobs, needed, &left.entry.line);
+        seat.receipts.push_reserved(left);
+        (answer, Some(at))
+    }
+
+    /// Delivers under the lock, and wakes those whom it concerns. A seat at rest first waits until a chapter that is due is closed.
+    fn deliver_step<R: Wait>(
+        &self,
+        rt: &R,
+        share: &mut Share<L>,
+        job: Job,
+        built: Built,
+        seen: &Option<Versions<Graph, L>>,
+        is_at_rest: bool,
+    ) -> (Handed, Option<Receipt>)
+        requires share { 0 < share.old.parts }
+        requires brings { IfSome seen.now (λ v. BringsInputs v job) }
+        requires built { IsBuiltOf job built }
+        ensures step { IsReceiptOrNone L.most (Deliver job built) (handed result.0) result.1 }
+        ensures kind { MayReply (Deliver job built) (handed result.0) }
+        ensures amount { share.new.amount ≡ share.old.amount + (if is_some result.1 then 1 else 0) }
+        ensures parts { share.new.parts ≡ share.old.parts }
+    {
+        let mut locked = self.opened.wait_while(rt, self.locked.lock(rt), |locked| {
+            is_at_rest && locked.holds_up()
+        });
+        let closed = locked.close_if_due();
+        let (answer, kept) = locked.deliver(share, job, built, seen);
+        let is_over = locked.book.wait_end().is_some();
+        drop(locked);
+        drop(closed);
+        if let Some(receipt) = &kept {
+            self.wake(&receipt.entry.line, is_over);
+        }
+        (answer, kept)
+    }
+
+    /// Commits a change at a seat. Its base has the files with which what was seen ends. Where these are still current, no text is compared under
+    /// the lock. It returns what `call` returns. What is then `seen` ends with the files that were current behind the commit, under the same lock.
+    pub fn commit<R: Wait>(
+        &self,
+        rt: &R,
+        seat: &mut Seat<L>,
+        basis: u64,
+        change: MadeChange,
+        seen: &mut Option<Versions<Graph, L>>,
+    ) -> (Result<u64, Refusal>, Option<u64>)
+        requires { IfSome seen.old (λ v. IsLastVersion v change.base) }
+        ensures receipt { Calls L.most seat.old (Commit basis change) (done result.0) result.1 seat.new }
+        ensures kind { MayReply (Commit basis change) (done result.0) }
+        ensures seen { IfSome seen.new (EndsBehind (Commit basis change) (done result.0)) }
+    {
+        let needed = match reserve(&mut seat.receipts, seat.jobs, EntryKind::Commit) {
+            Err(error) => {
+                *seen = None;
+                return (turn_away(Changing::Commit(basis, change), error), None);
+            }
+            Ok(needed) => needed,
+        };
+        let is_at_rest = seat.receipts.is_empty();
+        let (answer, kept) = self.commit_step(rt, &mut seat.share, basis, change, seen, is_at_rest);
+        let Some(left) = kept else {
+            return (answer, None);
+        };
+        let at = left.index;
+        seat.jobs = jobs_after(seat.jobs, needed, &left.entry.line);
+        seat.receipts.push_reserved(left);
+        (answer, Some(at))
+    }
+
+    /// Commits under the lock, and wakes those whom it concerns. A seat at rest first waits until a chapter that is due is closed.
+    fn commit_step<R: Wait>(
+        &self,
+        rt: &R,
+        share: &mut Share<L>,
+        basis: u64,
+        change: MadeChange,
+        seen: &mut Option<Versions<Graph, L>>,
+        is_at_rest: bool,
+    ) -> (Result<u64, Refusal>, Option<Receipt>)
+        requires share { 0 < share.old.parts }
+        requires sees { IfSome seen.old (λ v. IsLastVersion v change.base) }
+        ensures seen { IfSome seen.new (EndsBehind (Commit basis change) (done result.0)) }
+        ensures step { IsReceiptOrNone L.most (Commit basis change) (done result.0) result.1 }
+        ensures kind { MayReply (Commit basis change) (done result.0) }
+        ensures amount { share.new.amount ≡ share.old.amount + (if is_some result.1 then 1 else 0) }
+        ensures parts { share.new.parts ≡ share.old.parts }
+    {
+        let mut locked = self.opened.wait_while(rt, self.locked.lock(rt), |locked| {
+            is_at_rest && locked.holds_up()
+        });
+        let closed = locked.close_if_due();
+        let (answer, kept) = locked.commit_and_show(share, basis, change, seen);
+        let is_over = locked.book.wait_end().is_some();
+        drop(locked);
+        drop(closed);
+        if let Some(receipt) = &kept {
+            self.wake(&receipt.entry.line, is_over);
+        }
+        (answer, kept)
     }
 
     /// Makes one event of the book at a seat, and returns the answer.
@@ -218,23 +384,38 @@ impl<L: Opening> Shared<L> {
 
     /// Has the book keep the findings of the packages of `files` whose closures have the same texts in the current files. It is no event, and
     /// no seat gains a receipt.
-    pub fn learn<R: Wait>(&self, rt: &R, files: &Graph, known: Known)
-        requires { KnowsVerdicts files.now known }
+    pub fn learn<R: Wait>(
+        &self,
+        rt: &R,
+        files: &Graph,
+        known: Known,
+        seen: &Option<Versions<Graph, L>>,
+    )
+        requires known { KnowsVerdicts files.now known }
+        requires seen { IfSome seen.now (λ v. IsLastVersion v files.now) }
     {
-        self.locked.lock(rt).learn(files, known);
+        self.locked.lock(rt).learn(files, known, seen);
     }
 
     /// What is known of units of packages of `files`, if these are the current files. It is no event, and no seat gains a receipt.
-    pub fn known_units<R: Wait>(&self, rt: &R, files: &Graph) -> Option<KnownUnits>
+    pub fn known_units<R: Wait>(
+        &self,
+        rt: &R,
+        files: &Graph,
+        seen: &Option<Versions<Graph, L>>,
+    ) -> Option<KnownUnits>
+        requires { IfSome seen.now (λ v. IsLastVersion v files.now) }
         ensures { AreKnownIn files.now result }
     {
-        self.locked.lock(rt).known_units(files)
+        self.locked.lock(rt).known_units(files, seen)
     }
 
     /// Has the book keep what is known of units of packages, if their files are the current ones. It is no event, and no seat gains a
     /// receipt.
-    pub fn learn_units<R: Wait>(&self, rt: &R, units: KnownUnits) {
-        self.locked.lock(rt).learn_units(units);
+    pub fn learn_units<R: Wait>(&self, rt: &R, units: KnownUnits, seen: &Option<Versions<Graph, L>>)
+        requires { IfSome seen.now (λ v. IsLastVersion v units) }
+    {
+        self.locked.lock(rt).learn_units(units, seen);
     }
 
     /// What the book tells of itself. It is no event, and no seat gains a receipt.
@@ -319,7 +500,7 @@ impl<L: Opening> Shared<L> {
 
     /// What a worker is to judge before its next Job, or `None` where it is to take this Job. It waits until a package waits to be built, and
     /// while others judge what the Job needs.
-    fn next_ahead<R: Wait>(&self, rt: &R, alloc: Global) -> Option<Ahead> {
+    fn next_ahead<R: Wait>(&self, rt: &R, alloc: Global) -> Option<Ahead<L>> {
         for _ in rt.forever() {
             let mut locked = self
                 .work
@@ -334,12 +515,9 @@ impl<L: Opening> Shared<L> {
     }
 
     /// Judges packages, has the book keep their findings, and wakes the workers that wait for them.
-    fn judge<R: Wait>(&self, rt: &R, alloc: Global, ahead: &Ahead) {
+    fn judge<R: Wait>(&self, rt: &R, alloc: Global, ahead: &Ahead<L>) {
         match ahead.judged(alloc) {
-            Ok(known) => self
-                .locked
-                .lock(rt)
-                .learn_ahead(ahead.snapshot.files(), known),
+            Ok(known) => self.locked.lock(rt).learn_ahead(&ahead.state, known),
             Err(_) => self.locked.lock(rt).end_ahead(),
         }
         self.judged.notify_all();

@@ -76,7 +76,13 @@ fn turn_at_seat<L: Opening, R: Wait, G: Gate>(
 ) -> Option<WorkTurn>
     ensures { MatchOption result (seat.new ≡ seat.old) (λ turn. TakesTurn (CallsWith L.most) seat.old turn seat.new) }
 {
-    let mut caller = AtSeat { rt, shared, seat };
+    let mut seen = None;
+    let mut caller = AtSeat {
+        rt,
+        shared,
+        seat,
+        seen: &mut seen,
+    };
     turn(alloc, &mut caller, gate)
 }
 
@@ -93,6 +99,7 @@ pub fn turn<C: Caller, G: Gate>(alloc: Global, caller: &mut C, gate: &G) -> Opti
 
 /// Builds a Job with no lock held, and delivers it. For want of memory the Job is given back.
 fn hand_in<C: Caller, G: Gate>(alloc: Global, caller: &mut C, gate: &G, hand: InHand) -> WorkTurn
+    requires { C.brings caller.old hand.job }
     ensures { HandsIn C.steps caller.old hand.job result caller.new }
 {
     gate.taken(hand.ticket());
@@ -110,7 +117,8 @@ fn hand_in<C: Caller, G: Gate>(alloc: Global, caller: &mut C, gate: &G, hand: In
 
 /// Delivers what was built for a Job. A Job that the book doesn't take is given back.
 fn deliver<C: Caller>(caller: &mut C, hand: InHand, built: Built) -> WorkTurn
-    requires { IsBuiltOf hand.job built }
+    requires brings { C.brings caller.old hand.job }
+    requires built { IsBuiltOf hand.job built }
     ensures { HandsIn C.steps caller.old hand.job result caller.new }
 {
     match hand.deliver(caller, built) {

@@ -4,5 +4,6 @@ pub mod Captures
 pub mod SeatsSent
 mod ServedLaws
 mod SessionLaws
+mod SeenAtDesk
 mod ToldNumbers
 mod ReturnedLaws

@@ -19,6 +19,7 @@ use base_files::Limits;
 use history_book::Book;
 use server_journal::{DiskStore, Kept, KeptBook, open_journal};
 use server_shared::{FreeSeats, Gate, Opening, Seat, Shared, Unsettled};
+use server_versions::NewLog;
 use server_words::ServeOptions;
 use std::alloc::{AllocError, Global};
 use std::fs;
@@ -31,6 +32,7 @@ use std::sync::Wait;
 use std::sync::ledger::Blank;
 use std::thread::Threads;
 use std::time::Clock;
+use workspace_graph::Graph;
 
 /// How many threads serve sessions or build packages. Each has a seat of its own.
 fn threads_of(words: &ServeOptions<'_>) -> u64
@@ -247,6 +249,7 @@ fn serve_in<L: Opening + Send + Sync, R: Threads + Wait + Clock + Sync, G: Gate 
     turns: Turns,
     opened: OpenedBook,
     blank: Blank,
+    log: NewLog<Graph>,
 ) -> Result<u64, ServeFault>
     requires fresh { IsNewBook (is_some words.now.journal) L.begun L.from }
     requires from { L.from ≡ length opened.book.journal }
@@ -255,6 +258,7 @@ fn serve_in<L: Opening + Send + Sync, R: Threads + Wait + Clock + Sync, G: Gate 
     requires name { blank.name ≡ L.name }
     requires parts { blank.parts ≡ L.parts }
     requires seats { blank.parts ≡ words.now.workers + words.now.sessions }
+    requires log { log ≡ L.versions }
     requires most { L.most ≡ 1000000 }
     requires limits { L.limits ≡ full_limits }
     requires messages { AccountsForMessages L.accounts L.most [] }
@@ -264,7 +268,8 @@ fn serve_in<L: Opening + Send + Sync, R: Threads + Wait + Clock + Sync, G: Gate 
 {
     let seats = threads_of(words);
     let OpenedBook { book, records } = opened;
-    let (shared, mut free) = Shared::<L>::new(alloc, blank, book, records, seats, mark_of(words));
+    let mark = mark_of(words);
+    let (shared, mut free) = Shared::<L>::new(alloc, blank, book, records, seats, mark, log);
     let running = Running { gate, turns };
     match serve_over(rt, alloc, &shared, &mut free, words, running) {
         Ok(seats) => settle(shared, free, seats),
@@ -332,7 +337,8 @@ fn serve_held<
     let turns = Turns::new(alloc, listener, share, words);
     let blank = Blank::new(threads_of(words));
     tell_start(rt, words, &opened);
-    let served = serve_in::<Brand, R, G>(rt, alloc, words, gate, turns, opened, blank);
+    let log = NewLog::new();
+    let served = serve_in::<Brand, R, G>(rt, alloc, words, gate, turns, opened, blank, log);
     let _ = fs::remove_file(rt, words.socket);
     tell_end(rt, &served);
     served

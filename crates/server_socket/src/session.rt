@@ -45,7 +45,13 @@ fn answer_at_desk<L: Opening, W: Wait, S: ByteSource, T: Sink>(
     ensures turns { IfOk result (λ _. reading.new.reads_left < reading.old.reads_left) }
     ensures reads { S.reads source.new + reading.new.reads_left ≡ S.reads source.old + reading.old.reads_left }
 {
-    let mut held = SeatDesk { rt, shared, seat };
+    let mut seen = None;
+    let mut held = SeatDesk {
+        rt,
+        shared,
+        seat,
+        seen: &mut seen,
+    };
     answer_next(alloc, source, sink, &mut held, reading, limits)
 }
 

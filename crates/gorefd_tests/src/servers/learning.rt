@@ -11,11 +11,13 @@ use history_machine::View;
 use server_commands::find;
 use server_shared::{Opening, Seat, Shared, Unsettled};
 use server_socket::{Connection, SeatDesk, session_at_seat};
+use server_versions::NewLog;
 use std::alloc::Global;
 use std::marker::Brand;
 use std::process::Abort;
 use std::sync::Wait;
 use std::sync::ledger::Blank;
+use workspace_graph::Graph;
 use workspace_snapshot::plan_put;
 
 /// Looks at a seat.
@@ -43,7 +45,13 @@ fn find_at<L: Opening, R: Wait + Abort>(
     seat: &mut Seat<L>,
 ) {
     let view = look(rt, shared, seat);
-    let mut desk = SeatDesk { rt, shared, seat };
+    let mut seen = None;
+    let mut desk = SeatDesk {
+        rt,
+        shared,
+        seat,
+        seen: &mut seen,
+    };
     let findings = find(alloc, &mut desk, &view).expect(rt, "memory");
     drop(findings);
 }
@@ -57,7 +65,7 @@ fn is_known<L: Opening, R: Wait + Abort>(rt: &R, shared: &Shared<L>, seat: &mut 
 /// Whether the unit of the first package is known at a seat, built or not.
 fn has_unit<L: Opening, R: Wait + Abort>(rt: &R, shared: &Shared<L>, seat: &mut Seat<L>) -> bool {
     let view = look(rt, shared, seat);
-    match shared.known_units(rt, view.snapshot.files()) {
+    match shared.known_units(rt, view.snapshot.files(), &None) {
         None => false,
         Some(units) => units.has(0),
     }
@@ -136,7 +144,13 @@ fn known_there<L: Opening, R: Wait + Abort>(
 }
 
 /// What is known at one of two seats, where the other finds faults and renames.
-fn known_around<L: Opening, R: Wait + Abort>(rt: &R, alloc: Global, blank: Blank) -> KnownThere
+fn known_around<L: Opening, R: Wait + Abort>(
+    rt: &R,
+    alloc: Global,
+    blank: Blank,
+    log: NewLog<Graph>,
+) -> KnownThere
+    requires log { log ≡ L.versions }
     requires name { blank.name ≡ L.name }
     requires parts { blank.parts ≡ L.parts }
     requires seats { blank.parts ≡ 2 }
@@ -147,7 +161,7 @@ fn known_around<L: Opening, R: Wait + Abort>(rt: &R, alloc: Global, blank: Blank
     requires accounts { (receipts : List Receipt) → ∥ L.accounts receipts ∥₁ }
 {
     let book = Book::new(alloc, Limits::FULL).expect(rt, "memory");
-    let (shared, mut free) = Shared::<L>::new(alloc, blank, book, None, 2, 1_000);
+    let (shared, mut free) = Shared::<L>::new(alloc, blank, book, None, 2, 1_000, log);
     let mut one = free.take(alloc);
     let mut other = free.take(alloc);
     let known = known_there(rt, alloc, &shared, &mut one, &mut other);
@@ -161,7 +175,7 @@ fn known_around<L: Opening, R: Wait + Abort>(rt: &R, alloc: Global, blank: Blank
 
 /// What is known over a book of its own.
 fn known_alone<R: Wait + Abort>(rt: &R, alloc: Global) -> KnownThere {
-    known_around::<Brand, R>(rt, alloc, Blank::new(2))
+    known_around::<Brand, R>(rt, alloc, Blank::new(2), NewLog::new())
 }
 
 #[test]

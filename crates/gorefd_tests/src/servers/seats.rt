@@ -7,11 +7,13 @@ use crate::assertion::holds;
 use base_files::{Limits, Refusal};
 use history_book::{Book, Looking};
 use server_shared::{Opening, Seat, Shared, Unsettled};
+use server_versions::NewLog;
 use std::alloc::Global;
 use std::marker::Brand;
 use std::process::Abort;
 use std::sync::Wait;
 use std::sync::ledger::Blank;
+use workspace_graph::Graph;
 
 /// Makes a look at each of two seats.
 fn look_twice<L: Opening, R: Wait>(
@@ -29,8 +31,10 @@ fn settled<L: Opening, R: Wait>(
     rt: &R,
     alloc: Global,
     blank: Blank,
+    log: NewLog<Graph>,
     is_left_out: bool,
 ) -> Result<(bool, u64), Refusal>
+    requires log { log ≡ L.versions }
     requires name { blank.name ≡ L.name }
     requires parts { blank.parts ≡ L.parts }
     requires seats { blank.parts ≡ 2 }
@@ -41,7 +45,7 @@ fn settled<L: Opening, R: Wait>(
     requires accounts { (receipts : List Receipt) → ∥ L.accounts receipts ∥₁ }
 {
     let book = Book::new(alloc, Limits::FULL)?;
-    let (shared, mut free) = Shared::<L>::new(alloc, blank, book, None, 2, 1_000);
+    let (shared, mut free) = Shared::<L>::new(alloc, blank, book, None, 2, 1_000, log);
     let mut seats = Vec::new(alloc);
     let mut one = free.take(alloc);
     let mut other = free.take(alloc);
@@ -66,7 +70,7 @@ fn settled_alone<R: Wait>(
     alloc: Global,
     is_left_out: bool,
 ) -> Result<(bool, u64), Refusal> {
-    settled::<Brand, R>(rt, alloc, Blank::new(2), is_left_out)
+    settled::<Brand, R>(rt, alloc, Blank::new(2), NewLog::new(), is_left_out)
 }
 
 /// Asserts that it was settled or not, and the length of the journal.

@@ -9,7 +9,7 @@ pub returns-in-Ok : goal.returns-in-Ok
 returns-in-Ok g c =
     let sent = c.deliver.ensures in
     let taken = rw c.in-Ok.is at sent.2 in
-    inl (refl, (c.args.built, c.requires, (sent.0, taken, sent.1)))
+    inl (refl, (c.args.built, c.requires.built, (sent.0, taken, sent.1)))
 
 pub returns-in-Err : goal.returns-in-Err
 returns-in-Err g c =
@@ -17,4 +17,4 @@ returns-in-Err g c =
     let returned = rw c.in-Err.is at sent.2 in
     let given = subst (λ (job : JobRecord). CallsEvent g.C.Caller.steps c.deliver.new.caller (GiveBack job) c.give_back.new.caller) returned.1
     c.give_back.ensures in
-    inr (refl, inr (c.args.built, c.requires, (sent.0, c.deliver.new.caller, returned.0, sent.1, given)))
+    inr (refl, inr (c.args.built, c.requires.built, (sent.0, c.deliver.new.caller, returned.0, sent.1, given)))

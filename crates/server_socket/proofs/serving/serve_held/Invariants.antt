@@ -17,3 +17,6 @@ ghosts-serve_in-L-Opening g a = record {
 
 abbrev pub ghosts-serve_in-L-Ledger : goal.ghosts-serve_in-L-Ledger
 ghosts-serve_in-L-Ledger g a = record { name = a.blank.name; parts = a.blank.parts }
+
+abbrev pub ghosts-serve_in-L-LogName : goal.ghosts-serve_in-L-LogName
+ghosts-serve_in-L-LogName g a = record { versions = a.log }

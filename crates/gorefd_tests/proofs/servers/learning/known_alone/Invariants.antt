@@ -8,3 +8,6 @@ ghosts-known_around-L-Opening g a = record { from = 0; begun = 0; most = 1000000
 
 abbrev pub ghosts-known_around-L-Ledger : goal.ghosts-known_around-L-Ledger
 ghosts-known_around-L-Ledger g a = record { name = a.blank.name; parts = a.blank.parts }
+
+abbrev pub ghosts-known_around-L-LogName : goal.ghosts-known_around-L-LogName
+ghosts-known_around-L-LogName g a = record { versions = a.log }

@@ -8,3 +8,6 @@ ghosts-settled-L-Opening g a = record { from = 0; begun = 0; most = 1000000; lim
 
 abbrev pub ghosts-settled-L-Ledger : goal.ghosts-settled-L-Ledger
 ghosts-settled-L-Ledger g a = record { name = a.blank.name; parts = a.blank.parts }
+
+abbrev pub ghosts-settled-L-LogName : goal.ghosts-settled-L-LogName
+ghosts-settled-L-LogName g a = record { versions = a.log }

@@ -5,4 +5,4 @@ use Rattle.workspace_check.specs.Found.{KnowsVerdicts}
 use Rattle.server_shared.proofs.ahead.Ahead.judged.Goals as goal
 
 pub judged_ahead-requires : goal.judged_ahead-requires
-judged_ahead-requires c = subst (λ (w : Workspace). KnowsVerdicts w c.known.result.now) (sym c.files.ensures) c.known.ensures
+judged_ahead-requires g c = subst (λ (w : Workspace). KnowsVerdicts w c.known.result.now) (sym c.files.ensures) c.known.ensures

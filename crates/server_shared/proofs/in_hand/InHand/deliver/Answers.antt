@@ -7,14 +7,14 @@ use Rattle.server_shared.proofs.in_hand.InHand.deliver.Goals as goal
 
 pub returns-in-Done : goal.returns-in-Done
 returns-in-Done g c =
-    (handed c.call.result, c.call.ensures.step, subst (λ (x : Handed). ¬ (ComesBack (handed x))) (sym c.in-Done.is) (λ none. none))
+    (handed c.deliver.result, c.deliver.ensures.step, subst (λ (x : Handed). ¬ (ComesBack (handed x))) (sym c.in-Done.is) (λ none. none))
 
 pub returns-in-Refused : goal.returns-in-Refused
 returns-in-Refused g c =
-    (handed c.call.result, c.call.ensures.step, subst (λ (x : Handed). ¬ (ComesBack (handed x))) (sym c.in-Refused.is) (λ none. none))
+    (handed c.deliver.result, c.deliver.ensures.step, subst (λ (x : Handed). ¬ (ComesBack (handed x))) (sym c.in-Refused.is) (λ none. none))
 
 pub returns-in-Back : goal.returns-in-Back
 returns-in-Back g c =
-    let kind = rw c.in-Back.is at c.call.ensures.kind in
-    let back : ComesBack (handed c.call.result) = subst (λ (x : Handed). ComesBack (handed x)) (sym c.in-Back.is) tt in
-    (handed c.call.result, c.call.ensures.step, (back, kind.0))
+    let kind = rw c.in-Back.is at c.deliver.ensures.kind in
+    let back : ComesBack (handed c.deliver.result) = subst (λ (x : Handed). ComesBack (handed x)) (sym c.in-Back.is) tt in
+    (handed c.deliver.result, c.deliver.ensures.step, (back, kind.0))

@@ -6,6 +6,7 @@ use Rattle.server_shared.specs.Past.{HasPast, IsHandedIn}
 use Rattle.server_shared.specs.declared.receipt.Receipt.{Receipt}
 use Rattle.server_shared.proofs.SettlingLaws.{past_with_border}
 use Rattle.server_shared.proofs.PastLaws.{handed_none, handed_sorted}
+use Rattle.server_shared.proofs.SeenLaws.{seen_stays}
 use Rattle.server_shared.proofs.locked.Locked.close_chapter.Goals as goal
 
 pub invariant_of-self-clause-known : goal.invariant_of-self-clause-known
@@ -41,3 +42,12 @@ invariant_of-self-in-Ok-clause-past g c =
     subst (λ (m : Machine). ∥ HasPast g.L.Opening.accounts g.L.Opening.begun g.L.Opening.from 0 m ∥₁) (sym c.in-Ok.ensures.closed)
     (past_with_border g.L.Opening.accounts g.L.Opening.begun g.L.Opening.from c.args.self.now.from c.args.self.now.book c.args.self.now.handed.items
     (c.is_settled_by.ensures.exact.0 c.if-not-is_settled_by.false) c.args.self.now.known c.args.self.now.past)
+
+pub invariant_of-self-in-Err-clause-seen : goal.invariant_of-self-in-Err-clause-seen
+invariant_of-self-in-Err-clause-seen g c =
+    seen_stays c.args.self.now.files_log.seen _ c.args.self.now.book c.close_chapter.new.self (ap (λ (m : Machine). m.current.files) c.in-Err.ensures.err) c.args.self.now.seen
+
+pub invariant_of-self-in-Ok-clause-seen : goal.invariant_of-self-in-Ok-clause-seen
+invariant_of-self-in-Ok-clause-seen g c =
+    seen_stays c.args.self.now.files_log.seen _ c.args.self.now.book c.close_chapter.new.self (ap (λ (m : Machine). m.current.files) c.in-Ok.ensures.closed)
+    c.args.self.now.seen

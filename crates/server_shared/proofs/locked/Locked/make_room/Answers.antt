@@ -3,7 +3,7 @@ use Rattle.std.proofs.Common.{List, length, ◌∙◌, ap, arith, sym, subst}
 use Rattle.std.proofs.lemmas.Bool.{false≢true}
 use Rattle.server_shared.specs.Past.{IsHandedIn}
 use Rattle.server_shared.specs.declared.receipt.Receipt.{Receipt}
-use Rattle.server_shared.proofs.RoomLaws.{if_err}
+use Rattle.server_journal.proofs.KeptLaws.{if_err}
 use Rattle.server_shared.proofs.locked.Locked.make_room.Goals as goal
 
 pub returns-clause-why : goal.returns-clause-why

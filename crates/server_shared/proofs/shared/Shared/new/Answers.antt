@@ -1,6 +1,7 @@
--- The book closed no journal yet, and no receipt was handed in.
+-- The book closed no journal yet, no receipt was handed in, and no files were seen.
 use mathlib.Core.Logic.{∥∥₁_map}
-use Rattle.std.proofs.Common.{ℕ, List, length, ap, subst, sym}
+use Rattle.std.proofs.Common.{ℕ, List, length, ap, subst, sym, ◌∙◌}
+use Rattle.std.proofs.lemmas.Bool.{false≢true}
 use Rattle.history_machine.specs.Chapters.{HasHistory}
 use Rattle.server_shared.specs.Past.{HasPast, IsHandedIn}
 use Rattle.server_shared.specs.declared.receipt.Receipt.{Receipt}
@@ -18,3 +19,6 @@ invariant_of-new-clause-past g c =
 pub invariant_of-new-clause-known : goal.invariant_of-new-clause-known
 invariant_of-new-clause-known g c =
     subst (λ (xs : List Receipt). ∥ IsHandedIn g.L.Opening.accounts xs ∥₁) (sym c.new.ensures.items) ∣ handed_none g.L.Opening.accounts ∣₁
+
+pub invariant_of-new-clause-seen : goal.invariant_of-new-clause-seen
+invariant_of-new-clause-seen g c = λ is. absurd (false≢true (sym c.new-files_log.ensures ∙ is))

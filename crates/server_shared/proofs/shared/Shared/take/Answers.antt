@@ -10,7 +10,7 @@ invariant_of-seat-2 g c =
     c.jobs_after-seat-inside.result c.seat.invariant.3 c.jobs_after-seat-inside.ensures.left c.reserve.ensures.items c.push_reserved.ensures.items in
     (search rules, grind (arith, common_steps), grind (arith, common_steps), held)
 
-pub returns : goal.returns
-returns g c =
+pub returns-clause-took : goal.returns-clause-took
+returns-clause-took g c =
     let took = c.in_ok-answer.ensures.step in
     ((Some c.in-Some.gained.index, (c.in-Some.gained, refl, rw c.in-Some.is at took.0, search rules)), took.1)

@@ -2,7 +2,7 @@
 use Rattle.std.proofs.Common.{inr, rules, arith}
 use Rattle.std.proofs.lemmas.Grind.{common_steps}
 use Rattle.server_shared.proofs.HeldLaws.{held_on}
-use Rattle.server_shared.proofs.shared.Shared.call.Goals as goal
+use Rattle.server_shared.proofs.shared.Shared.call_and_see.Goals as goal
 
 pub returns-in_default-clause-receipt : goal.returns-in_default-clause-receipt
 returns-in_default-clause-receipt g c = (inr (rw c.in_default.is at c.step-answer.ensures.step), search rules)
