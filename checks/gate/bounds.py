@@ -33,6 +33,7 @@ from checks.gate.memory import OWNER, code_of
 GREAT = {
     "base_packed/src/packing.rt": {"if number > u32::MAX as usize {"},
     "base_files/src/limits.rt": {"file_bytes: 1_048_576,", "total_bytes: 67_108_864,", "journal: 1_000_000,", "reads: 1_000_000_000,"},
+    "server_versions/src/versions.rt": {"const MOST_VERSIONS: u64 = 1 << 62;"},
     "go_respelled/src/moved.rt": {"None => usize::MAX,"},
     "go_scanner/src/compact_piece.rt": {"if number > u32::MAX as usize {"},
     "go_scanner/src/integers.rt": {"if sum < 1 << 63 { Some(sum) } else { None }"},
